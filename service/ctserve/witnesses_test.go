@@ -19,18 +19,14 @@ import (
 
 	"wagtenib/service/signer"
 	"wagtenib/service/stores"
+	"wagtenib/service/trial"
 	"wagtenib/service/witness"
 )
 
 // aWitness is a witness of the place's log, over HTTP: its URL, a comma, and its verifier key.
 func (p *place) aWitness(name string, with ...func(log *witness.Log)) (one string, key note.Verifier) {
 	p.t.Helper()
-	must := func(err error) {
-		p.t.Helper()
-		if err != nil {
-			p.t.Fatal(err)
-		}
-	}
+	must := func(err error) { p.t.Helper(); trial.Must(p.t, err) }
 	public, private, err := ed25519.GenerateKey(rand.Reader)
 	must(err)
 	program := []string{"../../crates/ctwitness/out/ctwitness"}

@@ -21,15 +21,11 @@ import (
 
 	"golang.org/x/mod/sumdb/note"
 
+	"wagtenib/service/trial"
 	"wagtenib/service/witness"
 )
 
-func must(t testing.TB, err error) {
-	t.Helper()
-	if err != nil {
-		t.Fatal(err)
-	}
-}
+var must = trial.Must
 
 // place is a folder with a witness's key and its file of settings.
 type place struct {

@@ -9,6 +9,8 @@ import (
 	"strings"
 	"testing"
 	"time"
+
+	"wagtenib/service/trial"
 )
 
 // program is a second program beside the proved one, with the same lines.
@@ -16,12 +18,7 @@ var program = []string{"python3", "../../tests/node/ctnode.py"}
 
 const longest = 4 * time.Minute
 
-func must(t *testing.T, err error) {
-	t.Helper()
-	if err != nil {
-		t.Fatal(err)
-	}
-}
+var must = trial.Must
 
 func client(t *testing.T, limit time.Duration, command ...string) *Client {
 	t.Helper()
@@ -31,11 +28,7 @@ func client(t *testing.T, limit time.Duration, command ...string) *Client {
 	return c
 }
 
-func within(t *testing.T) context.Context {
-	ctx, cancel := context.WithTimeout(context.Background(), longest)
-	t.Cleanup(cancel)
-	return ctx
-}
+func within(t *testing.T) context.Context { return trial.Limited(t, longest) }
 
 // line is a state's, of so many entries at a moment.
 func line(size, moment uint64) string {

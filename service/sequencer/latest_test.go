@@ -73,48 +73,42 @@ func comesBack(t testing.TB, s *Sequencer, got *answers, number int) {
 	}
 }
 
-// TestPartedNode has one of two nodes not reach the register while the other one goes on, and the register with the guard's state put back
-// to what the first one knows: it signs no second history. Where the register comes back, it goes on.
-func TestPartedNode(t *testing.T) {
-	t.Parallel()
-	p, ctx, got := newPlace(t), limited(t), &answers{}
-	here, config := started(t, p.notHere(t), hooks{}), p.notHere(t)
-	register := &parted{Register: config.Register}
-	config.Register = register
-	there := started(t, config, hooks{})
-	must(t, got.submitAll(ctx, here, 0, 10, 4))
-	must(t, got.submitAll(ctx, there, 10, 20, 4))
-	register.on.Store(true)
-	old := p.copied(t, "register", "guard")
-	must(t, got.submitAll(ctx, here, 20, 40, 4))
-	must(t, here.End(ctx))
-	newest := p.copied(t, "register", "guard")
-	_, err := there.Submit(ctx, entryOf(100))
-	wants(t, err, log.ErrStore)
-	// (so long, that it isn't the register's own word that nothing was decided meanwhile)
-	time.Sleep(mostUnheard)
-	p.putBack(t, old, "register", "guard")
-	register.on.Store(false)
-	eventually(t, "it sees that it was set back", func() bool { return strings.Contains(there.Figures().Fault, ErrSetBack.Error()) })
-	_, err = there.Submit(ctx, entryOf(100))
-	wants(t, err, log.ErrStore, ErrSetBack)
-	// Nothing was decided over it.
-	if p.registerText(t) != old.registerText(t) {
-		t.Error("the register was swapped")
+// restored are the folders of a place that go back with the register's text: the guard's, and the register's own, where it is in one.
+func (p place) restored(on ground) []string {
+	if on.register == nil {
+		return []string{"guard", "register"}
 	}
-	if report := p.rightTwice(t, got); report.Leaves != 40 {
-		t.Fatalf("%+v", report)
-	}
-	p.putBack(t, newest, "register", "guard")
-	comesBack(t, there, got, 41)
-	if report := p.rightTwice(t, got); report.Leaves != 41 {
-		t.Fatalf("%+v", report)
-	}
+	return []string{"guard"}
 }
 
-// TestPartedOnEach is the same on each ground that is there, with the register's text alone put back beside the guard's state: what is
-// published stays, as a number that only rises does.
-func TestPartedOnEach(t *testing.T) {
+// held is what a log's register and its guard have at a time.
+type held struct {
+	text  string
+	files place
+}
+
+// holds is what they have now.
+func (p place) holds(t testing.TB, on ground, register stores.Register) held {
+	t.Helper()
+	text, err := register.Read(limited(t))
+	must(t, err)
+	return held{text, p.copied(t, p.restored(on)...)}
+}
+
+// goesBack puts them back to that: the register's text alone, as what is published only rises; in a folder that, too, as one that restores it does.
+func (p place) goesBack(t testing.TB, on ground, register stores.Register, to held) {
+	t.Helper()
+	if on.register != nil {
+		text, err := register.Read(limited(t))
+		must(t, err)
+		must(t, register.Swap(limited(t), text, to.text))
+	}
+	p.putBack(t, to.files, p.restored(on)...)
+}
+
+// TestPartedNode has one of two nodes not reach the register while the other one goes on, and the register with the guard's state put back
+// to what the first one knows, on each ground that is there: it signs no second history. Where the register comes back, it goes on.
+func TestPartedNode(t *testing.T) {
 	t.Parallel()
 	onEach(t, func(t *testing.T, on ground) {
 		p, ctx, got := newPlaceOn(t, on), limited(t), &answers{}
@@ -125,25 +119,27 @@ func TestPartedOnEach(t *testing.T) {
 		must(t, got.submitAll(ctx, here, 0, 10, 4))
 		must(t, got.submitAll(ctx, there, 10, 20, 4))
 		register.on.Store(true)
-		text := func() string {
-			t.Helper()
-			text, err := register.Register.Read(ctx)
-			must(t, err)
-			return text
-		}
-		old, oldGuard := text(), p.copied(t, "guard")
+		old := p.holds(t, on, register.Register)
 		must(t, got.submitAll(ctx, here, 20, 40, 4))
 		must(t, here.End(ctx))
-		newest, newestGuard := text(), p.copied(t, "guard")
+		newest := p.holds(t, on, register.Register)
+		_, err := there.Submit(ctx, entryOf(100))
+		wants(t, err, log.ErrStore)
+		// (so long, that it isn't the register's own word that nothing was decided meanwhile)
 		time.Sleep(mostUnheard)
-		must(t, register.Register.Swap(ctx, newest, old))
-		p.putBack(t, oldGuard, "guard")
+		p.goesBack(t, on, register.Register, old)
 		register.on.Store(false)
 		eventually(t, "it sees that it was set back", func() bool { return strings.Contains(there.Figures().Fault, ErrSetBack.Error()) })
-		_, err := there.Submit(ctx, entryOf(100))
+		_, err = there.Submit(ctx, entryOf(100))
 		wants(t, err, log.ErrStore, ErrSetBack)
-		must(t, register.Register.Swap(ctx, old, newest))
-		p.putBack(t, newestGuard, "guard")
+		// Nothing was decided over it.
+		if p.holds(t, on, register.Register).text != old.text {
+			t.Error("the register was swapped")
+		}
+		if report := p.rightTwice(t, got); report.Leaves != 40 {
+			t.Fatalf("%+v", report)
+		}
+		p.goesBack(t, on, register.Register, newest)
 		comesBack(t, there, got, 41)
 		if report := p.rightTwice(t, got); report.Leaves != 41 {
 			t.Fatalf("%+v", report)
@@ -151,45 +147,49 @@ func TestPartedOnEach(t *testing.T) {
 	})
 }
 
-// TestPausedNode stops a node between its reading the register and its swap, while another one goes on and the register is put back: what it
-// decides is published and signed by nobody. No clock says so: the machine may have slept. Where the register comes back, it goes on.
+// TestPausedNode stops a node between its reading the register and its swap, while another one goes on and the register is put back, on each ground
+// that is there: what it decides is published and signed by nobody. No clock says so: the machine may have slept. Where the register comes back, it
+// goes on.
 func TestPausedNode(t *testing.T) {
 	t.Parallel()
-	p, ctx, got := newPlace(t), limited(t), &answers{}
-	here := started(t, p.notHere(t), hooks{})
-	must(t, got.submitAll(ctx, here, 0, 10, 4))
-	stopped, goes := make(chan struct{}), make(chan struct{})
-	var stops atomic.Bool
-	var once sync.Once
-	there := started(t, p.notHere(t), hooks{phase: func(name string) {
-		if name == "bundle put" && stops.Load() {
-			once.Do(func() { close(stopped); <-goes })
+	onEach(t, func(t *testing.T, on ground) {
+		p, ctx, got := newPlaceOn(t, on), limited(t), &answers{}
+		here := started(t, p.notHere(t), hooks{})
+		must(t, got.submitAll(ctx, here, 0, 10, 4))
+		stopped, goes := make(chan struct{}), make(chan struct{})
+		var stops atomic.Bool
+		var once sync.Once
+		config := p.notHere(t)
+		config.Patience = time.Second
+		there := started(t, config, hooks{phase: func(name string) {
+			if name == "bundle put" && stops.Load() {
+				once.Do(func() { close(stopped); <-goes })
+			}
+		}})
+		must(t, got.submitAll(ctx, there, 10, 20, 4))
+		old := p.holds(t, on, config.Register)
+		stops.Store(true)
+		told := make(chan error, 1)
+		go func() {
+			_, err := there.Submit(ctx, entryOf(100))
+			told <- err
+		}()
+		<-stopped
+		must(t, got.submitAll(ctx, here, 20, 40, 4))
+		must(t, here.End(ctx))
+		newest, before := p.holds(t, on, config.Register), headsIn(t, p)
+		p.goesBack(t, on, config.Register, old)
+		close(goes)
+		wants(t, <-told, log.ErrStore, ErrSetBack)
+		if after := headsIn(t, p); after != before {
+			t.Errorf("heads %v, and before %v", after, before)
 		}
-	}})
-	must(t, got.submitAll(ctx, there, 10, 20, 4))
-	old := p.copied(t, "register", "guard")
-	stops.Store(true)
-	told := make(chan error, 1)
-	go func() {
-		_, err := there.Submit(ctx, entryOf(100))
-		told <- err
-	}()
-	<-stopped
-	must(t, got.submitAll(ctx, here, 20, 40, 4))
-	must(t, here.End(ctx))
-	newest := p.copied(t, "register", "guard")
-	before := headsOf(t, p)
-	p.putBack(t, old, "register", "guard")
-	close(goes)
-	wants(t, <-told, log.ErrStore, ErrSetBack)
-	if after := headsOf(t, p); strings.Join(after, " ") != strings.Join(before, " ") {
-		t.Errorf("heads %v, and before %v", after, before)
-	}
-	p.putBack(t, newest, "register", "guard")
-	comesBack(t, there, got, 41)
-	if report := p.rightTwice(t, got); report.Leaves != 41 {
-		t.Fatalf("%+v", report)
-	}
+		p.goesBack(t, on, config.Register, newest)
+		comesBack(t, there, got, 41)
+		if report := p.rightTwice(t, got); report.Leaves != 41 {
+			t.Fatalf("%+v", report)
+		}
+	})
 }
 
 // TestOutgrown has a second history, of a node that knew nothing of the first one, outgrow it in all stores: a node that saw the first one
@@ -485,57 +485,6 @@ func headsIn(t *testing.T, p place) string {
 	names, err := p.config(t).Objects.List(limited(t), headsPrefix, "", stores.MostListed)
 	must(t, err)
 	return strings.Join(names, " ")
-}
-
-// TestPausedOnEach is TestPausedNode on each ground that is there, with the register's text alone put back beside the guard's state.
-func TestPausedOnEach(t *testing.T) {
-	t.Parallel()
-	onEach(t, func(t *testing.T, on ground) {
-		p, ctx, got := newPlaceOn(t, on), limited(t), &answers{}
-		here := started(t, p.notHere(t), hooks{})
-		must(t, got.submitAll(ctx, here, 0, 10, 4))
-		stopped, goes := make(chan struct{}), make(chan struct{})
-		var stops atomic.Bool
-		var once sync.Once
-		config := p.notHere(t)
-		config.Patience = time.Second
-		there := started(t, config, hooks{phase: func(name string) {
-			if name == "bundle put" && stops.Load() {
-				once.Do(func() { close(stopped); <-goes })
-			}
-		}})
-		must(t, got.submitAll(ctx, there, 10, 20, 4))
-		text := func() string {
-			t.Helper()
-			text, err := config.Register.Read(ctx)
-			must(t, err)
-			return text
-		}
-		old, oldGuard := text(), p.copied(t, "guard")
-		stops.Store(true)
-		told := make(chan error, 1)
-		go func() {
-			_, err := there.Submit(ctx, entryOf(100))
-			told <- err
-		}()
-		<-stopped
-		must(t, got.submitAll(ctx, here, 20, 40, 4))
-		must(t, here.End(ctx))
-		newest, newestGuard, before := text(), p.copied(t, "guard"), headsIn(t, p)
-		must(t, config.Register.Swap(ctx, newest, old))
-		p.putBack(t, oldGuard, "guard")
-		close(goes)
-		wants(t, <-told, log.ErrStore, ErrSetBack)
-		if after := headsIn(t, p); after != before {
-			t.Errorf("heads %v, and before %v", after, before)
-		}
-		must(t, config.Register.Swap(ctx, text(), newest))
-		p.putBack(t, newestGuard, "guard")
-		comesBack(t, there, got, 41)
-		if report := p.rightTwice(t, got); report.Leaves != 41 {
-			t.Fatalf("%+v", report)
-		}
-	})
 }
 
 // TestOutgrownOnEach is TestOutgrown on each engine that is there: another log's stores are made of copies, their history outgrows the first one's, and what

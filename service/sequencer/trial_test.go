@@ -33,6 +33,7 @@ import (
 	"wagtenib/service/signer"
 	"wagtenib/service/step"
 	"wagtenib/service/stores"
+	"wagtenib/service/trial"
 )
 
 const (
@@ -42,28 +43,9 @@ const (
 	stepsFile = "../../tests/tiles/step.py"
 )
 
-func must(t testing.TB, err error) {
-	t.Helper()
-	if err != nil {
-		t.Fatal(err)
-	}
-}
+var must, wants = trial.Must, trial.Wants
 
-// wants sees that an error is all of these.
-func wants(t testing.TB, err error, kinds ...error) {
-	t.Helper()
-	for _, kind := range kinds {
-		if !errors.Is(err, kind) {
-			t.Fatalf("%v isn't: %v", err, kind)
-		}
-	}
-}
-
-func limited(t testing.TB) context.Context {
-	ctx, cancel := context.WithTimeout(context.Background(), longest)
-	t.Cleanup(cancel)
-	return ctx
-}
+func limited(t testing.TB) context.Context { return trial.Limited(t, longest) }
 
 // place is a folder with a log's key and, where no file in it says otherwise, all that the log stands on.
 type place string

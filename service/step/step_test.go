@@ -11,17 +11,14 @@ import (
 	"strings"
 	"testing"
 	"time"
+
+	"wagtenib/service/trial"
 )
 
 // program is a second program beside the proved one, with the same lines.
 var program = []string{"python3", "../../tests/tiles/step.py", "--origin", "log.example/tried"}
 
-func must(t *testing.T, err error) {
-	t.Helper()
-	if err != nil {
-		t.Fatal(err)
-	}
-}
+var must = trial.Must
 
 func client(t *testing.T, limit time.Duration, command ...string) *Client {
 	t.Helper()
@@ -31,11 +28,7 @@ func client(t *testing.T, limit time.Duration, command ...string) *Client {
 	return c
 }
 
-func within(t *testing.T) context.Context {
-	ctx, cancel := context.WithTimeout(context.Background(), 10*time.Minute)
-	t.Cleanup(cancel)
-	return ctx
-}
+func within(t *testing.T) context.Context { return trial.Limited(t, 10*time.Minute) }
 
 // TestSteps makes two steps, from nothing and over an edge, and reads the second one's bundle both ways.
 func TestSteps(t *testing.T) {

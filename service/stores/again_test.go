@@ -68,7 +68,7 @@ func whileEnginesDie(t *testing.T, engine string, write writer) (acknowledged in
 }
 
 // inTurn runs a test on every engine that can be killed, one after the other.
-func inTurn[T interface{ Close() error }](t *testing.T, all []implementation[T], test func(t *testing.T, at trial[T])) {
+func inTurn[T interface{ Close() error }](t *testing.T, all []implementation[T], test func(t *testing.T, at tried[T])) {
 	for _, one := range all {
 		if one.folder || one.inMemory {
 			continue
@@ -80,13 +80,13 @@ func inTurn[T interface{ Close() error }](t *testing.T, all []implementation[T],
 			if testing.Short() {
 				t.Skip("engines aren't killed in a short run")
 			}
-			test(t, trial[T]{one, "suite-" + chance()})
+			test(t, tried[T]{one, "suite-" + chance()})
 		})
 	}
 }
 
 func TestObjectsOutliveTheirEngine(t *testing.T) {
-	inTurn(t, objectStores, func(t *testing.T, at trial[Objects]) {
+	inTurn(t, objectStores, func(t *testing.T, at tried[Objects]) {
 		store, ctx := at.opened(t), limited(t)
 		last := whileEnginesDie(t, at.name, func(ctx context.Context, i int) error {
 			return store.Put(ctx, objectName(i), objectContent(i))
@@ -100,7 +100,7 @@ func TestObjectsOutliveTheirEngine(t *testing.T) {
 }
 
 func TestRegisterOutlivesItsEngine(t *testing.T) {
-	inTurn(t, registers, func(t *testing.T, at trial[Register]) {
+	inTurn(t, registers, func(t *testing.T, at tried[Register]) {
 		register, ctx := at.opened(t), limited(t)
 		must(t, register.Create(ctx, "text 0"))
 		tries := 0
@@ -133,7 +133,7 @@ func TestRegisterOutlivesItsEngine(t *testing.T) {
 }
 
 func TestPlacesOutliveTheirEngine(t *testing.T) {
-	inTurn(t, identityStores, func(t *testing.T, at trial[Places]) {
+	inTurn(t, identityStores, func(t *testing.T, at tried[Places]) {
 		store := at.opened(t)
 		last := whileEnginesDie(t, at.name, func(ctx context.Context, i int) error {
 			_, all, _ := someOf(perWrite*i, perWrite*(i+1))

@@ -15,6 +15,8 @@ import (
 	"github.com/minio/minio-go/v7"
 	"github.com/minio/minio-go/v7/pkg/credentials"
 	"go.etcd.io/etcd/clientv3"
+
+	"wagtenib/service/trial"
 )
 
 // The engines that service/engines.sh started, as it tells them; empty where it didn't.
@@ -126,14 +128,14 @@ func withLeaves(identities []implementation[Places]) []implementation[Places] {
 	return all
 }
 
-// trial is one store under test: where it lies, and how it is opened again.
-type trial[T interface{ Close() error }] struct {
+// tried is one store under test: where it lies, and how it is opened again.
+type tried[T interface{ Close() error }] struct {
 	implementation[T]
 	place string
 }
 
 // eachOf runs a test on every implementation whose engine is there.
-func eachOf[T interface{ Close() error }](t *testing.T, all []implementation[T], test func(t *testing.T, at trial[T])) {
+func eachOf[T interface{ Close() error }](t *testing.T, all []implementation[T], test func(t *testing.T, at tried[T])) {
 	for _, one := range all {
 		one := one
 		t.Run(one.name, func(t *testing.T) {
@@ -145,13 +147,13 @@ func eachOf[T interface{ Close() error }](t *testing.T, all []implementation[T],
 			if one.folder {
 				place = filepath.Join(t.TempDir(), "store")
 			}
-			test(t, trial[T]{one, place})
+			test(t, tried[T]{one, place})
 		})
 	}
 }
 
 // opened opens the store, once more with each call.
-func (at trial[T]) opened(t *testing.T) T {
+func (at tried[T]) opened(t *testing.T) T {
 	t.Helper()
 	store, err := at.open(limited(t), at.place)
 	if err != nil {
@@ -162,11 +164,7 @@ func (at trial[T]) opened(t *testing.T) T {
 }
 
 // limited is a context within which any call of the suite has to end.
-func limited(t testing.TB) context.Context {
-	ctx, cancel := context.WithTimeout(context.Background(), time.Minute)
-	t.Cleanup(cancel)
-	return ctx
-}
+func limited(t testing.TB) context.Context { return trial.Limited(t, time.Minute) }
 
 func chance() string {
 	var bytes [8]byte
@@ -176,13 +174,7 @@ func chance() string {
 	return hex.EncodeToString(bytes[:])
 }
 
-// must fails the test at an error.
-func must(t testing.TB, err error) {
-	t.Helper()
-	if err != nil {
-		t.Fatal(err)
-	}
-}
+var must = trial.Must
 
 // each calls do at once in so many goroutines, and gives their errors.
 func each(many int, do func(i int) error) []error {

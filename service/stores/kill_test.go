@@ -122,7 +122,7 @@ func killing(t *testing.T, kind, name, place string, first int) (last int) {
 const kills = 8
 
 func TestObjectsOutliveKills(t *testing.T) {
-	eachOf(t, objectStores, func(t *testing.T, at trial[Objects]) {
+	eachOf(t, objectStores, func(t *testing.T, at tried[Objects]) {
 		if at.inMemory {
 			t.Skip("what it keeps ends with the process")
 		}
@@ -144,7 +144,7 @@ func TestObjectsOutliveKills(t *testing.T) {
 }
 
 func TestRegisterOutlivesKills(t *testing.T) {
-	eachOf(t, registers, func(t *testing.T, at trial[Register]) {
+	eachOf(t, registers, func(t *testing.T, at tried[Register]) {
 		ctx, last := limited(t), 0
 		must(t, at.opened(t).Create(ctx, "text 0"))
 		for kill := 0; kill < kills; kill++ {
@@ -164,7 +164,7 @@ func TestRegisterOutlivesKills(t *testing.T) {
 }
 
 func TestPlacesOutliveKills(t *testing.T) {
-	eachOf(t, placeStores, func(t *testing.T, at trial[Places]) {
+	eachOf(t, placeStores, func(t *testing.T, at tried[Places]) {
 		at.opened(t)
 		last := 0
 		for kill := 0; kill < kills; kill++ {

@@ -17,7 +17,7 @@ import (
 const manyBytes = 1 << 20
 
 func TestObjectsHaveOneContent(t *testing.T) {
-	eachOf(t, objectStores, func(t *testing.T, at trial[Objects]) {
+	eachOf(t, objectStores, func(t *testing.T, at tried[Objects]) {
 		store, ctx := at.opened(t), limited(t)
 		if _, err := store.Get(ctx, "tile/0/000", manyBytes); !errors.Is(err, ErrAbsent) {
 			t.Fatalf("Get before Put: %v", err)
@@ -69,7 +69,7 @@ var wrongNames = []string{
 }
 
 func TestObjectsRefuseWrongNames(t *testing.T) {
-	eachOf(t, objectStores, func(t *testing.T, at trial[Objects]) {
+	eachOf(t, objectStores, func(t *testing.T, at tried[Objects]) {
 		store, ctx := at.opened(t), limited(t)
 		for _, name := range wrongNames {
 			if err := store.Put(ctx, name, []byte("x")); !errors.Is(err, ErrName) {
@@ -103,7 +103,7 @@ func TestObjectsRefuseWrongNames(t *testing.T) {
 }
 
 func TestObjectsAreListedInOrder(t *testing.T) {
-	eachOf(t, objectStores, func(t *testing.T, at trial[Objects]) {
+	eachOf(t, objectStores, func(t *testing.T, at tried[Objects]) {
 		store, ctx := at.opened(t), limited(t)
 		// Where a slash stands among other bytes, the order of names isn't that of folders.
 		names := []string{"h/a-b", "h/a.b", "h/a/c", "h/a/c-d/e", "h/a/d/e", "h/a0", "h/ab/c", "h/A", "h/_", "h/0", "h/00", "h/z/z/z/z", "i/a", "g"}
@@ -181,7 +181,7 @@ func TestFolderListsBehindEmptyFolders(t *testing.T) {
 }
 
 func TestObjectsOfManyAtOnce(t *testing.T) {
-	eachOf(t, objectStores, func(t *testing.T, at trial[Objects]) {
+	eachOf(t, objectStores, func(t *testing.T, at tried[Objects]) {
 		stores := []Objects{at.opened(t), at.opened(t)}
 		ctx, start := limited(t), time.Now()
 		const rounds = 8
@@ -222,7 +222,7 @@ func tryOneWins(t *testing.T, stores []Objects, name string) {
 }
 
 func TestObjectsEndWithTheirContext(t *testing.T) {
-	eachOf(t, objectStores, func(t *testing.T, at trial[Objects]) {
+	eachOf(t, objectStores, func(t *testing.T, at tried[Objects]) {
 		store := at.opened(t)
 		ended, cancel := context.WithCancel(limited(t))
 		cancel()

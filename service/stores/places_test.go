@@ -37,7 +37,7 @@ func finds(t *testing.T, store Places, identities []Identity, want map[Identity]
 }
 
 func TestPlacesAreFound(t *testing.T) {
-	eachOf(t, placeStores, func(t *testing.T, at trial[Places]) {
+	eachOf(t, placeStores, func(t *testing.T, at tried[Places]) {
 		store, ctx := at.opened(t), limited(t)
 		asked, all, want := someOf(0, 1200)
 		finds(t, store, asked, map[Identity]Place{})
@@ -57,7 +57,7 @@ func TestPlacesAreFound(t *testing.T) {
 }
 
 func TestPlacesKeepTheFirst(t *testing.T) {
-	eachOf(t, placeStores, func(t *testing.T, at trial[Places]) {
+	eachOf(t, placeStores, func(t *testing.T, at tried[Places]) {
 		store, ctx := at.opened(t), limited(t)
 		first, later := Placed{identity(0), Place{5, 50}}, Placed{identity(0), Place{9, 90}}
 		must(t, store.Add(ctx, []Placed{first, later, placed(1)}))
@@ -74,7 +74,7 @@ func TestPlacesKeepTheFirst(t *testing.T) {
 
 // TestPlacesAreReplaced: a place is set whatever stood there, of a list's the first, and no other is touched.
 func TestPlacesAreReplaced(t *testing.T) {
-	eachOf(t, placeStores, func(t *testing.T, at trial[Places]) {
+	eachOf(t, placeStores, func(t *testing.T, at tried[Places]) {
 		store, ctx := at.opened(t), limited(t)
 		must(t, store.Add(ctx, []Placed{placed(0), placed(1)}))
 		must(t, store.Replace(ctx, nil))
@@ -97,7 +97,7 @@ func TestPlacesAreReplaced(t *testing.T) {
 }
 
 func TestPlacesHaveBounds(t *testing.T) {
-	eachOf(t, placeStores, func(t *testing.T, at trial[Places]) {
+	eachOf(t, placeStores, func(t *testing.T, at tried[Places]) {
 		store, ctx := at.opened(t), limited(t)
 		asked, all, want := someOf(0, MostPlaces+1)
 		if err := store.Add(ctx, all); !errors.Is(err, ErrTooLong) {
@@ -129,7 +129,7 @@ func TestPlacesHaveBounds(t *testing.T) {
 // TestPlacesOfManyAtOnce has 16 add the same identities at other places, in other orders: each keeps one that was said, and
 // the same for all readers from the first on.
 func TestPlacesOfManyAtOnce(t *testing.T) {
-	eachOf(t, placeStores, func(t *testing.T, at trial[Places]) {
+	eachOf(t, placeStores, func(t *testing.T, at tried[Places]) {
 		stores, ctx := []Places{at.opened(t), at.opened(t)}, limited(t)
 		const many = 40
 		asked, _, _ := someOf(0, many)
@@ -164,11 +164,11 @@ func TestPlacesOfManyAtOnce(t *testing.T) {
 
 // TestLogsAreApart: two logs in one engine don't see one another.
 func TestLogsAreApart(t *testing.T) {
-	eachOf(t, placeStores, func(t *testing.T, at trial[Places]) {
+	eachOf(t, placeStores, func(t *testing.T, at tried[Places]) {
 		if at.folder {
 			t.Skip("a folder has one log")
 		}
-		one, other := at.opened(t), trial[Places]{at.implementation, at.place + "-other"}.opened(t)
+		one, other := at.opened(t), tried[Places]{at.implementation, at.place + "-other"}.opened(t)
 		must(t, one.Add(limited(t), []Placed{placed(1)}))
 		finds(t, other, []Identity{identity(1)}, map[Identity]Place{})
 	})
@@ -176,7 +176,7 @@ func TestLogsAreApart(t *testing.T) {
 
 // TestLeavesAreApart: what is known of identities isn't known of leaves, and the other way round.
 func TestLeavesAreApart(t *testing.T) {
-	eachOf(t, identityStores, func(t *testing.T, at trial[Places]) {
+	eachOf(t, identityStores, func(t *testing.T, at tried[Places]) {
 		store := at.opened(t)
 		leaves := store.Leaves()
 		must(t, store.Add(limited(t), []Placed{placed(1), placed(2)}))

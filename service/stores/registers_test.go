@@ -40,7 +40,7 @@ func isPublished(t *testing.T, register Register, published Published) {
 }
 
 func TestRegisterIsCreatedOnce(t *testing.T) {
-	eachOf(t, registers, func(t *testing.T, at trial[Register]) {
+	eachOf(t, registers, func(t *testing.T, at tried[Register]) {
 		register, ctx := at.opened(t), limited(t)
 		_, reading := register.Read(ctx)
 		_, asking := register.Published(ctx)
@@ -162,7 +162,7 @@ func TestReadingWaitsForNobody(t *testing.T) {
 }
 
 func TestRegisterSwapsTheTextThatWasRead(t *testing.T) {
-	eachOf(t, registers, func(t *testing.T, at trial[Register]) {
+	eachOf(t, registers, func(t *testing.T, at tried[Register]) {
 		register, ctx := at.opened(t), limited(t)
 		must(t, register.Create(ctx, "a"))
 		must(t, register.Swap(ctx, "a", "b"))
@@ -192,7 +192,7 @@ func TestRegisterSwapsTheTextThatWasRead(t *testing.T) {
 }
 
 func TestRegisterLetsOneOfManyWin(t *testing.T) {
-	eachOf(t, registers, func(t *testing.T, at trial[Register]) {
+	eachOf(t, registers, func(t *testing.T, at tried[Register]) {
 		ctx := limited(t)
 		var handles []Register
 		for i := 0; i < 16; i++ {
@@ -226,7 +226,7 @@ func TestRegisterLetsOneOfManyWin(t *testing.T) {
 }
 
 func TestRegisterHasOneHistory(t *testing.T) {
-	eachOf(t, registers, func(t *testing.T, at trial[Register]) {
+	eachOf(t, registers, func(t *testing.T, at tried[Register]) {
 		const many, swaps = 16, 5
 		ctx, register := limited(t), at.opened(t)
 		must(t, register.Create(ctx, "start 0"))
@@ -277,7 +277,7 @@ func TestRegisterHasOneHistory(t *testing.T) {
 }
 
 func TestPublishedNeverFalls(t *testing.T) {
-	eachOf(t, registers, func(t *testing.T, at trial[Register]) {
+	eachOf(t, registers, func(t *testing.T, at tried[Register]) {
 		ctx, register, other := limited(t), at.opened(t), at.opened(t)
 		must(t, register.Create(ctx, "a"))
 		const many, raises = 15, 8
@@ -349,7 +349,7 @@ func watch(ctx context.Context, register Register, until chan struct{}) error {
 // TestRegisterSettlesByReading has swaps whose context ends at any moment. Whatever they say, the text that stands is the old
 // one or theirs; it is theirs where they say nil; and one that has lost never stands later.
 func TestRegisterSettlesByReading(t *testing.T) {
-	eachOf(t, registers, func(t *testing.T, at trial[Register]) {
+	eachOf(t, registers, func(t *testing.T, at tried[Register]) {
 		ctx, register := limited(t), at.opened(t)
 		must(t, register.Create(ctx, "text 0"))
 		start := time.Now()
@@ -387,7 +387,7 @@ func TestRegisterSettlesByReading(t *testing.T) {
 }
 
 func TestRegisterEndsWithItsContext(t *testing.T) {
-	eachOf(t, registers, func(t *testing.T, at trial[Register]) {
+	eachOf(t, registers, func(t *testing.T, at tried[Register]) {
 		register := at.opened(t)
 		must(t, register.Create(limited(t), "text"))
 		ended, cancel := context.WithCancel(limited(t))

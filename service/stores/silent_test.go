@@ -49,19 +49,19 @@ func whilePaused(t *testing.T, engine string, call func(ctx context.Context) err
 }
 
 func TestSilentEngines(t *testing.T) {
-	inTurn(t, registers, func(t *testing.T, at trial[Register]) {
+	inTurn(t, registers, func(t *testing.T, at tried[Register]) {
 		register := at.opened(t)
 		must(t, register.Create(limited(t), "text"))
 		whilePaused(t, at.name, func(ctx context.Context) error { return register.Raise(ctx, Published{Size: 5}) })
 		whilePaused(t, at.name, func(ctx context.Context) error { return register.Swap(ctx, "text", "other text") })
 		whilePaused(t, at.name, func(ctx context.Context) error { _, err := register.Read(ctx); return err })
 	})
-	inTurn(t, identityStores, func(t *testing.T, at trial[Places]) {
+	inTurn(t, identityStores, func(t *testing.T, at tried[Places]) {
 		store := at.opened(t)
 		whilePaused(t, at.name, func(ctx context.Context) error { return store.Add(ctx, []Placed{placed(1)}) })
 		whilePaused(t, at.name, func(ctx context.Context) error { _, err := store.Find(ctx, []Identity{identity(1)}); return err })
 	})
-	inTurn(t, objectStores, func(t *testing.T, at trial[Objects]) {
+	inTurn(t, objectStores, func(t *testing.T, at tried[Objects]) {
 		store := at.opened(t)
 		whilePaused(t, at.name, func(ctx context.Context) error { return store.Put(ctx, "a", []byte("x")) })
 		whilePaused(t, at.name, func(ctx context.Context) error { _, err := store.Get(ctx, "a", 9); return err })

@@ -25,6 +25,7 @@ import (
 
 	"wagtenib/service/signer"
 	"wagtenib/service/stores"
+	"wagtenib/service/trial"
 )
 
 // model is a second program beside the proved one, with the same lines; built is where that one is, once it is built.
@@ -50,18 +51,9 @@ func decider() []string {
 	return model
 }
 
-func must(t testing.TB, err error) {
-	t.Helper()
-	if err != nil {
-		t.Fatal(err)
-	}
-}
+var must = trial.Must
 
-func limited(t testing.TB) context.Context {
-	ctx, cancel := context.WithTimeout(context.Background(), 2*time.Minute)
-	t.Cleanup(cancel)
-	return ctx
-}
+func limited(t testing.TB) context.Context { return trial.Limited(t, 2*time.Minute) }
 
 const origin = "log.example/1"
 
