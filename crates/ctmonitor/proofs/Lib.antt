@@ -12,4 +12,3 @@ pub mod Fitting
 pub mod PlainTexts
 pub mod TextRuns
 pub mod CutRuns
-pub mod BrokenOff

@@ -1,31 +1,33 @@
 -- How the words of the command line are read, one after the other.
 use Rattle.std.proofs.Common.{◌≡◌, ◌∙◌, refl, ap, sym, subst, Bool, true, false, if◌then◌else◌, ℕ, List, [], ◌∷◌, ◌++◌, map, codes}
-use Rattle.std.specs.Prelude.{◌||◌, bytes_eq, IfOk, Result, Ok, Err}
+use Rattle.std.specs.Prelude.{◌||◌, bytes_eq, IfOk, Result, Ok, Err, Vec, String}
+use Rattle.std.specs.Global.{Global}
 use Rattle.std.specs.Char.{to_ascii_lowercase}
-use Rattle.ctmonitor.specs.CommandWords.{MonitorCall, watching, usage, version, no_such_word, no_name, with_name, asked_alone, call_made, monitor_call}
-use Rattle.ctmonitor.specs.declared.command.Command.{Command}
+use Rattle.line_program.specs.Calls.{AskedFor, asks_run, asks_help, asks_version, asks_unfit, asked_by_call}
+use Rattle.line_program.specs.declared.call.Call.{Call}
+use Rattle.ctmonitor.specs.CommandWords.{refusal_text, unnamed_text, with_name, asked_alone, monitor_call, names_told}
 
 -- the same with these names more, before the others
-abbrev pub with_names : List (List ℕ) → MonitorCall → MonitorCall
+abbrev pub with_names : List (List ℕ) → AskedFor (List (List ℕ)) → AskedFor (List (List ℕ))
 with_names [] call = call
 with_names (name ∷ names) call = with_name name (with_names names call)
 
 -- what the words ask for; where `--name` stands before them, the first is a name
-abbrev pub call_behind : Bool → List (List ℕ) → MonitorCall
+abbrev pub call_behind : Bool → List (List ℕ) → AskedFor (List (List ℕ))
 call_behind false words = monitor_call words
-call_behind true [] = no_name
+call_behind true [] = asks_unfit unnamed_text
 call_behind true (name ∷ words) = with_name (map to_ascii_lowercase name) (monitor_call words)
 
-pub one_name_more : (names : List (List ℕ)) (name : List ℕ) (call : MonitorCall)
+pub one_name_more : (names : List (List ℕ)) (name : List ℕ) (call : AskedFor (List (List ℕ)))
     → with_names (names ++ name ∷ []) call ≡ with_names names (with_name name call)
 one_name_more [] name call = refl
 one_name_more (n ∷ names) name call = ap (with_name n) (one_name_more names name call)
 
-pub names_watched : (names : List (List ℕ)) → with_names names (watching []) ≡ watching names
+pub names_watched : (names : List (List ℕ)) → with_names names (asks_run []) ≡ asks_run names
 names_watched [] = refl
 names_watched (n ∷ names) = ap (with_name n) (names_watched names)
 
-pub names_unnamed : (names : List (List ℕ)) → with_names names no_name ≡ no_name
+pub names_unnamed : (names : List (List ℕ)) → with_names names (asks_unfit unnamed_text) ≡ asks_unfit unnamed_text
 names_unnamed [] = refl
 names_unnamed (n ∷ names) = ap (with_name n) (names_unnamed names)
 
@@ -33,8 +35,8 @@ names_unnamed (n ∷ names) = ap (with_name n) (names_unnamed names)
 alone_unused : (name word : List ℕ) → with_name name (asked_alone word) ≡ asked_alone word
 alone_unused name word = at (bytes_eq word (codes "-h") || bytes_eq word (codes "--help")) (bytes_eq word (codes "-V") || bytes_eq word (codes "--version"))
   where
-    at : (h v : Bool) → with_name name (if h then usage else (if v then version else no_such_word word))
-        ≡ (if h then usage else (if v then version else no_such_word word))
+    at : (h v : Bool) → with_name name (if h then asks_help else (if v then asks_version else asks_unfit (refusal_text word)))
+        ≡ (if h then asks_help else (if v then asks_version else asks_unfit (refusal_text word)))
     at true v = refl
     at false true = refl
     at false false = refl
@@ -45,13 +47,13 @@ names_unused (n ∷ names) word = ap (with_name n) (names_unused names word) ∙
 
 pub name_next : (word : List ℕ) (words : List (List ℕ)) → bytes_eq word (codes "--name") ≡ true
     → monitor_call (word ∷ words) ≡ call_behind true words
-name_next word [] e = ap (λ (b : Bool). if b then no_name else asked_alone word) e
+name_next word [] e = ap (λ (b : Bool). if b then asks_unfit unnamed_text else asked_alone word) e
 name_next word (name ∷ words) e =
     ap (λ (b : Bool). if b then with_name (map to_ascii_lowercase name) (monitor_call words) else asked_alone word) e
 
 pub not_named : (word : List ℕ) (words : List (List ℕ)) → bytes_eq word (codes "--name") ≡ false
     → monitor_call (word ∷ words) ≡ asked_alone word
-not_named word [] e = ap (λ (b : Bool). if b then no_name else asked_alone word) e
+not_named word [] e = ap (λ (b : Bool). if b then asks_unfit unnamed_text else asked_alone word) e
 not_named word (name ∷ words) e =
     ap (λ (b : Bool). if b then with_name (map to_ascii_lowercase name) (monitor_call words) else asked_alone word) e
 
@@ -71,11 +73,11 @@ stands_as names seen is_value known left words stands n e =
 
 -- none is left
 pub ends_unnamed : (names words : List (List ℕ)) (is_value : Bool) (left : List (List ℕ)) → Stands names is_value left words → is_value ≡ true → left ≡ []
-    → no_name ≡ monitor_call words
+    → asks_unfit unnamed_text ≡ monitor_call words
 ends_unnamed names words is_value left stands e l = sym (names_unnamed names) ∙ as_left names words is_value true left [] stands e l
 
 pub ends_watching : (names words : List (List ℕ)) (is_value : Bool) (left : List (List ℕ)) → Stands names is_value left words → is_value ≡ false → left ≡ []
-    → watching names ≡ monitor_call words
+    → asks_run names ≡ monitor_call words
 ends_watching names words is_value left stands e l = sym (names_watched names) ∙ as_left names words is_value false left [] stands e l
 
 -- one word is read
@@ -95,8 +97,8 @@ pub reads_other : (names words : List (List ℕ)) (is_value : Bool) (left more :
 reads_other names words is_value left more word stands e l named =
     sym (ap (with_names names) (not_named word more named) ∙ names_unused names word) ∙ as_left names words is_value false left (word ∷ more) stands e l
 
--- and the command is what it asks for
-pub ends_alone : {E : Type 0} (r : Result Command E) (word : List ℕ) (words : List (List ℕ)) → IfOk r (λ c. call_made c ≡ asked_alone word)
-    → asked_alone word ≡ monitor_call words → IfOk r (λ c. call_made c ≡ monitor_call words)
-ends_alone (Ok c) word words made same = made ∙ same
-ends_alone (Err e) word words made same = made
+-- and the command is what they ask for
+pub ends_as : {E : Type 0} (r : Result (Call (Vec (String Global) Global)) E) (known : AskedFor (List (List ℕ))) (words : List (List ℕ))
+    → IfOk r (λ c. asked_by_call names_told c ≡ known) → known ≡ monitor_call words → IfOk r (λ c. asked_by_call names_told c ≡ monitor_call words)
+ends_as (Ok c) known words made same = made ∙ same
+ends_as (Err e) known words made same = made

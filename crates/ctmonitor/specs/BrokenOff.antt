@@ -1,9 +1,7 @@
 -- What a run wrote that a fault broke off.
-use Rattle.std.specs.Prelude.{◌≡◌, ℕ, List}
+use Rattle.std.specs.Prelude.{ℕ, List}
 use Rattle.std.specs.declared.option.Option.{Option}
-use Rattle.json_lines.specs.Sends.{SendsSome}
 use Rattle.line_program.specs.Replied.{IsBroken}
-use Rattle.ctmonitor.specs.CommandWords.{MonitorCall, watching, usage, version, no_such_word, no_name, help_text, version_text}
 use Rattle.ctmonitor.specs.Watching.{monitor_gives, monitor_ends, IsUnbegun}
 use Rattle.ctmonitor.specs.declared.watch.Watch.{Watch}
 
@@ -13,11 +11,3 @@ use Rattle.ctmonitor.specs.declared.watch.Watch.{Watch}
 abbrev pub IsRunBroken : List (List ℕ) → Option (List ℕ) → Option (List ℕ) → Option (List ℕ) → Option (List ℕ) → Type 0
 IsRunBroken names source source_next sink sink_next =
     (new : Watch) × IsUnbegun names new × IsBroken monitor_gives monitor_ends new source source_next sink sink_next
-
--- What stands on the output where a fault broke off what the words ask for: a run as far as it came, or a beginning of help or of the version.
-abbrev pub IsCallBroken : MonitorCall → Option (List ℕ) → Option (List ℕ) → Option (List ℕ) → Type 0
-IsCallBroken (watching names) source sink sink_next = (source_next : Option (List ℕ)) × IsRunBroken names source source_next sink sink_next
-IsCallBroken usage source sink sink_next = SendsSome sink sink_next help_text
-IsCallBroken version source sink sink_next = SendsSome sink sink_next version_text
-IsCallBroken (no_such_word word) source sink sink_next = sink_next ≡ sink
-IsCallBroken no_name source sink sink_next = sink_next ≡ sink

@@ -1,49 +1,43 @@
 -- What the words of ctmonitor's command line ask for, the program's name left out: `[--name NAME]..`, `--help` or `--version`.
-use Rattle.std.specs.Prelude.{◌≡◌, ◌||◌, ◌++◌, ℕ, List, [], ◌∷◌, map, Option, Some, if◌then◌else◌, codes, string_bytes, bytes_eq}
+use Rattle.std.specs.Prelude.{◌||◌, ◌++◌, ℕ, List, [], ◌∷◌, map, Option, Some, if◌then◌else◌, codes, string_bytes, bytes_eq, Vec, String}
+use Rattle.std.specs.Global.{Global}
 use Rattle.std.specs.Char.{to_ascii_lowercase}
-use Rattle.std.specs.Io.KnownBytes.{Appends}
-use Rattle.json_lines.specs.Sends.{SendsSome}
+use Rattle.line_program.specs.Calls.{AskedFor, asks_run, asks_help, asks_version, asks_nothing, asks_unfit}
 use Rattle.ctmonitor.specs.Session.{IsRun, IsRunStatus}
-use Rattle.ctmonitor.specs.declared.command.Command.{Command}
-use Rattle.ctmonitor.specs.declared.command.Command.TheVariants.{Watch, Help, Version, Refused, Unnamed}
 
--- What a command line asks for: to watch with these names, help, the version, or nothing that there is, since there is no such word, or no
--- name behind `--name`.
-pub data MonitorCall : Type 0 where
-  watching : List (List ℕ) → MonitorCall
-  usage : MonitorCall
-  version : MonitorCall
-  no_such_word : List ℕ → MonitorCall
-  no_name : MonitorCall
+-- why the words are refused among which this one is
+abbrev pub refusal_text : List ℕ → List ℕ
+refusal_text word = codes "error: unexpected argument '" ++ word
+    ++ codes "' found\n\nUsage: ctmonitor [OPTIONS] < lines > verdicts\n\nFor more information, try '--help'.\n"
 
--- the same with one name more, before the others
-abbrev pub with_name : List ℕ → MonitorCall → MonitorCall
-with_name name (watching names) = watching (name ∷ names)
-with_name name usage = usage
-with_name name version = version
-with_name name (no_such_word word) = no_such_word word
-with_name name no_name = no_name
+-- why the words are refused of which the last is `--name`
+abbrev pub unnamed_text : List ℕ
+unnamed_text = codes "error: a value is required for '--name <NAME>' but none was supplied\n\nFor more information, try '--help'.\n"
+
+-- the names that the code watches
+abbrev pub names_told : Vec (String Global) Global → List (List ℕ)
+names_told names = map string_bytes names.items
+
+-- what words ask for, with one name more to watch, before the others
+abbrev pub with_name : List ℕ → AskedFor (List (List ℕ)) → AskedFor (List (List ℕ))
+with_name name (asks_run names) = asks_run (name ∷ names)
+with_name name asks_help = asks_help
+with_name name asks_version = asks_version
+with_name name asks_nothing = asks_nothing
+with_name name (asks_unfit text) = asks_unfit text
 
 -- what a word asks for that isn't `--name`: `-h` and `--help` for help, `-V` and `--version` for the version
-abbrev pub asked_alone : List ℕ → MonitorCall
-asked_alone word = if bytes_eq word (codes "-h") || bytes_eq word (codes "--help") then usage
-    else (if bytes_eq word (codes "-V") || bytes_eq word (codes "--version") then version else no_such_word word)
+abbrev pub asked_alone : List ℕ → AskedFor (List (List ℕ))
+asked_alone word = if bytes_eq word (codes "-h") || bytes_eq word (codes "--help") then asks_help
+    else (if bytes_eq word (codes "-V") || bytes_eq word (codes "--version") then asks_version else asks_unfit (refusal_text word))
 
 -- What the words ask for: `--name` takes the word behind it for a name, in small letters (ASCII), and the first word that is neither
 -- says what is asked for, whatever stands behind it.
-abbrev pub monitor_call : List (List ℕ) → MonitorCall
-monitor_call [] = watching []
-monitor_call (word ∷ []) = if bytes_eq word (codes "--name") then no_name else asked_alone word
+abbrev pub monitor_call : List (List ℕ) → AskedFor (List (List ℕ))
+monitor_call [] = asks_run []
+monitor_call (word ∷ []) = if bytes_eq word (codes "--name") then asks_unfit unnamed_text else asked_alone word
 monitor_call (word ∷ name ∷ words) =
     if bytes_eq word (codes "--name") then with_name (map to_ascii_lowercase name) (monitor_call words) else asked_alone word
-
--- the command that the code makes of it
-abbrev pub call_made : Command → MonitorCall
-call_made (Watch names) = watching (map string_bytes names.items)
-call_made Help = usage
-call_made Version = version
-call_made (Refused word) = no_such_word (string_bytes word)
-call_made Unnamed = no_name
 
 -- how the program is called, and what it does
 abbrev pub help_text : List ℕ
@@ -66,31 +60,10 @@ help_text = codes "Usage: ctmonitor [OPTIONS] < lines > verdicts\n"
     ++ codes "  3  an alarm: a verdict speaks against the log\n"
     ++ codes "  4  a line was none of a log's or was refused, or the state wasn't taken up\n"
 
--- the program's version
-abbrev pub version_text : List ℕ
-version_text = codes "ctmonitor 0.1.0\n"
-
--- why the words are refused among which this one is
-abbrev pub refusal_text : List ℕ → List ℕ
-refusal_text word = codes "error: unexpected argument '" ++ word
-    ++ codes "' found\n\nUsage: ctmonitor [OPTIONS] < lines > verdicts\n\nFor more information, try '--help'.\n"
-
--- why the words are refused of which the last is `--name`
-abbrev pub unnamed_text : List ℕ
-unnamed_text = codes "error: a value is required for '--name <NAME>' but none was supplied\n\nFor more information, try '--help'.\n"
-
 -- why the words are refused of which one isn't UTF-8
 abbrev pub unreadable_text : List ℕ
 unreadable_text = codes "error: an argument isn't UTF-8\n\nUsage: ctmonitor [OPTIONS] < lines > verdicts\n\nFor more information, try '--help'.\n"
 
--- What was done where the words ask for this, and the exit status: a run over the input was written; or help or the version on the
--- output, where they ask for that; or why they are refused among the faults, as far as it could be, where they ask for nothing.
-abbrev pub IsAnswered : MonitorCall → Option (List ℕ) → Option (List ℕ) → Option (List ℕ) → Option (List ℕ) → Option (List ℕ) → ℕ → Type 0
-IsAnswered (watching names) source sink sink_next faults faults_next status =
-    IsRun names source (Some []) sink sink_next status × IsRunStatus status × (faults_next ≡ faults)
-IsAnswered usage source sink sink_next faults faults_next status = (status ≡ 0) × Appends sink sink_next help_text × (faults_next ≡ faults)
-IsAnswered version source sink sink_next faults faults_next status = (status ≡ 0) × Appends sink sink_next version_text × (faults_next ≡ faults)
-IsAnswered (no_such_word word) source sink sink_next faults faults_next status =
-    (status ≡ 2) × (sink_next ≡ sink) × SendsSome faults faults_next (refusal_text word)
-IsAnswered no_name source sink sink_next faults faults_next status =
-    (status ≡ 2) × (sink_next ≡ sink) × SendsSome faults faults_next unnamed_text
+-- a run that watches these names came to its end, with this exit status
+abbrev pub IsWatched : List (List ℕ) → Option (List ℕ) → Option (List ℕ) → Option (List ℕ) → ℕ → Type 0
+IsWatched names source sink sink_next status = IsRun names source (Some []) sink sink_next status × IsRunStatus status

@@ -12,3 +12,4 @@ pub mod History
 pub mod CutRuns
 pub mod CommandWords
 pub mod BrokenOff
+pub mod Unbegun

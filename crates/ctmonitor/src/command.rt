@@ -1,36 +1,48 @@
-//! The command line: `ctmonitor [--name NAME]..`, `--help` or `--version`.
+//! The words of the command line: `ctmonitor [--name NAME]..`, `--help` or `--version`. They aren't read by `line_program`'s `read_words`, which has no
+//! `-V`, and says of each refusal how the program is called.
 
 ghost use Rattle.std.specs.Prelude.{◌≡◌, ◌++◌, codes, IfOk, map, string_bytes};
-ghost use Rattle.ctmonitor.specs.CommandWords.{asked_alone, call_made, monitor_call, refusal_text};
+ghost use Rattle.line_program.specs.Calls.{asked_by_call, asks_unfit};
+ghost use Rattle.ctmonitor.specs.CommandWords.{asked_alone, monitor_call, names_told, refusal_text, unnamed_text};
 
+use line_program::Call;
 use std::alloc::{AllocError, Global};
 
-// What the command line asks for.
-#[derive(Debug, Drop)]
-pub(crate) enum Command {
-    // To watch, with these names, in small letters.
-    Watch(Vec<String>),
-    // Help.
-    Help,
-    // The version.
-    Version,
-    // Nothing that there is: there is no such word.
-    Refused(String),
-    // Nothing that there is: no name stands behind `--name`.
-    Unnamed,
+// Why the words are refused among which this one is.
+fn refusal(alloc: Global, word: &str) -> Result<Vec<u8>, AllocError>
+    ensures { IfOk result (λ t. t.items ≡ refusal_text word.now) }
+{
+    let mut text = Vec::new(alloc);
+    text.extend_from_slice(b"error: unexpected argument '")?;
+    text.extend_from_slice(word.as_bytes())?;
+    text.extend_from_slice(
+        b"' found\n\nUsage: ctmonitor [OPTIONS] < lines > verdicts\n\nFor more information, try '--help'.\n",
+    )?;
+    Ok(text)
+}
+
+// That the words ask for nothing of which the last is `--name`.
+fn command_unnamed(alloc: Global) -> Result<Call<Vec<String>>, AllocError>
+    ensures { IfOk result (λ c. asked_by_call names_told c ≡ asks_unfit unnamed_text) }
+{
+    let mut text = Vec::new(alloc);
+    text.extend_from_slice(
+        b"error: a value is required for '--name <NAME>' but none was supplied\n\nFor more information, try '--help'.\n",
+    )?;
+    Ok(Call::Unfit(text))
 }
 
 // What a word asks for that isn't `--name`.
-fn command_alone(alloc: Global, word: &str) -> Result<Command, AllocError>
-    ensures { IfOk result (λ c. call_made c ≡ asked_alone word.now) }
+fn command_alone(alloc: Global, word: &str) -> Result<Call<Vec<String>>, AllocError>
+    ensures { IfOk result (λ c. asked_by_call names_told c ≡ asked_alone word.now) }
 {
     if word == "-h" || word == "--help" {
-        Ok(Command::Help)
+        Ok(Call::Help)
     } else if word == "-V" || word == "--version" {
-        Ok(Command::Version)
+        Ok(Call::Version)
     } else {
-        let text = String::from_str(alloc, word)?;
-        Ok(Command::Refused(text))
+        let text = refusal(alloc, word)?;
+        Ok(Call::Unfit(text))
     }
 }
 
@@ -39,8 +51,8 @@ fn command_alone(alloc: Global, word: &str) -> Result<Command, AllocError>
 // # Errors
 //
 // Where a growth is refused.
-pub(crate) fn command_of(alloc: Global, words: &[String]) -> Result<Command, AllocError>
-    ensures { IfOk result (λ c. call_made c ≡ monitor_call (map string_bytes words.now)) }
+pub(crate) fn command_of(alloc: Global, words: &[String]) -> Result<Call<Vec<String>>, AllocError>
+    ensures { IfOk result (λ c. asked_by_call names_told c ≡ monitor_call (map string_bytes words.now)) }
 {
     let mut names = Vec::new(alloc);
     let mut is_value = false;
@@ -55,21 +67,8 @@ pub(crate) fn command_of(alloc: Global, words: &[String]) -> Result<Command, All
         }
     }
     if is_value {
-        Ok(Command::Unnamed)
+        command_unnamed(alloc)
     } else {
-        Ok(Command::Watch(names))
+        Ok(Call::Run(names))
     }
-}
-
-// Why the words are refused among which this one is.
-pub(crate) fn refusal(alloc: Global, word: &str) -> Result<Vec<u8>, AllocError>
-    ensures { IfOk result (λ t. t.items ≡ refusal_text word.now) }
-{
-    let mut text = Vec::new(alloc);
-    text.extend_from_slice(b"error: unexpected argument '")?;
-    text.extend_from_slice(word.as_bytes())?;
-    text.extend_from_slice(
-        b"' found\n\nUsage: ctmonitor [OPTIONS] < lines > verdicts\n\nFor more information, try '--help'.\n",
-    )?;
-    Ok(text)
 }

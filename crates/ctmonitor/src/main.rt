@@ -8,8 +8,8 @@
 //!   `verdicts` of verdicts, and `text` writes lines.
 //! - `session` takes one line after the other, and `watch` has it take those of a run.
 //! - `laws` says what holds of many runs.
-//! - `program` has `run`, over the loop of `line_program`, and `answer_words`, which does what the words of a command line ask for;
-//!   `refuse_words` answers words that couldn't be read.
+//! - `program` has `run`, over the loop of `line_program`, and what the program is of those by `line_program`: its name, how it is called, and what a run
+//!   is. `refuse_words` answers words that couldn't be read, by a text of its own: so `main` isn't `answer_process`.
 #![tactic(auto)]
 
 mod answer;
@@ -29,25 +29,22 @@ mod verdicts;
 mod watch;
 mod watching;
 
-use json_lines::RunFault;
-use program::{answer_words, refuse_words};
+use line_program::{answer_words, process_words};
+use program::{Ctmonitor, refuse_words};
 use std::io;
 use std::process::ExitCode;
-
-// The words of the command line. Std's contracts don't say which these are.
-fn collected(rt: &HostRuntime) -> Result<Vec<String>, RunFault> {
-    let words = std::env::args(rt)?.collect(rt.alloc())?;
-    Ok(words)
-}
 
 fn main(rt: HostRuntime) -> ExitCode {
     let mut output = io::writer(&rt);
     let mut faults = rt.stderr();
-    let status = match collected(&rt) {
-        Ok(words) => {
-            let (_, words) = words.split_at(usize::from(!words.is_empty()));
-            answer_words(rt.alloc(), words, rt.reader(), &mut output, &mut faults)
-        }
+    let status = match process_words(&rt) {
+        Ok(words) => answer_words::<Ctmonitor, _, _, _>(
+            rt.alloc(),
+            &words,
+            rt.reader(),
+            &mut output,
+            &mut faults,
+        ),
         Err(fault) => refuse_words(fault, &mut faults),
     };
     ExitCode::from(status)

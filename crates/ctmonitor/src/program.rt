@@ -1,26 +1,25 @@
-//! The program over the words of a command line, a reader of lines and a writer of verdicts.
+//! The program over a reader of lines and a writer of verdicts, and what words ask for.
 
-ghost use Rattle.std.specs.Prelude.{◌≡◌, ◌≢◌, ◌⊎◌, IfOk, OnErr, map, string_bytes, codes};
-ghost use Rattle.std.specs.Io.KnownBytes.{Appends};
+ghost use Rattle.std.specs.Prelude.{◌≡◌, ◌⊎◌, ℕ, List, IfOk, OnErr, map, string_bytes, codes};
 ghost use Rattle.json_lines.specs.Sends.{SendsSome};
-ghost use Rattle.ctmonitor.specs.BrokenOff.{IsRunBroken, IsCallBroken};
-ghost use Rattle.ctmonitor.specs.CommandWords.{monitor_call, refusal_text, unreadable_text, IsAnswered};
+ghost use Rattle.ctmonitor.specs.BrokenOff.{IsRunBroken};
+ghost use Rattle.ctmonitor.specs.CommandWords.{monitor_call, names_told, help_text, unreadable_text, IsWatched};
+ghost use Rattle.ctmonitor.specs.Unbegun.{no_run_begun};
 ghost use Rattle.json_lines.specs.Faults.{run_fault_line};
-ghost use Rattle.json_lines.specs.declared.fault.RunFault.{RunFault as FaultOf};
 ghost use Rattle.json_lines.specs.declared.fault.RunFault.TheVariants.{Read as ReadFault};
 ghost use Rattle.ctmonitor.specs.Session.{IsRun, IsRunStatus};
 
 use crate::answer::LONGEST;
-use crate::command::{Command, command_of, refusal};
+use crate::command::command_of;
 use crate::session::Session;
 use crate::watch::Watch;
 use ct_monitor::Watcher;
 use ct_names::WatchedNames;
 use ct_tree::Sha256Hash;
-use json_lines::{RunFault, send, tell};
-use line_program::tell_fault;
-use std::alloc::Global;
-use std::io::{BufRead, BufReader, Read, Write};
+use json_lines::{RunFault, tell};
+use line_program::{Call, Program, tell_fault};
+use std::alloc::{AllocError, Global};
+use std::io::{BufRead, Write};
 
 // How the program is called, and what it does.
 const HELP: &str = "Usage: ctmonitor [OPTIONS] < lines > verdicts
@@ -45,12 +44,6 @@ Exit status:
 
 // The version of the programs and of the library for C (include/wagtenib.pc.in).
 const VERSION: &str = "ctmonitor 0.1.0\n";
-
-// Why words are refused of which the last is `--name`.
-const UNNAMED: &str = "error: a value is required for '--name <NAME>' but none was supplied
-
-For more information, try '--help'.
-";
 
 // Why words are refused of which one isn't UTF-8.
 const UNREADABLE: &str = "error: an argument isn't UTF-8
@@ -95,88 +88,54 @@ pub fn run<B: BufRead, W: Write>(
     Ok(watch.session.status())
 }
 
-// Writes a text that was asked for, and answers the exit status 0.
-fn notice<W: Write>(text: &str, output: &mut W) -> Result<u8, RunFault>
-    ensures written { IfOk result (λ status. (status ≡ 0) × Appends (W.contents output.old) (W.contents output.new) text.now) }
-    ensures broken { OnErr result (SendsSome (W.contents output.old) (W.contents output.new) text.now) }
-{
-    send(output, text.as_bytes())?;
-    Ok(0)
-}
+/// The program `ctmonitor`.
+pub struct Ctmonitor;
 
-// Tells, as far as it can be written, why words are refused, and answers the exit status 2.
-fn refuse<E: Write>(text: &[u8], faults: &mut E) -> u8
-    ensures status { result ≡ 2 }
-    ensures told { SendsSome (E.contents faults.old) (E.contents faults.new) text.now }
-{
-    tell(faults, text);
-    2
-}
+impl Program for Ctmonitor {
+    type Options = Vec<String>;
 
-// Tells, as far as it can be written, that this word is none that there is, and answers the exit status 2.
-fn refuse_word<E: Write>(alloc: Global, word: &str, faults: &mut E) -> Result<u8, RunFault>
-    ensures told { IfOk result (λ status. (status ≡ 2) × SendsSome (E.contents faults.old) (E.contents faults.new) (refusal_text word.now)) }
-    ensures quiet { OnErr result (E.contents faults.new ≡ E.contents faults.old) }
-{
-    let text = refusal(alloc, word)?;
-    Ok(refuse(&text, faults))
-}
+    ghost Told = { List (List ℕ) };
 
-// Does what the words ask for, and answers the exit status.
-fn do_asked<R: Read + Drop, W: Write, E: Write>(
-    alloc: Global,
-    words: &[String],
-    input: R,
-    output: &mut W,
-    faults: &mut E,
-) -> Result<u8, RunFault>
-    ensures answered { IfOk result (λ status. IsAnswered (monitor_call (map string_bytes words.now)) (R.remaining input)
-        (W.contents output.old) (W.contents output.new) (E.contents faults.old) (E.contents faults.new) status) }
-    ensures status { IfOk result (λ status. status ≢ 1) }
-    ensures broken { OnErr result (IsCallBroken (monitor_call (map string_bytes words.now)) (R.remaining input)
-        (W.contents output.old) (W.contents output.new)) }
-    ensures quiet { OnErr result (E.contents faults.new ≡ E.contents faults.old) }
-{
-    match command_of(alloc, words)? {
-        Command::Watch(names) => {
-            let mut reader = BufReader::new(alloc, input)?;
-            run(alloc, &names, &mut reader, output)
-        }
-        Command::Help => notice(HELP, output),
-        Command::Version => notice(VERSION, output),
-        Command::Refused(word) => refuse_word(alloc, word.as_str(), faults),
-        Command::Unnamed => Ok(refuse(UNNAMED.as_bytes(), faults)),
+    ghost told = { names_told };
+
+    ghost asks = { monitor_call };
+
+    ghost name = { codes "ctmonitor" };
+
+    ghost usage = { help_text };
+
+    ghost version = { codes "ctmonitor 0.1.0\n" };
+
+    ghost runs = { IsWatched };
+
+    ghost breaks = { IsRunBroken };
+
+    fn name() -> &'static str {
+        "ctmonitor"
     }
-}
 
-/// Does what the words of a command line ask for, the program's name left out, and answers the exit status.
-///
-/// - 0, 3, 4: `run` read the input and wrote its verdicts, with that status; or, for 0, the words ask for help or the version, which
-///   was written on the output.
-/// - 1: a fault broke it off, and its line was written among the faults, as far as it could be. On the output stands what `run` wrote until
-///   then, or a beginning of the text that was asked for.
-/// - 2: the words ask for nothing that there is. Which word is none that there is was written among the faults, as far as it could be.
-pub fn answer_words<R: Read + Drop, W: Write, E: Write>(
-    alloc: Global,
-    words: &[String],
-    input: R,
-    output: &mut W,
-    faults: &mut E,
-) -> u8
-    ensures answered { result ≢ 1 → IsAnswered (monitor_call (map string_bytes words.now)) (R.remaining input)
-        (W.contents output.old) (W.contents output.new) (E.contents faults.old) (E.contents faults.new) result }
-    ensures fault { result ≡ 1 → (f : FaultOf)
-        × SendsSome (E.contents faults.old) (E.contents faults.new) (run_fault_line (codes "ctmonitor") f) }
-    ensures broken { result ≡ 1 → IsCallBroken (monitor_call (map string_bytes words.now)) (R.remaining input)
-        (W.contents output.old) (W.contents output.new) }
-{
-    match do_asked(alloc, words, input, output, faults) {
-        Ok(status) => status,
-        Err(fault) => {
-            tell_fault("ctmonitor", fault, faults);
-            1
-        }
+    fn usage() -> &'static str {
+        HELP
     }
+
+    fn version() -> &'static str {
+        VERSION
+    }
+
+    fn asked(alloc: Global, words: &[String]) -> Result<Call<Vec<String>>, AllocError> {
+        command_of(alloc, words)
+    }
+
+    fn run<B: BufRead, W: Write>(
+        alloc: Global,
+        options: Vec<String>,
+        input: &mut B,
+        writer: &mut W,
+    ) -> Result<u8, RunFault> {
+        run(alloc, &options, input, writer)
+    }
+
+    ghost not_begun = { no_run_begun };
 }
 
 /// Answers a command line whose words couldn't be read, for which this fault came, and answers the exit status.
@@ -189,7 +148,10 @@ pub fn refuse_words<E: Write>(fault: RunFault, faults: &mut E) -> u8
     ensures refused { result ≡ 2 → (fault ≡ ReadFault) × SendsSome (E.contents faults.old) (E.contents faults.new) unreadable_text }
 {
     match fault {
-        RunFault::Read => refuse(UNREADABLE.as_bytes(), faults),
+        RunFault::Read => {
+            tell(faults, UNREADABLE.as_bytes());
+            2
+        }
         fault => {
             tell_fault("ctmonitor", fault, faults);
             1

@@ -1,6 +1,7 @@
 // What is expected was computed by another program: tests/monitor/answers.py, with hashlib alone, over short leaves.
-use crate::program::{answer_words, refuse_words, run};
+use crate::program::{Ctmonitor, refuse_words, run};
 use json_lines::RunFault;
+use line_program::answer_words;
 use std::alloc::{AllocError, Global};
 use std::io;
 use std::io::{BufRead, BufReader, ErrorKind, Read, Write};
@@ -351,7 +352,7 @@ fn answers<R: Read + Drop>(
 ) -> bool {
     let mut output = Vec::new(alloc);
     let mut faults = Vec::new(alloc);
-    let found = answer_words(alloc, words, input, &mut output, &mut faults);
+    let found = answer_words::<Ctmonitor, _, _, _>(alloc, words, input, &mut output, &mut faults);
     found == status && output.as_slice() == text.as_bytes() && faults.as_slice() == told.as_bytes()
 }
 
@@ -453,7 +454,13 @@ fn is_help(alloc: Global, line: &str) -> Result<bool, AllocError> {
     let words = words_of(alloc, line)?;
     let mut output = Vec::new(alloc);
     let mut faults = Vec::new(alloc);
-    let status = answer_words(alloc, &words, b"".as_slice(), &mut output, &mut faults);
+    let status = answer_words::<Ctmonitor, _, _, _>(
+        alloc,
+        &words,
+        b"".as_slice(),
+        &mut output,
+        &mut faults,
+    );
     Ok(
         status == 0
             && faults.is_empty()

@@ -2,6 +2,4 @@ pub mod ReaderAsks
 pub mod ReaderWords
 pub mod ReaderAnswers
 pub mod ReaderSession
-pub mod ReaderOptions
-pub mod ReaderBroken
 pub mod PromiseWords

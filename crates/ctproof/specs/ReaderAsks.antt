@@ -109,6 +109,10 @@ reader_asked_in d =
     (reader_ask_or (tiles_ask (root_under (codes "needs_root") d))
     (reader_ask_or (hashes_ask (root_under (codes "root") d) d) (promise_asked_in d))))))
 
+-- what a line asks for by the JSON value that it is, or nothing that there is
+abbrev pub reader_asked_by : Option Data → ReaderAsk
+reader_asked_by value = unwrap_or (option_map reader_asked_in value) for_no_reading
+
 -- the line asks for this: what the JSON value that it is, of at most 2^26 bytes, asks for; or nothing that there is
 abbrev pub AsksReader : List ℕ → ReaderAsk → Type 0
-AsksReader line a = a ≡ unwrap_or (option_map reader_asked_in (value_of_line 67108864 line)) for_no_reading
+AsksReader line a = a ≡ reader_asked_by (value_of_line 67108864 line)

@@ -6,45 +6,26 @@
 //!
 //! - `request` reads what a line asks for.
 //! - `answering` answers a request; `replies` writes what is answered, and `unfit` why a certificate gives nothing.
-//! - `command` reads the words of a command line, and `fault` has what an error of a crate below says of a run.
-//! - `program` has `run`, over the loop of `line_program`, which reads lines from any reader and writes to any writer; and `answer_words`,
-//!   which does what the words of a command line ask for. `main` is `answer_words` over the process's words, standard input, output and error.
-//!   Behind a line `Noted` is kept.
+//! - `fault` has what an error of a crate below says of a run.
+//! - `program` has what the program is of those by `line_program`: what it replies to a line, its name, how it is called, and what a run is. `main`
+//!   is `answer_process` of it.
 #![tactic(auto)]
 
 mod answering;
-mod command;
 mod fault;
-mod noted;
 mod program;
 mod replies;
 mod request;
 mod unfit;
 
-use json_lines::RunFault;
-use line_program::tell_fault;
-use program::answer_words;
+use line_program::answer_process;
+use program::Ctproof;
 use std::io;
 use std::process::ExitCode;
-
-// The words of the command line. Std's contracts don't say which these are.
-fn collected(rt: &HostRuntime) -> Result<Vec<String>, RunFault> {
-    let words = std::env::args(rt)?.collect(rt.alloc())?;
-    Ok(words)
-}
 
 fn main(rt: HostRuntime) -> ExitCode {
     let mut output = io::writer(&rt);
     let mut faults = rt.stderr();
-    let status = match collected(&rt) {
-        Ok(words) => {
-            let (_, words) = words.split_at(usize::from(!words.is_empty()));
-            answer_words(rt.alloc(), words, rt.reader(), &mut output, &mut faults)
-        }
-        Err(fault) => {
-            tell_fault("ctproof", fault, &mut faults);
-            1
-        }
-    };
+    let status = answer_process::<Ctproof, _, _, _>(&rt, &mut output, &mut faults);
     ExitCode::from(status)
 }

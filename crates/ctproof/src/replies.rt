@@ -1,6 +1,6 @@
 //! What is answered, as a line.
 
-ghost use Rattle.std.specs.Prelude.{◌≡◌, ◌||◌, All, IfOk, string_bytes};
+ghost use Rattle.std.specs.Prelude.{◌≡◌, All, IfOk, string_bytes};
 ghost use Rattle.serde_json.specs.View.{view};
 ghost use Rattle.ctproof.specs.ReaderWords.{hash_tile, hash_tile_name, IsHashTile, RefusesHashTile, tile_names_data, one_value_data, tile_refused_data, reader_refused_data, reader_reply_of, reader_reply_data, reader_line, is_bad_reply, NamesHashTiles};
 ghost use Rattle.json_lines.specs.Values.{bytes_data, hashes_data};
@@ -109,12 +109,12 @@ pub(crate) fn reply_line(alloc: Global, reply: &Reply) -> Result<Vec<u8>, AllocE
     Ok(text)
 }
 
-// Whether a line was refused as none, as was noted before or is answered.
-pub(crate) fn is_bad(bad: bool, reply: &Reply) -> bool
-    ensures { result ≡ bad || is_bad_reply (reader_reply_of reply.now) }
+// Whether a line is refused as none.
+pub(crate) fn is_bad(reply: &Reply) -> bool
+    ensures { result ≡ is_bad_reply (reader_reply_of reply.now) }
 {
     match reply {
         Reply::Refused(Refusal::BadLine) => true,
-        _ => bad,
+        _ => false,
     }
 }

@@ -1,6 +1,4 @@
 pub mod StepKept
-pub mod StepLines
-pub mod StepWordsRead
 pub mod NeededNames
 pub mod Attempts
 pub mod PlainText
@@ -16,7 +14,6 @@ pub mod Receipts
 pub mod FirstIndexes
 pub mod Splits
 pub mod AddedOnce
-pub mod BrokenOff
 pub mod CutRuns
 pub mod RolledOut
 pub mod Standing

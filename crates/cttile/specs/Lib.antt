@@ -5,6 +5,5 @@ pub mod StepAnswers
 pub mod StepSession
 pub mod StepOptions
 pub mod StepLaws
-pub mod BrokenOff
 pub mod CutRuns
 pub mod RolledOut

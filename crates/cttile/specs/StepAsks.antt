@@ -143,6 +143,10 @@ abbrev pub step_asked_in : Data → StepAsk
 step_asked_in d =
     ask_or_no_step (first_or (begin_ask d) (first_or (needs_ask d) (first_or (step_ask d) (first_or (resume_ask d) (claim_ask d)))))
 
+-- what a line asks for by the JSON value that it is, or nothing that there is
+abbrev pub step_asked_by : Option Data → StepAsk
+step_asked_by value = unwrap_or (option_map step_asked_in value) for_no_step
+
 -- the line asks for this: what the JSON value that it is, of at most 2^26 bytes, asks for; or nothing that there is
 abbrev pub AsksStep : List ℕ → StepAsk → Type 0
-AsksStep line a = a ≡ unwrap_or (option_map step_asked_in (value_of_line 67108864 line)) for_no_step
+AsksStep line a = a ≡ step_asked_by (value_of_line 67108864 line)

@@ -8,10 +8,11 @@
 //! - `repeats` takes the repeats out of a batch.
 //! - `edge` sets the contents at a log's edge out as a step takes them.
 //! - `stepping` replies to a request, `places` says where a step's objects stand in its bundle, and `replies` writes what is replied.
-//! - `command` reads the words of a command line, and `fault` has what an error of a crate below says of a run.
+//! - `settings` has what a run is told, and `command` takes it from the options of a command line; `fault` has what an error of a crate below says of a
+//!   run.
 //! - `laws` says that the steps are those of the law over sequencers.
-//! - `program` has `run`, over the loop of `line_program`, and `answer_words`, which does what the words of a command line ask for; behind a
-//!   line `Noted` is kept.
+//! - `program` has what the program is of those by `line_program`: what it replies to a line, its name, how it is called, and what a run is. `main` is
+//!   `answer_process` of it.
 #![tactic(auto)]
 
 mod command;
@@ -19,40 +20,24 @@ mod edge;
 mod entry;
 mod fault;
 pub mod laws;
-mod noted;
 mod places;
 mod program;
 mod repeats;
 mod replies;
 mod request;
+mod settings;
 mod stepping;
 #[cfg(test)]
 mod tests;
 
-use json_lines::RunFault;
-use line_program::tell_fault;
-use program::answer_words;
+use line_program::answer_process;
+use program::Cttile;
 use std::io;
 use std::process::ExitCode;
-
-// The words of the command line. Std's contracts don't say which these are.
-fn collected(rt: &HostRuntime) -> Result<Vec<String>, RunFault> {
-    let words = std::env::args(rt)?.collect(rt.alloc())?;
-    Ok(words)
-}
 
 fn main(rt: HostRuntime) -> ExitCode {
     let mut output = io::writer(&rt);
     let mut faults = rt.stderr();
-    let status = match collected(&rt) {
-        Ok(words) => {
-            let (_, words) = words.split_at(usize::from(!words.is_empty()));
-            answer_words(rt.alloc(), words, rt.reader(), &mut output, &mut faults)
-        }
-        Err(fault) => {
-            tell_fault("cttile", fault, &mut faults);
-            1
-        }
-    };
+    let status = answer_process::<Cttile, _, _, _>(&rt, &mut output, &mut faults);
     ExitCode::from(status)
 }

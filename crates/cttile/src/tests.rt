@@ -1,5 +1,7 @@
-use crate::program::{answer_words, run};
+use crate::program::Cttile;
+use crate::settings::Settings;
 use json_lines::RunFault;
+use line_program::{Program, answer_words};
 use std::alloc::{AllocError, Global};
 use std::io;
 use std::io::{BufReader, ErrorKind, Read, Write};
@@ -38,7 +40,7 @@ fn answers<R: Read + Drop>(
     }
     let mut output = Vec::new(alloc);
     let mut faults = Vec::new(alloc);
-    let found = answer_words(alloc, &texts, input, &mut output, &mut faults);
+    let found = answer_words::<Cttile, _, _, _>(alloc, &texts, input, &mut output, &mut faults);
     Ok(
         found == status
             && output.as_slice() == text.as_bytes()
@@ -125,7 +127,14 @@ fn an_output_that_fails(rt: HostRuntime) -> Result<(), Fail> {
     for room in [0, 1, 40, 300] {
         let mut input = BufReader::new(rt.alloc(), "{\"begin\":7}\n".as_bytes())?;
         let mut output = Room(room);
-        assert!(rt; run(rt.alloc(), None, &mut input, &mut output) == Err(RunFault::Write));
+        assert!(rt;
+            Cttile::run(
+                rt.alloc(),
+                Settings { origin: None },
+                &mut input,
+                &mut output
+            ) == Err(RunFault::Write)
+        );
     }
     Ok(())
 }
@@ -185,7 +194,14 @@ fn a_reader_that_paces(rt: HostRuntime) -> Result<(), Fail> {
     };
     let mut input = BufReader::new(rt.alloc(), paced)?;
     let mut output = Counting(&replied, false);
-    assert!(rt; run(rt.alloc(), None, &mut input, &mut output) == Ok(0));
+    assert!(rt;
+        Cttile::run(
+            rt.alloc(),
+            Settings { origin: None },
+            &mut input,
+            &mut output
+        ) == Ok(0)
+    );
     assert!(rt; replied.load(Ordering::SeqCst) == 100);
     Ok(())
 }

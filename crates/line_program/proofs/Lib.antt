@@ -1,2 +1,5 @@
 pub mod Replies
 pub mod Told
+pub mod WordsRead
+pub mod Asked
+pub mod ByLine

@@ -1,1 +1,3 @@
 pub mod Replied
+pub mod Calls
+pub mod ByLine

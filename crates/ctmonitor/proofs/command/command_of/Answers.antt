@@ -3,7 +3,9 @@ use Rattle.std.proofs.lemmas.List.{at_drop_more, at_drop_all}
 use Rattle.std.specs.Prelude.{String, string_bytes}
 use Rattle.std.specs.Char.{to_ascii_lowercase}
 use Rattle.std.proofs.lemmas.List.{map-append}
-use Rattle.ctmonitor.proofs.Words.{stands_as, ends_unnamed, ends_watching, reads_name, reads_option, reads_other, ends_alone}
+use Rattle.line_program.specs.Calls.{asks_unfit}
+use Rattle.ctmonitor.specs.CommandWords.{asked_alone, unnamed_text}
+use Rattle.ctmonitor.proofs.Words.{stands_as, ends_unnamed, ends_watching, reads_name, reads_option, reads_other, ends_as}
 use Rattle.ctmonitor.proofs.command.command_of.Goals.{then-is_value+in_ok-to_ascii_lowercase+in_ok-push, else-is_value+then-eq}
 use Rattle.ctmonitor.proofs.command.command_of.Goals as goal
 
@@ -11,8 +13,9 @@ pub returns-then-is_value-2 : goal.returns-then-is_value-2
 returns-then-is_value-2 c =
     let words = c.args.words.now in
     let none : map string_bytes (drop c.loop-word.word-index words) ≡ [] = at_drop_all (map string_bytes) words c.loop-word.word-index c.loop-word-test.false in
-    ends_unnamed (map string_bytes c.loop-word.names.items) (map string_bytes words) c.loop-word.is_value
-    (map string_bytes (drop c.loop-word.word-index words)) c.loop-word.invariant c.if-is_value-2.true none
+    ends_as c.command_unnamed.result (asks_unfit unnamed_text) (map string_bytes words) c.command_unnamed.ensures
+    (ends_unnamed (map string_bytes c.loop-word.names.items) (map string_bytes words) c.loop-word.is_value
+    (map string_bytes (drop c.loop-word.word-index words)) c.loop-word.invariant c.if-is_value-2.true none)
 
 pub returns-else-is_value-2 : goal.returns-else-is_value-2
 returns-else-is_value-2 c =
@@ -31,7 +34,7 @@ returns-else-eq c =
     let other = reads_other (map string_bytes c.loop-word.names.items) (map string_bytes words) c.loop-word.is_value (map string_bytes (drop i words))
     (map string_bytes (drop (i + 1) words)) (string_bytes x) c.loop-word.invariant c.if-is_value.false left
     (rw c.as_str.ensures.value at (sym c.eq.ensures ∙ c.if-eq.false)) in
-    ends_alone c.command_alone.result (string_bytes x) (map string_bytes words) (rw c.as_str-else-eq.ensures.value at c.command_alone.ensures) other
+    ends_as c.command_alone.result (asked_alone (string_bytes x)) (map string_bytes words) (rw c.as_str-else-eq.ensures.value at c.command_alone.ensures) other
 
 pub loop-word-preserved : goal.loop-word-preserved
 loop-word-preserved c =

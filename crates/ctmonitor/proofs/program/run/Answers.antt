@@ -3,10 +3,9 @@ use Rattle.std.specs.Prelude.{string_bytes}
 use Rattle.sha2.specs.Sha256.{sha256}
 use Rattle.ct_monitor.specs.Watched.{nothing_seen}
 use Rattle.ct_monitor.specs.WatcherState.{Keeps, WatcherState}
-use Rattle.line_program.proofs.Replies.{run_not_begun}
+use Rattle.line_program.proofs.Replies.{at_err, run_not_begun}
 use Rattle.ctmonitor.specs.Watching.{monitor_gives, monitor_ends, IsUnbegun}
 use Rattle.ctmonitor.specs.declared.watch.Watch.{Watch}
-use Rattle.ctmonitor.proofs.BrokenOff.{at_err}
 use Rattle.ctmonitor.proofs.RunLines.{run_done, run_status}
 use Rattle.ctmonitor.proofs.program.run.Goals as goal
 
