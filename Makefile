@@ -175,6 +175,6 @@ serve-ctlogd: ## serves ctlogd over HTTP at PORT=8618 (RFC 6962, section 4) by a
 interop: ## has certspotter follow a log over HTTP to verified heads, and a client in Go submit to it and check what it answers
 	@LOG="$(LOG)" tests/http/interop.sh
 
-# After `rt run` in crates/print_tiles, which builds it.
+# After `rt run` in crates/print_steps, which builds it.
 tiles: ## has golang.org/x/mod/sumdb/tlog read the tiles of logs of eight sizes and check their proofs; without Go, hashlib compares the lines
 	@tests/tiles/check.sh

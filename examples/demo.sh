@@ -191,6 +191,7 @@ END
   python3 tests/tiles/growth.py | cmp -s - "$work/growth" || fail "tests/tiles/growth.py computes other lines"
   echo "Each tile that is new or changes, with the SHA-256 of its bytes, and the line of the next state (size, moment, root, digests), cut short:"
   awk 'BEGIN { split("3 0 253 10", many); behind = 1 }
+    /^in upper case/ { exit }
     /^(tile|growth)/ { if (behind) print "  " many[++step] " certificates"; behind = /^growth/; print "    " $1 " " substr($2, 1, 48) ".." }' "$work/growth"
   echo "Behind each step the true right edge is believed. Refused are:"
   grep -E '^(bent|cut off|seven|a moment)' "$work/growth" | sort -u |

@@ -132,7 +132,7 @@ NOT_RUN = (NET, KEY, USERS, ANY)
 ELSEWHERE = {
     "docs/OPERATING.md": {"": BARE},
     "docs/MONITOR.md": {"apt-get": BARE, "LOG=tiled+": BARE, "ctmonitor-watch --logs https://": NET, "ctmonitor-log-list https://": NET, "ctmonitor-audit": NET, "cat > /etc/ctmonitor-watch.conf": BARE, "systemctl": BARE, "mkdir -p ct-watch": BARE},
-    "docs/TILES.md": {"(cd crates/print_tiles && rt run)": PAGES, "make tiles": PAGES},
+    "docs/TILES.md": {"(cd crates/print_steps && rt run)": PAGES, "make tiles": PAGES},
     "examples/README.md": {"examples/pem_lines.py": HERE, "examples/bad_lines.py": HERE},
     "examples/http/README.md": {"runuser": USERS, "examples/http/front.py --key": USERS},
     "examples/link/README.md": {"make link": PAGES, "make install": PAGES, "ldconfig": PAGES, "cc program.c": PAGES},

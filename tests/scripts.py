@@ -149,9 +149,9 @@ def try_models():
 
 
 def try_tiles():
-    """tiles/growth.py and tiles/expected.py write the stored outputs of print_steps and of print_tiles, and tiles/hostile.py the values of
+    """tiles/growth.py, with tiles/expected.py behind it, writes the stored output of print_steps, and tiles/hostile.py the values of
     tiled_log_tests; tiles/step.py answers two random histories, and a reader of tiles, as the leaves have it."""
-    stored = (("growth", "print_steps/stdout"), ("expected", "print_tiles/stdout"), ("hostile", "tiled_log_tests/src/hostile.rt"))
+    stored = (("growth", "print_steps/stdout"), ("hostile", "tiled_log_tests/src/hostile.rt"))
     for script, file in stored:
         if run(f"tiles/{script}.py").stdout != (HERE.parent / "crates" / file).read_bytes():
             fail(f"tiles/{script}.py writes another text than crates/{file}")

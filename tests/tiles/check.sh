@@ -1,13 +1,13 @@
 #!/usr/bin/env bash
-# Writes the tiles of logs of several sizes by print_tiles, and has golang.org/x/mod/sumdb/tlog read them and check their proofs; where Go isn't
-# installed hashlib computes the lines, and they are compared. Wants print_tiles to be built (`rt run` in crates/print_tiles), and for Go Debian's
+# Writes the tiles of logs of several sizes by print_steps, and has golang.org/x/mod/sumdb/tlog read them and check their proofs; where Go isn't
+# installed hashlib computes the lines, and they are compared. Wants print_steps to be built (`rt run` in crates/print_steps), and for Go Debian's
 # golang-go and golang-golang-x-mod-dev.
 #
 #     check.sh [SIZE ..]
 set -euo pipefail
 here=$(cd "$(dirname "$0")" && pwd)
-program=${PROGRAM:-$here/../../crates/print_tiles/out/print_tiles}
-[ -x "$program" ] || { echo "check.sh: print_tiles isn't built: run \`rt run\` in crates/print_tiles" >&2; exit 1; }
+program=${PROGRAM:-$here/../../crates/print_steps/out/print_steps}
+[ -x "$program" ] || { echo "check.sh: print_steps isn't built: run \`rt run\` in crates/print_steps" >&2; exit 1; }
 sizes=("$@")
 [ ${#sizes[@]} -gt 0 ] || sizes=(1 255 256 257 65535 65536 65537 200000)
 work=$(mktemp -d)

@@ -1,5 +1,5 @@
 #!/usr/bin/env python3
-"""The lines of the program print_tiles for a log of so many leaves and steps of so many, by hashlib alone.
+"""The lines of the program print_steps for a log of so many leaves and steps of so many, by hashlib alone.
 
     expected.py [SIZE STEP]
 

@@ -1,5 +1,5 @@
 #!/usr/bin/env python3
-"""Makes files of the lines of the program print_tiles, on standard input: each tile by its name, and the last head as head.
+"""Makes files of the lines of the program print_steps with a size, on standard input: each tile by its name, and the last head as head.
 
     files.py FOLDER
 

@@ -4,8 +4,10 @@
     growth.py
 
 What is signed in a receipt is RFC 6962, section 3.2, with an extension that names the leaf's index (C2SP static-ct-api); these bytes are the
-leaf's, too (section 3.4), and here those of the data tiles. Roots and tiles are computed by expected.py, bundles by step.py.
+leaf's, too (section 3.4), and here those of the data tiles. Roots and tiles are computed by expected.py, bundles by step.py. Behind them stand the
+lines of expected.py.
 """
+import expected
 from expected import digest, levels, mth, name
 from leaves import Submission, signed_bytes
 from states import State
@@ -60,6 +62,7 @@ def main():
         print("believed at", len(hashes))
         moment += 1000
     print("in upper case: true")
+    expected.main()
 
 
 if __name__ == "__main__":
