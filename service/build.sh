@@ -16,7 +16,7 @@ ln -s "$PWD" "$path/src/wagtenib/service"
 export GO111MODULE=off GOPATH=$path:$packages GOPROXY=off CGO_ENABLED=1
 folders=$(find . -name '*.go' -printf '%h\n' | sort -u | sed 's|^\./||')
 tags=libsqlite3
-# (the tests stop nodes between what they do, for which no program is built: sequencer/phases_hooked.go)
+# (the tests stop nodes and signers between what they do, for which no program is built: phases_hooked.go)
 case $what in test | vet) tags+=,phases ;; esac
 export GOFLAGS="-trimpath -tags=$tags -p=${PROCESSORS:-$(nproc)}"
 case $what in

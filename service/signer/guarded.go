@@ -18,8 +18,7 @@ const (
 	// mostReply is how much of one of the guard's replies is read, and mostSwaps how often a swap of unknown outcome is made.
 	mostReply = 4 << 20
 	mostSwaps = 5
-	// ownBound is the guard's own bound of a head's moment beyond the last one's, in milliseconds, and mostSkew how far two clocks may be apart.
-	ownBound = 3_600_000
+	// mostSkew is how far two clocks may be apart.
 	mostSkew = time.Minute
 	// none is the state of a guard that has let nothing through.
 	none = `{"guard":1,"last":null}`
@@ -49,39 +48,12 @@ func (l *headLine) head() (*Head, error) {
 	return &Head{l.Size, l.Moment, *(*[32]byte)(l.Root)}, nil
 }
 
-// stateOf is the line of a guard's state.
-func stateOf(last *Head) string {
-	line, err := json.Marshal(struct {
-		Guard int       `json:"guard"`
-		Last  *headLine `json:"last"`
-	}{1, lineOf(last)})
-	if err != nil {
-		panic(err)
-	}
-	return string(line)
-}
-
-// readState reads the line of a guard's state, byte for byte as it is written.
-func readState(text string) (*Head, error) {
-	line := strings.TrimSuffix(text, "\n")
-	var read struct{ Last *headLine }
-	err := json.Unmarshal([]byte(line), &read)
-	if err != nil {
-		return nil, fmt.Errorf("%w: %v", ErrState, err)
-	}
-	last, err := read.Last.head()
-	if err != nil || stateOf(last) != line {
-		return nil, fmt.Errorf("%w: %.200q", ErrState, line)
-	}
-	return last, nil
-}
-
 // Guard says which guard stands before a key.
 type Guard struct {
 	// Command is the program, ctguard, with its words.
 	Command []string
-	// State keeps what it let through last. The signers of one log, if they are several, have one: of two that move it to two heads
-	// one wins. (Two that move it to the same head write one text, and both sign that head. No state comes again: moments rise.)
+	// State keeps what it let through last, as the guard writes it. The signers of one log, if they are several, have one: of two that move it to
+	// two heads one wins. (Two that move it to the same head write one text, and both sign that head. No state comes again: moments rise.)
 	State stores.Register
 	// Create says that a state that was never created is to be.
 	Create bool
@@ -91,18 +63,18 @@ type Guard struct {
 	Within time.Duration
 }
 
-// Guarded is a key behind a guard: it signs the bytes that this one names, behind its state's being kept.
+// Guarded is a key behind a guard, which judges over the text of the state's register: it signs the bytes that this one names, once the text that
+// this one names stands in the register in place of the one that it judged over. Here no state is read or written.
 type Guarded struct {
 	key *Key
 	of  Guard
 	// turn is held by who asks. What stands below it is its own.
 	turn chan struct{}
-	// end is the guard that runs, or nil; text is the state that it has and that stands in the register, and last the head in it.
-	end  *pipe.End
-	text string
-	last *Head
-	// phase is the tests'.
-	phase func(string)
+	// end is the guard that runs, or nil; text is what the register had when it was last looked at, or "" where that has to be done; seen is the
+	// newest that it had.
+	end        *pipe.End
+	text, seen string
+	test       hooks
 }
 
 // Behind puts a guard before a key. A state that is missing, or that the guard doesn't take up, is ErrState.
@@ -119,13 +91,17 @@ func Behind(ctx context.Context, key *Key, of Guard) (*Guarded, error) {
 	if of.Within == 0 {
 		of.Within = 20 * time.Second
 	}
-	g := &Guarded{key: key, of: of, turn: make(chan struct{}, 1), phase: func(string) {}}
+	g := &Guarded{key: key, of: of, turn: make(chan struct{}, 1)}
 	if of.Create {
 		if err := of.State.Create(ctx, none); err != nil && !errors.Is(err, stores.ErrExists) {
 			return nil, fmt.Errorf("signer: %w", err)
 		}
 	}
-	if err := g.begin(ctx); err != nil {
+	if text, err := of.State.Read(ctx); err == nil && text == none {
+		g.text = none
+		return g, nil
+	}
+	if _, err := g.look(ctx); err != nil {
 		return nil, err
 	}
 	return g, nil
@@ -149,7 +125,7 @@ func (g *Guarded) take(ctx context.Context) error {
 	}
 }
 
-// drop ends the guard: the next request has another one begin with the state that stands.
+// drop ends the guard: the next request has another one begin.
 func (g *Guarded) drop() {
 	if g.end != nil {
 		g.end.Close()
@@ -157,65 +133,104 @@ func (g *Guarded) drop() {
 	}
 }
 
-// stands reads the state that stands. Only where there is none it is ErrState: a register that doesn't answer may have it.
-func (g *Guarded) stands(ctx context.Context) (string, error) {
+// look gives the head in the text that stands in the register. Only where there is none, or one that the guard doesn't take, it is ErrState: a register
+// that doesn't answer may have it.
+func (g *Guarded) look(ctx context.Context) (*Head, error) {
+	g.text = ""
 	text, err := g.of.State.Read(ctx)
 	if errors.Is(err, stores.ErrAbsent) {
-		return "", fmt.Errorf("%w: there is none", ErrState)
+		return nil, fmt.Errorf("%w: there is none", ErrState)
 	}
 	if err != nil {
-		return "", fmt.Errorf("signer: the guard's state: %w", err)
+		return nil, fmt.Errorf("signer: the guard's state: %w", err)
 	}
-	return text, nil
+	line := strings.TrimSuffix(text, "\n")
+	replies, err := g.ask(ctx, []guardRequest{{Text: line, Seen: g.seen}})
+	if err != nil {
+		return nil, err
+	}
+	switch reply := replies[0]; reply.Refused {
+	case "":
+	case "set-back":
+		return nil, fmt.Errorf("%w: it was set back: it had %.200s, and has %.200s", ErrState, g.seen, line)
+	default:
+		return nil, fmt.Errorf("%w: %s: %.200q", ErrState, reply.Refused, line)
+	}
+	var has *headLine
+	if err := json.Unmarshal(replies[0].Last, &has); err != nil {
+		return nil, g.other("text")
+	}
+	last, err := has.head()
+	if err != nil {
+		return nil, g.other("text")
+	}
+	// (as an operator writes it, with a line's end)
+	if line != text {
+		if err := g.of.State.Swap(ctx, text, line); err != nil {
+			return nil, fmt.Errorf("signer: the guard's state: %w", err)
+		}
+	}
+	g.text, g.seen = line, line
+	return last, nil
 }
 
-// begin has a guard run that began with the state that stands.
-func (g *Guarded) begin(ctx context.Context) error {
-	if g.end != nil {
-		return nil
+// known gives the text that stands in the register, or stood there when it was last looked at.
+func (g *Guarded) known(ctx context.Context) (string, error) {
+	if g.text == "" {
+		if _, err := g.look(ctx); err != nil {
+			return "", err
+		}
 	}
-	text, err := g.stands(ctx)
-	if err != nil {
-		return err
-	}
-	last, err := readState(text)
-	if err != nil {
-		return err
-	}
-	if g.last != nil && !g.last.mayBeBefore(last) {
-		return fmt.Errorf("%w: it was set back: it had a head of %d entries at %d ms", ErrState, g.last.Size, g.last.Moment)
-	}
-	end, err := pipe.Start(append(append([]string{}, g.of.Command...), "--receipts", string(g.of.Receipts)), mostReply)
-	if err != nil {
-		return fmt.Errorf("signer: the guard: %w", err)
-	}
-	g.end, g.text, g.last = end, text, last
-	if last == nil {
-		return nil
-	}
-	// Whether it took the state up shows where it is asked for its head once more. One that ended, or gave no reply in time, says nothing of it.
-	_, err = g.askHead(ctx, *last, nil, stateOf(last)+"\n")
-	if err != nil {
-		g.drop()
-	}
-	if err != nil && !errors.Is(err, pipe.ErrGone) {
-		return fmt.Errorf("%w: the guard doesn't take it up: %v", ErrState, err)
-	}
-	return err
+	return g.text, nil
 }
 
-// guardReply is a line of the guard's.
+// guardRequest is a line for the guard: over the register's text a head or a receipt; or which head it has, where it isn't behind one seen before.
+type guardRequest struct {
+	Text string `json:"text"`
+	Seen string `json:"seen,omitempty"`
+	*headLine
+	*leafLine
+	Consistency *[][]byte `json:"consistency,omitempty"`
+	MostAhead   uint64    `json:"most_ahead,omitempty"`
+}
+
+// leafLine is a receipt as the guard's lines have it.
+type leafLine struct {
+	Leaf  []byte    `json:"leaf_input"`
+	Index *uint64   `json:"leaf_index,omitempty"`
+	Path  *[][]byte `json:"audit_path,omitempty"`
+}
+
+// guardReply is a line of the guard's: bytes to sign, and for a head's what is to stand in the register (new) in place of what (old); or the head that
+// a text has; or why there is none.
 type guardReply struct {
 	Sign    []byte          `json:"sign"`
-	State   json.RawMessage `json:"state"`
+	Old     string          `json:"old"`
+	New     string          `json:"new"`
+	Last    json.RawMessage `json:"last"`
 	Refused string          `json:"refused"`
 	Fault   string          `json:"fault"`
 }
 
-// ask sends the guard requests, and what isn't replied to before them. Behind an error it has ended; a refusal is a reply.
-func (g *Guarded) ask(ctx context.Context, before string, requests []any) ([]guardReply, error) {
-	lines := bytes.NewBufferString(before)
-	to := json.NewEncoder(lines)
+// refusal is why a reply gives nothing, or nil.
+func (r guardReply) refusal() error {
+	if r.Refused == "" {
+		return nil
+	}
+	return Refusal{r.Refused, r.Fault}
+}
+
+// ask sends the guard requests. Behind an error it has ended; a refusal is a reply.
+func (g *Guarded) ask(ctx context.Context, requests []guardRequest) ([]guardReply, error) {
+	if g.end == nil {
+		end, err := pipe.Start(append(append([]string{}, g.of.Command...), "--receipts", string(g.of.Receipts)), mostReply)
+		if err != nil {
+			return nil, fmt.Errorf("signer: the guard: %w", err)
+		}
+		g.end = end
+	}
+	var lines bytes.Buffer
+	to := json.NewEncoder(&lines)
 	for _, request := range requests {
 		if err := to.Encode(request); err != nil {
 			return nil, fmt.Errorf("signer: %w", err)
@@ -236,6 +251,12 @@ func (g *Guarded) ask(ctx context.Context, before string, requests []any) ([]gua
 	return replies, nil
 }
 
+// other ends a guard whose reply is of something else than what was asked.
+func (g *Guarded) other(what string) error {
+	g.drop()
+	return fmt.Errorf("%w: the guard's is of another %s", ErrReply, what)
+}
+
 func hashesOf(hashes [][32]byte) [][]byte {
 	texts := make([][]byte, 0, len(hashes))
 	for i := range hashes {
@@ -244,64 +265,31 @@ func hashesOf(hashes [][32]byte) [][]byte {
 	return texts
 }
 
-// mostAhead says how far the guard is to let a head's moment be beyond the last one's, in milliseconds: its own bound (0), or for how long the log
-// stood still, where the head isn't ahead of this machine's time of day. So of a signer apart another clock has to agree.
-func (g *Guarded) mostAhead(head Head) uint64 {
-	if g.last == nil || head.Moment <= g.last.Moment || head.Moment-g.last.Moment <= ownBound {
-		return 0
-	}
+// mostAhead says how far the guard is to let a head's moment be beyond the last one's, in milliseconds: as far as that may be, where the head isn't
+// ahead of this machine's time of day, since a log may have stood still; and else its own bound (0). So of a signer apart another clock has to agree.
+func mostAhead(head Head) uint64 {
 	if now := time.Now().Add(mostSkew).UnixMilli(); now < 0 || head.Moment > uint64(now) {
 		return 0
 	}
-	return head.Moment - g.last.Moment
+	return head.Moment
 }
 
-// askHead has the guard let a head through, and gives the bytes to be signed: then its state is the head's, and nobody else knows.
-func (g *Guarded) askHead(ctx context.Context, head Head, consistency [][32]byte, before string) ([]byte, error) {
-	replies, err := g.ask(ctx, before, []any{struct {
-		*headLine
-		Consistency [][]byte `json:"consistency"`
-		MostAhead   uint64   `json:"most_ahead,omitempty"`
-	}{lineOf(&head), hashesOf(consistency), g.mostAhead(head)}})
-	if err != nil {
-		return nil, err
-	}
-	reply := replies[0]
-	if reply.Refused != "" {
-		return nil, Refusal{reply.Refused, reply.Fault}
-	}
-	if !bytes.Equal(reply.Sign, head.message()) || string(reply.State) != stateOf(&head) {
-		g.drop()
-		return nil, fmt.Errorf("%w: the guard's is of another head", ErrReply)
-	}
-	return reply.Sign, nil
-}
-
-// keep has a head that was let through in the register, where it isn't. Where that fails the guard has ended.
-func (g *Guarded) keep(ctx context.Context, head Head) (err error) {
-	state := stateOf(&head)
-	if g.last != nil && *g.last == head {
-		return nil
-	}
+// swap has what a reply names stand in the register in place of what it was judged over. Where that fails the register is looked at anew.
+func (g *Guarded) swap(ctx context.Context, old, new string) (err error) {
 	for try := 0; try < mostSwaps; try++ {
-		if err = g.of.State.Swap(ctx, g.text, state); err == nil {
-			g.text, g.last = state, &head
+		if err = g.of.State.Swap(ctx, old, new); err == nil {
+			g.text, g.seen = new, new
 			return nil
 		}
 		if !errors.Is(err, stores.ErrUnknown) {
 			break
 		}
 	}
-	g.drop()
+	g.text = ""
 	if errors.Is(err, stores.ErrLost) {
 		return ErrMoved
 	}
 	return fmt.Errorf("signer: the guard's state: %w", err)
-}
-
-// mayBeBefore says whether another head is this one, or may come behind it.
-func (h Head) mayBeBefore(other *Head) bool {
-	return other != nil && (*other == h || other.Size >= h.Size && other.Moment > h.Moment)
 }
 
 // Key is Signer's.
@@ -316,40 +304,37 @@ func (g *Guarded) Last(ctx context.Context) (*Head, error) {
 		return nil, err
 	}
 	defer func() { <-g.turn }()
-	if g.end != nil {
-		text, err := g.stands(ctx)
-		if err != nil {
-			return nil, err
-		}
-		if text != g.text {
-			g.drop()
-		}
-	}
-	if err := g.begin(ctx); err != nil {
-		return nil, err
-	}
-	return g.last, nil
+	return g.look(ctx)
 }
 
-// SignHead is Signer's. The state is kept before the head is signed: who dies in between has let a head through that nobody signed.
+// SignHead is Signer's. The state stands in the register before the head is signed: who dies in between has let a head through that nobody signed.
 func (g *Guarded) SignHead(ctx context.Context, head Head, consistency [][32]byte) ([]byte, error) {
 	if err := g.take(ctx); err != nil {
 		return nil, err
 	}
 	defer func() { <-g.turn }()
-	if err := g.begin(ctx); err != nil {
-		return nil, err
-	}
-	message, err := g.askHead(ctx, head, consistency, "")
+	text, err := g.known(ctx)
 	if err != nil {
 		return nil, err
 	}
+	proof := hashesOf(consistency)
+	replies, err := g.ask(ctx, []guardRequest{{Text: text, headLine: lineOf(&head), Consistency: &proof, MostAhead: mostAhead(head)}})
+	if err != nil {
+		return nil, err
+	}
+	reply := replies[0]
+	if err := reply.refusal(); err != nil {
+		return nil, err
+	}
+	if !bytes.Equal(reply.Sign, head.message()) || reply.Old != text || reply.New == "" {
+		return nil, g.other("head")
+	}
 	g.phase("let through")
-	if err := g.keep(ctx, head); err != nil {
+	if err := g.swap(ctx, reply.Old, reply.New); err != nil {
 		return nil, err
 	}
 	g.phase("kept")
-	return g.key.sign(message)
+	return g.key.sign(reply.Sign)
 }
 
 // SignTimestamps is Signer's.
@@ -358,28 +343,29 @@ func (g *Guarded) SignTimestamps(ctx context.Context, receipts []Receipt) ([][]b
 		return nil, err
 	}
 	defer func() { <-g.turn }()
-	if err := g.begin(ctx); err != nil {
+	text, err := g.known(ctx)
+	if err != nil {
 		return nil, err
 	}
-	var requests []any
+	var requests []guardRequest
 	for _, receipt := range receipts {
-		request := map[string]any{"leaf_input": receipt.Leaf}
+		request := guardRequest{Text: text, leafLine: &leafLine{Leaf: receipt.Leaf}}
 		if g.of.Receipts == InHead {
-			request["leaf_index"], request["audit_path"] = receipt.Index, hashesOf(receipt.Path)
+			index, path := receipt.Index, hashesOf(receipt.Path)
+			request.Index, request.Path = &index, &path
 		}
 		requests = append(requests, request)
 	}
-	replies, err := g.ask(ctx, "", requests)
+	replies, err := g.ask(ctx, requests)
 	if err != nil {
 		return nil, err
 	}
 	for i, reply := range replies {
-		if reply.Refused != "" {
-			return nil, Refusal{reply.Refused, reply.Fault}
+		if err := reply.refusal(); err != nil {
+			return nil, err
 		}
-		if !bytes.Equal(reply.Sign, receipts[i].Leaf) || reply.State != nil {
-			g.drop()
-			return nil, fmt.Errorf("%w: the guard's is of another timestamp", ErrReply)
+		if !bytes.Equal(reply.Sign, receipts[i].Leaf) || reply.New != "" {
+			return nil, g.other("timestamp")
 		}
 	}
 	signatures := make([][]byte, 0, len(replies))

@@ -64,6 +64,18 @@ func refused(t testing.TB, name string, err error) {
 	}
 }
 
+// stateOf is the line of a guard's state.
+func stateOf(last *Head) string {
+	line, err := json.Marshal(struct {
+		Guard int       `json:"guard"`
+		Last  *headLine `json:"last"`
+	}{1, lineOf(last)})
+	if err != nil {
+		panic(err)
+	}
+	return string(line)
+}
+
 func limited(t testing.TB) context.Context {
 	ctx, cancel := context.WithTimeout(context.Background(), time.Minute)
 	t.Cleanup(cancel)
@@ -205,6 +217,69 @@ func through(t *testing.T, receipts Receipts, test func(t *testing.T, s Signer, 
 	}
 }
 
+// wrongly is a signer whose signatures are changed.
+type wrongly struct {
+	Signer
+	change func(signed [][]byte) [][]byte
+}
+
+func (w wrongly) SignHead(ctx context.Context, head Head, consistency [][32]byte) ([]byte, error) {
+	signed, err := w.Signer.SignHead(ctx, head, consistency)
+	if err != nil {
+		return nil, err
+	}
+	return w.change([][]byte{signed})[0], nil
+}
+
+func (w wrongly) SignTimestamps(ctx context.Context, receipts []Receipt) ([][]byte, error) {
+	signed, err := w.Signer.SignTimestamps(ctx, receipts)
+	if err != nil {
+		return nil, err
+	}
+	return w.change(signed), nil
+}
+
+// TestWrongSigner asks a signer in another process whose signatures are none of its key's over what was asked, or too few: none is taken.
+func TestWrongSigner(t *testing.T) {
+	t.Parallel()
+	ctx, key, l := limited(t), newKey(t), listOf(t, 3, 3)
+	head, other := l.head(t, 3, 5), l.head(t, 3, 6)
+	receipts := []Receipt{l.receipt(t, 0, 3), l.receipt(t, 1, 3)}
+	foreign, err := newKey(t).SignHead(ctx, head, nil)
+	must(t, err)
+	later, err := key.SignHead(ctx, other, nil)
+	must(t, err)
+	for what, wrong := range map[string]struct {
+		change          func(signed [][]byte) [][]byte
+		heads, receipts bool
+	}{
+		"as they are":      {func(signed [][]byte) [][]byte { return signed }, true, true},
+		"the last is none": {func(signed [][]byte) [][]byte { return append(signed[:len(signed)-1:len(signed)-1], nil) }, false, false},
+		"another key's":    {func(signed [][]byte) [][]byte { return append([][]byte{foreign}, signed[1:]...) }, false, false},
+		"another's":        {func(signed [][]byte) [][]byte { return append([][]byte{later}, signed[1:]...) }, false, false},
+		"the other way":    {func(signed [][]byte) [][]byte { return [][]byte{signed[len(signed)-1], signed[0]} }, true, false},
+		"one less":         {func(signed [][]byte) [][]byte { return signed[:1] }, true, false},
+		"one more":         {func(signed [][]byte) [][]byte { return append(signed, signed[0]) }, true, false},
+	} {
+		path := filepath.Join(t.TempDir(), "socket")
+		listener, err := listenAt(path)
+		must(t, err)
+		t.Cleanup(func() { listener.Close() })
+		go func(s Signer) { _ = newClients().serve(ctx, s, listener) }(wrongly{key, wrong.change})
+		c, err := Ask(ctx, func(ctx context.Context) (*pipe.End, error) { return pipe.Dial(ctx, path, MostLine) }, 20*time.Second)
+		must(t, err)
+		t.Cleanup(func() { c.Close() })
+		signed, err := c.SignHead(ctx, head, nil)
+		if (err == nil) != wrong.heads || err != nil && !errors.Is(err, ErrReply) || err == nil && CheckHead(key.Key(), head, signed) != nil {
+			t.Errorf("%s: a head: %v", what, err)
+		}
+		all, err := c.SignTimestamps(ctx, receipts)
+		if (err == nil) != wrong.receipts || err != nil && (!errors.Is(err, ErrReply) || all != nil) {
+			t.Errorf("%s: timestamps: %v", what, err)
+		}
+	}
+}
+
 // TestHeads asks for heads that go on, and between them for forked ones, older ones, and ones with false proofs: none of these is
 // signed, and none changes what may be signed.
 func TestHeads(t *testing.T) {
@@ -261,7 +336,7 @@ func TestMomentTooFar(t *testing.T) {
 		for _, one := range []struct {
 			size   int
 			moment uint64
-		}{{5, 100}, {7, now}, {9, now + hour}} {
+		}{{5, 100}, {7, now + 30_000}, {9, now + hour}} {
 			last, err := s.Last(ctx)
 			must(t, err)
 			before := 0
@@ -384,9 +459,16 @@ func TestStates(t *testing.T) {
 				t.Errorf("%s: %s: %v", name, text, err)
 			}
 		}
-		// With a line's end, as an operator writes it.
+		// With a line's end, as an operator writes it, and what is no state stays as it stands.
 		of = Guard{Command: guard, State: register(t, t.TempDir()), Receipts: InHead}
-		must(t, of.State.Create(ctx, stateOf(&first)+"\n"))
+		must(t, of.State.Create(ctx, "x\n"))
+		_, err = Behind(ctx, key, of)
+		wants(t, err, ErrState)
+		text, err := of.State.Read(ctx)
+		if must(t, err); text != "x\n" {
+			t.Errorf("%q", text)
+		}
+		must(t, of.State.Swap(ctx, "x\n", stateOf(&first)+"\n"))
 		g, err := Behind(ctx, key, of)
 		must(t, err)
 		defer g.Close()
@@ -395,6 +477,16 @@ func TestStates(t *testing.T) {
 	}
 	_, err := Behind(ctx, key, Guard{Command: []string{"nowhere-is-it"}, State: register(t, t.TempDir()), Create: true, Receipts: InHead})
 	wants(t, err, exec.ErrNotFound)
+	_, err = Behind(ctx, key, Guard{State: register(t, t.TempDir()), Create: true, Receipts: InHead})
+	wants(t, err, ErrState)
+	_, err = Behind(ctx, key, Guard{Command: model, State: register(t, t.TempDir()), Create: true, Receipts: "none"})
+	wants(t, err, ErrState)
+	full := &unsure{Register: register(t, t.TempDir()), fails: errors.New("a disk is full")}
+	_, err = Behind(ctx, key, Guard{Command: model, State: full, Create: true, Receipts: InHead})
+	wants(t, err, full.fails)
+	must(t, full.Register.Create(ctx, stateOf(&first)+"\n"))
+	_, err = Behind(ctx, key, Guard{Command: model, State: full, Receipts: InHead})
+	wants(t, err, full.fails)
 }
 
 // TestStateSetBack puts a guard's state back below a signer that runs: nothing is signed until it comes back.
@@ -424,6 +516,14 @@ func TestStateSetBack(t *testing.T) {
 			}
 		}
 		must(t, stores.KeepFile(text, newest))
+		// One that has only looked at the newest knows it too.
+		other, err := Behind(ctx, newKey(t), Guard{Command: command, State: register(t, folder), Receipts: InHead})
+		must(t, err)
+		defer other.Close()
+		must(t, stores.KeepFile(text, old))
+		_, err = other.Last(ctx)
+		wants(t, err, ErrState)
+		must(t, stores.KeepFile(text, newest))
 		_, err = g.SignHead(ctx, l.head(t, 8, 80), l.proof(t, 5, 8))
 		must(t, err)
 	}
@@ -445,6 +545,8 @@ func TestTwoSigners(t *testing.T) {
 	refused(t, "inconsistent", err)
 	_, err = two.SignHead(ctx, right.head(t, 8, 102), right.proof(t, 5, 8))
 	wants(t, err, ErrMoved)
+	_, err = two.SignHead(ctx, right.head(t, 8, 102), right.proof(t, 5, 8))
+	refused(t, "size-falls", err)
 	if last, err := two.Last(ctx); err != nil || *last != right.head(t, 9, 101) {
 		t.Errorf("%v, %v", last, err)
 	}
@@ -491,6 +593,13 @@ type unsure struct {
 	fails error
 }
 
+func (u *unsure) Create(ctx context.Context, text string) error {
+	if u.fails != nil {
+		return u.fails
+	}
+	return u.Register.Create(ctx, text)
+}
+
 func (u *unsure) Swap(ctx context.Context, old, new string) error {
 	u.swaps++
 	if u.fails != nil {
@@ -534,6 +643,66 @@ func TestUnkept(t *testing.T) {
 	state.fails = nil
 	_, err = g.SignHead(ctx, right.head(t, 9, 102), right.proof(t, 4, 9))
 	must(t, err)
+}
+
+// lying is a register that reads as something else than what stands.
+type lying struct {
+	stores.Register
+	reads string
+}
+
+func (l *lying) Read(ctx context.Context) (string, error) {
+	if l.reads != "" {
+		return l.reads, nil
+	}
+	return l.Register.Read(ctx)
+}
+
+// TestLyingRegister has the state's register read as an older state, as one of a fork, as none that was ever let through, and as one that comes later:
+// the guard lets heads through behind these, the swap shows that they don't stand, and nothing is signed.
+func TestLyingRegister(t *testing.T) {
+	t.Parallel()
+	ctx, key, right, fork := limited(t), newKey(t), listOf(t, 20, 20), listOf(t, 20, 3)
+	for name, guard := range guards() {
+		older, other, later := right.head(t, 5, 100), fork.head(t, 9, 101), right.head(t, 12, 103)
+		for _, reads := range []string{none, stateOf(&older), stateOf(&other), stateOf(&later)} {
+			state := &lying{Register: register(t, t.TempDir())}
+			g, err := Behind(ctx, key, Guard{Command: guard, State: state, Create: true, Receipts: InHead})
+			must(t, err)
+			_, err = g.SignHead(ctx, older, nil)
+			must(t, err)
+			_, err = g.SignHead(ctx, right.head(t, 9, 102), right.proof(t, 5, 9))
+			must(t, err)
+			must(t, g.Close())
+			stood, err := state.Read(ctx)
+			must(t, err)
+			state.reads = reads
+			g, err = Behind(ctx, key, Guard{Command: guard, State: state, Receipts: InHead})
+			must(t, err)
+			last, err := g.Last(ctx)
+			must(t, err)
+			from := 0
+			if last != nil {
+				from = int(last.Size)
+			}
+			for _, l := range []*list{right, fork} {
+				signed, err := g.SignHead(ctx, l.head(t, 20, 104), l.proof(t, from, 20))
+				if !errors.Is(err, ErrMoved) && !errors.Is(err, ErrRefused) || signed != nil {
+					t.Errorf("%s: %s: %v", name, reads, err)
+				}
+			}
+			if last != nil {
+				// The head that the register is said to have, once more.
+				if signed, err := g.SignHead(ctx, *last, nil); !errors.Is(err, ErrMoved) || signed != nil {
+					t.Errorf("%s: %s once more: %v", name, reads, err)
+				}
+			}
+			must(t, g.Close())
+			if text, err := state.Register.Read(ctx); err != nil || text != stood {
+				t.Errorf("%s: %s: %s stands, %v", name, reads, text, err)
+			}
+		}
+	}
 }
 
 // failing is a register that isn't read as long as fails is an error.
@@ -632,17 +801,20 @@ func TestWrongGuards(t *testing.T) {
 		must(t, err)
 		return string(line)
 	}
-	line := func(of, state Head) string {
-		return text(map[string]any{"sign": of.message(), "state": json.RawMessage(stateOf(&state))})
+	line := func(of Head, old string, new any) string {
+		return text(map[string]any{"sign": of.message(), "old": old, "new": new})
 	}
 	for what, script := range map[string]string{
-		"is silent":              "exec sleep 60",
-		"ends":                   "exit 1",
-		"replies no JSON":        "read x; echo no; exec sleep 60",
-		"replies another head":   "read x; echo '" + line(other, head) + "'; exec sleep 60",
-		"has another state":      "read x; echo '" + line(head, other) + "'; exec sleep 60",
-		"replies a timestamp":    "read x; echo '" + text(map[string]any{"sign": right.leaves[0]}) + "'; exec sleep 60",
-		"replies nothing to say": "read x; echo '{}'; exec sleep 60",
+		"is silent":               "exec sleep 60",
+		"ends":                    "exit 1",
+		"replies no JSON":         "read x; echo no; exec sleep 60",
+		"replies another head":    "read x; echo '" + line(other, none, stateOf(&other)) + "'; exec sleep 60",
+		"judges another text":     "read x; echo '" + line(head, stateOf(&other), stateOf(&head)) + "'; exec sleep 60",
+		"names no new text":       "read x; echo '" + line(head, none, "") + "'; exec sleep 60",
+		"has a number as a text":  "read x; echo '" + line(head, none, 7) + "'; exec sleep 60",
+		"moves on by a timestamp": "read x; echo '" + text(map[string]any{"sign": right.leaves[1], "new": stateOf(&head)}) + "'; exec sleep 60",
+		"replies a timestamp":     "read x; echo '" + text(map[string]any{"sign": right.leaves[0]}) + "'; exec sleep 60",
+		"replies nothing to say":  "read x; echo '{}'; exec sleep 60",
 	} {
 		path := filepath.Join(t.TempDir(), "guard")
 		must(t, os.WriteFile(path, []byte(script), 0o700))
@@ -655,6 +827,83 @@ func TestWrongGuards(t *testing.T) {
 			t.Errorf("a guard that %s: %v", what, err)
 		}
 		g.Close()
+	}
+}
+
+// TestWrongLast has programs in the guard's place that don't say which head a state has: nothing begins with it.
+func TestWrongLast(t *testing.T) {
+	t.Parallel()
+	ctx, key, head := limited(t), newKey(t), listOf(t, 2, 2).head(t, 2, 5)
+	for _, says := range []string{`{}`, `{"last":7}`, `{"last":{"sha256_root_hash":"AAAA","timestamp":5,"tree_size":2}}`,
+		`{"last":{"sha256_root_hash":"` + strings.Repeat("AAAA", 11) + `","timestamp":5,"tree_size":2}}`, `{"sign":"AAAA"}`} {
+		path, state := filepath.Join(t.TempDir(), "guard"), register(t, t.TempDir())
+		must(t, os.WriteFile(path, []byte("read x; echo '"+says+"'; exec sleep 60"), 0o700))
+		must(t, state.Create(ctx, stateOf(&head)))
+		_, err := Behind(ctx, key, Guard{Command: []string{"sh", path}, State: state, Receipts: InHead})
+		wants(t, err, ErrReply)
+	}
+}
+
+// TestGuardComesBack has a guard be wrong once, in each way: it has ended, and another one is begun; and one that can't be begun.
+func TestGuardComesBack(t *testing.T) {
+	t.Parallel()
+	ctx, key, right := limited(t), newKey(t), listOf(t, 2, 2)
+	head := right.head(t, 2, 5)
+	for _, wrong := range []string{"exit 1", "read x; echo no; exec sleep 60", "read x; echo '{}'; exec sleep 60"} {
+		folder := t.TempDir()
+		once, path := filepath.Join(folder, "once"), filepath.Join(folder, "guard.sh")
+		must(t, os.WriteFile(once, nil, 0o600))
+		must(t, os.WriteFile(path, []byte(fmt.Sprintf("#!/bin/sh\nif rm '%s' 2>/dev/null; then %s; fi; exec python3 '%s' \"$@\"", once, wrong, model[1])), 0o700))
+		g := behind(t, key, folder, []string{path}, InHead)
+		if _, err := g.SignHead(ctx, head, nil); !errors.Is(err, ErrReply) && !errors.Is(err, pipe.ErrGone) {
+			t.Errorf("%s: %v", wrong, err)
+		}
+		signed, err := g.SignHead(ctx, head, nil)
+		must(t, err)
+		must(t, CheckHead(key.Key(), head, signed))
+		must(t, g.Close())
+		must(t, os.Remove(path))
+		_, err = g.Last(ctx)
+		wants(t, err, pipe.ErrGone)
+	}
+}
+
+// TestManyAsk has many ask one signer at once: each is answered for what it asked.
+func TestManyAsk(t *testing.T) {
+	t.Parallel()
+	ctx, right := limited(t), listOf(t, 8, 8)
+	for name, guard := range guards() {
+		key := newKey(t)
+		g := behind(t, key, t.TempDir(), guard, InHead)
+		head := right.head(t, 8, 100)
+		_, err := g.SignHead(ctx, head, nil)
+		must(t, err)
+		failed := make(chan error)
+		for at := 0; at < 8; at++ {
+			receipt := right.receipt(t, at, 8)
+			go func() {
+				for i := 0; i < 10; i++ {
+					if signed, err := g.SignHead(ctx, head, nil); err != nil || CheckHead(key.Key(), head, signed) != nil {
+						failed <- fmt.Errorf("a head: %v", err)
+						return
+					}
+					if signed, err := g.SignTimestamps(ctx, []Receipt{receipt}); err != nil || Check(key.Key(), receipt.Leaf, signed[0]) != nil {
+						failed <- fmt.Errorf("a timestamp: %v", err)
+						return
+					}
+					if last, err := g.Last(ctx); err != nil || *last != head {
+						failed <- fmt.Errorf("the last head: %v", err)
+						return
+					}
+				}
+				failed <- nil
+			}()
+		}
+		for at := 0; at < 8; at++ {
+			if err := <-failed; err != nil {
+				t.Errorf("%s: %v", name, err)
+			}
+		}
 	}
 }
 
@@ -703,7 +952,7 @@ func beChild(words string) error {
 		return err
 	}
 	phases := 0
-	g.phase = func(name string) {
+	g.test.phase = func(name string) {
 		if name == c.Phase {
 			if phases++; phases == c.On {
 				self, _ := os.FindProcess(os.Getpid())

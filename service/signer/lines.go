@@ -432,27 +432,45 @@ func (c *Client) SignHead(ctx context.Context, head Head, consistency [][32]byte
 	if err != nil {
 		return nil, err
 	}
-	if len(came.Signatures) != 1 {
-		return nil, fmt.Errorf("%w: %d signatures of a head", ErrReply, len(came.Signatures))
+	if err := c.areSigned(came.Signatures, [][]byte{head.message()}); err != nil {
+		return nil, err
 	}
 	return came.Signatures[0], nil
+}
+
+// areSigned looks at what the other process gave, as at what another node's does: one signature for each message, the key's.
+func (c *Client) areSigned(signatures, messages [][]byte) error {
+	if len(signatures) != len(messages) {
+		return fmt.Errorf("%w: %d signatures of %d", ErrReply, len(signatures), len(messages))
+	}
+	public, err := publicOf(c.key)
+	if err != nil {
+		return err
+	}
+	for i, message := range messages {
+		if err := check(public, message, signatures[i]); err != nil {
+			return fmt.Errorf("%w: %v", ErrReply, err)
+		}
+	}
+	return nil
 }
 
 // SignTimestamps is Signer's.
 func (c *Client) SignTimestamps(ctx context.Context, receipts []Receipt) (signatures [][]byte, err error) {
 	for from := 0; from < len(receipts); from += MostReceipts {
 		var asked request
+		var messages [][]byte
 		for _, one := range receipts[from:] {
 			if len(asked.Receipts) < MostReceipts {
-				asked.Receipts = append(asked.Receipts, receiptLine{hashesOf(one.Path), one.Index, one.Leaf})
+				asked.Receipts, messages = append(asked.Receipts, receiptLine{hashesOf(one.Path), one.Index, one.Leaf}), append(messages, one.Leaf)
 			}
 		}
 		came, err := c.ask(ctx, asked)
 		if err != nil {
 			return nil, err
 		}
-		if len(came.Signatures) != len(asked.Receipts) {
-			return nil, fmt.Errorf("%w: %d signatures of %d timestamps", ErrReply, len(came.Signatures), len(asked.Receipts))
+		if err := c.areSigned(came.Signatures, messages); err != nil {
+			return nil, err
 		}
 		signatures = append(signatures, came.Signatures...)
 	}

@@ -103,14 +103,26 @@ var (
 
 // Check says whether a DigitallySigned is the key's over these bytes; the key is a SubjectPublicKeyInfo in DER.
 func Check(key, message, signed []byte) error {
+	public, err := publicOf(key)
+	if err != nil {
+		return err
+	}
+	return check(public, message, signed)
+}
+
+func publicOf(key []byte) (*ecdsa.PublicKey, error) {
 	parsed, err := x509.ParsePKIXPublicKey(key)
 	if err != nil {
-		return fmt.Errorf("%w: %v", ErrKey, err)
+		return nil, fmt.Errorf("%w: %v", ErrKey, err)
 	}
 	public, ok := parsed.(*ecdsa.PublicKey)
 	if !ok || public.Curve != elliptic.P256() {
-		return fmt.Errorf("%w: it isn't of P-256", ErrKey)
+		return nil, fmt.Errorf("%w: it isn't of P-256", ErrKey)
 	}
+	return public, nil
+}
+
+func check(public *ecdsa.PublicKey, message, signed []byte) error {
 	if len(signed) < 4 || signed[0] != algorithms[0] || signed[1] != algorithms[1] || int(signed[2])<<8|int(signed[3]) != len(signed)-4 {
 		return fmt.Errorf("%w: it is none of ECDSA with SHA-256", ErrSignature)
 	}

@@ -4,7 +4,8 @@
     fuzz.py PROGRAM N [SEED]
 
 N is how many histories: each has up to eight lines, from where the guard stands, of a made-up log that goes on and of one that forks from it
-there: heads and receipts with proofs that are right, false, too long and too short, older and later ones, among damaged lines. Up to a hundred
+there: heads and receipts with proofs that are right, false, too long and too short, older and later ones, of where the guard stands or over a register's
+text, among damaged lines. Up to a hundred
 histories of one log are one run, in one process, and five runs are one after the other: each but the first begins with the line that the one
 before ended with, or with that line damaged, or with none. First of all the program has to reply to a line before its input goes on. It prints one
 line, and ends with status 1 at the first difference, with the input kept in the working folder.
@@ -91,8 +92,27 @@ class History:
             value.pop(chance.choice(sorted(value)))
         return value
 
+    def text(self):
+        """A register's text: that of where the guard stands, of another head, damaged, or none."""
+        chance, kind = self.chance, self.chance.random()
+        if kind < 0.6:
+            return model.state_line(self.guard.last).decode()
+        size, log = chance.randint(0, self.most), self.forked if kind < 0.7 else self.log
+        made = model.state_line((size, chance.choice([0, 5, 1 << 40, self.guard.last[1] if self.guard.last else 1]), log.root(0, size))).decode()
+        return made if kind < 0.9 else chance.choice([made + "\n", made[1:], "", model.state_line(None).decode(), None])
+
+    def over_text(self):
+        """A line over a register's text."""
+        chance, kind = self.chance, self.chance.random()
+        value = {"text": self.text(), **(self.head() if kind < 0.5 else self.receipt() if kind < 0.8 else {})}
+        if chance.random() < 0.3:
+            value["seen"] = self.text()
+        return value
+
     def line(self, before):
         chance, kind = self.chance, self.chance.random()
+        if chance.random() < 0.3:
+            return history.line(self.over_text())
         if kind < 0.55:
             return history.line(self.head())
         if kind < 0.85:

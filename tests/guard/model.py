@@ -34,6 +34,31 @@ def state_of(last):
     return {"guard": 1, "last": shown}
 
 
+def state_line(last):
+    """The state's line, without its end."""
+    return json_line(state_of(last))
+
+
+def read_state(line):
+    """The last head of the state that a line is, byte for byte; ValueError where it is none."""
+    try:
+        last = json_of(line)["last"]
+        if last is not None:
+            if not (is_number(last["tree_size"]) and is_number(last["timestamp"])):
+                raise ValueError("a number")
+            last = (last["tree_size"], last["timestamp"], base64.b64decode(last["sha256_root_hash"]))
+    except (KeyError, TypeError) as error:
+        raise ValueError("no state") from error
+    if line != state_line(last) or (last and len(last[2]) != 32):
+        raise ValueError("no state")
+    return last
+
+
+def goes_on(seen, last):
+    """Whether a last head isn't behind one that was seen before."""
+    return not seen or bool(last) and (last == seen or last[0] >= seen[0] and last[1] > seen[1])
+
+
 def refused(name, fault=None):
     return {"fault": fault, "refused": name} if fault else {"refused": name}
 
@@ -114,11 +139,15 @@ class Guard:
             if extensions_of(leaf) not in (b"", index_extension(index)):
                 raise Refused("other-index")
 
-    def head_reply(self, value):
+    def head_reply(self, value, old=None):
         head = (value["tree_size"], value["timestamp"], base64.b64decode(value["sha256_root_hash"]))
         self.pass_head(head, [base64.b64decode(one) for one in value["consistency"]], value.get("most_ahead", HOUR))
         size, moment, root = head
-        reply = {"sign": text(b"\0\1" + struct.pack(">QQ", moment, size) + root), "state": state_of(head)}
+        reply = {"sign": text(b"\0\1" + struct.pack(">QQ", moment, size) + root)}
+        if old is None:
+            reply["state"] = state_of(head)
+        else:
+            reply = {"new": state_line(head).decode(), "old": old, **reply}
         if self.origin is None:
             return reply
         return {"checkpoint": f"{self.origin}\n{size}\n{text(root)}\n", **reply}
@@ -145,31 +174,51 @@ class Guard:
             value = json_of(line)
         except ValueError:
             value = None
-        if isinstance(value, dict) and "guard" not in value:
-            try:
-                if self.is_head(value):
-                    return self.head_reply(value)
-                if self.is_receipt(value):
-                    return self.receipt_reply(value)
-            except Refused as refusal:
-                return refused(*refusal.args)
+        if not isinstance(value, dict):
+            return self.no_line()
+        try:
+            return self.over_text(value) if "text" in value else self.own(value)
+        except Refused as refusal:
+            return refused(*refusal.args)
+
+    def no_line(self):
         self.bad = True
         return refused("bad-line")
+
+    def own(self, value, old=None):
+        """The reply to what an object asks for of the guard's own last head, or of that of a text (old)."""
+        if "guard" not in value and self.is_head(value):
+            return self.head_reply(value, old)
+        if "guard" not in value and self.is_receipt(value):
+            return self.receipt_reply(value)
+        return self.no_line()
+
+    def over_text(self, value):
+        """The same of the head that a register's text has: the guard's own stays as it was."""
+        seen = value.get("seen", value["text"])
+        if not isinstance(value["text"], str) or not isinstance(seen, str):
+            return self.no_line()
+        try:
+            last, before = read_state(value["text"].encode()), read_state(seen.encode())
+        except ValueError:
+            return refused("bad-state")
+        if not goes_on(before, last):
+            return refused("set-back")
+        if not {"guard", "sha256_root_hash", "leaf_input"} & value.keys():
+            return {"last": state_of(last)["last"]}
+        other = Guard(self.origin, self.promised)
+        other.last = last
+        try:
+            return other.own(value, value["text"])
+        finally:
+            self.bad |= other.bad
 
     def take_state(self, line):
         """Whether a line is a state's, byte for byte, which is then taken up."""
         try:
-            value = json_of(line)
-            last = value["last"]
-            if last is not None:
-                if not (is_number(last["tree_size"]) and is_number(last["timestamp"])):
-                    return False
-                last = (last["tree_size"], last["timestamp"], base64.b64decode(last["sha256_root_hash"]))
-            if line != json_line(state_of(last)) or (last and len(last[2]) != 32):
-                return False
-        except (ValueError, KeyError, TypeError):
+            self.last = read_state(line)
+        except ValueError:
             return False
-        self.last = last
         return True
 
 

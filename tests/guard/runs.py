@@ -50,6 +50,15 @@ def leaf_of(*parts):
     return history.text(b"".join(parts))
 
 
+def over(size, moment, value, log=LOG, **more):
+    """An object over a register's text, of so many leaves; none where size is None."""
+    return {"text": text_of(size, moment, log), **more, **value}
+
+
+def text_of(size, moment, log=LOG):
+    return model.state_line(None if size is None else (size, moment, log.root(0, size))).decode()
+
+
 # Each run: what stands behind the program's name, and its lines, as values or as bytes.
 GROWS = [head(0, 3, 1000), head(0, 3, 1000), receipt(2, 3), receipt(0, 3), head(3, 5, 1001), head(5, 5, 1002), receipt(4, 5), head(5, 9, 2000)]
 FALSE_PROOF = head(3, 5, 1001)["consistency"]
@@ -69,8 +78,20 @@ BAD_LINES = [
 ]
 # Each is too far beyond a head of 3 leaves at 1000, whatever else it is: a fork, a smaller tree, no proof, the largest moment.
 FAR = [head(3, 5, 3601001, OTHER), head(0, 2, 3601001), head(3, 5, (1 << 64) - 1, consistency=[]), head(3, 5, 1001, most_ahead=0)]
+# Lines over a register's text, of which nothing stays: its head, one that was seen before, texts that are none, and what the guard says behind each.
+OVER_TEXT = [
+    *[over(None, 0, {}), over(None, 0, head(0, 3, 1000)), over(3, 1000, {}), over(3, 1000, head(0, 3, 1000)), over(3, 1000, head(3, 5, 1001))],
+    *[over(3, 1000, receipt(2, 3)), over(None, 0, receipt(0, 3)), over(3, 1000, head(3, 5, 1001, OTHER)), over(3, 1000, head(3, 5, 999)), over(3, 1000, head(3, 5, 3601001))],
+    *[over(3, 1000, head(0, 2, 2000)), over(3, 1000, head(0, 3, 1001, OTHER)), over(3, 1000, receipt(2, 3, OTHER))],
+    *[over(3, 1000, {}, seen=text_of(None, 0)), over(3, 1000, {}, seen=text_of(3, 1000)), over(5, 1001, {}, seen=text_of(3, 1000)), over(3, 1001, {}, seen=text_of(3, 1000))],
+    *[over(3, 1000, {}, seen=text_of(5, 900)), over(5, 1000, {}, seen=text_of(3, 1000)), over(3, 1000, {}, seen=text_of(3, 1000, OTHER)), over(None, 0, {}, seen=text_of(3, 1000))],
+    *[over(3, 1000, head(3, 5, 1001), seen=text_of(5, 1001)), over(5, 1001, head(5, 9, 1002), seen=text_of(3, 1000))],
+    *[{"text": text_of(3, 1000) + "\n"}, {"text": "x"}, {"text": ""}, {"text": text_of(3, 1000), "seen": "x"}, {"text": "x", **head(0, 3, 1000)}],
+    *[{"text": None}, {"text": 7, **head(0, 3, 1000)}, {"text": text_of(3, 1000), "seen": 7}, {"text": text_of(3, 1000), "guard": 1}, over(3, 1000, head(3, 5, -1))],
+    *[over(3, 1000, none_of(receipt(2, 3), "leaf_index")), {"seen": text_of(3, 1000)}, head(0, 3, 1000), over(9, 2000, {}), receipt(2, 3)],
+]
 RUNS = {
-    "session": (["--origin", ORIGIN], [state(LOG, 2, 900), head(2, 3, 1000), *GROWS[1:], head(9, 5, 3000), receipt(8, 9)]),
+    "session": (["--origin", ORIGIN], [state(LOG, 2, 900), head(2, 3, 1000), *GROWS[1:], head(9, 5, 3000), receipt(8, 9), over(3, 1000, {}), over(3, 1000, head(3, 5, 1001)), over(3, 1000, {}, seen=text_of(5, 1001)), b"x"]),
     "grows": ([], GROWS),
     "first-moment": ([], [head(0, 0, 0), head(0, 0, 1), head(0, 4, 2, consistency=[]), head(4, 9, (1 << 64) - 1, most_ahead=(1 << 64) - 3)]),
     "too-far": ([], [head(0, 3, 1000), *FAR, head(3, 5, 3601001), head(3, 5, 3601000), head(5, 9, 3601000 + 9, most_ahead=8), head(5, 9, 3601000 + 9, most_ahead=9)]),
@@ -83,6 +104,9 @@ RUNS = {
     "none-before": ([], [model.state_of(None), receipt(0, 3), head(0, 3, 1000)]),
     "promised": (["--receipts", "promised"], [none_of(receipt(8, 9), "leaf_index", "audit_path"), receipt(1, 3, leaf_index=-1), receipt(0, 3, leaf_input="AAE="), head(0, 9, 2000)]),
     "last-counts": (["--receipts", "promised", "--origin", "other", "--receipts", "in-head", "--origin", ORIGIN], [receipt(0, 3), head(0, 3, 1000), receipt(0, 3)]),
+    "over-text": ([], OVER_TEXT),
+    "over-text-named": (["--origin", ORIGIN], OVER_TEXT[:8]),
+    "over-text-promised": (["--receipts", "promised"], [over(None, 0, {"leaf_input": receipt(8, 9)["leaf_input"]}), over(3, 1000, {"leaf_input": "AAE="})]),
     "nothing": ([], []),
 }
 

@@ -5,7 +5,7 @@ use Rattle.std.specs.Io.BufRead.{first_piece, drop_through}
 use Rattle.sha2.specs.Sha256.{sha256}
 use Rattle.ct_tree.specs.declared.head.Head.{Head}
 use Rattle.ct_guard.specs.declared.refusal.ReceiptRefusal.TheVariants.{NoHead, NoLeaf, NotThere, LaterLeaf, OtherIndex}
-use Rattle.ctguard.specs.Asks.{Ask, for_head, for_receipt, for_promise, for_nothing}
+use Rattle.ctguard.specs.Asks.{Ask, for_head, for_receipt, for_promise, for_last, for_nothing, over_text}
 use Rattle.ctguard.specs.BrokenOff.{GuardsFirstLines}
 use Rattle.ctguard.specs.CutRuns.{LeadsTo, CutRun, newest_of, written_head, TakeUpWritten, all_cut, CutHeadsAgree, CutHeadsGoBack, IsCutAt, RunsAreCut, BrokenRunsAreCut}
 use Rattle.ctguard.specs.Given.{AskComesBy}
@@ -13,7 +13,7 @@ use Rattle.ctguard.specs.GuardHistory.{given_head, given_heads}
 use Rattle.ctguard.specs.GuardSession.{GuardOptions, GuardStep, StepsLine, StepsLineBy, GuardsLines, StartsAt, last_head}
 use Rattle.ctguard.specs.declared.guarding.Guarding.{Guarding}
 use Rattle.ctguard.specs.declared.replies.Outcome.{Outcome}
-use Rattle.ctguard.specs.declared.replies.Outcome.TheVariants.{LetThrough, TooFar, HeadRefused, ReceiptRefused, BadLine}
+use Rattle.ctguard.specs.declared.replies.Outcome.TheVariants.{LetThrough, TooFar, HeadRefused, ReceiptRefused, BadLine, BadState, SetBack, Holds}
 use Rattle.ctguard.proofs.GivenRuns.{Through, from_same, one_line, none_left, start_is, agree, go_back}
 
 -- ---- the last state that was written is that of what is known
@@ -25,11 +25,17 @@ one_newest H last next (for_head head p most) TooFar comes = sym comes.1
 one_newest H last next (for_head head p most) (HeadRefused r) comes = sym comes.2
 one_newest H last next (for_head head p most) (ReceiptRefused r) comes = absurd comes
 one_newest H last next (for_head head p most) BadLine comes = absurd comes
+one_newest H last next (for_head head p most) BadState comes = absurd comes
+one_newest H last next (for_head head p most) SetBack comes = absurd comes
+one_newest H last next (for_head head p most) (Holds held) comes = absurd comes
 one_newest H last next (for_receipt b i p) LetThrough comes = sym comes.1
 one_newest H last next (for_receipt b i p) TooFar comes = absurd comes
 one_newest H last next (for_receipt b i p) (HeadRefused r) comes = absurd comes
 one_newest H last next (for_receipt b i p) (ReceiptRefused r) comes = sym comes.1
 one_newest H last next (for_receipt b i p) BadLine comes = absurd comes
+one_newest H last next (for_receipt b i p) BadState comes = absurd comes
+one_newest H last next (for_receipt b i p) SetBack comes = absurd comes
+one_newest H last next (for_receipt b i p) (Holds held) comes = absurd comes
 one_newest H last next (for_promise b) LetThrough comes = sym comes.1
 one_newest H last next (for_promise b) TooFar comes = absurd comes
 one_newest H last next (for_promise b) (HeadRefused r) comes = absurd comes
@@ -39,11 +45,26 @@ one_newest H last next (for_promise b) (ReceiptRefused (NotThere f)) comes = abs
 one_newest H last next (for_promise b) (ReceiptRefused LaterLeaf) comes = absurd comes
 one_newest H last next (for_promise b) (ReceiptRefused OtherIndex) comes = absurd comes
 one_newest H last next (for_promise b) BadLine comes = absurd comes
+one_newest H last next (for_promise b) BadState comes = absurd comes
+one_newest H last next (for_promise b) SetBack comes = absurd comes
+one_newest H last next (for_promise b) (Holds held) comes = absurd comes
 one_newest H last next for_nothing LetThrough comes = absurd comes
 one_newest H last next for_nothing TooFar comes = absurd comes
 one_newest H last next for_nothing (HeadRefused r) comes = absurd comes
 one_newest H last next for_nothing (ReceiptRefused r) comes = absurd comes
 one_newest H last next for_nothing BadLine comes = sym comes
+one_newest H last next for_nothing BadState comes = absurd comes
+one_newest H last next for_nothing SetBack comes = absurd comes
+one_newest H last next for_nothing (Holds held) comes = absurd comes
+one_newest H last next for_last LetThrough comes = absurd comes
+one_newest H last next for_last TooFar comes = absurd comes
+one_newest H last next for_last (HeadRefused r) comes = absurd comes
+one_newest H last next for_last (ReceiptRefused r) comes = absurd comes
+one_newest H last next for_last BadLine comes = absurd comes
+one_newest H last next for_last BadState comes = absurd comes
+one_newest H last next for_last SetBack comes = absurd comes
+one_newest H last next for_last (Holds held) comes = sym comes.1
+one_newest H last next (over_text text seen a) o comes = sym comes.1
 
 line_newest : (H : List ℕ → List ℕ) (s : GuardOptions) (before : Guarding) (line : List ℕ) (step : GuardStep) → StepsLineBy H s before line step
     → newest_of (last_head before) (given_head step.gave) ≡ last_head step.after

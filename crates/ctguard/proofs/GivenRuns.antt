@@ -18,14 +18,14 @@ use Rattle.json_lines.specs.Values.{value_of_line}
 use Rattle.ct_monitor.specs.Heads.{IsHeadOfAll}
 use Rattle.ct_tree.specs.declared.head.Head.{Head}
 use Rattle.ct_verify.specs.Laws.{AreHashes}
-use Rattle.ctguard.specs.Asks.{Ask, for_head, for_receipt, for_promise, for_nothing, head_ask, head_bound_at, leaf_ask, ask_or_nothing, ask_or, no_state_or, ask_in, Requests}
+use Rattle.ctguard.specs.Asks.{Ask, for_head, for_receipt, for_promise, for_last, for_nothing, over_text, head_ask, head_bound_at, leaf_ask, ask_or_nothing, ask_or, no_state_or, own_ask, texts_at, is_text_alone, alone_or, text_or, ask_in, Requests}
 use Rattle.ctguard.specs.Given.{AskComesBy}
-use Rattle.ctguard.specs.GuardSession.{GuardOptions, GuardStep, StepsLineBy, GuardsLinesBy, StartsAt, GuardRunBy, IsGuardState, last_head}
+use Rattle.ctguard.specs.GuardSession.{GuardOptions, GuardStep, StepsLineBy, GuardsLinesBy, StartsAt, GuardRunBy, last_head}
 use Rattle.ctguard.specs.GuardHistory.{RunMade, TakeUp, given_head, given_heads, all_given, head_step, HeadsAgree, GoBackToEach, GivenHeadsAgree, GivenHeadsGoBack}
-use Rattle.ctguard.specs.GuardState.{guard_state_text, IsLastValue, head_fields}
+use Rattle.ctguard.specs.GuardState.{guard_state_text, IsGuardState, IsLastValue, head_fields}
 use Rattle.ctguard.specs.declared.guarding.Guarding.{Guarding}
 use Rattle.ctguard.specs.declared.replies.Outcome.{Outcome}
-use Rattle.ctguard.specs.declared.replies.Outcome.TheVariants.{LetThrough, TooFar, HeadRefused, ReceiptRefused, BadLine}
+use Rattle.ctguard.specs.declared.replies.Outcome.TheVariants.{LetThrough, TooFar, HeadRefused, ReceiptRefused, BadLine, BadState, SetBack, Holds}
 use Rattle.ctguard.specs.declared.settings.Receipts.{Receipts}
 use Rattle.ctguard.specs.declared.settings.Receipts.TheVariants.{InHead, Promised}
 use Rattle.ctguard.proofs.ReadBack.{states_differ}
@@ -63,11 +63,13 @@ of_hashes None = tt
 of_hashes (Some ds) = each_hash ds
 
 -- of a head's ask the proof is of hashes
-abbrev ProofHashes : Ask → Type 0
+abbrev pub ProofHashes : Ask → Type 0
 ProofHashes (for_head head p most) = AreHashes p
 ProofHashes (for_receipt b i p) = ⊤
 ProofHashes (for_promise b) = ⊤
+ProofHashes for_last = ⊤
 ProofHashes for_nothing = ⊤
+ProofHashes (over_text text seen a) = ProofHashes a
 
 abbrev AskHashes : Option Ask → Type 0
 AskHashes None = ⊤
@@ -101,12 +103,27 @@ some_ask None (Some a) b x y = x
 some_ask None None (Some b) x y = y
 some_ask None None None x y = tt
 
-ask_hashes : (r : Receipts) (d : Data) → ProofHashes (ask_in r d)
-ask_hashes r d =
+own_hashes : (r : Receipts) (d : Data) → ProofHashes (own_ask r d)
+own_hashes r d =
     some_ask (get (codes "guard") d) (head_ask d) (leaf_ask r d)
     (head_hashes (head_fields d) (hashes_at (codes "consistency") d) (head_bound_at d) (of_hashes (option_and_then as_array (get (codes "consistency") d)))) (leaf_hashes r d)
 
-line_hashes : (r : Receipts) (line : List ℕ) (a : Ask) → Requests r line a → ProofHashes a
+alone_hashes : (alone : Bool) (a : Ask) → ProofHashes a → ProofHashes (alone_or alone a)
+alone_hashes true a x = tt
+alone_hashes false a x = x
+
+text_hashes : (value : Option Data) (texts : Option (List ℕ × List ℕ)) (own over : Ask) → ProofHashes own → ProofHashes over
+    → ProofHashes (text_or value texts own over)
+text_hashes None texts own over x y = x
+text_hashes (Some d) None own over x y = tt
+text_hashes (Some d) (Some texts) own over x y = y
+
+ask_hashes : (r : Receipts) (d : Data) → ProofHashes (ask_in r d)
+ask_hashes r d =
+    text_hashes (get (codes "text") d) (texts_at d) (own_ask r d) (alone_or (is_text_alone d) (own_ask r d)) (own_hashes r d)
+    (alone_hashes (is_text_alone d) (own_ask r d) (own_hashes r d))
+
+pub line_hashes : (r : Receipts) (line : List ℕ) (a : Ask) → Requests r line a → ProofHashes a
 line_hashes r line a is = subst ProofHashes (sym is) (go (value_of_line 1048576 line))
   where
     go : (o : Option Data) → ProofHashes (unwrap_or (option_map (ask_in r) o) for_nothing)
@@ -119,7 +136,7 @@ line_hashes r line a is = subst ProofHashes (sym is) (go (value_of_line 1048576 
 abbrev pub Through : (List ℕ → List ℕ) → Option Head → List (Head × List (List ℕ)) → Type 0
 Through H last given = AreHeadSteps H last (map head_step given)
 
-one_through : (H : List ℕ → List ℕ) (last : Option Head) (head : Head) (p : List (List ℕ)) (given : List (Head × List (List ℕ)))
+pub one_through : (H : List ℕ → List ℕ) (last : Option Head) (head : Head) (p : List (List ℕ)) (given : List (Head × List (List ℕ)))
     → PassesHead H last head p → AreHashes p → Through H (Some head) given → Through H last ((head, p) ∷ given)
 unfolding AreHeadSteps
 one_through H last head p given passes hashes rest = (passes, hashes, rest)
@@ -136,11 +153,17 @@ one_ask H last next (for_head head p most) TooFar given comes hashes rest = from
 one_ask H last next (for_head head p most) (HeadRefused r) given comes hashes rest = from_same H last next given comes.2 rest
 one_ask H last next (for_head head p most) (ReceiptRefused r) given comes hashes rest = absurd comes
 one_ask H last next (for_head head p most) BadLine given comes hashes rest = absurd comes
+one_ask H last next (for_head head p most) BadState given comes hashes rest = absurd comes
+one_ask H last next (for_head head p most) SetBack given comes hashes rest = absurd comes
+one_ask H last next (for_head head p most) (Holds held) given comes hashes rest = absurd comes
 one_ask H last next (for_receipt b i p) LetThrough given comes hashes rest = from_same H last next given comes.1 rest
 one_ask H last next (for_receipt b i p) TooFar given comes hashes rest = absurd comes
 one_ask H last next (for_receipt b i p) (HeadRefused r) given comes hashes rest = absurd comes
 one_ask H last next (for_receipt b i p) (ReceiptRefused r) given comes hashes rest = from_same H last next given comes.1 rest
 one_ask H last next (for_receipt b i p) BadLine given comes hashes rest = absurd comes
+one_ask H last next (for_receipt b i p) BadState given comes hashes rest = absurd comes
+one_ask H last next (for_receipt b i p) SetBack given comes hashes rest = absurd comes
+one_ask H last next (for_receipt b i p) (Holds held) given comes hashes rest = absurd comes
 one_ask H last next (for_promise b) LetThrough given comes hashes rest = from_same H last next given comes.1 rest
 one_ask H last next (for_promise b) TooFar given comes hashes rest = absurd comes
 one_ask H last next (for_promise b) (HeadRefused r) given comes hashes rest = absurd comes
@@ -150,11 +173,26 @@ one_ask H last next (for_promise b) (ReceiptRefused (NotThere f)) given comes ha
 one_ask H last next (for_promise b) (ReceiptRefused LaterLeaf) given comes hashes rest = absurd comes
 one_ask H last next (for_promise b) (ReceiptRefused OtherIndex) given comes hashes rest = absurd comes
 one_ask H last next (for_promise b) BadLine given comes hashes rest = absurd comes
+one_ask H last next (for_promise b) BadState given comes hashes rest = absurd comes
+one_ask H last next (for_promise b) SetBack given comes hashes rest = absurd comes
+one_ask H last next (for_promise b) (Holds held) given comes hashes rest = absurd comes
 one_ask H last next for_nothing LetThrough given comes hashes rest = absurd comes
 one_ask H last next for_nothing TooFar given comes hashes rest = absurd comes
 one_ask H last next for_nothing (HeadRefused r) given comes hashes rest = absurd comes
 one_ask H last next for_nothing (ReceiptRefused r) given comes hashes rest = absurd comes
 one_ask H last next for_nothing BadLine given comes hashes rest = from_same H last next given comes rest
+one_ask H last next for_nothing BadState given comes hashes rest = absurd comes
+one_ask H last next for_nothing SetBack given comes hashes rest = absurd comes
+one_ask H last next for_nothing (Holds held) given comes hashes rest = absurd comes
+one_ask H last next for_last LetThrough given comes hashes rest = absurd comes
+one_ask H last next for_last TooFar given comes hashes rest = absurd comes
+one_ask H last next for_last (HeadRefused r) given comes hashes rest = absurd comes
+one_ask H last next for_last (ReceiptRefused r) given comes hashes rest = absurd comes
+one_ask H last next for_last BadLine given comes hashes rest = absurd comes
+one_ask H last next for_last BadState given comes hashes rest = absurd comes
+one_ask H last next for_last SetBack given comes hashes rest = absurd comes
+one_ask H last next for_last (Holds held) given comes hashes rest = from_same H last next given comes.1 rest
+one_ask H last next (over_text text seen a) o given comes hashes rest = from_same H last next given comes.1 rest
 
 pub one_line : (H : List ℕ → List ℕ) (s : GuardOptions) (before : Guarding) (line : List ℕ) (step : GuardStep) (given : List (Head × List (List ℕ)))
     → StepsLineBy H s before line step → Through H (last_head step.after) given → Through H (last_head before) (given_head step.gave ++ given)

@@ -9,9 +9,9 @@ use Rattle.json_lines.proofs.KeptLines.{all_of_none}
 use Rattle.json_lines.specs.Sends.{SendsSome}
 use Rattle.line_program.specs.Replied.{FirstReplies, is_next_first, NextBroken, BeginsEnd, IsRunReplied, IsBroken}
 use Rattle.ctguard.specs.BrokenOff.{GuardsFirstLines, line_gives, GuardBroken, BreaksFirst, IsGuardRunBroken, IsGuardCallBroken}
-use Rattle.ctguard.specs.GuardSession.{GuardOptions, GuardStep, GuardsLine, GuardsFirst, GuardsLines, StartsAt, IsNoState, IsGuardRun, IsGuardStatus, options_of, last_head}
+use Rattle.ctguard.specs.GuardSession.{GuardOptions, GuardStep, GuardsLine, GuardsFirst, GuardsLines, StartsAt, IsGuardRun, IsGuardStatus, options_of, last_head}
 use Rattle.ctguard.specs.GuardSession.{guard_gives, guard_ends, guard_status}
-use Rattle.ctguard.specs.GuardState.{guard_state_text}
+use Rattle.ctguard.specs.GuardState.{IsNoState, guard_state_text}
 use Rattle.ctguard.specs.GuardWords.{GuardCall, guarding, guard_help, guard_version, no_guard_call, guard_usage, guard_version_text, guard_call_made, IsGuardAnswered}
 use Rattle.ctguard.specs.declared.command.Command.{Command}
 use Rattle.ctguard.specs.declared.command.Command.TheVariants as command

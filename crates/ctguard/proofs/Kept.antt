@@ -9,7 +9,8 @@ use Rattle.json_lines.proofs.KeptLines.{whole_or_long}
 use Rattle.json_lines.proofs.Values.{value_long}
 use Rattle.sha2.specs.Sha256.{sha256}
 use Rattle.ctguard.specs.Asks.{Ask, ask_in, for_nothing, Requests}
-use Rattle.ctguard.specs.GuardSession.{GuardOptions, GuardStep, RepliesBy, StepsLine, GuardsLine, GuardsFirst, KeepsLine, IsNoState, options_of, guard_gives}
+use Rattle.ctguard.specs.GuardState.{IsNoState}
+use Rattle.ctguard.specs.GuardSession.{GuardOptions, GuardStep, RepliesBy, StepsLine, GuardsLine, GuardsFirst, KeepsLine, options_of, guard_gives}
 use Rattle.ctguard.specs.declared.guarding.Guarding.{Guarding}
 use Rattle.ctguard.specs.declared.session.Session.{Session}
 use Rattle.ctguard.specs.declared.settings.Receipts.{Receipts}

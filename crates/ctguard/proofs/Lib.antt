@@ -7,3 +7,5 @@ pub mod GuardRuns
 pub mod GivenRuns
 pub mod CutRuns
 pub mod WordsRead
+pub mod TextAsks
+pub mod Register

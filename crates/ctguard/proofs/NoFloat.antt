@@ -6,11 +6,11 @@ use Rattle.serde_json.specs.Written.{has_float, compact_text}
 use Rattle.ct_tree.specs.declared.head.Head.{Head}
 use Rattle.ct_guard.specs.declared.refusal.HeadRefusal.TheVariants.{SizeFalls, MomentNotLater, Fork, Inconsistent}
 use Rattle.ct_guard.specs.declared.refusal.ReceiptRefusal.TheVariants.{NoHead, NoLeaf, NotThere, LaterLeaf, OtherIndex}
-use Rattle.ctguard.specs.Asks.{Ask, for_head, for_receipt, for_promise, for_nothing}
+use Rattle.ctguard.specs.Asks.{Ask, for_head, for_receipt, for_promise, for_last, for_nothing, over_text}
 use Rattle.ctguard.specs.Given.{guard_reply_data}
 use Rattle.ctguard.specs.GuardState.{guard_state_data}
 use Rattle.ctguard.specs.declared.replies.Outcome.{Outcome}
-use Rattle.ctguard.specs.declared.replies.Outcome.TheVariants.{LetThrough, TooFar, HeadRefused, ReceiptRefused, BadLine}
+use Rattle.ctguard.specs.declared.replies.Outcome.TheVariants.{LetThrough, TooFar, HeadRefused, ReceiptRefused, BadLine, BadState, SetBack, Holds}
 
 pub state_no_float : (last : Option Head) → has_float (guard_state_data last) ≡ false
 state_no_float None = refl
@@ -21,7 +21,15 @@ reply_no_float None (for_head head p most) LetThrough = refl
 reply_no_float (Some origin) (for_head head p most) LetThrough = refl
 reply_no_float origin (for_receipt b i p) LetThrough = refl
 reply_no_float origin (for_promise b) LetThrough = refl
+reply_no_float origin for_last LetThrough = refl
 reply_no_float origin for_nothing LetThrough = refl
+reply_no_float None (over_text text seen (for_head head p most)) LetThrough = refl
+reply_no_float (Some origin) (over_text text seen (for_head head p most)) LetThrough = refl
+reply_no_float origin (over_text text seen (for_receipt b i p)) LetThrough = refl
+reply_no_float origin (over_text text seen (for_promise b)) LetThrough = refl
+reply_no_float origin (over_text text seen for_last) LetThrough = refl
+reply_no_float origin (over_text text seen for_nothing) LetThrough = refl
+reply_no_float origin (over_text text seen (over_text u v a)) LetThrough = refl
 reply_no_float origin a TooFar = refl
 reply_no_float origin a (HeadRefused SizeFalls) = refl
 reply_no_float origin a (HeadRefused MomentNotLater) = refl
@@ -33,6 +41,10 @@ reply_no_float origin a (ReceiptRefused (NotThere f)) = refl
 reply_no_float origin a (ReceiptRefused LaterLeaf) = refl
 reply_no_float origin a (ReceiptRefused OtherIndex) = refl
 reply_no_float origin a BadLine = refl
+reply_no_float origin a BadState = refl
+reply_no_float origin a SetBack = refl
+reply_no_float origin a (Holds None) = refl
+reply_no_float origin a (Holds (Some head)) = refl
 
 -- the text of a value that has no float
 pub text_of : {F : Type 0} (r : Result (String Global) F) (d e : Data) → IfOk r (λ s. has_float d ≡ false → string_bytes s ≡ compact_text d)

@@ -19,8 +19,7 @@ use Rattle.json_lines.proofs.Texts.{text_read}
 use Rattle.json_lines.proofs.Values.{value_read}
 use Rattle.ctguard.proofs.Plain.{state_plain}
 use Rattle.ctguard.proofs.Short.{state_short}
-use Rattle.ctguard.specs.GuardSession.{IsGuardState, IsNoState}
-use Rattle.ctguard.specs.GuardState.{StateReadBack, StatesDiffer, IsHeadValue, IsLastValue, last_of_line, last_of_state, guard_state_data, guard_state_text}
+use Rattle.ctguard.specs.GuardState.{IsGuardState, IsNoState, StateReadBack, StatesDiffer, IsHeadValue, IsLastValue, last_of_line, last_of_state, guard_state_data, guard_state_text}
 
 -- ---- a state's fields
 

@@ -7,7 +7,7 @@ use Rattle.ct_tree.specs.declared.head.Head.{Head}
 use Rattle.ctguard.specs.BrokenOff.{GuardBroken}
 use Rattle.ctguard.specs.GuardHistory.{given_heads, HeadsAgree, GoBackToEach}
 use Rattle.ctguard.specs.GuardSession.{GuardOptions, GuardStep, GuardRun, StepsLine, StepsLineBy, StartsAt, last_head}
-use Rattle.ctguard.specs.GuardSession.{IsGuardState}
+use Rattle.ctguard.specs.GuardState.{IsGuardState}
 use Rattle.ctguard.specs.declared.guarding.Guarding.{Guarding}
 
 -- the first lines of an input, one step for each, lead from what was known before them to `now`

@@ -8,7 +8,7 @@ use Rattle.sha2.specs.Sha256.{sha256}
 use Rattle.ct_tree.specs.declared.head.Head.{Head}
 use Rattle.ctguard.specs.Asks.{Ask, Requests}
 use Rattle.ctguard.specs.Given.{AskComesBy, is_bad_line, guard_reply_data, guard_line}
-use Rattle.ctguard.specs.GuardState.{guard_state_text, IsLastValue}
+use Rattle.ctguard.specs.GuardState.{guard_state_text, IsGuardState, IsLastValue, IsNoState}
 use Rattle.ctguard.specs.declared.guarding.Guarding.{Guarding}
 use Rattle.ctguard.specs.declared.replies.Outcome.{Outcome}
 use Rattle.ctguard.specs.declared.session.Session.{Session}
@@ -67,14 +67,6 @@ GuardsLinesBy H s before (t ∷ steps) input text last = (0 < length input) × S
 -- the same by SHA-256
 abbrev pub GuardsLines : GuardOptions → Guarding → List GuardStep → List ℕ → List ℕ → Guarding → Type 0
 GuardsLines s before steps input text last = GuardsLinesBy sha256 s before steps input text last
-
--- the line is that of this state
-abbrev pub IsGuardState : List ℕ → Option Head → Type 0
-IsGuardState line last = (line ≡ guard_state_text last) × IsLastValue last
-
--- the line is no state's, as far as the code can have it
-abbrev pub IsNoState : List ℕ → Type 0
-IsNoState line = (last : Option Head) → IsGuardState line last → ⊥
 
 -- The first line, where a state may stand: one that is a state's is taken up, and has no reply. Any other is a line like those behind it.
 abbrev pub GuardsFirst : GuardOptions → Guarding → List ℕ → List ℕ → Guarding → Type 0

@@ -1,5 +1,5 @@
 -- The line of a guard's state: the head that was let through last, if one was.
-use Rattle.std.specs.Prelude.{◌≡◌, ◌<◌, ◌^◌, ⊤, ℕ, List, length, Some, None, option_map, option_and_then, codes}
+use Rattle.std.specs.Prelude.{◌≡◌, ◌<◌, ◌≤◌, ◌^◌, ◌⊎◌, ⊤, ℕ, List, length, Some, None, option_map, option_and_then, codes}
 use Rattle.std.specs.declared.option.Option.{Option}
 use Rattle.base64.specs.GeneralPurpose.{IsBytes}
 use Rattle.serde_json.specs.Data.{Data, null, boolean, number, string, array, object, member, no_members}
@@ -55,6 +55,20 @@ IsHeadValue head = (head.tree_size < 2 ^ 64) × (head.timestamp < 2 ^ 64) × IsB
 abbrev pub IsLastValue : Option Head → Type 0
 IsLastValue None = ⊤
 IsLastValue (Some head) = IsHeadValue head
+
+-- the line is that of this state
+abbrev pub IsGuardState : List ℕ → Option Head → Type 0
+IsGuardState line last = (line ≡ guard_state_text last) × IsLastValue last
+
+-- the line is no state's, as far as the code can have it
+abbrev pub IsNoState : List ℕ → Type 0
+IsNoState line = (last : Option Head) → IsGuardState line last → ⊥
+
+-- a last head isn't behind one that was seen before: it is that one, or later, with as many leaves or more
+abbrev pub IsNotBehind : Option Head → Option Head → Type 0
+IsNotBehind None last = ⊤
+IsNotBehind (Some seen) None = ⊥
+IsNotBehind (Some seen) (Some last) = (last ≡ seen) ⊎ ((seen.tree_size ≤ last.tree_size) × (seen.timestamp < last.timestamp))
 
 -- A state's line is read as the very state that it was written for.
 abbrev pub StateReadBack : Type 0

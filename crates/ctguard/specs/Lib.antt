@@ -6,3 +6,4 @@ pub mod GuardHistory
 pub mod GuardWords
 pub mod BrokenOff
 pub mod CutRuns
+pub mod Register

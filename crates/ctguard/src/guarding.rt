@@ -1,16 +1,17 @@
 //! Who takes the lines, one after the other.
 
-ghost use Rattle.std.specs.Prelude.{◌≡◌, ◌++◌, ◌∷◌, ◌||◌, [], IfOk, None, false};
+ghost use Rattle.std.specs.Prelude.{◌≡◌, ◌++◌, ◌∷◌, ◌||◌, [], IfOk, None, false, string_bytes};
 ghost use Rattle.std.specs.Bool.{MatchBool};
-ghost use Rattle.ctguard.specs.Asks.{ask_of, for_head};
-ghost use Rattle.ctguard.specs.Given.{AskComes, IsNear, IsTooFar, is_bad_line};
+ghost use Rattle.sha2.specs.Sha256.{sha256};
+ghost use Rattle.ctguard.specs.Asks.{ask_of, ask_of_line, for_head};
+ghost use Rattle.ctguard.specs.Given.{AskComes, OwnComesBy, TextComesBy, IsNear, IsTooFar, is_bad_line};
 ghost use Rattle.ctguard.specs.GuardSession.{options_of, last_head, GuardsLine, GuardsFirst, guard_status};
 ghost use Rattle.ctguard.specs.GuardState.{guard_state_text, IsLastValue};
 
 use crate::replies::{Outcome, reply_line};
-use crate::request::{Request, read_request};
+use crate::request::{Asked, Request, Texts, read_asked};
 use crate::settings::Settings;
-use crate::state::{last_has_value, read_state, state_line};
+use crate::state::{is_set_back, last_has_value, read_state, state_line};
 use ct_codec::lend_leaf;
 use ct_guard::{Guard, ReceiptRefusal, pass_receipt};
 use ct_tree::{Head, Sha256Hash};
@@ -48,6 +49,37 @@ fn take_head(guard: &mut Guard, head: &Head, proof: &[[u8; 32]], most: u64) -> O
     }
 }
 
+// What an ask comes to behind the head that a register's text has, and the last head then.
+fn come_over(last: Option<Head>, request: &Request) -> (Outcome, Option<Head>)
+    ensures comes { OwnComesBy sha256 last (ask_of request.now) result.0 result.1 }
+    ensures value { IsLastValue result.1 }
+{
+    let mut guarding = Guarding {
+        guard: Guard { last },
+        bad: false,
+    };
+    let outcome = guarding.take_own(request);
+    last_has_value(guarding.guard.last);
+    (outcome, guarding.guard.last)
+}
+
+// What an ask over a register's text comes to.
+fn take_over(alloc: Global, texts: &Texts, request: &Request) -> Result<Outcome, AllocError>
+    ensures { IfOk result (λ o. TextComesBy sha256 (string_bytes texts.now.text) (string_bytes texts.now.seen) (ask_of request.now) o) }
+{
+    let Some(last) = read_state(alloc, texts.text.as_bytes())? else {
+        return Ok(Outcome::BadState);
+    };
+    let Some(seen) = read_state(alloc, texts.seen.as_bytes())? else {
+        return Ok(Outcome::BadState);
+    };
+    if is_set_back(seen, last) {
+        return Ok(Outcome::SetBack);
+    }
+    let (outcome, _next) = come_over(last, request);
+    Ok(outcome)
+}
+
 impl Guarding {
     // With no head, before any line.
     pub(crate) fn new() -> Guarding
@@ -60,9 +92,9 @@ impl Guarding {
         }
     }
 
-    // Takes what is asked for.
-    fn take(&mut self, request: &Request) -> Outcome
-        ensures comes { AskComes (last_head self.old) (ask_of request.now) result (last_head self.new) }
+    // Takes what is asked for of its own last head.
+    fn take_own(&mut self, request: &Request) -> Outcome
+        ensures comes { OwnComesBy sha256 (last_head self.old) (ask_of request.now) result (last_head self.new) }
         ensures bad { self.new.bad ≡ self.old.bad }
     {
         match request {
@@ -77,7 +109,19 @@ impl Guarding {
                 Ok(_) => Outcome::LetThrough,
                 Err(fault) => Outcome::ReceiptRefused(ReceiptRefusal::NoLeaf(fault)),
             },
+            Request::Last => Outcome::Holds(self.guard.last),
             Request::Other => Outcome::BadLine,
+        }
+    }
+
+    // Takes what is asked for.
+    fn take(&mut self, alloc: Global, asked: &Asked) -> Result<Outcome, AllocError>
+        ensures comes { IfOk result (λ o. AskComes (last_head self.old) (ask_of_line asked.now) o (last_head self.new)) }
+        ensures bad { self.new.bad ≡ self.old.bad }
+    {
+        match &asked.texts {
+            Some(texts) => take_over(alloc, texts, &asked.request),
+            None => Ok(self.take_own(&asked.request)),
         }
     }
 
@@ -104,10 +148,10 @@ impl Guarding {
         if line.is_empty() {
             return Ok(Vec::new(alloc));
         }
-        let request = read_request(alloc, settings.receipts, line)?;
-        let outcome = self.take(&request);
+        let asked = read_asked(alloc, settings.receipts, line)?;
+        let outcome = self.take(alloc, &asked)?;
         self.note(&outcome);
-        let text = reply_line(alloc, &settings.origin, &request, &outcome)?;
+        let text = reply_line(alloc, &settings.origin, &asked, &outcome)?;
         Ok(text)
     }
 

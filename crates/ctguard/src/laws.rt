@@ -3,6 +3,7 @@
 ghost use Rattle.ctguard.specs.CutRuns.{CutHeadsAgree, CutHeadsGoBack, RunsAreCut, BrokenRunsAreCut};
 ghost use Rattle.ctguard.specs.GuardHistory.{GivenHeadsAgree, GivenHeadsGoBack};
 ghost use Rattle.ctguard.specs.GuardState.{StateReadBack, StatesDiffer};
+ghost use Rattle.ctguard.specs.Register.{SignedAgree, SignedAreSteps, SignedGoBack};
 
 /// However many runs are made, each begun with the line that the output of the one before ended with: where each of the heads whose
 /// bytes were given is that of some list of leaves, these lists are beginnings of one list, or two different strings with one hash
@@ -39,6 +40,28 @@ pub fn cut_heads_go_back()
 pub fn cut_runs()
     ensures whole { RunsAreCut }
     ensures broken { BrokenRunsAreCut }
+{}
+
+/// However many guards stand before one key: the heads that were signed as below were let through one behind the other, of which `ct_guard::laws`
+/// speaks, and beside the nodes of a log on tiles `ct_node_log::laws::heads`.
+#[tactic(auto, using(crate::proofs::Register::signed_are_steps))]
+pub fn signed_heads_are_steps()
+    ensures { SignedAreSteps }
+{}
+
+/// However many guards stand before one key: where each head is signed only once one register answered that the head's state stands there, which
+/// was set in place of the text that the reply names, or was there already, and each is that of some list of leaves, these lists are beginnings of one
+/// list, or two different strings with one hash are given. What a guard is told that the register holds isn't asked.
+#[tactic(auto, using(crate::proofs::Register::signed_agree))]
+pub fn signed_heads_agree()
+    ensures { SignedAgree }
+{}
+
+/// However many such guards: where the newest of the heads that were signed is that of a list of leaves, each of them that has leaves is that of a
+/// beginning of that list, or two different strings with one hash are given.
+#[tactic(auto, using(crate::proofs::Register::signed_go_back))]
+pub fn signed_heads_go_back()
+    ensures { SignedGoBack }
 {}
 
 /// A state's line is read as the very state that it was written for.

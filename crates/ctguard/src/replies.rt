@@ -1,16 +1,18 @@
 //! What is replied to a line.
 
-ghost use Rattle.std.specs.Prelude.{◌≡◌, false, IfOk, option_map, string_bytes};
+ghost use Rattle.std.specs.Prelude.{◌≡◌, false, IfOk, Some, option_map, string_bytes};
+ghost use Rattle.serde_json.specs.Data.{string};
 ghost use Rattle.serde_json.specs.View.{view};
 ghost use Rattle.serde_json.specs.Written.{has_float};
 ghost use Rattle.ct_codec.specs.Signed.{tree_head_text};
 ghost use Rattle.json_lines.specs.Values.{bytes_data};
-ghost use Rattle.ctguard.specs.Asks.{ask_of};
-ghost use Rattle.ctguard.specs.Given.{proof_refusal_name, leaf_refusal_name, refused_data, refused_fault_data, too_far_data, head_refused_data, receipt_refused_data, bad_line_data, receipt_given_data, head_given_data, given_data, guard_reply_data, guard_line};
+ghost use Rattle.ctguard.specs.Asks.{ask_of, ask_of_line};
+ghost use Rattle.ctguard.specs.Given.{proof_refusal_name, leaf_refusal_name, refused_data, refused_fault_data, too_far_data, head_refused_data, receipt_refused_data, bad_line_data, receipt_given_data, head_given_data, swap_data, text_head_data, over_given_data, given_data, guard_reply_data, guard_line};
+ghost use Rattle.ctguard.specs.GuardState.{guard_state_text};
 
 use crate::fault::NotMade;
-use crate::request::Request;
-use crate::state::state_value;
+use crate::request::{Asked, Request};
+use crate::state::{last_value, state_line, state_value};
 use ct_checkpoint::write_checkpoint;
 use ct_codec::{DecodeFault, tree_head_signature_input};
 use ct_guard::{HeadRefusal, ReceiptRefusal};
@@ -33,6 +35,12 @@ pub enum Outcome {
     ReceiptRefused(ReceiptRefusal),
     /// It asks for nothing that there is.
     BadLine,
+    /// A text that it hands in is no state's.
+    BadState,
+    /// The text's head is behind that of the text that was seen before.
+    SetBack,
+    /// The text has this head.
+    Holds(Option<Head>),
 }
 
 // The name of why a proof is refused.
@@ -164,8 +172,64 @@ fn head_given_value(
     }
 }
 
-// What is replied where what is asked for is let through.
-fn given_value(
+// The text of a state with this head, as a JSON string.
+fn new_value(alloc: Global, head: &Head) -> Result<Value, AllocError>
+    ensures { IfOk result (λ v. view v ≡ string (guard_state_text (Some head.now))) }
+{
+    let text = state_line(alloc, Some(*head))?;
+    Ok(Value::String(text))
+}
+
+fn swap_value(
+    alloc: Global,
+    origin: &Option<String>,
+    text: &str,
+    head: &Head,
+) -> Result<Value, AllocError>
+    ensures { IfOk result (λ v. view v ≡ swap_data (option_map string_bytes origin.now) text.now head.now) }
+{
+    match origin {
+        Some(origin) => json!(in alloc; {
+            "checkpoint": Value::String(write_checkpoint(alloc, origin.as_str(), head.tree_size, &head.root)?),
+            "new": new_value(alloc, head)?,
+            "old": text,
+            "sign": head_input_value(alloc, head)?
+        }),
+        None => json!(in alloc; {
+            "new": new_value(alloc, head)?,
+            "old": text,
+            "sign": head_input_value(alloc, head)?
+        }),
+    }
+}
+
+fn held_value(alloc: Global, last: Option<Head>) -> Result<Value, AllocError>
+    ensures { IfOk result (λ v. view v ≡ text_head_data last) }
+{
+    let last = last_value(alloc, last)?;
+    json!(in alloc; {"last": last})
+}
+
+// What is replied where what is asked for over a register's text is let through.
+fn over_given_value(
+    alloc: Global,
+    origin: &Option<String>,
+    text: &str,
+    request: &Request,
+) -> Result<Value, AllocError>
+    ensures { IfOk result (λ v. view v ≡ over_given_data (option_map string_bytes origin.now) text.now (ask_of request.now)) }
+{
+    match request {
+        Request::Head(head, _, _) => swap_value(alloc, origin, text, head),
+        Request::Receipt(leaf, _, _) => receipt_given_value(alloc, leaf),
+        Request::Promise(leaf) => receipt_given_value(alloc, leaf),
+        Request::Last => bad_line_value(alloc),
+        Request::Other => bad_line_value(alloc),
+    }
+}
+
+// The same where no text is handed in.
+fn own_given_value(
     alloc: Global,
     origin: &Option<String>,
     request: &Request,
@@ -176,24 +240,38 @@ fn given_value(
         Request::Head(head, _, _) => head_given_value(alloc, origin, head),
         Request::Receipt(leaf, _, _) => receipt_given_value(alloc, leaf),
         Request::Promise(leaf) => receipt_given_value(alloc, leaf),
+        Request::Last => bad_line_value(alloc),
         Request::Other => bad_line_value(alloc),
+    }
+}
+
+// What is replied where what is asked for is let through.
+fn given_value(alloc: Global, origin: &Option<String>, asked: &Asked) -> Result<Value, AllocError>
+    ensures { IfOk result (λ v. view v ≡ given_data (option_map string_bytes origin.now) (ask_of_line asked.now)) }
+{
+    match &asked.texts {
+        Some(texts) => over_given_value(alloc, origin, texts.text.as_str(), &asked.request),
+        None => own_given_value(alloc, origin, &asked.request),
     }
 }
 
 fn reply_value(
     alloc: Global,
     origin: &Option<String>,
-    request: &Request,
+    asked: &Asked,
     outcome: &Outcome,
 ) -> Result<Value, AllocError>
-    ensures { IfOk result (λ v. view v ≡ guard_reply_data (option_map string_bytes origin.now) (ask_of request.now) outcome.now) }
+    ensures { IfOk result (λ v. view v ≡ guard_reply_data (option_map string_bytes origin.now) (ask_of_line asked.now) outcome.now) }
 {
     match outcome {
-        Outcome::LetThrough => given_value(alloc, origin, request),
+        Outcome::LetThrough => given_value(alloc, origin, asked),
         Outcome::TooFar => too_far_value(alloc),
         Outcome::HeadRefused(refusal) => head_refused_value(alloc, *refusal),
         Outcome::ReceiptRefused(refusal) => receipt_refused_value(alloc, *refusal),
         Outcome::BadLine => bad_line_value(alloc),
+        Outcome::BadState => refused_value(alloc, "bad-state"),
+        Outcome::SetBack => refused_value(alloc, "set-back"),
+        Outcome::Holds(last) => held_value(alloc, *last),
     }
 }
 
@@ -202,12 +280,12 @@ fn reply_value(
 pub(crate) fn reply_line(
     alloc: Global,
     origin: &Option<String>,
-    request: &Request,
+    asked: &Asked,
     outcome: &Outcome,
 ) -> Result<Vec<u8>, AllocError>
-    ensures { IfOk result (λ t. t.items ≡ guard_line (guard_reply_data (option_map string_bytes origin.now) (ask_of request.now) outcome.now)) }
+    ensures { IfOk result (λ t. t.items ≡ guard_line (guard_reply_data (option_map string_bytes origin.now) (ask_of_line asked.now) outcome.now)) }
 {
-    let value = reply_value(alloc, origin, request, outcome)?;
+    let value = reply_value(alloc, origin, asked, outcome)?;
     let mut text = value.to_string(alloc)?.into_bytes();
     text.push(b'\n')?;
     Ok(text)

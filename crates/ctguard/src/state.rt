@@ -1,10 +1,10 @@
 //! The state between two runs, as a line of JSON: the head that was let through last, if one was.
 
 ghost use Rattle.std.specs.Prelude.{◌≡◌, ◌<◌, ◌^◌, IfOk, IfSome, None, length, string_bytes};
+ghost use Rattle.std.specs.Bool.{MatchBool};
 ghost use Rattle.base64.specs.GeneralPurpose.{IsBytes};
 ghost use Rattle.serde_json.specs.View.{view};
-ghost use Rattle.ctguard.specs.GuardSession.{IsNoState, IsGuardState};
-ghost use Rattle.ctguard.specs.GuardState.{guard_state_data, guard_state_text, head_fields, last_data, last_in, last_of_line, last_of_state, IsLastValue};
+ghost use Rattle.ctguard.specs.GuardState.{guard_state_data, guard_state_text, head_fields, last_data, last_in, last_of_line, last_of_state, IsGuardState, IsLastValue, IsNoState, IsNotBehind};
 
 use ct_tree::Head;
 use json_lines::{LONGEST_REQUEST, bytes_value, fields, line_value};
@@ -12,7 +12,7 @@ use serde_json::{Value, json};
 use std::alloc::{AllocError, Global};
 
 // The last head as a log answers it, without a signature.
-fn last_value(alloc: Global, last: Option<Head>) -> Result<Value, AllocError>
+pub(crate) fn last_value(alloc: Global, last: Option<Head>) -> Result<Value, AllocError>
     ensures { IfOk result (λ v. view v ≡ last_data last) }
 {
     match last {
@@ -126,4 +126,26 @@ pub(crate) fn read_state(alloc: Global, line: &[u8]) -> Result<Option<Option<Hea
     } else {
         Ok(None)
     }
+}
+
+// Whether a last head is behind the one that was seen before.
+pub(crate) fn is_set_back(seen: Option<Head>, last: Option<Head>) -> bool
+    ensures { MatchBool result (IsNotBehind seen last → ⊥) (IsNotBehind seen last) }
+{
+    let Some(seen) = seen else {
+        return false;
+    };
+    let Some(last) = last else {
+        return true;
+    };
+    if last == seen {
+        return false;
+    }
+    if last.tree_size < seen.tree_size {
+        return true;
+    }
+    if last.timestamp <= seen.timestamp {
+        return true;
+    }
+    false
 }

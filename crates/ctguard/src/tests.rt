@@ -248,6 +248,118 @@ const TOO_LONG_TEXT: &str = "{\"refused\":\"bad-line\"}
 {\"guard\":1,\"last\":{\"sha256_root_hash\":\"du7qhEIOEAlx4PW0CquqrFCQdYGOPWhEpj2aF749hls=\",\"timestamp\":2000,\"tree_size\":9}}
 ";
 
+const OVER_TEXT: &str = "{\"text\":\"{\\\"guard\\\":1,\\\"last\\\":null}\"}
+{\"text\":\"{\\\"guard\\\":1,\\\"last\\\":null}\",\"consistency\":[],\"sha256_root_hash\":\"tC/H6/wngKBZT+R1LE6M9CmYJyFREld3ZJUnHyM+Mao=\",\"timestamp\":1000,\"tree_size\":3}
+{\"text\":\"{\\\"guard\\\":1,\\\"last\\\":{\\\"sha256_root_hash\\\":\\\"tC/H6/wngKBZT+R1LE6M9CmYJyFREld3ZJUnHyM+Mao=\\\",\\\"timestamp\\\":1000,\\\"tree_size\\\":3}}\"}
+{\"text\":\"{\\\"guard\\\":1,\\\"last\\\":{\\\"sha256_root_hash\\\":\\\"tC/H6/wngKBZT+R1LE6M9CmYJyFREld3ZJUnHyM+Mao=\\\",\\\"timestamp\\\":1000,\\\"tree_size\\\":3}}\",\"consistency\":[],\"sha256_root_hash\":\"tC/H6/wngKBZT+R1LE6M9CmYJyFREld3ZJUnHyM+Mao=\",\"timestamp\":1000,\"tree_size\":3}
+{\"text\":\"{\\\"guard\\\":1,\\\"last\\\":{\\\"sha256_root_hash\\\":\\\"tC/H6/wngKBZT+R1LE6M9CmYJyFREld3ZJUnHyM+Mao=\\\",\\\"timestamp\\\":1000,\\\"tree_size\\\":3}}\",\"consistency\":[\"WLkJ1EMlnhas/il9fn13m8ePmiHCzRDLcQENWyi98tg=\",\"kJ7lVU9Uv4QMRjHA0xrLeOY5J+pwDGg8ul1aXGm+u1I=\",\"ICTSyBj4WUTC5AcFQqweauD2frL1HZEjEp+S9EMMDBI=\",\"7yJYS/QYboh+K6ENtg51g8NH8ZYaVsbfwYqteF9m4jE=\"],\"sha256_root_hash\":\"LW4H9OJXMvRh4el4Z1azUPNn4JuV2havF4zTozlYYlM=\",\"timestamp\":1001,\"tree_size\":5}
+{\"text\":\"{\\\"guard\\\":1,\\\"last\\\":{\\\"sha256_root_hash\\\":\\\"tC/H6/wngKBZT+R1LE6M9CmYJyFREld3ZJUnHyM+Mao=\\\",\\\"timestamp\\\":1000,\\\"tree_size\\\":3}}\",\"audit_path\":[\"ICTSyBj4WUTC5AcFQqweauD2frL1HZEjEp+S9EMMDBI=\"],\"leaf_index\":2,\"leaf_input\":\"AAAAAAAAAAAACQABAAAAAAAAAAAAAAAAAAAAAAAAAAAAAAAAAAAAAAAAAAAAAANERUYAAA==\"}
+{\"text\":\"{\\\"guard\\\":1,\\\"last\\\":null}\",\"audit_path\":[\"G4v/RJyXOCuDizhm/Efa15/HuIiR7l92+pKY/RnKIa8=\",\"WLkJ1EMlnhas/il9fn13m8ePmiHCzRDLcQENWyi98tg=\"],\"leaf_index\":0,\"leaf_input\":\"AAAAAAAAAAAABwAAAAABQQAA\"}
+{\"text\":\"{\\\"guard\\\":1,\\\"last\\\":{\\\"sha256_root_hash\\\":\\\"tC/H6/wngKBZT+R1LE6M9CmYJyFREld3ZJUnHyM+Mao=\\\",\\\"timestamp\\\":1000,\\\"tree_size\\\":3}}\",\"consistency\":[\"OIa9wvY0409SXbmSRB1WShj6+4VR4R9qNGlFwfemtV0=\",\"kJ7lVU9Uv4QMRjHA0xrLeOY5J+pwDGg8ul1aXGm+u1I=\",\"ICTSyBj4WUTC5AcFQqweauD2frL1HZEjEp+S9EMMDBI=\",\"7yJYS/QYboh+K6ENtg51g8NH8ZYaVsbfwYqteF9m4jE=\"],\"sha256_root_hash\":\"LBP/6HN+xoqfAqfl9xCZ49JGQb/r4mZM608IgF6PeJU=\",\"timestamp\":1001,\"tree_size\":5}
+{\"text\":\"{\\\"guard\\\":1,\\\"last\\\":{\\\"sha256_root_hash\\\":\\\"tC/H6/wngKBZT+R1LE6M9CmYJyFREld3ZJUnHyM+Mao=\\\",\\\"timestamp\\\":1000,\\\"tree_size\\\":3}}\",\"consistency\":[\"WLkJ1EMlnhas/il9fn13m8ePmiHCzRDLcQENWyi98tg=\",\"kJ7lVU9Uv4QMRjHA0xrLeOY5J+pwDGg8ul1aXGm+u1I=\",\"ICTSyBj4WUTC5AcFQqweauD2frL1HZEjEp+S9EMMDBI=\",\"7yJYS/QYboh+K6ENtg51g8NH8ZYaVsbfwYqteF9m4jE=\"],\"sha256_root_hash\":\"LW4H9OJXMvRh4el4Z1azUPNn4JuV2havF4zTozlYYlM=\",\"timestamp\":999,\"tree_size\":5}
+{\"text\":\"{\\\"guard\\\":1,\\\"last\\\":{\\\"sha256_root_hash\\\":\\\"tC/H6/wngKBZT+R1LE6M9CmYJyFREld3ZJUnHyM+Mao=\\\",\\\"timestamp\\\":1000,\\\"tree_size\\\":3}}\",\"consistency\":[\"WLkJ1EMlnhas/il9fn13m8ePmiHCzRDLcQENWyi98tg=\",\"kJ7lVU9Uv4QMRjHA0xrLeOY5J+pwDGg8ul1aXGm+u1I=\",\"ICTSyBj4WUTC5AcFQqweauD2frL1HZEjEp+S9EMMDBI=\",\"7yJYS/QYboh+K6ENtg51g8NH8ZYaVsbfwYqteF9m4jE=\"],\"sha256_root_hash\":\"LW4H9OJXMvRh4el4Z1azUPNn4JuV2havF4zTozlYYlM=\",\"timestamp\":3601001,\"tree_size\":5}
+{\"text\":\"{\\\"guard\\\":1,\\\"last\\\":{\\\"sha256_root_hash\\\":\\\"tC/H6/wngKBZT+R1LE6M9CmYJyFREld3ZJUnHyM+Mao=\\\",\\\"timestamp\\\":1000,\\\"tree_size\\\":3}}\",\"consistency\":[],\"sha256_root_hash\":\"ICTSyBj4WUTC5AcFQqweauD2frL1HZEjEp+S9EMMDBI=\",\"timestamp\":2000,\"tree_size\":2}
+{\"text\":\"{\\\"guard\\\":1,\\\"last\\\":{\\\"sha256_root_hash\\\":\\\"tC/H6/wngKBZT+R1LE6M9CmYJyFREld3ZJUnHyM+Mao=\\\",\\\"timestamp\\\":1000,\\\"tree_size\\\":3}}\",\"consistency\":[],\"sha256_root_hash\":\"qN9o9JhcHg/IFkD3wQl0B+SCUFRkyYwe6TDeV47MKyI=\",\"timestamp\":1001,\"tree_size\":3}
+{\"text\":\"{\\\"guard\\\":1,\\\"last\\\":{\\\"sha256_root_hash\\\":\\\"tC/H6/wngKBZT+R1LE6M9CmYJyFREld3ZJUnHyM+Mao=\\\",\\\"timestamp\\\":1000,\\\"tree_size\\\":3}}\",\"audit_path\":[\"ICTSyBj4WUTC5AcFQqweauD2frL1HZEjEp+S9EMMDBI=\"],\"leaf_index\":2,\"leaf_input\":\"AAAAAAAAAAAACQABAAAAAAAAAAAAAAAAAAAAAAAAAAAAAAAAAAAAAAAAAAAAAAVvdGhlcgAA\"}
+{\"text\":\"{\\\"guard\\\":1,\\\"last\\\":{\\\"sha256_root_hash\\\":\\\"tC/H6/wngKBZT+R1LE6M9CmYJyFREld3ZJUnHyM+Mao=\\\",\\\"timestamp\\\":1000,\\\"tree_size\\\":3}}\",\"seen\":\"{\\\"guard\\\":1,\\\"last\\\":null}\"}
+{\"text\":\"{\\\"guard\\\":1,\\\"last\\\":{\\\"sha256_root_hash\\\":\\\"tC/H6/wngKBZT+R1LE6M9CmYJyFREld3ZJUnHyM+Mao=\\\",\\\"timestamp\\\":1000,\\\"tree_size\\\":3}}\",\"seen\":\"{\\\"guard\\\":1,\\\"last\\\":{\\\"sha256_root_hash\\\":\\\"tC/H6/wngKBZT+R1LE6M9CmYJyFREld3ZJUnHyM+Mao=\\\",\\\"timestamp\\\":1000,\\\"tree_size\\\":3}}\"}
+{\"text\":\"{\\\"guard\\\":1,\\\"last\\\":{\\\"sha256_root_hash\\\":\\\"LW4H9OJXMvRh4el4Z1azUPNn4JuV2havF4zTozlYYlM=\\\",\\\"timestamp\\\":1001,\\\"tree_size\\\":5}}\",\"seen\":\"{\\\"guard\\\":1,\\\"last\\\":{\\\"sha256_root_hash\\\":\\\"tC/H6/wngKBZT+R1LE6M9CmYJyFREld3ZJUnHyM+Mao=\\\",\\\"timestamp\\\":1000,\\\"tree_size\\\":3}}\"}
+{\"text\":\"{\\\"guard\\\":1,\\\"last\\\":{\\\"sha256_root_hash\\\":\\\"tC/H6/wngKBZT+R1LE6M9CmYJyFREld3ZJUnHyM+Mao=\\\",\\\"timestamp\\\":1001,\\\"tree_size\\\":3}}\",\"seen\":\"{\\\"guard\\\":1,\\\"last\\\":{\\\"sha256_root_hash\\\":\\\"tC/H6/wngKBZT+R1LE6M9CmYJyFREld3ZJUnHyM+Mao=\\\",\\\"timestamp\\\":1000,\\\"tree_size\\\":3}}\"}
+{\"text\":\"{\\\"guard\\\":1,\\\"last\\\":{\\\"sha256_root_hash\\\":\\\"tC/H6/wngKBZT+R1LE6M9CmYJyFREld3ZJUnHyM+Mao=\\\",\\\"timestamp\\\":1000,\\\"tree_size\\\":3}}\",\"seen\":\"{\\\"guard\\\":1,\\\"last\\\":{\\\"sha256_root_hash\\\":\\\"LW4H9OJXMvRh4el4Z1azUPNn4JuV2havF4zTozlYYlM=\\\",\\\"timestamp\\\":900,\\\"tree_size\\\":5}}\"}
+{\"text\":\"{\\\"guard\\\":1,\\\"last\\\":{\\\"sha256_root_hash\\\":\\\"LW4H9OJXMvRh4el4Z1azUPNn4JuV2havF4zTozlYYlM=\\\",\\\"timestamp\\\":1000,\\\"tree_size\\\":5}}\",\"seen\":\"{\\\"guard\\\":1,\\\"last\\\":{\\\"sha256_root_hash\\\":\\\"tC/H6/wngKBZT+R1LE6M9CmYJyFREld3ZJUnHyM+Mao=\\\",\\\"timestamp\\\":1000,\\\"tree_size\\\":3}}\"}
+{\"text\":\"{\\\"guard\\\":1,\\\"last\\\":{\\\"sha256_root_hash\\\":\\\"tC/H6/wngKBZT+R1LE6M9CmYJyFREld3ZJUnHyM+Mao=\\\",\\\"timestamp\\\":1000,\\\"tree_size\\\":3}}\",\"seen\":\"{\\\"guard\\\":1,\\\"last\\\":{\\\"sha256_root_hash\\\":\\\"qN9o9JhcHg/IFkD3wQl0B+SCUFRkyYwe6TDeV47MKyI=\\\",\\\"timestamp\\\":1000,\\\"tree_size\\\":3}}\"}
+{\"text\":\"{\\\"guard\\\":1,\\\"last\\\":null}\",\"seen\":\"{\\\"guard\\\":1,\\\"last\\\":{\\\"sha256_root_hash\\\":\\\"tC/H6/wngKBZT+R1LE6M9CmYJyFREld3ZJUnHyM+Mao=\\\",\\\"timestamp\\\":1000,\\\"tree_size\\\":3}}\"}
+{\"text\":\"{\\\"guard\\\":1,\\\"last\\\":{\\\"sha256_root_hash\\\":\\\"tC/H6/wngKBZT+R1LE6M9CmYJyFREld3ZJUnHyM+Mao=\\\",\\\"timestamp\\\":1000,\\\"tree_size\\\":3}}\",\"seen\":\"{\\\"guard\\\":1,\\\"last\\\":{\\\"sha256_root_hash\\\":\\\"LW4H9OJXMvRh4el4Z1azUPNn4JuV2havF4zTozlYYlM=\\\",\\\"timestamp\\\":1001,\\\"tree_size\\\":5}}\",\"consistency\":[\"WLkJ1EMlnhas/il9fn13m8ePmiHCzRDLcQENWyi98tg=\",\"kJ7lVU9Uv4QMRjHA0xrLeOY5J+pwDGg8ul1aXGm+u1I=\",\"ICTSyBj4WUTC5AcFQqweauD2frL1HZEjEp+S9EMMDBI=\",\"7yJYS/QYboh+K6ENtg51g8NH8ZYaVsbfwYqteF9m4jE=\"],\"sha256_root_hash\":\"LW4H9OJXMvRh4el4Z1azUPNn4JuV2havF4zTozlYYlM=\",\"timestamp\":1001,\"tree_size\":5}
+{\"text\":\"{\\\"guard\\\":1,\\\"last\\\":{\\\"sha256_root_hash\\\":\\\"LW4H9OJXMvRh4el4Z1azUPNn4JuV2havF4zTozlYYlM=\\\",\\\"timestamp\\\":1001,\\\"tree_size\\\":5}}\",\"seen\":\"{\\\"guard\\\":1,\\\"last\\\":{\\\"sha256_root_hash\\\":\\\"tC/H6/wngKBZT+R1LE6M9CmYJyFREld3ZJUnHyM+Mao=\\\",\\\"timestamp\\\":1000,\\\"tree_size\\\":3}}\",\"consistency\":[\"7yJYS/QYboh+K6ENtg51g8NH8ZYaVsbfwYqteF9m4jE=\",\"/5/bu9L6hCbB5MRU+Vs/mGjZVnPSvrn5wzMO1Kp9Sog=\",\"1hDItcfCD64oPq6A6IpZbVKsrf+dhf6AfqaYb0ftB6g=\",\"KvhQ5T2VCGlB+8g95YvHFQA+SHydXPy1vVsIWdVUI00=\",\"nKCKZ7sB0pdowuRpeDlPuGfQ6Ng+2atm2rEgAod9h7o=\"],\"sha256_root_hash\":\"du7qhEIOEAlx4PW0CquqrFCQdYGOPWhEpj2aF749hls=\",\"timestamp\":1002,\"tree_size\":9}
+{\"text\":\"{\\\"guard\\\":1,\\\"last\\\":{\\\"sha256_root_hash\\\":\\\"tC/H6/wngKBZT+R1LE6M9CmYJyFREld3ZJUnHyM+Mao=\\\",\\\"timestamp\\\":1000,\\\"tree_size\\\":3}}\\n\"}
+{\"text\":\"x\"}
+{\"text\":\"\"}
+{\"text\":\"{\\\"guard\\\":1,\\\"last\\\":{\\\"sha256_root_hash\\\":\\\"tC/H6/wngKBZT+R1LE6M9CmYJyFREld3ZJUnHyM+Mao=\\\",\\\"timestamp\\\":1000,\\\"tree_size\\\":3}}\",\"seen\":\"x\"}
+{\"text\":\"x\",\"consistency\":[],\"sha256_root_hash\":\"tC/H6/wngKBZT+R1LE6M9CmYJyFREld3ZJUnHyM+Mao=\",\"timestamp\":1000,\"tree_size\":3}
+{\"text\":null}
+{\"text\":7,\"consistency\":[],\"sha256_root_hash\":\"tC/H6/wngKBZT+R1LE6M9CmYJyFREld3ZJUnHyM+Mao=\",\"timestamp\":1000,\"tree_size\":3}
+{\"text\":\"{\\\"guard\\\":1,\\\"last\\\":{\\\"sha256_root_hash\\\":\\\"tC/H6/wngKBZT+R1LE6M9CmYJyFREld3ZJUnHyM+Mao=\\\",\\\"timestamp\\\":1000,\\\"tree_size\\\":3}}\",\"seen\":7}
+{\"guard\":1,\"text\":\"{\\\"guard\\\":1,\\\"last\\\":{\\\"sha256_root_hash\\\":\\\"tC/H6/wngKBZT+R1LE6M9CmYJyFREld3ZJUnHyM+Mao=\\\",\\\"timestamp\\\":1000,\\\"tree_size\\\":3}}\"}
+{\"text\":\"{\\\"guard\\\":1,\\\"last\\\":{\\\"sha256_root_hash\\\":\\\"tC/H6/wngKBZT+R1LE6M9CmYJyFREld3ZJUnHyM+Mao=\\\",\\\"timestamp\\\":1000,\\\"tree_size\\\":3}}\",\"consistency\":[\"WLkJ1EMlnhas/il9fn13m8ePmiHCzRDLcQENWyi98tg=\",\"kJ7lVU9Uv4QMRjHA0xrLeOY5J+pwDGg8ul1aXGm+u1I=\",\"ICTSyBj4WUTC5AcFQqweauD2frL1HZEjEp+S9EMMDBI=\",\"7yJYS/QYboh+K6ENtg51g8NH8ZYaVsbfwYqteF9m4jE=\"],\"sha256_root_hash\":\"LW4H9OJXMvRh4el4Z1azUPNn4JuV2havF4zTozlYYlM=\",\"timestamp\":-1,\"tree_size\":5}
+{\"text\":\"{\\\"guard\\\":1,\\\"last\\\":{\\\"sha256_root_hash\\\":\\\"tC/H6/wngKBZT+R1LE6M9CmYJyFREld3ZJUnHyM+Mao=\\\",\\\"timestamp\\\":1000,\\\"tree_size\\\":3}}\",\"audit_path\":[\"ICTSyBj4WUTC5AcFQqweauD2frL1HZEjEp+S9EMMDBI=\"],\"leaf_input\":\"AAAAAAAAAAAACQABAAAAAAAAAAAAAAAAAAAAAAAAAAAAAAAAAAAAAAAAAAAAAANERUYAAA==\"}
+{\"seen\":\"{\\\"guard\\\":1,\\\"last\\\":{\\\"sha256_root_hash\\\":\\\"tC/H6/wngKBZT+R1LE6M9CmYJyFREld3ZJUnHyM+Mao=\\\",\\\"timestamp\\\":1000,\\\"tree_size\\\":3}}\"}
+{\"consistency\":[],\"sha256_root_hash\":\"tC/H6/wngKBZT+R1LE6M9CmYJyFREld3ZJUnHyM+Mao=\",\"timestamp\":1000,\"tree_size\":3}
+{\"text\":\"{\\\"guard\\\":1,\\\"last\\\":{\\\"sha256_root_hash\\\":\\\"du7qhEIOEAlx4PW0CquqrFCQdYGOPWhEpj2aF749hls=\\\",\\\"timestamp\\\":2000,\\\"tree_size\\\":9}}\"}
+{\"audit_path\":[\"ICTSyBj4WUTC5AcFQqweauD2frL1HZEjEp+S9EMMDBI=\"],\"leaf_index\":2,\"leaf_input\":\"AAAAAAAAAAAACQABAAAAAAAAAAAAAAAAAAAAAAAAAAAAAAAAAAAAAAAAAAAAAANERUYAAA==\"}
+";
+
+const OVER_TEXT_TEXT: &str = "{\"last\":null}
+{\"new\":\"{\\\"guard\\\":1,\\\"last\\\":{\\\"sha256_root_hash\\\":\\\"tC/H6/wngKBZT+R1LE6M9CmYJyFREld3ZJUnHyM+Mao=\\\",\\\"timestamp\\\":1000,\\\"tree_size\\\":3}}\",\"old\":\"{\\\"guard\\\":1,\\\"last\\\":null}\",\"sign\":\"AAEAAAAAAAAD6AAAAAAAAAADtC/H6/wngKBZT+R1LE6M9CmYJyFREld3ZJUnHyM+Mao=\"}
+{\"last\":{\"sha256_root_hash\":\"tC/H6/wngKBZT+R1LE6M9CmYJyFREld3ZJUnHyM+Mao=\",\"timestamp\":1000,\"tree_size\":3}}
+{\"new\":\"{\\\"guard\\\":1,\\\"last\\\":{\\\"sha256_root_hash\\\":\\\"tC/H6/wngKBZT+R1LE6M9CmYJyFREld3ZJUnHyM+Mao=\\\",\\\"timestamp\\\":1000,\\\"tree_size\\\":3}}\",\"old\":\"{\\\"guard\\\":1,\\\"last\\\":{\\\"sha256_root_hash\\\":\\\"tC/H6/wngKBZT+R1LE6M9CmYJyFREld3ZJUnHyM+Mao=\\\",\\\"timestamp\\\":1000,\\\"tree_size\\\":3}}\",\"sign\":\"AAEAAAAAAAAD6AAAAAAAAAADtC/H6/wngKBZT+R1LE6M9CmYJyFREld3ZJUnHyM+Mao=\"}
+{\"new\":\"{\\\"guard\\\":1,\\\"last\\\":{\\\"sha256_root_hash\\\":\\\"LW4H9OJXMvRh4el4Z1azUPNn4JuV2havF4zTozlYYlM=\\\",\\\"timestamp\\\":1001,\\\"tree_size\\\":5}}\",\"old\":\"{\\\"guard\\\":1,\\\"last\\\":{\\\"sha256_root_hash\\\":\\\"tC/H6/wngKBZT+R1LE6M9CmYJyFREld3ZJUnHyM+Mao=\\\",\\\"timestamp\\\":1000,\\\"tree_size\\\":3}}\",\"sign\":\"AAEAAAAAAAAD6QAAAAAAAAAFLW4H9OJXMvRh4el4Z1azUPNn4JuV2havF4zTozlYYlM=\"}
+{\"sign\":\"AAAAAAAAAAAACQABAAAAAAAAAAAAAAAAAAAAAAAAAAAAAAAAAAAAAAAAAAAAAANERUYAAA==\"}
+{\"refused\":\"no-head\"}
+{\"fault\":\"first-mismatch\",\"refused\":\"inconsistent\"}
+{\"refused\":\"moment-not-later\"}
+{\"refused\":\"moment-too-far\"}
+{\"refused\":\"size-falls\"}
+{\"refused\":\"fork\"}
+{\"fault\":\"root-mismatch\",\"refused\":\"not-there\"}
+{\"last\":{\"sha256_root_hash\":\"tC/H6/wngKBZT+R1LE6M9CmYJyFREld3ZJUnHyM+Mao=\",\"timestamp\":1000,\"tree_size\":3}}
+{\"last\":{\"sha256_root_hash\":\"tC/H6/wngKBZT+R1LE6M9CmYJyFREld3ZJUnHyM+Mao=\",\"timestamp\":1000,\"tree_size\":3}}
+{\"last\":{\"sha256_root_hash\":\"LW4H9OJXMvRh4el4Z1azUPNn4JuV2havF4zTozlYYlM=\",\"timestamp\":1001,\"tree_size\":5}}
+{\"last\":{\"sha256_root_hash\":\"tC/H6/wngKBZT+R1LE6M9CmYJyFREld3ZJUnHyM+Mao=\",\"timestamp\":1001,\"tree_size\":3}}
+{\"refused\":\"set-back\"}
+{\"refused\":\"set-back\"}
+{\"refused\":\"set-back\"}
+{\"refused\":\"set-back\"}
+{\"refused\":\"set-back\"}
+{\"new\":\"{\\\"guard\\\":1,\\\"last\\\":{\\\"sha256_root_hash\\\":\\\"du7qhEIOEAlx4PW0CquqrFCQdYGOPWhEpj2aF749hls=\\\",\\\"timestamp\\\":1002,\\\"tree_size\\\":9}}\",\"old\":\"{\\\"guard\\\":1,\\\"last\\\":{\\\"sha256_root_hash\\\":\\\"LW4H9OJXMvRh4el4Z1azUPNn4JuV2havF4zTozlYYlM=\\\",\\\"timestamp\\\":1001,\\\"tree_size\\\":5}}\",\"sign\":\"AAEAAAAAAAAD6gAAAAAAAAAJdu7qhEIOEAlx4PW0CquqrFCQdYGOPWhEpj2aF749hls=\"}
+{\"refused\":\"bad-state\"}
+{\"refused\":\"bad-state\"}
+{\"refused\":\"bad-state\"}
+{\"refused\":\"bad-state\"}
+{\"refused\":\"bad-state\"}
+{\"refused\":\"bad-line\"}
+{\"refused\":\"bad-line\"}
+{\"refused\":\"bad-line\"}
+{\"refused\":\"bad-line\"}
+{\"refused\":\"bad-line\"}
+{\"refused\":\"bad-line\"}
+{\"refused\":\"bad-line\"}
+{\"sign\":\"AAEAAAAAAAAD6AAAAAAAAAADtC/H6/wngKBZT+R1LE6M9CmYJyFREld3ZJUnHyM+Mao=\",\"state\":{\"guard\":1,\"last\":{\"sha256_root_hash\":\"tC/H6/wngKBZT+R1LE6M9CmYJyFREld3ZJUnHyM+Mao=\",\"timestamp\":1000,\"tree_size\":3}}}
+{\"last\":{\"sha256_root_hash\":\"du7qhEIOEAlx4PW0CquqrFCQdYGOPWhEpj2aF749hls=\",\"timestamp\":2000,\"tree_size\":9}}
+{\"sign\":\"AAAAAAAAAAAACQABAAAAAAAAAAAAAAAAAAAAAAAAAAAAAAAAAAAAAAAAAAAAAANERUYAAA==\"}
+{\"guard\":1,\"last\":{\"sha256_root_hash\":\"tC/H6/wngKBZT+R1LE6M9CmYJyFREld3ZJUnHyM+Mao=\",\"timestamp\":1000,\"tree_size\":3}}
+";
+
+const OVER_TEXT_NAMED: &str = "{\"text\":\"{\\\"guard\\\":1,\\\"last\\\":null}\"}
+{\"text\":\"{\\\"guard\\\":1,\\\"last\\\":null}\",\"consistency\":[],\"sha256_root_hash\":\"tC/H6/wngKBZT+R1LE6M9CmYJyFREld3ZJUnHyM+Mao=\",\"timestamp\":1000,\"tree_size\":3}
+{\"text\":\"{\\\"guard\\\":1,\\\"last\\\":{\\\"sha256_root_hash\\\":\\\"tC/H6/wngKBZT+R1LE6M9CmYJyFREld3ZJUnHyM+Mao=\\\",\\\"timestamp\\\":1000,\\\"tree_size\\\":3}}\"}
+{\"text\":\"{\\\"guard\\\":1,\\\"last\\\":{\\\"sha256_root_hash\\\":\\\"tC/H6/wngKBZT+R1LE6M9CmYJyFREld3ZJUnHyM+Mao=\\\",\\\"timestamp\\\":1000,\\\"tree_size\\\":3}}\",\"consistency\":[],\"sha256_root_hash\":\"tC/H6/wngKBZT+R1LE6M9CmYJyFREld3ZJUnHyM+Mao=\",\"timestamp\":1000,\"tree_size\":3}
+{\"text\":\"{\\\"guard\\\":1,\\\"last\\\":{\\\"sha256_root_hash\\\":\\\"tC/H6/wngKBZT+R1LE6M9CmYJyFREld3ZJUnHyM+Mao=\\\",\\\"timestamp\\\":1000,\\\"tree_size\\\":3}}\",\"consistency\":[\"WLkJ1EMlnhas/il9fn13m8ePmiHCzRDLcQENWyi98tg=\",\"kJ7lVU9Uv4QMRjHA0xrLeOY5J+pwDGg8ul1aXGm+u1I=\",\"ICTSyBj4WUTC5AcFQqweauD2frL1HZEjEp+S9EMMDBI=\",\"7yJYS/QYboh+K6ENtg51g8NH8ZYaVsbfwYqteF9m4jE=\"],\"sha256_root_hash\":\"LW4H9OJXMvRh4el4Z1azUPNn4JuV2havF4zTozlYYlM=\",\"timestamp\":1001,\"tree_size\":5}
+{\"text\":\"{\\\"guard\\\":1,\\\"last\\\":{\\\"sha256_root_hash\\\":\\\"tC/H6/wngKBZT+R1LE6M9CmYJyFREld3ZJUnHyM+Mao=\\\",\\\"timestamp\\\":1000,\\\"tree_size\\\":3}}\",\"audit_path\":[\"ICTSyBj4WUTC5AcFQqweauD2frL1HZEjEp+S9EMMDBI=\"],\"leaf_index\":2,\"leaf_input\":\"AAAAAAAAAAAACQABAAAAAAAAAAAAAAAAAAAAAAAAAAAAAAAAAAAAAAAAAAAAAANERUYAAA==\"}
+{\"text\":\"{\\\"guard\\\":1,\\\"last\\\":null}\",\"audit_path\":[\"G4v/RJyXOCuDizhm/Efa15/HuIiR7l92+pKY/RnKIa8=\",\"WLkJ1EMlnhas/il9fn13m8ePmiHCzRDLcQENWyi98tg=\"],\"leaf_index\":0,\"leaf_input\":\"AAAAAAAAAAAABwAAAAABQQAA\"}
+{\"text\":\"{\\\"guard\\\":1,\\\"last\\\":{\\\"sha256_root_hash\\\":\\\"tC/H6/wngKBZT+R1LE6M9CmYJyFREld3ZJUnHyM+Mao=\\\",\\\"timestamp\\\":1000,\\\"tree_size\\\":3}}\",\"consistency\":[\"OIa9wvY0409SXbmSRB1WShj6+4VR4R9qNGlFwfemtV0=\",\"kJ7lVU9Uv4QMRjHA0xrLeOY5J+pwDGg8ul1aXGm+u1I=\",\"ICTSyBj4WUTC5AcFQqweauD2frL1HZEjEp+S9EMMDBI=\",\"7yJYS/QYboh+K6ENtg51g8NH8ZYaVsbfwYqteF9m4jE=\"],\"sha256_root_hash\":\"LBP/6HN+xoqfAqfl9xCZ49JGQb/r4mZM608IgF6PeJU=\",\"timestamp\":1001,\"tree_size\":5}
+";
+
+const OVER_TEXT_NAMED_TEXT: &str = "{\"last\":null}
+{\"checkpoint\":\"log.example/2026\\n3\\ntC/H6/wngKBZT+R1LE6M9CmYJyFREld3ZJUnHyM+Mao=\\n\",\"new\":\"{\\\"guard\\\":1,\\\"last\\\":{\\\"sha256_root_hash\\\":\\\"tC/H6/wngKBZT+R1LE6M9CmYJyFREld3ZJUnHyM+Mao=\\\",\\\"timestamp\\\":1000,\\\"tree_size\\\":3}}\",\"old\":\"{\\\"guard\\\":1,\\\"last\\\":null}\",\"sign\":\"AAEAAAAAAAAD6AAAAAAAAAADtC/H6/wngKBZT+R1LE6M9CmYJyFREld3ZJUnHyM+Mao=\"}
+{\"last\":{\"sha256_root_hash\":\"tC/H6/wngKBZT+R1LE6M9CmYJyFREld3ZJUnHyM+Mao=\",\"timestamp\":1000,\"tree_size\":3}}
+{\"checkpoint\":\"log.example/2026\\n3\\ntC/H6/wngKBZT+R1LE6M9CmYJyFREld3ZJUnHyM+Mao=\\n\",\"new\":\"{\\\"guard\\\":1,\\\"last\\\":{\\\"sha256_root_hash\\\":\\\"tC/H6/wngKBZT+R1LE6M9CmYJyFREld3ZJUnHyM+Mao=\\\",\\\"timestamp\\\":1000,\\\"tree_size\\\":3}}\",\"old\":\"{\\\"guard\\\":1,\\\"last\\\":{\\\"sha256_root_hash\\\":\\\"tC/H6/wngKBZT+R1LE6M9CmYJyFREld3ZJUnHyM+Mao=\\\",\\\"timestamp\\\":1000,\\\"tree_size\\\":3}}\",\"sign\":\"AAEAAAAAAAAD6AAAAAAAAAADtC/H6/wngKBZT+R1LE6M9CmYJyFREld3ZJUnHyM+Mao=\"}
+{\"checkpoint\":\"log.example/2026\\n5\\nLW4H9OJXMvRh4el4Z1azUPNn4JuV2havF4zTozlYYlM=\\n\",\"new\":\"{\\\"guard\\\":1,\\\"last\\\":{\\\"sha256_root_hash\\\":\\\"LW4H9OJXMvRh4el4Z1azUPNn4JuV2havF4zTozlYYlM=\\\",\\\"timestamp\\\":1001,\\\"tree_size\\\":5}}\",\"old\":\"{\\\"guard\\\":1,\\\"last\\\":{\\\"sha256_root_hash\\\":\\\"tC/H6/wngKBZT+R1LE6M9CmYJyFREld3ZJUnHyM+Mao=\\\",\\\"timestamp\\\":1000,\\\"tree_size\\\":3}}\",\"sign\":\"AAEAAAAAAAAD6QAAAAAAAAAFLW4H9OJXMvRh4el4Z1azUPNn4JuV2havF4zTozlYYlM=\"}
+{\"sign\":\"AAAAAAAAAAAACQABAAAAAAAAAAAAAAAAAAAAAAAAAAAAAAAAAAAAAAAAAAAAAANERUYAAA==\"}
+{\"refused\":\"no-head\"}
+{\"fault\":\"first-mismatch\",\"refused\":\"inconsistent\"}
+{\"guard\":1,\"last\":null}
+";
+
+const OVER_TEXT_PROMISED: &str =
+    "{\"text\":\"{\\\"guard\\\":1,\\\"last\\\":null}\",\"leaf_input\":\"AAAAAAAAAAAADwAAAAACT1AAAA==\"}
+{\"text\":\"{\\\"guard\\\":1,\\\"last\\\":{\\\"sha256_root_hash\\\":\\\"tC/H6/wngKBZT+R1LE6M9CmYJyFREld3ZJUnHyM+Mao=\\\",\\\"timestamp\\\":1000,\\\"tree_size\\\":3}}\",\"leaf_input\":\"AAE=\"}
+";
+
+const OVER_TEXT_PROMISED_TEXT: &str = "{\"sign\":\"AAAAAAAAAAAADwAAAAACT1AAAA==\"}
+{\"fault\":\"bad-leaf-type\",\"refused\":\"no-leaf\"}
+{\"guard\":1,\"last\":null}
+";
+
 const USAGE: &str = "usage: ctguard [--origin TEXT] [--receipts in-head|promised] < lines > replies
 
 docs/GUARD.md has the form of the lines.
@@ -322,6 +434,42 @@ fn right_runs(alloc: Global) -> Result<usize, AllocError> {
 #[test]
 fn runs(rt: HostRuntime) {
     assert!(rt; right_runs(rt.alloc()) == Ok(13));
+}
+
+// The same over a register's text, with a table of its own: the prover's steps over one are bounded.
+const RUNS_OVER_TEXT: [(&str, &str, &str, u8); 3] = [
+    ("", OVER_TEXT, OVER_TEXT_TEXT, 4),
+    (
+        "--origin log.example/2026",
+        OVER_TEXT_NAMED,
+        OVER_TEXT_NAMED_TEXT,
+        0,
+    ),
+    (
+        "--receipts promised",
+        OVER_TEXT_PROMISED,
+        OVER_TEXT_PROMISED_TEXT,
+        0,
+    ),
+];
+
+// How many of these are right, before the first that isn't.
+fn right_runs_over_text(alloc: Global) -> Result<usize, AllocError> {
+    let mut right = 0usize;
+    for (line, input, text, status) in &RUNS_OVER_TEXT {
+        let words = words_of(alloc, line)?;
+        if !answers(alloc, &words, input.as_bytes(), (text, ""), *status) {
+            return Ok(right);
+        }
+        right = right.saturating_add(1);
+    }
+    Ok(right)
+}
+
+// Heads, receipts and which head a text has, texts that are none, and that were set back; what was let through over a text changes nothing.
+#[test]
+fn runs_over_text(rt: HostRuntime) {
+    assert!(rt; right_runs_over_text(rt.alloc()) == Ok(3));
 }
 
 // Command lines, what is written for each, and among the faults, and the status.
