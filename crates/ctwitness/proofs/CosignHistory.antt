@@ -10,14 +10,15 @@ use Rattle.sha2.specs.Sha256.{sha256}
 use Rattle.sha2.proofs.Facts256.{length-sha256}
 use Rattle.json_lines.specs.Fields.{text_at, number_at, hash_of, hash_in, bytes_in, each_item, hashes_of_items, hashes_at}
 use Rattle.json_lines.specs.Values.{value_of_line}
+use Rattle.line_program.specs.ByLine.{LineGave, GivesAlone}
 use Rattle.ct_verify.specs.Laws.{AreHashes, SomeCollide}
 use Rattle.ct_witness.proofs.Runs.{cosigned_go_back}
 use Rattle.ct_witness.specs.declared.tree.Tree.{Tree}
 use Rattle.ct_witness.specs.Witnessed.{PassesTree}
 use Rattle.ct_witness.specs.Runs.{Granted, no_tree, AreGranted, newest_tree, IsTreeOf, IsTreeOfFirst}
 use Rattle.ctwitness.specs.CosignAsks.{CosignAsk, last_tree_in, cosign_asked_in, AsksCosigning}
-use Rattle.ctwitness.specs.Cosigned.{DecidesCosigning, LineComesTo, CosignGave, gave_outcome}
-use Rattle.ctwitness.specs.CosignSession.{CosignGiven, GivesCosigning}
+use Rattle.ctwitness.specs.Cosigned.{DecidesCosigning, CosignGave, gave_outcome}
+use Rattle.ctwitness.specs.CosignSession.{LineComesTo, cosigning_text}
 use Rattle.ctwitness.specs.CosignHistory.{CosignStep, AreCosigned, last_cosigned, AsksGoBack, CosignedLine, AreCosignedLines, last_answered, LinesGoBack}
 use Rattle.ctwitness.specs.declared.deciding.Outcome.TheVariants.{LetThrough}
 
@@ -118,13 +119,13 @@ line_hashes line a is = subst AskHashes (sym is) (asked_hashes (value_of_line 10
 step_of : CosignedLine → CosignStep
 step_of l = l.step
 
-of_line : (line : List ℕ) (given : CosignGiven) (s : CosignStep) → GivesCosigning line given
+of_line : (line : List ℕ) (given : LineGave CosignGave) (s : CosignStep) → GivesAlone LineComesTo cosigning_text line given
     → given.gave ≡ Some (gave_outcome s.ask (LetThrough s.tree)) → DecidesCosigning sha256 s.ask (LetThrough s.tree) × AreHashes s.ask.proof
 of_line [] given s g e = absurd (none-some (gave_outcome s.ask (LetThrough s.tree)) (sym g.0 ∙ e))
 of_line (b ∷ bs) given s g e =
     let gave : CosignGave = gave_outcome s.ask (LetThrough s.tree) in
-    let same : g.gave ≡ gave = same_Some g.gave gave (sym g.noted ∙ e) in
-    let comes : LineComesTo (b ∷ bs) gave = subst (LineComesTo (b ∷ bs)) same g.comes in
+    let same : g.0 ≡ gave = same_Some g.0 gave (sym g.1 ∙ e) in
+    let comes : LineComesTo (b ∷ bs) gave = subst (LineComesTo (b ∷ bs)) same g.2 in
     (comes.1, line_hashes (b ∷ bs) s.ask comes.0)
 
 are_cosigned : (last : Tree) (lines : List CosignedLine) → AreCosignedLines last lines → AreCosigned sha256 last (map step_of lines)

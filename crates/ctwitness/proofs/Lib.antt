@@ -1,4 +1,2 @@
 pub mod NoFloat
-pub mod CosignKept
-pub mod CosignRuns
 pub mod CosignHistory

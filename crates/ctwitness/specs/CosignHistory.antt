@@ -5,8 +5,9 @@ use Rattle.ct_verify.specs.Laws.{AreHashes, SomeCollide}
 use Rattle.ct_witness.specs.declared.tree.Tree.{Tree}
 use Rattle.ct_witness.specs.Runs.{no_tree, IsTreeOf, IsTreeOfFirst}
 use Rattle.ctwitness.specs.CosignAsks.{CosignAsk}
-use Rattle.ctwitness.specs.Cosigned.{DecidesCosigning, gave_outcome}
-use Rattle.ctwitness.specs.CosignSession.{CosignGiven, GivesCosigning}
+use Rattle.line_program.specs.ByLine.{LineGave, GivesAlone}
+use Rattle.ctwitness.specs.Cosigned.{CosignGave, DecidesCosigning, gave_outcome}
+use Rattle.ctwitness.specs.CosignSession.{LineComesTo, cosigning_text}
 use Rattle.ctwitness.specs.declared.deciding.Outcome.TheVariants.{LetThrough}
 
 -- A request, and the tree whose checkpoint is cosigned.
@@ -36,12 +37,12 @@ AsksGoBack =
 -- A line that a run answered, and what it gave: the request and the tree of a step.
 pub record CosignedLine : Type 0 where
   pub line : List ℕ
-  pub given : CosignGiven
+  pub given : LineGave CosignGave
   pub step : CosignStep
 
 -- the line gave that, as a run says of its lines, and its tree was let through
 abbrev pub IsCosignedLine : CosignedLine → Type 0
-IsCosignedLine l = GivesCosigning l.line l.given × (l.given.gave ≡ Some (gave_outcome l.step.ask (LetThrough l.step.tree)))
+IsCosignedLine l = GivesAlone LineComesTo cosigning_text l.line l.given × (l.given.gave ≡ Some (gave_outcome l.step.ask (LetThrough l.step.tree)))
 
 -- lines that were answered so one after the other, in any runs, each with the tree of the reply before as the last; the first with the tree `last`
 unfoldable pub AreCosignedLines : Tree → List CosignedLine → Type 0

@@ -1,5 +1,5 @@
 -- What a request comes to, and what is replied.
-use Rattle.std.specs.Prelude.{◌++◌, ◌∷◌, [], ℕ, List, Bool, true, false, Some, None, codes}
+use Rattle.std.specs.Prelude.{◌≡◌, ◌++◌, ◌∷◌, [], ℕ, List, Bool, true, false, Option, Some, None, option_and_then, codes}
 use Rattle.serde_json.specs.Data.{Data, string, object, member, no_members}
 use Rattle.serde_json.specs.Written.{compact_text}
 use Rattle.sha2.specs.Sha256.{sha256}
@@ -12,7 +12,7 @@ use Rattle.ct_witness.specs.declared.tree.Tree.{Tree}
 use Rattle.ct_witness.specs.declared.refusal.WitnessRefusal.{WitnessRefusal}
 use Rattle.ct_witness.specs.declared.refusal.WitnessRefusal.TheVariants.{OldAbove, NotLast, Fork, ProofNotEmpty, Inconsistent}
 use Rattle.ct_witness.specs.Witnessed.{PassesTree, StopsTree}
-use Rattle.ctwitness.specs.CosignAsks.{CosignAsk, AsksCosigning}
+use Rattle.ctwitness.specs.CosignAsks.{CosignAsk, cosign_asked_in}
 use Rattle.ctwitness.specs.declared.deciding.Outcome.{Outcome}
 use Rattle.ctwitness.specs.declared.deciding.Outcome.TheVariants.{LetThrough, Refused, NoCheckpoint}
 
@@ -30,10 +30,10 @@ pub data CosignGave : Type 0 where
   gave_nothing : CosignGave
   gave_outcome : CosignAsk → Outcome → CosignGave
 
--- the line comes to this, over SHA-256
-abbrev pub LineComesTo : List ℕ → CosignGave → Type 0
-LineComesTo line gave_nothing = AsksCosigning line None
-LineComesTo line (gave_outcome a o) = AsksCosigning line (Some a) × DecidesCosigning sha256 a o
+-- a line comes to this, by the JSON value that it is, over SHA-256
+abbrev pub ComesToCosigning : Option Data → CosignGave → Type 0
+ComesToCosigning value gave_nothing = None ≡ option_and_then cosign_asked_in value
+ComesToCosigning value (gave_outcome a o) = (Some a ≡ option_and_then cosign_asked_in value) × DecidesCosigning sha256 a o
 
 -- whether a line is no request
 abbrev pub is_no_cosign_request : CosignGave → Bool
