@@ -1,5 +1,6 @@
 //! What follows of the definitions, each a clause of a function that does nothing but call on other laws.
 
+ghost use Rattle.ct_node_log.specs.Heads.{GuardedHeadsAreOfOneLog};
 ghost use Rattle.ct_node_log.specs.Logs.{NodesWriteOneLog};
 ghost use Rattle.ct_node_log.specs.Names.{StepsHaveOneContent};
 ghost use Rattle.ct_node_log.specs.Once.{NodesAddOnce};
@@ -15,6 +16,17 @@ pub fn nodes()
     ct_node::laws::worlds();
     names();
     ct_log_state::laws::bundles();
+}
+
+/// Beside such nodes stand any guards before the log's key, over one register of their own: of the heads that they let through one behind the other,
+/// where the newest is one that a node asks for, each that has leaves is that of a beginning of the nodes' one list of entries. Of those before it
+/// nothing is asked. Or two different strings with one digest are given.
+pub fn heads()
+    ensures one_log { GuardedHeadsAreOfOneLog }
+{
+    nodes();
+    ct_node::laws::worlds();
+    ct_guard::laws::heads_go_back();
 }
 
 /// Two objects of steps of one log that have one name have one content, whoever made them.

@@ -1,0 +1,110 @@
+-- The heads that guards let through are of the nodes' one log.
+use Rattle.std.proofs.Common.{subst, ◌⊎◌, inl, inr, ⊎_elim, ◌≡◌, refl, ℕ, ◌<◌, ◌≤◌, sym, ◌∙◌, ap, arith, List, [], ◌∷◌, ◌++◌, length, take, map}
+use Rattle.std.specs.Prelude.{All}
+use Rattle.std.proofs.lemmas.List.{length-take, length-take-le, length-map, take-take, take-map}
+use Rattle.std.proofs.lemmas.List.Elements.{All-weaker}
+use Rattle.ct_tree.specs.Tree.{mth_of_leaves}
+use Rattle.ct_tree.specs.declared.head.Head.{Head}
+use Rattle.ct_data_tiles.specs.TileLeaf.{Tiled, leaf_of}
+use Rattle.ct_guard.specs.NewestHead.{HeadStep, NewestIsOf, IsHeadOfFirst, HeadsGoBack}
+use Rattle.ct_log_state.specs.declared.line.StateLine.{StateLine}
+use Rattle.ct_monitor.specs.Heads.{IsHeadOfAll}
+use Rattle.ct_verify.specs.Laws.{SomeCollide}
+use Rattle.ct_node.specs.declared.state.State.{State}
+use Rattle.ct_node.specs.declared.node.Node.TheVariants.{Heading}
+use Rattle.ct_node.specs.Worlds.{Has, Object, World, Happening, Comes, happens, MayHappen, beginning, IsFirstState, LeadTo, IsSoundWorld, WorldsAreSound}
+use Rattle.ct_step.specs.Entries.{tree_leaves}
+use Rattle.ct_step.specs.Lines.{LineAttempt, IsStepOf}
+use Rattle.ct_step.specs.Steps.{IsLog, line_head}
+use Rattle.ct_node_log.specs.Logs.{IsOf, StandsOf, NodesWriteOneLog}
+use Rattle.ct_node_log.specs.Heads.{NewestIsAsked, HeadsLetThroughAreOf, GuardedHeadsAreOfOneLog}
+
+-- ---- a head that is asked for is that of a state that the register took
+
+-- one thing more happens behind the others
+one_more : (count : State → ℕ) (u : World) (hs : List Happening) (w : World) (h : Happening) → LeadTo count u hs w → MayHappen count w h
+    → LeadTo count u (hs ++ h ∷ []) (happens w h)
+unfolding LeadTo
+one_more count u [] w h leads may = (subst (λ (v : World). MayHappen count v h) (sym leads) may, ap (λ (v : World). happens v h) leads)
+one_more count u (g ∷ hs) w h leads may = (leads.0, one_more count (happens u g) hs w h leads.1 may)
+
+-- the command may come, and behind it the head stands
+asked_is_taken : WorldsAreSound → (count : State → ℕ) (b : State) (hs : List Happening) (w : World) → IsFirstState count b
+    → LeadTo count (beginning b) hs w → (l : State) → Has (Heading l) w.sent → Has l w.past
+asked_is_taken sound count b hs w begins leads l sent =
+    let v : World = happens w (Comes (Heading l)) in
+    let s : IsSoundWorld count v = sound count b (hs ++ Comes (Heading l) ∷ []) v begins (one_more count (beginning b) hs w (Comes (Heading l)) leads (sent, tt)) in
+    s.heads l (inl refl)
+
+-- ---- the line of such a state is that of a beginning of the entries
+
+module _ (H : List ℕ → List ℕ) (line : State → StateLine) (b : State) (known E : List Tiled) where
+  abbrev IsLineOf : StateLine → Type 0
+  IsLineOf x = (x.tree_size ≤ length E) × IsLog H (take x.tree_size E) x
+
+  first_line : known ≡ take (length known) E → IsLog H known (line b) → IsLineOf (line b)
+  first_line starts is =
+      let long : length known ≡ length (take (length known) E) = ap length starts in
+      let same : known ≡ take (line b).tree_size E = starts ∙ ap (λ (n : ℕ). take n E) (sym is.size) in
+      (omega (arith, is.size, long, length-take (length known) E), subst (λ (K : List Tiled). IsLog H K (line b)) same is)
+
+  line_of : known ≡ take (length known) E → IsLog H known (line b) → (l : State) → IsOf H line b E l → IsLineOf (line l)
+  line_of starts is l (inl first) = subst IsLineOf (ap line (sym first)) (first_line starts is)
+  line_of starts is l (inr of) = subst IsLineOf of.1 (of.2.size, of.2.log)
+
+  leaves_long : length (tree_leaves E) ≡ length E
+  leaves_long = length-map E leaf_of
+
+  head_of : (x : StateLine) → IsLineOf x → IsHeadOfAll H (take x.tree_size (tree_leaves E)) (line_head x)
+  head_of x is =
+      let fits : x.tree_size ≤ length (tree_leaves E) = omega (arith, is.0, leaves_long) in (
+        sym (length-take-le x.tree_size (tree_leaves E) fits),
+        is.1.root ∙ ap (mth_of_leaves H) (sym (take-map leaf_of x.tree_size E)),
+      )
+
+  -- ---- the newest head that is asked for is of the entries, and so is each before it
+
+  -- the newest is that of the first n leaves
+  abbrev NewestIsOfFirst : List HeadStep → Type 0
+  NewestIsOfFirst steps = (n : ℕ) × (n ≤ length (tree_leaves E)) × NewestIsOf H (take n (tree_leaves E)) steps
+
+  newest : (w : World) → ((l : State) → Has (Heading l) w.sent → IsLineOf (line l)) → (steps : List HeadStep) → NewestIsAsked line w steps
+      → NewestIsOfFirst steps
+  unfolding NewestIsAsked NewestIsOf
+  newest w lines [] asked = (0, omega arith, tt)
+  newest w lines (s ∷ []) asked =
+      let is : IsLineOf (line asked.0) = lines asked.0 asked.1 in
+      let n : ℕ = (line asked.0).tree_size in
+      (n, omega (arith, is.0, leaves_long), subst (IsHeadOfAll H (take n (tree_leaves E))) (sym asked.2) (head_of (line asked.0) is))
+  newest w lines (s ∷ t ∷ steps) asked = newest w lines (t ∷ steps) asked
+
+  wider : (n : ℕ) → n ≤ length (tree_leaves E) → (head : Head) → IsHeadOfFirst H (take n (tree_leaves E)) head → IsHeadOfFirst H (tree_leaves E) head
+  wider n fits head first = λ some.
+      let g = first some in
+      let below : head.tree_size ≤ n = omega (arith, g.0, length-take-le n (tree_leaves E) fits) in
+      (omega (arith, below, fits), g.1 ∙ ap (mth_of_leaves H) (take-take head.tree_size n (tree_leaves E) below))
+
+  heads_of : HeadsGoBack → ((x : List ℕ) → length (H x) ≡ 32) → (w : World) → ((l : State) → Has (Heading l) w.sent → IsLineOf (line l))
+      → HeadsLetThroughAreOf H line E w
+  heads_of back sized w lines last steps through asked =
+      let n : NewestIsOfFirst steps = newest w lines steps asked in
+      ⊎_elim
+      (λ (all : All (λ (s : HeadStep). IsHeadOfFirst H (take n.0 (tree_leaves E)) s.head) steps).
+      inl (All-weaker (λ (s : HeadStep). IsHeadOfFirst H (take n.0 (tree_leaves E)) s.head) (λ (s : HeadStep). IsHeadOfFirst H (tree_leaves E) s.head)
+      (λ (s : HeadStep). wider n.0 n.1 s.head) steps all))
+      (λ (pair : SomeCollide H). inr pair)
+      (back H sized last steps (take n.0 (tree_leaves E)) through n.2)
+
+pub guarded_heads_are_of_one_log : NodesWriteOneLog → WorldsAreSound → HeadsGoBack → GuardedHeadsAreOfOneLog
+guarded_heads_are_of_one_log agree sound back H sized line plan known count b hs w begins leads is made =
+    ⊎_elim
+    (λ (r : (E : List Tiled) × (known ≡ take (length known) E) × StandsOf H line b plan E w).
+    inl (
+      r.0,
+      r.1,
+      r.2,
+      heads_of H line b known r.0 back sized w
+          (λ l sent. line_of H line b known r.0 r.1 is l (r.2.past l (asked_is_taken sound count b hs w begins leads l sent))),
+    ))
+    (λ (pair : SomeCollide H). inr pair)
+    (agree H line plan known count b hs w begins leads is made)

@@ -1,0 +1,40 @@
+-- The heads that guards let through beside the nodes that write a log. H is any hash function on byte lists with hashes of 32 bytes.
+use Rattle.std.specs.Prelude.{◌≡◌, ◌⊎◌, ⊤, ℕ, List, [], ◌∷◌, length, take, All}
+use Rattle.std.specs.declared.option.Option.{Option}
+use Rattle.ct_tree.specs.declared.head.Head.{Head}
+use Rattle.ct_data_tiles.specs.TileLeaf.{Tiled}
+use Rattle.ct_guard.specs.NewestHead.{HeadStep, AreHeadSteps, IsHeadOfFirst}
+use Rattle.ct_log_state.specs.declared.line.StateLine.{StateLine}
+use Rattle.ct_verify.specs.Laws.{SomeCollide}
+use Rattle.ct_node.specs.declared.state.State.{State}
+use Rattle.ct_node.specs.declared.node.Node.TheVariants.{Heading}
+use Rattle.ct_node.specs.Worlds.{Has, Object, World, Happening, beginning, IsFirstState, LeadTo}
+use Rattle.ct_step.specs.Entries.{tree_leaves}
+use Rattle.ct_step.specs.Steps.{IsLog, line_head}
+use Rattle.ct_node_log.specs.Logs.{AreStepsMade, StandsOf}
+
+-- some node was given the command to have the head of a state signed and put, and this head is the one that the state's line names
+abbrev pub IsAsked : (State → StateLine) → World → Head → Type 0
+IsAsked line w head = (l : State) × Has (Heading l) w.sent × (head ≡ line_head (line l))
+
+-- the newest of these heads, where there is one, is such a head
+unfoldable pub NewestIsAsked : (State → StateLine) → World → List HeadStep → Type 0
+NewestIsAsked line w [] = ⊤
+NewestIsAsked line w (s ∷ []) = IsAsked line w s.head
+NewestIsAsked line w (s ∷ t ∷ steps) = NewestIsAsked line w (t ∷ steps)
+
+-- Take any heads that were let through one behind the other, by whichever guards, of which the newest is one that these nodes ask for: each of them
+-- that has leaves is that of the first entries of E, or two different strings with one hash are given. Of the others nothing is asked.
+abbrev pub HeadsLetThroughAreOf : (List ℕ → List ℕ) → (State → StateLine) → List Tiled → World → Type 0
+HeadsLetThroughAreOf H line E w =
+    (last : Option Head) (steps : List HeadStep) → AreHeadSteps H last steps → NewestIsAsked line w steps
+    → All (λ s. IsHeadOfFirst H (tree_leaves E) s.head) steps ⊎ SomeCollide H
+
+-- Whatever happens, there is one list of entries, which begins with those that were known, that all is of that stands, and so are heads that guards let
+-- through; or two different strings with one hash are given.
+abbrev pub GuardedHeadsAreOfOneLog : Type 0
+GuardedHeadsAreOfOneLog =
+    (H : List ℕ → List ℕ) → ((x : List ℕ) → length (H x) ≡ 32) → (line : State → StateLine) (plan : Object → List ℕ × List ℕ) (known : List Tiled)
+    (count : State → ℕ) (b : State) (hs : List Happening) (w : World) → IsFirstState count b → LeadTo count (beginning b) hs w → IsLog H known (line b)
+    → AreStepsMade H line count plan w.made
+    → ((E : List Tiled) × (known ≡ take (length known) E) × StandsOf H line b plan E w × HeadsLetThroughAreOf H line E w) ⊎ SomeCollide H
