@@ -8,13 +8,10 @@ use Rattle.std.proofs.KnownBytes.{Appends-nil, Appends-trans, Consumes-nil}
 use Rattle.json_lines.proofs.KeptLines.{all_of_none}
 use Rattle.json_lines.specs.Sends.{SendsSome}
 use Rattle.line_program.specs.Replied.{FirstReplies, is_next_first, NextBroken, BeginsEnd, IsRunReplied, IsBroken}
-use Rattle.ctguard.specs.BrokenOff.{GuardsFirstLines, line_gives, GuardBroken, BreaksFirst, IsGuardRunBroken, IsGuardCallBroken}
+use Rattle.ctguard.specs.BrokenOff.{GuardsFirstLines, line_gives, GuardBroken, BreaksFirst, IsGuardRunBroken}
 use Rattle.ctguard.specs.GuardSession.{GuardOptions, GuardStep, GuardsLine, GuardsFirst, GuardsLines, StartsAt, IsGuardRun, IsGuardStatus, options_of, last_head}
 use Rattle.ctguard.specs.GuardSession.{guard_gives, guard_ends, guard_status}
 use Rattle.ctguard.specs.GuardState.{IsNoState, guard_state_text}
-use Rattle.ctguard.specs.GuardWords.{GuardCall, guarding, guard_help, guard_version, no_guard_call, guard_usage, guard_version_text, guard_call_made, IsGuardAnswered}
-use Rattle.ctguard.specs.declared.command.Command.{Command}
-use Rattle.ctguard.specs.declared.command.Command.TheVariants as command
 use Rattle.ctguard.specs.declared.guarding.Guarding.{Guarding}
 use Rattle.ctguard.specs.declared.session.Session.{Session}
 use Rattle.ctguard.specs.declared.settings.Settings.{Settings}
@@ -264,37 +261,3 @@ pub run_broken : (new : Session) (source source_next sink sink_next : Option (Li
 run_broken new None source_next sink sink_next none bad b = tt
 run_broken new (Some input) source_next sink sink_next none bad b =
     broken_behind new b.now b.replies input b.left source_next sink b.mid sink_next none bad b.lines b.written b.behind
-
--- ---- what the words ask for
-
--- what holds in any case holds where a result is an error
-pub at_err : {T F P : Type 0} (r : Result T F) → P → OnErr r P
-at_err (Ok t) p = tt
-at_err (Err f) p = p
-
-run_not_read : (s : GuardOptions) (source sink : Option (List ℕ)) → IsGuardRunBroken s source source sink sink
-run_not_read s None sink = tt
-run_not_read s (Some input) sink = inl (inl ([], Consumes-nil (Some input), all_of_none), Appends-nil sink)
-
-pub not_begun : (c : GuardCall) (source sink : Option (List ℕ)) → IsGuardCallBroken c source sink sink
-not_begun (guarding s) source sink = (source, run_not_read s source sink)
-not_begun guard_help source sink = ([], (guard_usage, refl), Appends-nil sink)
-not_begun guard_version source sink = ([], (guard_version_text, refl), Appends-nil sink)
-not_begun no_guard_call source sink = refl
-
-pub call_broken : {T F : Type 0} (r : Result T F) (c : GuardCall) (settings : Settings) (made : Command) (source source_next sink sink_next : Option (List ℕ))
-    → guard_call_made made ≡ c → made ≡ command.Guard settings → OnErr r (IsGuardRunBroken (options_of settings) source source_next sink sink_next)
-    → OnErr r (IsGuardCallBroken c source sink sink_next)
-call_broken (Ok t) c settings made source source_next sink sink_next is run b = tt
-call_broken (Err f) c settings made source source_next sink sink_next is run b =
-    subst (λ (k : GuardCall). IsGuardCallBroken k source sink sink_next) (sym (ap guard_call_made run) ∙ is) (source_next, b)
-
-pub help_answered : (c : GuardCall) (made : Command) (source sink sink_next faults : Option (List ℕ)) → guard_call_made made ≡ c
-    → made ≡ command.Help → Appends sink sink_next guard_usage → IsGuardAnswered c source sink sink_next faults faults 0
-help_answered c made source sink sink_next faults is help written =
-    subst (λ (k : GuardCall). IsGuardAnswered k source sink sink_next faults faults 0) (sym (ap guard_call_made help) ∙ is) (refl, written, refl)
-
-pub version_answered : (c : GuardCall) (made : Command) (source sink sink_next faults : Option (List ℕ)) → guard_call_made made ≡ c
-    → made ≡ command.Version → Appends sink sink_next guard_version_text → IsGuardAnswered c source sink sink_next faults faults 0
-version_answered c made source sink sink_next faults is version written =
-    subst (λ (k : GuardCall). IsGuardAnswered k source sink sink_next faults faults 0) (sym (ap guard_call_made version) ∙ is) (refl, written, refl)

@@ -6,6 +6,5 @@ pub mod Kept
 pub mod GuardRuns
 pub mod GivenRuns
 pub mod CutRuns
-pub mod WordsRead
 pub mod TextAsks
 pub mod Register

@@ -3,10 +3,11 @@ use Rattle.std.specs.Prelude.{◌≡◌, ◌<◌, ◌⊎◌, ℕ, Bool, false, L
 use Rattle.std.specs.declared.option.Option.{Option}
 use Rattle.std.specs.Io.BufRead.{first_piece, drop_through}
 use Rattle.std.specs.Io.KnownBytes.{Appends}
-use Rattle.json_lines.specs.Sends.{SendsSome}
+use Rattle.std.proofs.Common.{inl, None}
+use Rattle.std.proofs.KnownBytes.{Appends-nil, Consumes-nil}
+use Rattle.json_lines.proofs.KeptLines.{all_of_none}
 use Rattle.line_program.specs.Replied.{ReadsPart, NextBroken, BeginsEnd}
 use Rattle.ctguard.specs.GuardSession.{GuardOptions, GuardStep, GuardsLine, StepsLine, StartsAt, last_head, state_ends}
-use Rattle.ctguard.specs.GuardWords.{GuardCall, guarding, guard_help, guard_version, no_guard_call, guard_usage, guard_version_text}
 use Rattle.ctguard.specs.declared.guarding.Guarding.{Guarding}
 
 -- the first lines of the input, one step for each, give this text and lead to `now`; behind them `left` is left
@@ -49,11 +50,7 @@ abbrev pub IsGuardRunBroken : GuardOptions → Option (List ℕ) → Option (Lis
 IsGuardRunBroken s source source_next sink sink_next =
     IfSome source (λ input. BreaksFirst input source_next sink sink_next ⊎ GuardBroken s input source_next sink sink_next)
 
--- What stands on the output where a fault broke off what the words ask for: a run as far as it came, or a beginning of how the program is
--- called, or of its version.
-abbrev pub IsGuardCallBroken : GuardCall → Option (List ℕ) → Option (List ℕ) → Option (List ℕ) → Type 0
-IsGuardCallBroken (guarding options) source sink sink_next =
-    (source_next : Option (List ℕ)) × IsGuardRunBroken options source source_next sink sink_next
-IsGuardCallBroken guard_help source sink sink_next = SendsSome sink sink_next guard_usage
-IsGuardCallBroken guard_version source sink sink_next = SendsSome sink sink_next guard_version_text
-IsGuardCallBroken no_guard_call source sink sink_next = sink_next ≡ sink
+-- a run that isn't begun is one that was broken off
+pub no_guard_run : (s : GuardOptions) (source sink : Option (List ℕ)) → IsGuardRunBroken s source source sink sink
+no_guard_run s None sink = tt
+no_guard_run s (Some input) sink = inl (inl ([], Consumes-nil (Some input), all_of_none), Appends-nil sink)

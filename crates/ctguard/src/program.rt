@@ -1,21 +1,17 @@
-//! The program over the words of a command line, a reader of lines and a writer of replies.
+//! The program over a reader of lines and a writer of replies, and what words ask for.
 
-ghost use Rattle.std.specs.Prelude.{◌≡◌, ◌≢◌, [], IfOk, IfSome, OnOk, OnErr, Some, map, string_bytes, codes};
-ghost use Rattle.json_lines.specs.Faults.{run_fault_line};
-ghost use Rattle.json_lines.specs.Sends.{SendsSome};
-ghost use Rattle.ctguard.specs.BrokenOff.{IsGuardRunBroken, IsGuardCallBroken};
-ghost use Rattle.ctguard.specs.GuardSession.{options_of, guard_gives, guard_ends, IsGuardRun, IsGuardStatus};
-ghost use Rattle.ctguard.specs.GuardWords.{guard_asked, IsGuardAnswered};
-ghost use Rattle.json_lines.specs.declared.fault.RunFault.{RunFault as FaultOf};
+ghost use Rattle.std.specs.Prelude.{◌≡◌, [], IfOk, IfSome, OnOk, OnErr, Some, codes};
+ghost use Rattle.ctguard.specs.BrokenOff.{IsGuardRunBroken, no_guard_run};
+ghost use Rattle.ctguard.specs.GuardSession.{GuardOptions, options_of, guard_gives, guard_ends, IsGuardRun, IsGuardStatus};
+ghost use Rattle.ctguard.specs.GuardWords.{guard_asked, guard_usage, IsGuarded};
 
-use crate::command::{Command, command_of};
 use crate::guarding::Guarding;
 use crate::session::Session;
 use crate::settings::Settings;
-use json_lines::{LONGEST_REQUEST, RunFault, send, tell};
-use line_program::{Answerer, tell_fault};
+use json_lines::{LONGEST_REQUEST, RunFault};
+use line_program::{Answerer, Call, Program, read_words};
 use std::alloc::{AllocError, Global};
-use std::io::{BufRead, BufReader, Read, Write};
+use std::io::{BufRead, Write};
 
 // How the program is called, and what it does.
 const USAGE: &str = "usage: ctguard [--origin TEXT] [--receipts in-head|promised] < lines > replies
@@ -84,67 +80,52 @@ pub fn run<B: BufRead, W: Write>(
     Ok(session.guarding.status())
 }
 
-// Does what the words ask for, and answers the exit status.
-fn do_asked<R: Read + Drop, W: Write, E: Write>(
-    alloc: Global,
-    words: &[String],
-    input: R,
-    output: &mut W,
-    faults: &mut E,
-) -> Result<u8, RunFault>
-    ensures answered { IfOk result (λ status. IsGuardAnswered (guard_asked (map string_bytes words.now)) (R.remaining input)
-        (W.contents output.old) (W.contents output.new) (E.contents faults.old) (E.contents faults.new) status) }
-    ensures status { IfOk result (λ status. status ≢ 1) }
-    ensures broken { OnErr result (IsGuardCallBroken (guard_asked (map string_bytes words.now)) (R.remaining input)
-        (W.contents output.old) (W.contents output.new)) }
-    ensures quiet { OnErr result (E.contents faults.new ≡ E.contents faults.old) }
-{
-    match command_of(alloc, words)? {
-        Command::Guard(settings) => {
-            let mut reader = BufReader::new(alloc, input)?;
-            run(alloc, settings, &mut reader, output)
-        }
-        Command::Help => {
-            send(output, USAGE.as_bytes())?;
-            Ok(0)
-        }
-        Command::Version => {
-            send(output, VERSION.as_bytes())?;
-            Ok(0)
-        }
-        Command::Refused => {
-            tell(faults, USAGE.as_bytes());
-            Ok(2)
-        }
-    }
-}
+/// The program `ctguard`.
+pub struct Ctguard;
 
-/// Does what the words of a command line ask for, the program's name left out, and answers the exit status.
-///
-/// - 0, 4: `run` read the input and wrote its replies, with that status; or, for 0, the words ask for help or the version, which was
-///   written on the output.
-/// - 1: a fault broke it off, and its line was written among the faults, as far as it could be. On the output stands what `run` wrote until
-///   then, or a beginning of the text that was asked for.
-/// - 2: the words ask for nothing that there is. How the program is called was written among the faults, as far as it could be.
-pub fn answer_words<R: Read + Drop, W: Write, E: Write>(
-    alloc: Global,
-    words: &[String],
-    input: R,
-    output: &mut W,
-    faults: &mut E,
-) -> u8
-    ensures answered { result ≢ 1 → IsGuardAnswered (guard_asked (map string_bytes words.now)) (R.remaining input)
-        (W.contents output.old) (W.contents output.new) (E.contents faults.old) (E.contents faults.new) result }
-    ensures fault { result ≡ 1 → (f : FaultOf)
-        × SendsSome (E.contents faults.old) (E.contents faults.new) (run_fault_line (codes "ctguard") f) }
-    ensures broken { result ≡ 1 → IsGuardCallBroken (guard_asked (map string_bytes words.now)) (R.remaining input)
-        (W.contents output.old) (W.contents output.new) }
-{
-    match do_asked(alloc, words, input, output, faults) {
-        Ok(status) => status,
-        Err(fault) => {
-            tell_fault("ctguard", fault, faults);
-            1
-        }
+impl Program for Ctguard {
+    type Options = Settings;
+
+    ghost Told = { GuardOptions };
+
+    ghost told = { options_of };
+
+    ghost asks = { guard_asked };
+
+    ghost name = { codes "ctguard" };
+
+    ghost usage = { guard_usage };
+
+    ghost version = { codes "ctguard 0.1.0\n" };
+
+    ghost runs = { IsGuarded };
+
+    ghost breaks = { IsGuardRunBroken };
+
+    fn name() -> &'static str {
+        "ctguard"
     }
+
+    fn usage() -> &'static str {
+        USAGE
+    }
+
+    fn version() -> &'static str {
+        VERSION
+    }
+
+    fn asked(alloc: Global, words: &[String]) -> Result<Call<Settings>, AllocError> {
+        read_words(alloc, words)
+    }
+
+    fn run<B: BufRead, W: Write>(
+        alloc: Global,
+        options: Settings,
+        input: &mut B,
+        writer: &mut W,
+    ) -> Result<u8, RunFault> {
+        run(alloc, options, input, writer)
+    }
+
+    ghost not_begun = { no_guard_run };
 }

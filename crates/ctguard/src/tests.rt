@@ -1,6 +1,7 @@
 // What is expected was computed by another program: tests/guard/runs.py, with hashlib alone.
-use crate::program::{answer_words, run};
+use crate::program::{Ctguard, run};
 use crate::settings::{Receipts, Settings};
+use line_program::answer_words;
 use std::alloc::{AllocError, Global};
 use std::io;
 use std::io::{BufReader, ErrorKind, Read};
@@ -390,7 +391,7 @@ fn answers<R: Read + Drop>(
 ) -> bool {
     let mut output = Vec::new(alloc);
     let mut faults = Vec::new(alloc);
-    let found = answer_words(alloc, words, input, &mut output, &mut faults);
+    let found = answer_words::<Ctguard, _, _, _>(alloc, words, input, &mut output, &mut faults);
     found == status && output.as_slice() == text.as_bytes() && faults.as_slice() == told.as_bytes()
 }
 
@@ -517,7 +518,13 @@ fn is_origin_answered(alloc: Global, origin: &str, status: u8) -> Result<bool, A
     let words = words_with_origin(alloc, origin)?;
     let mut output = Vec::new(alloc);
     let mut faults = Vec::new(alloc);
-    let found = answer_words(alloc, &words, GROWS.as_bytes(), &mut output, &mut faults);
+    let found = answer_words::<Ctguard, _, _, _>(
+        alloc,
+        &words,
+        GROWS.as_bytes(),
+        &mut output,
+        &mut faults,
+    );
     Ok(found == status && output.is_empty() == (status == 2))
 }
 

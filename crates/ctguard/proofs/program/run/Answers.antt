@@ -1,5 +1,6 @@
 use Rattle.ctguard.specs.declared.session.Session.{Session}
-use Rattle.ctguard.proofs.GuardRuns.{run_done, all_read, one_of_two, at_err, run_broken}
+use Rattle.line_program.proofs.Replies.{at_err}
+use Rattle.ctguard.proofs.GuardRuns.{run_done, all_read, one_of_two, run_broken}
 use Rattle.ctguard.proofs.program.run.Goals as goal
 
 pub returns : goal.returns
