@@ -6,5 +6,3 @@ pub mod NodeWords
 pub mod NodeLaws
 pub mod LineLog
 pub mod NodeSession
-pub mod NodeOptions
-pub mod NodeBroken

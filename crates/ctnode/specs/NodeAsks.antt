@@ -155,6 +155,10 @@ came_of d doing = option_and_then (λ v. asked_with doing (came_in (seen_moment 
 abbrev pub node_asked_in : Data → Option NodeAsked
 node_asked_in d = option_and_then (λ doing. came_of d doing) (option_and_then (λ v. doing_in v) (get (codes "node") d))
 
+-- what a line says by the JSON value that it is, or nothing
+abbrev pub node_asked_by : Option Data → Option NodeAsked
+node_asked_by value = option_and_then node_asked_in value
+
 -- what a line of at most 65,536 bytes says, or nothing
 abbrev pub node_asked : List ℕ → Option NodeAsked
-node_asked line = option_and_then node_asked_in (value_of_line 65536 line)
+node_asked line = node_asked_by (value_of_line 65536 line)

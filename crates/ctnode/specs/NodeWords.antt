@@ -9,7 +9,7 @@ use Rattle.ct_node.specs.declared.node.Node.TheVariants.{Reading, Looking, Stepp
 use Rattle.ctnode.specs.declared.texts.Said.{Said}
 use Rattle.ctnode.specs.NodeTexts.{said_by, bundle_name}
 use Rattle.ctnode.specs.NodeDoings.{NodeTexts, NodeDoing, doing_after}
-use Rattle.ctnode.specs.NodeAsks.{NodeAsked, node_asked}
+use Rattle.ctnode.specs.NodeAsks.{NodeAsked}
 
 -- a register's text as an object, with what it says: the name of its state's bundle, its moment, and how many entries the log has
 abbrev pub held_said_data : List ℕ → Said → Data
@@ -84,10 +84,6 @@ node_reply_data (Some d) = object (member (codes "node") (doing_data d) no_membe
 -- the line of a reply: compact JSON, keys in byte order, and the byte 0A (RFC 8259)
 abbrev pub node_line : Option NodeDoing → List ℕ
 node_line reply = compact_text (node_reply_data reply) ++ 10 ∷ []
-
--- what is written of a line that isn't empty
-abbrev pub node_reply_text : List ℕ → List ℕ
-node_reply_text line = node_line (node_replied (node_asked line))
 
 -- whether a line is refused as none
 abbrev pub is_no_node : Option NodeDoing → Bool

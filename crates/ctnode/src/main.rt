@@ -5,46 +5,26 @@
 //!
 //! - `request` reads a node and what came of its command, and `replies` writes the next command; `doing` has a command with its texts, and
 //!   `texts` what a register's text and a bundle's name say.
-//! - `command` reads the words of a command line.
-//! - `program` has `run`, over the loop of `line_program`, which reads lines from any reader and writes to any writer; and `answer_words`,
-//!   which does what the words of a command line ask for. `main` is `answer_words` over the process's words, standard input, output and error.
-//!   Behind a line `Noted` is kept.
+//! - `program` has what the program is of those by `line_program`: what it replies to a line, its name, how it is called, and what a run is. `main`
+//!   is `answer_process` of it.
 //! - `laws` has what the lines are of the machine.
 #![tactic(auto)]
 
-mod command;
 mod doing;
 mod laws;
-mod noted;
 mod program;
 mod replies;
 mod request;
 mod texts;
 
-use json_lines::RunFault;
-use line_program::tell_fault;
-use program::answer_words;
+use line_program::answer_process;
+use program::Ctnode;
 use std::io;
 use std::process::ExitCode;
-
-// The words of the command line. Std's contracts don't say which these are.
-fn collected(rt: &HostRuntime) -> Result<Vec<String>, RunFault> {
-    let words = std::env::args(rt)?.collect(rt.alloc())?;
-    Ok(words)
-}
 
 fn main(rt: HostRuntime) -> ExitCode {
     let mut output = io::writer(&rt);
     let mut faults = rt.stderr();
-    let status = match collected(&rt) {
-        Ok(words) => {
-            let (_, words) = words.split_at(usize::from(!words.is_empty()));
-            answer_words(rt.alloc(), words, rt.reader(), &mut output, &mut faults)
-        }
-        Err(fault) => {
-            tell_fault("ctnode", fault, &mut faults);
-            1
-        }
-    };
+    let status = answer_process::<Ctnode, _, _, _>(&rt, &mut output, &mut faults);
     ExitCode::from(status)
 }

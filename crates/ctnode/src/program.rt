@@ -1,23 +1,19 @@
-//! The program over the words of a command line, a reader of lines and a writer of replies.
+//! The program: what is replied to a line, and what words ask for.
 
-ghost use Rattle.std.specs.Prelude.{◌≡◌, ◌≢◌, [], IfOk, OnOk, OnErr, IfSome, Some, map, string_bytes, codes};
-ghost use Rattle.std.specs.Io.KnownBytes.{Appends};
-ghost use Rattle.json_lines.specs.Faults.{run_fault_line};
-ghost use Rattle.json_lines.specs.Sends.{SendsSome};
-ghost use Rattle.json_lines.specs.declared.fault.RunFault.{RunFault as FaultOf};
-ghost use Rattle.line_program.specs.Replied.{nothing_behind};
-ghost use Rattle.ctnode.specs.NodeBroken.{IsNodeRunBroken, IsNodeCallBroken};
-ghost use Rattle.ctnode.specs.NodeOptions.{node_asked_of_words, IsNodeCall};
-ghost use Rattle.ctnode.specs.NodeSession.{GivesNodeText, node_gives, node_status, IsNodeRun, IsNodeStatus};
+ghost use Rattle.std.specs.Prelude.{⊤, Option, codes};
+ghost use Rattle.line_program.specs.ByLine.{by_value};
+ghost use Rattle.line_program.specs.Calls.{asked_without_options};
+ghost use Rattle.line_program.proofs.ByLine.{not_begun};
+ghost use Rattle.ctnode.specs.NodeDoings.{NodeDoing};
+ghost use Rattle.ctnode.specs.NodeWords.{node_line, is_no_node};
+ghost use Rattle.ctnode.specs.NodeSession.{ComesToCommand, IsNodeRun, IsNodeRunBroken, node_usage};
 
-use crate::command::{Command, command_of};
-use crate::noted::Noted;
 use crate::replies::{is_bad, reply_line, reply_to};
 use crate::request::{LONGEST, read_asked};
-use json_lines::{RunFault, send, tell};
-use line_program::{Answerer, tell_fault};
+use json_lines::RunFault;
+use line_program::{Call, NoOptions, Program, Replier, Reply, read_words, reply_by_line};
 use std::alloc::{AllocError, Global};
-use std::io::{BufRead, BufReader, Read, Write};
+use std::io::{BufRead, Write};
 
 // How the program is called, and what it does.
 const USAGE: &str = "usage: ctnode < lines > replies
@@ -37,126 +33,75 @@ const VERSION: &str = "ctnode 0.1.0\n";
 // How many bytes of a line are kept, its end among them: two more than the longest has.
 const KEPT: usize = LONGEST + 2;
 
-// Takes a line without its end: notes whether it is refused as none, and answers what is written of it. An empty line is passed over.
-fn take_line(alloc: Global, bad: &mut bool, line: &[u8]) -> Result<Vec<u8>, AllocError>
-    ensures { IfOk result (λ t. GivesNodeText bad.old line.now t.items bad.new) }
-{
-    if line.is_empty() {
-        return Ok(Vec::new(alloc));
-    }
-    let asked = read_asked(alloc, line)?;
-    let reply = reply_to(asked)?;
-    *bad = is_bad(*bad, &reply);
-    reply_line(alloc, &reply)
-}
+/// The program `ctnode`, which replies to each line by itself.
+#[derive(Clone, Copy, Debug)]
+pub struct Ctnode;
 
-impl Answerer for Noted {
-    ghost kept = { 65538 };
+impl Replier for Ctnode {
+    ghost longest = { 65536 };
 
-    ghost gives = { node_gives };
+    ghost Gave = { Option NodeDoing };
 
-    ghost ends = { nothing_behind };
+    ghost comes = { λ program. ComesToCommand };
 
-    fn take(&mut self, alloc: Global, _is_first: bool, line: &[u8]) -> Result<Vec<u8>, AllocError> {
-        take_line(alloc, &mut self.bad, line)
-    }
+    ghost text = { λ program. node_line };
 
-    fn end(&self, alloc: Global) -> Result<Vec<u8>, AllocError> {
-        Ok(Vec::new(alloc))
+    ghost refused = { is_no_node };
+
+    fn reply(&self, alloc: Global, line: &[u8]) -> Result<Reply, AllocError> {
+        let asked = read_asked(alloc, line)?;
+        let reply = reply_to(asked)?;
+        let text = reply_line(alloc, &reply)?;
+        Ok(Reply {
+            text,
+            is_refused: is_bad(&reply),
+        })
     }
 }
 
-// The exit status: 4 where a line was refused as none, else 0.
-fn status_of(bad: bool) -> u8
-    ensures { result ≡ node_status bad }
-{
-    if bad { 4 } else { 0 }
-}
+impl Program for Ctnode {
+    type Options = NoOptions;
 
-/// Reads the lines of an input, and writes a reply to each, which is handed on before the next line is read. Nothing is kept between
-/// lines. Answers the exit status: 4 where a line was refused as none, else 0.
-///
-/// # Errors
-///
-/// `Memory`, where a growth is refused; `Read`, where the input can't be read, or has 2^50 lines; `Write`, where the output can't be
-/// written. The replies to the first lines are written then, whole and in their order; of the input these lines were read, and at most one
-/// line more: where it was read whole, at most a beginning of its reply is written, and else nothing.
-pub fn run<B: BufRead, W: Write>(
-    alloc: Global,
-    input: &mut B,
-    writer: &mut W,
-) -> Result<u8, RunFault>
-    ensures written { IfOk result (λ status. IsNodeRun (B.remaining input.old) (W.contents writer.old) (W.contents writer.new) status) }
-    ensures read { OnOk result (IfSome (B.remaining input.old) (λ _. B.remaining input.new ≡ Some [])) }
-    ensures status { IfOk result (λ status. IsNodeStatus status) }
-    ensures broken { OnErr result (IsNodeRunBroken (B.remaining input.old) (B.remaining input.new) (W.contents writer.old) (W.contents writer.new)) }
-{
-    let mut noted = Noted { bad: false };
-    line_program::run(alloc, KEPT, &mut noted, input, writer)?;
-    Ok(status_of(noted.bad))
-}
+    ghost Told = { ⊤ };
 
-// Does what the words ask for, and answers the exit status.
-fn do_asked<R: Read + Drop, W: Write, E: Write>(
-    alloc: Global,
-    words: &[String],
-    input: R,
-    output: &mut W,
-    faults: &mut E,
-) -> Result<u8, RunFault>
-    ensures answered { IfOk result (λ status. IsNodeCall (node_asked_of_words (map string_bytes words.now)) (R.remaining input)
-        (W.contents output.old) (W.contents output.new) (E.contents faults.old) (E.contents faults.new) status) }
-    ensures status { IfOk result (λ status. status ≢ 1) }
-    ensures broken { OnErr result (IsNodeCallBroken (node_asked_of_words (map string_bytes words.now)) (R.remaining input)
-        (W.contents output.old) (W.contents output.new)) }
-    ensures quiet { OnErr result (E.contents faults.new ≡ E.contents faults.old) }
-{
-    match command_of(words) {
-        Command::Answer => {
-            let mut reader = BufReader::new(alloc, input)?;
-            run(alloc, &mut reader, output)
-        }
-        Command::Help => {
-            send(output, USAGE.as_bytes())?;
-            Ok(0)
-        }
-        Command::Version => {
-            send(output, VERSION.as_bytes())?;
-            Ok(0)
-        }
-        Command::Refused => {
-            tell(faults, USAGE.as_bytes());
-            Ok(2)
-        }
+    ghost told = { λ options. tt };
+
+    ghost asks = { asked_without_options };
+
+    ghost name = { codes "ctnode" };
+
+    ghost usage = { node_usage };
+
+    ghost version = { codes "ctnode 0.1.0\n" };
+
+    ghost runs = { λ said. IsNodeRun };
+
+    ghost breaks = { λ said. IsNodeRunBroken };
+
+    fn name() -> &'static str {
+        "ctnode"
     }
-}
 
-/// Does what the words of a command line ask for, the program's name left out, and answers the exit status.
-///
-/// - 0, 4: `run` read the input and wrote its replies, with that status; or, for 0, the words ask for help or the version, which was
-///   written on the output.
-/// - 1: a fault broke it off, and its line was written among the faults, as far as it could be. On the output stands what `run` wrote until
-///   then, or a beginning of the text that was asked for.
-/// - 2: the words ask for nothing that there is. How the program is called was written among the faults, as far as it could be.
-pub fn answer_words<R: Read + Drop, W: Write, E: Write>(
-    alloc: Global,
-    words: &[String],
-    input: R,
-    output: &mut W,
-    faults: &mut E,
-) -> u8
-    ensures answered { result ≢ 1 → IsNodeCall (node_asked_of_words (map string_bytes words.now)) (R.remaining input)
-        (W.contents output.old) (W.contents output.new) (E.contents faults.old) (E.contents faults.new) result }
-    ensures fault { result ≡ 1 → (f : FaultOf)
-        × SendsSome (E.contents faults.old) (E.contents faults.new) (run_fault_line (codes "ctnode") f) }
-    ensures broken { result ≡ 1 → IsNodeCallBroken (node_asked_of_words (map string_bytes words.now)) (R.remaining input)
-        (W.contents output.old) (W.contents output.new) }
-{
-    match do_asked(alloc, words, input, output, faults) {
-        Ok(status) => status,
-        Err(fault) => {
-            tell_fault("ctnode", fault, faults);
-            1
-        }
+    fn usage() -> &'static str {
+        USAGE
     }
+
+    fn version() -> &'static str {
+        VERSION
+    }
+
+    fn asked(alloc: Global, words: &[String]) -> Result<Call<NoOptions>, AllocError> {
+        read_words(alloc, words)
+    }
+
+    fn run<B: BufRead, W: Write>(
+        alloc: Global,
+        _options: NoOptions,
+        input: &mut B,
+        writer: &mut W,
+    ) -> Result<u8, RunFault> {
+        reply_by_line(alloc, KEPT, Ctnode, input, writer)
+    }
+
+    ghost not_begun = { λ said. not_begun (by_value 65536 ComesToCommand) node_line is_no_node };
 }

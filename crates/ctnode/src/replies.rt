@@ -1,6 +1,6 @@
 //! What is replied, as a line.
 
-ghost use Rattle.std.specs.Prelude.{◌≡◌, ◌||◌, Some, IfOk, codes, map, option_map, string_bytes};
+ghost use Rattle.std.specs.Prelude.{◌≡◌, Some, IfOk, codes, map, option_map, string_bytes};
 ghost use Rattle.serde_json.specs.View.{view};
 ghost use Rattle.serde_json.specs.Data.{string};
 ghost use Rattle.ctnode.specs.NodeDoings.{texts_view, doing_view};
@@ -155,9 +155,9 @@ pub(crate) fn reply_line(alloc: Global, reply: &Option<Doing>) -> Result<Vec<u8>
     Ok(text)
 }
 
-// Whether a line was refused as none, as was noted before or is replied.
-pub(crate) fn is_bad(bad: bool, reply: &Option<Doing>) -> bool
-    ensures { result ≡ bad || is_no_node (option_map doing_view reply.now) }
+// Whether a line is refused as none.
+pub(crate) fn is_bad(reply: &Option<Doing>) -> bool
+    ensures { result ≡ is_no_node (option_map doing_view reply.now) }
 {
-    bad || reply.is_none()
+    reply.is_none()
 }
