@@ -14,8 +14,9 @@ the fault's line on standard error:
   isn't broken off, since the reply to one line is `memory` or what was refused could be done without, replies to each line; its input is ended
   then, and its status is 0 or 1.
 
-And what goes on: a line that waits for one that is given a quarter of a second later is replied to, the end of the input is status 0, and for `--help` and for words
-that it doesn't know the program ends with its input open, with status 0 and 2.
+And what goes on: a line that waits for one that is given a quarter of a second later is replied to; the end of the input is status 0, and of a
+log that opens behind its closing status 1, `clock-back`, behind the reply to its line; and for `--help` and for words that it doesn't know the
+program ends with its input open, with status 0 and 2.
 
 A program that doesn't end within a minute is stopped, and is a failure: no case depends on how fast it is. The status is 1 at the first failure.
 """
@@ -123,6 +124,12 @@ def goes_on(program):
         live.process.stdin.close()
         ended = live.ended("the end of the input")
         claim(ended == (0, ""), f"the end of the input: {ended}")
+    with Live(program, ["--fronts", "1", "--ring", "4", "--open-at", "5", "--close-at", "4"]) as live:
+        live.give(line(0, "add-chain", chain=[""]))
+        claim(live.take(1) and live.taken == b'{"line":0,"reply":{"error":"empty-certificate"}}\n', f"a log that opens behind its closing: {live.taken!r}")
+        live.process.stdin.close()
+        ended = live.ended("a log that opens behind its closing")
+        claim(ended == (1, "ctlogd: clock-back\n"), f"a log that opens behind its closing: {ended}")
     for words, wanted in ((["--help"], 0), (["--fronts", "0"], 2)):
         with Live(program, words) as live:
             status, _ = live.ended(f"{words}")
