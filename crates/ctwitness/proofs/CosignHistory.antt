@@ -18,8 +18,8 @@ use Rattle.ct_witness.specs.Witnessed.{PassesTree}
 use Rattle.ct_witness.specs.Runs.{Granted, no_tree, AreGranted, newest_tree, IsTreeOf, IsTreeOfFirst}
 use Rattle.ctwitness.specs.CosignAsks.{CosignAsk, last_tree_in, cosign_asked_in, AsksCosigning}
 use Rattle.ctwitness.specs.Cosigned.{DecidesCosigning, CosignGave, gave_outcome}
-use Rattle.ctwitness.specs.CosignSession.{LineComesTo, cosigning_text}
-use Rattle.ctwitness.specs.CosignHistory.{CosignStep, AreCosigned, last_cosigned, AsksGoBack, CosignedLine, AreCosignedLines, last_answered, LinesGoBack}
+use Rattle.ctwitness.specs.CosignSession.{LineComesToBy, cosigning_text}
+use Rattle.ctwitness.specs.CosignHistory.{CosignStep, AreCosigned, last_cosigned, AsksGoBack, CosignedLine, AreCosignedLines, last_answered, LinesGoBackBy, LinesGoBack}
 use Rattle.ctwitness.specs.declared.deciding.Outcome.TheVariants.{LetThrough}
 
 -- ---- requests that were let through are requests that a witness granted
@@ -119,40 +119,45 @@ line_hashes line a is = subst AskHashes (sym is) (asked_hashes (value_of_line 10
 step_of : CosignedLine → CosignStep
 step_of l = l.step
 
-of_line : (line : List ℕ) (given : LineGave CosignGave) (s : CosignStep) → GivesAlone LineComesTo cosigning_text line given
-    → given.gave ≡ Some (gave_outcome s.ask (LetThrough s.tree)) → DecidesCosigning sha256 s.ask (LetThrough s.tree) × AreHashes s.ask.proof
-of_line [] given s g e = absurd (none-some (gave_outcome s.ask (LetThrough s.tree)) (sym g.0 ∙ e))
-of_line (b ∷ bs) given s g e =
+of_line : (H : List ℕ → List ℕ) (line : List ℕ) (given : LineGave CosignGave) (s : CosignStep)
+    → GivesAlone (LineComesToBy H) cosigning_text line given
+    → given.gave ≡ Some (gave_outcome s.ask (LetThrough s.tree)) → DecidesCosigning H s.ask (LetThrough s.tree) × AreHashes s.ask.proof
+of_line H [] given s g e = absurd (none-some (gave_outcome s.ask (LetThrough s.tree)) (sym g.0 ∙ e))
+of_line H (b ∷ bs) given s g e =
     let gave : CosignGave = gave_outcome s.ask (LetThrough s.tree) in
     let same : g.0 ≡ gave = same_Some g.0 gave (sym g.1 ∙ e) in
-    let comes : LineComesTo (b ∷ bs) gave = subst (LineComesTo (b ∷ bs)) same g.2 in
+    let comes : LineComesToBy H (b ∷ bs) gave = subst (LineComesToBy H (b ∷ bs)) same g.2 in
     (comes.1, line_hashes (b ∷ bs) s.ask comes.0)
 
-are_cosigned : (last : Tree) (lines : List CosignedLine) → AreCosignedLines last lines → AreCosigned sha256 last (map step_of lines)
+are_cosigned : (H : List ℕ → List ℕ) (last : Tree) (lines : List CosignedLine) → AreCosignedLines H last lines → AreCosigned H last (map step_of lines)
 unfolding step_of AreCosignedLines AreCosigned
-are_cosigned last [] a = tt
-are_cosigned last (l ∷ lines) a =
-    let one = of_line l.line l.given l.step a.1.0 a.1.1 in
-    (a.0, one.0, one.1, are_cosigned l.step.tree lines a.2)
+are_cosigned H last [] a = tt
+are_cosigned H last (l ∷ lines) a =
+    let one = of_line H l.line l.given l.step a.1.0 a.1.1 in
+    (a.0, one.0, one.1, are_cosigned H l.step.tree lines a.2)
 
 same_last : (last : Tree) (lines : List CosignedLine) → last_cosigned last (map step_of lines) ≡ last_answered last lines
 unfolding step_of last_cosigned last_answered
 same_last last [] = refl
 same_last last (l ∷ lines) = same_last l.step.tree lines
 
-of_lines : (D : List (List ℕ)) (lines : List CosignedLine) → All (λ (s : CosignStep). IsTreeOfFirst sha256 D s.tree) (map step_of lines)
-    → All (λ (l : CosignedLine). IsTreeOfFirst sha256 D l.step.tree) lines
+of_lines : (H : List ℕ → List ℕ) (D : List (List ℕ)) (lines : List CosignedLine)
+    → All (λ (s : CosignStep). IsTreeOfFirst H D s.tree) (map step_of lines) → All (λ (l : CosignedLine). IsTreeOfFirst H D l.step.tree) lines
 unfolding step_of
-of_lines D [] all = All-nil (λ (l : CosignedLine). IsTreeOfFirst sha256 D l.step.tree)
-of_lines D (l ∷ lines) all =
-    All-cons (λ (z : CosignedLine). IsTreeOfFirst sha256 D z.step.tree) l lines
-    (All-head (λ (z : CosignStep). IsTreeOfFirst sha256 D z.tree) (step_of l) (map step_of lines) all)
-    (of_lines D lines (All-tail (λ (z : CosignStep). IsTreeOfFirst sha256 D z.tree) (step_of l) (map step_of lines) all))
+of_lines H D [] all = All-nil (λ (l : CosignedLine). IsTreeOfFirst H D l.step.tree)
+of_lines H D (l ∷ lines) all =
+    All-cons (λ (z : CosignedLine). IsTreeOfFirst H D z.step.tree) l lines
+    (All-head (λ (z : CosignStep). IsTreeOfFirst H D z.tree) (step_of l) (map step_of lines) all)
+    (of_lines H D lines (All-tail (λ (z : CosignStep). IsTreeOfFirst H D z.tree) (step_of l) (map step_of lines) all))
 
 pub lines_go_back : LinesGoBack
-lines_go_back lines D a t =
-    let u : IsTreeOf sha256 D (last_cosigned (no_tree sha256) (map step_of lines)) = subst (IsTreeOf sha256 D) (sym (same_last (no_tree sha256) lines)) t in
+lines_go_back H hash_length lines D a t =
+    let u : IsTreeOf H D (last_cosigned (no_tree H) (map step_of lines)) = subst (IsTreeOf H D) (sym (same_last (no_tree H) lines)) t in
     ⊎_elim
-    (λ (all : All (λ (s : CosignStep). IsTreeOfFirst sha256 D s.tree) (map step_of lines)). inl (of_lines D lines all))
-    (λ (pair : SomeCollide sha256). inr pair)
-    (asks_go_back sha256 length-sha256 (map step_of lines) D (are_cosigned (no_tree sha256) lines a) u)
+    (λ (all : All (λ (s : CosignStep). IsTreeOfFirst H D s.tree) (map step_of lines)). inl (of_lines H D lines all))
+    (λ (pair : SomeCollide H). inr pair)
+    (asks_go_back H hash_length (map step_of lines) D (are_cosigned H (no_tree H) lines a) u)
+
+-- SHA-256 has digests of 32 bytes
+pub lines_go_back_by_sha256 : LinesGoBackBy sha256
+lines_go_back_by_sha256 = lines_go_back sha256 length-sha256

@@ -1,13 +1,12 @@
 -- What follows over many lines that were answered with a cosignature's bytes.
 use Rattle.std.specs.Prelude.{◌≡◌, ◌⊎◌, ⊤, ℕ, List, [], ◌∷◌, Some, All, length}
-use Rattle.sha2.specs.Sha256.{sha256}
 use Rattle.ct_verify.specs.Laws.{AreHashes, SomeCollide}
 use Rattle.ct_witness.specs.declared.tree.Tree.{Tree}
 use Rattle.ct_witness.specs.Runs.{no_tree, IsTreeOf, IsTreeOfFirst}
 use Rattle.ctwitness.specs.CosignAsks.{CosignAsk}
 use Rattle.line_program.specs.ByLine.{LineGave, GivesAlone}
 use Rattle.ctwitness.specs.Cosigned.{CosignGave, DecidesCosigning, gave_outcome}
-use Rattle.ctwitness.specs.CosignSession.{LineComesTo, cosigning_text}
+use Rattle.ctwitness.specs.CosignSession.{LineComesToBy, cosigning_text}
 use Rattle.ctwitness.specs.declared.deciding.Outcome.TheVariants.{LetThrough}
 
 -- A request, and the tree whose checkpoint is cosigned.
@@ -40,23 +39,27 @@ pub record CosignedLine : Type 0 where
   pub given : LineGave CosignGave
   pub step : CosignStep
 
--- the line gave that, as a run says of its lines, and its tree was let through
-abbrev pub IsCosignedLine : CosignedLine → Type 0
-IsCosignedLine l = GivesAlone LineComesTo cosigning_text l.line l.given × (l.given.gave ≡ Some (gave_outcome l.step.ask (LetThrough l.step.tree)))
+-- the line gave that over the hash H, as a run says of its lines over SHA-256, and its tree was let through
+abbrev pub IsCosignedLine : (List ℕ → List ℕ) → CosignedLine → Type 0
+IsCosignedLine H l = GivesAlone (LineComesToBy H) cosigning_text l.line l.given × (l.given.gave ≡ Some (gave_outcome l.step.ask (LetThrough l.step.tree)))
 
 -- lines that were answered so one after the other, in any runs, each with the tree of the reply before as the last; the first with the tree `last`
-unfoldable pub AreCosignedLines : Tree → List CosignedLine → Type 0
-AreCosignedLines last [] = ⊤
-AreCosignedLines last (l ∷ lines) = (l.step.ask.last ≡ last) × IsCosignedLine l × AreCosignedLines l.step.tree lines
+unfoldable pub AreCosignedLines : (List ℕ → List ℕ) → Tree → List CosignedLine → Type 0
+AreCosignedLines H last [] = ⊤
+AreCosignedLines H last (l ∷ lines) = (l.step.ask.last ≡ last) × IsCosignedLine H l × AreCosignedLines H l.step.tree lines
 
 -- the tree of the last of them
 unfoldable pub last_answered : Tree → List CosignedLine → Tree
 last_answered last [] = last
 last_answered last (l ∷ lines) = last_answered l.step.tree lines
 
--- where the last tree of such lines is that of a list, the tree of each is that of a beginning of it; or two different strings with one SHA-256
+-- where the last tree of such lines is that of a list, the tree of each is that of a beginning of it; or two different strings with one hash
 -- are given
+abbrev pub LinesGoBackBy : (List ℕ → List ℕ) → Type 0
+LinesGoBackBy H =
+    (lines : List CosignedLine) (D : List (List ℕ)) → AreCosignedLines H (no_tree H) lines → IsTreeOf H D (last_answered (no_tree H) lines)
+    → All (λ l. IsTreeOfFirst H D l.step.tree) lines ⊎ SomeCollide H
+
+-- so of every hash function with digests of 32 bytes
 abbrev pub LinesGoBack : Type 0
-LinesGoBack =
-    (lines : List CosignedLine) (D : List (List ℕ)) → AreCosignedLines (no_tree sha256) lines → IsTreeOf sha256 D (last_answered (no_tree sha256) lines)
-    → All (λ l. IsTreeOfFirst sha256 D l.step.tree) lines ⊎ SomeCollide sha256
+LinesGoBack = (H : List ℕ → List ℕ) → ((x : List ℕ) → length (H x) ≡ 32) → LinesGoBackBy H

@@ -1,9 +1,13 @@
 -- What a run writes, line by line, and how the program is called.
 use Rattle.std.specs.Prelude.{ℕ, List, ◌++◌, Option, codes}
 use Rattle.line_program.specs.ByLine.{by_value, IsRunByLine, IsBrokenByLine}
-use Rattle.ctwitness.specs.Cosigned.{ComesToCosigning, is_no_cosign_request, cosign_gave_data, cosign_line, CosignGave}
+use Rattle.ctwitness.specs.Cosigned.{ComesToCosigning, ComesToCosigningBy, is_no_cosign_request, cosign_gave_data, cosign_line, CosignGave}
 
--- what a line comes to that isn't empty
+-- what a line comes to that isn't empty, over the hash H
+abbrev pub LineComesToBy : (List ℕ → List ℕ) → List ℕ → CosignGave → Type 0
+LineComesToBy H line gave = by_value 1048576 (ComesToCosigningBy H) line gave
+
+-- the same over SHA-256
 abbrev pub LineComesTo : List ℕ → CosignGave → Type 0
 LineComesTo line gave = by_value 1048576 ComesToCosigning line gave
 

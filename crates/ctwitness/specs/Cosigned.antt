@@ -30,10 +30,14 @@ pub data CosignGave : Type 0 where
   gave_nothing : CosignGave
   gave_outcome : CosignAsk → Outcome → CosignGave
 
--- a line comes to this, by the JSON value that it is, over SHA-256
+-- a line comes to this, by the JSON value that it is, over the hash H
+abbrev pub ComesToCosigningBy : (List ℕ → List ℕ) → Option Data → CosignGave → Type 0
+ComesToCosigningBy H value gave_nothing = None ≡ option_and_then cosign_asked_in value
+ComesToCosigningBy H value (gave_outcome a o) = (Some a ≡ option_and_then cosign_asked_in value) × DecidesCosigning H a o
+
+-- the same over SHA-256
 abbrev pub ComesToCosigning : Option Data → CosignGave → Type 0
-ComesToCosigning value gave_nothing = None ≡ option_and_then cosign_asked_in value
-ComesToCosigning value (gave_outcome a o) = (Some a ≡ option_and_then cosign_asked_in value) × DecidesCosigning sha256 a o
+ComesToCosigning value gave = ComesToCosigningBy sha256 value gave
 
 -- whether a line is no request
 abbrev pub is_no_cosign_request : CosignGave → Bool
