@@ -84,7 +84,8 @@ class Clone:
     """A fresh clone, and what runs in it."""
 
     def __init__(self, work, anew):
-        self.top, self.told, self.serving, self.count = work / "wagtenib", work / "told", None, 0
+        self.top, self.serving, self.count = work / "wagtenib", None, 0
+        self.output, self.faults = work / "output", work / "faults"
         subprocess.run(["git", "clone", "--quiet", ROOT, self.top], check=True)
         for proved in [] if anew else [*ROOT.glob("crates/*/out/rlib"), *ROOT.glob("crates/*/out/incremental")]:
             to = self.top / proved.relative_to(ROOT)
@@ -92,9 +93,14 @@ class Clone:
             subprocess.run(["cp", "-a", proved, to], check=True)
         self.around = {name: value for name, value in os.environ.items() if name not in ("MAKEFLAGS", "MFLAGS", "MAKELEVEL", "DESTDIR", "PREFIX", "PORT", "BUILT", "LOG")}
 
-    def start(self, command, output):
-        how = {"cwd": self.top, "env": self.around, "stdin": subprocess.DEVNULL, "stdout": output, "stderr": subprocess.STDOUT, "start_new_session": True}
-        return subprocess.Popen(["bash", "-c", command], **how)
+    def start(self, command):
+        # (files, and no pipes: what a command leaves running would keep these open)
+        with open(self.output, "wb") as output, open(self.faults, "wb") as faults:
+            how = {"cwd": self.top, "env": self.around, "stdin": subprocess.DEVNULL, "stdout": output, "stderr": faults, "start_new_session": True}
+            return subprocess.Popen(["bash", "-c", command], **how)
+
+    def told(self):
+        return self.output.read_text(errors="replace") + self.faults.read_text(errors="replace")
 
     def run(self, command):
         """Runs a command, or starts it, and sees that it does what is due."""
@@ -119,26 +125,24 @@ class Clone:
         print(f"    ({int(time.monotonic() - begun)} s)", flush=True)
 
     def await_end(self, command):
-        with open(self.told, "wb") as output:
-            ran = self.start(command, output)
+        ran = self.start(command)
         try:
             ended = ran.wait(PROVES if command.startswith(PROVING) else WITHIN)
         except subprocess.TimeoutExpired:
             self.interrupt(ran)
             ended = "none in time"
-        said = self.told.read_text(errors="replace")
+        said = self.output.read_text(errors="replace")
         status, form = next((due for beginning, due in DUE.items() if command.startswith(beginning)), (0, r"(?s:.*)"))
         if ended != status or not re.fullmatch(form, said):
-            fail(f"{command}: status {ended} where {status} is due: {said[-6000:]}")
+            fail(f"{command}: status {ended} where {status} is due: {self.told()[-6000:]}")
 
     def serve(self, command, says):
         self.end()
-        with open(self.told, "wb") as output:
-            self.serving = self.start(command, output)
+        self.serving = self.start(command)
         last = time.monotonic() + PROVES
-        while says not in self.told.read_text(errors="replace"):
+        while says not in self.told():
             if self.serving.poll() is not None or time.monotonic() > last:
-                fail(f"{command} doesn't serve: {self.told.read_text(errors='replace')[-6000:]}")
+                fail(f"{command} doesn't serve: {self.told()[-6000:]}")
             time.sleep(0.3)
 
     def interrupt(self, process):
@@ -172,11 +176,12 @@ class Clone:
             fail(f"the program that was linked says {ran.stdout}{ran.stderr}")
 
     def first_session(self):
-        if self.told.read_bytes() != (ROOT / "examples" / "first-session.expected.jsonl").read_bytes():
-            fail(f"ctlog's first session: {self.told.read_text()}")
+        if self.output.read_bytes() != (ROOT / "examples" / "first-session.expected.jsonl").read_bytes():
+            fail(f"ctlog's first session: {self.told()}")
 
 
 def main():
+    signal.signal(signal.SIGTERM, lambda *_: fail("it is ended"))
     words = argparse.ArgumentParser(description="Runs the commands of the pages in a fresh clone, with the kit.")
     words.add_argument("--only", action="append", metavar="WORD", help="run the commands alone that have this word")
     words.add_argument("--long", action="store_true", help="run what takes a quarter of an hour or more, too")
