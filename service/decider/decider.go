@@ -102,6 +102,64 @@ func Stepped(line, node string, salt uint64, objects []string) Told {
 // Listed: there is a bundle of this name.
 func Listed(bundle string) Told { return Told{"came": "listed", "bundle": bundle} }
 
+// Point is how far a log is by one of its heads: its entries, and its timestamp in milliseconds.
+type Point struct {
+	Size   uint64 `json:"size"`
+	Moment uint64 `json:"moment"`
+}
+
+// Rooted is a head: its root in 64 digits in hexadecimal, in lower case.
+type Rooted struct {
+	Point
+	Root string `json:"root"`
+}
+
+// Found is what a node finds of a log where it starts; what is nil, and an empty text, isn't there.
+type Found struct {
+	// Register is the register's text.
+	Register string `json:"register,omitempty"`
+	// Seen is the newest head that this machine saw, and Guard the last that the guard let through, where there is one (Guarded).
+	Seen    *Rooted `json:"seen,omitempty"`
+	Guard   *Rooted `json:"guard,omitempty"`
+	Guarded bool    `json:"guarded"`
+	// Published is the newest head that is published, and Listed the newest in the store.
+	Published *Point `json:"published,omitempty"`
+	Listed    *Point `json:"listed,omitempty"`
+	// Stands says that the store has anything of a log, and Creates that one is to be made where there is none.
+	Stands  bool `json:"stands"`
+	Creates bool `json:"creates"`
+}
+
+// Refusal is why a node doesn't go on from what it finds.
+type Refusal string
+
+// The refusals.
+const (
+	// Gone: there is no register, and none is to be created, or something of a log is there.
+	Gone Refusal = "gone"
+	// BehindSeen: this machine saw a later head than the register's, or another of its size and moment.
+	BehindSeen Refusal = "behind-seen"
+	// BehindGuard: the guard let a later head through; TwoRoots: it let another of its size and moment through.
+	BehindGuard Refusal = "behind-guard"
+	TwoRoots    Refusal = "two-roots"
+	// GuardBehind: the store has a later head than the guard's last.
+	GuardBehind Refusal = "guard-behind"
+	// BehindListed: the store has a later head; BehindPublished: a later one is published.
+	BehindListed    Refusal = "behind-listed"
+	BehindPublished Refusal = "behind-published"
+)
+
+func (r Refusal) Error() string { return "decider: " + string(r) }
+
+// isOne says whether it is one that the program gives.
+func (r Refusal) isOne() bool {
+	switch r {
+	case Gone, BehindSeen, BehindGuard, TwoRoots, GuardBehind, BehindListed, BehindPublished:
+		return true
+	}
+	return false
+}
+
 // Client asks one process, one line at a time. Its methods may be called at once.
 type Client struct{ *pipe.Program }
 
@@ -118,7 +176,37 @@ func (c *Client) Next(ctx context.Context, command *Command, told Told) (*Comman
 			told[key] = []string{}
 		}
 	}
-	line := map[string]any{"node": command.said, "told": told}
+	reply, err := c.ask(ctx, map[string]any{"node": command.said, "told": told})
+	if err != nil {
+		return nil, err
+	}
+	return read(reply)
+}
+
+// Start says whether a node that finds this goes on from the register's text, or is to create the register. A Refusal says that it does neither.
+func (c *Client) Start(ctx context.Context, found Found) (creates bool, err error) {
+	line, err := c.ask(ctx, map[string]any{"begin": found})
+	if err != nil {
+		return false, err
+	}
+	var reply struct {
+		Begin   string
+		Refused Refusal
+	}
+	err = json.Unmarshal(line, &reply)
+	switch {
+	case err == nil && reply.Refused == "bad-line" && reply.Begin == "":
+		return false, ErrRefused
+	case err == nil && reply.Refused.isOne() && reply.Begin == "":
+		return false, reply.Refused
+	case err == nil && reply.Refused == "" && (reply.Begin == "goes" || reply.Begin == "creates"):
+		return reply.Begin == "creates", nil
+	}
+	return false, fmt.Errorf("%w: %.80q", ErrReply, line)
+}
+
+// ask asks a line, once more where the process is gone.
+func (c *Client) ask(ctx context.Context, line map[string]any) ([]byte, error) {
 	reply, err := c.Ask(ctx, line)
 	if errors.Is(err, ErrGone) && ctx.Err() == nil {
 		reply, err = c.Ask(ctx, line)
@@ -129,7 +217,7 @@ func (c *Client) Next(ctx context.Context, command *Command, told Told) (*Comman
 	if err != nil {
 		return nil, fmt.Errorf("decider: %w", err)
 	}
-	return read(reply)
+	return reply, nil
 }
 
 // read reads a reply.

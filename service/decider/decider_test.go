@@ -9,8 +9,6 @@ import (
 	"strings"
 	"testing"
 	"time"
-
-	"wagtenib/service/trial"
 )
 
 // program is a second program beside the proved one, with the same lines.
@@ -18,7 +16,12 @@ var program = []string{"python3", "../../tests/node/ctnode.py"}
 
 const longest = 4 * time.Minute
 
-var must = trial.Must
+func must(t *testing.T, err error) {
+	t.Helper()
+	if err != nil {
+		t.Fatal(err)
+	}
+}
 
 func client(t *testing.T, limit time.Duration, command ...string) *Client {
 	t.Helper()
@@ -28,7 +31,11 @@ func client(t *testing.T, limit time.Duration, command ...string) *Client {
 	return c
 }
 
-func within(t *testing.T) context.Context { return trial.Limited(t, longest) }
+func within(t *testing.T) context.Context {
+	ctx, cancel := context.WithTimeout(context.Background(), longest)
+	t.Cleanup(cancel)
+	return ctx
+}
 
 // line is a state's, of so many entries at a moment.
 func line(size, moment uint64) string {
@@ -121,6 +128,76 @@ func TestRefusals(t *testing.T) {
 }
 
 func second(_ *Command, err error) error { return err }
+
+// TestStarts: what a node finds is gone on from, or refused by the name of what is ahead of the register's head.
+func TestStarts(t *testing.T) {
+	t.Parallel()
+	c, ctx := client(t, longest, program...), within(t)
+	root, other := strings.Repeat("0", 64), strings.Repeat("1", 64)
+	at := func(size, moment uint64) *Point { return &Point{size, moment} }
+	rooted := func(size, moment uint64, root string) *Rooted { return &Rooted{*at(size, moment), root} }
+	text := textOf(3, 7, 5, 1)
+	for _, it := range []struct {
+		found Found
+		want  string
+	}{
+		{Found{Register: text}, "goes"},
+		{Found{Register: text, Guarded: true}, "goes"},
+		{Found{Register: text, Stands: true, Creates: true}, "goes"},
+		{Found{Register: text, Seen: rooted(3, 7, root), Guard: rooted(3, 7, root), Guarded: true, Published: at(3, 7), Listed: at(3, 7)}, "goes"},
+		{Found{Register: text, Seen: rooted(3, 6, other), Guard: rooted(2, 6, other), Guarded: true, Published: at(2, 6), Listed: at(2, 6)}, "goes"},
+		{Found{Register: text, Seen: rooted(3, 7, other)}, "behind-seen"},
+		{Found{Register: text, Seen: rooted(2, 7, root)}, "behind-seen"},
+		{Found{Register: text, Seen: rooted(4, 6, root)}, "behind-seen"},
+		{Found{Register: text, Guard: rooted(3, 7, other), Guarded: true}, "two-roots"},
+		{Found{Register: text, Guard: rooted(3, 8, root), Guarded: true}, "behind-guard"},
+		{Found{Register: text, Listed: at(1, 1), Guarded: true}, "guard-behind"},
+		{Found{Register: text, Guard: rooted(1, 1, root), Listed: at(1, 2), Guarded: true}, "guard-behind"},
+		{Found{Register: text, Listed: at(3, 8)}, "behind-listed"},
+		{Found{Register: text, Published: at(4, 7)}, "behind-published"},
+		{Found{Creates: true}, "creates"},
+		{Found{Creates: true, Guarded: true}, "creates"},
+		{Found{}, "gone"},
+		{Found{Creates: true, Stands: true}, "gone"},
+		{Found{Creates: true, Seen: rooted(0, 1, root)}, "gone"},
+		{Found{Creates: true, Guard: rooted(0, 1, root), Guarded: true}, "gone"},
+		{Found{Creates: true, Published: at(0, 1)}, "gone"},
+		{Found{Creates: true, Listed: at(0, 1)}, "gone"},
+	} {
+		creates, err := c.Start(ctx, it.found)
+		got := "goes"
+		var refusal Refusal
+		switch {
+		case errors.As(err, &refusal):
+			got = string(refusal)
+		case err != nil:
+			got = err.Error()
+		case creates:
+			got = "creates"
+		}
+		if got != it.want {
+			t.Errorf("%+v: %s, and expected was %s", it.found, got, it.want)
+		}
+	}
+	for _, text := range []string{"a text", strings.Repeat("x", MostLine)} {
+		if _, err := c.Start(ctx, Found{Register: text}); !errors.Is(err, ErrRefused) {
+			t.Error(err)
+		}
+	}
+	for _, reply := range []string{
+		"no", "[]", "{}", "7", `{"begin":7}`, `{"begin":"runs"}`, `{"begin":"goes","refused":"gone"}`, `{"begin":"goes","refused":"bad-line"}`, `{"refused":"away"}`,
+		`{"node":{"do":"read"}}`, `{"begin":"goes","refused":7}`,
+	} {
+		c := client(t, longest, script(t, "read x; echo '"+reply+"'; exec cat >/dev/null\n")...)
+		if creates, err := c.Start(ctx, Found{Register: text}); !errors.Is(err, ErrReply) {
+			t.Errorf("%s: %v, %v", reply, creates, err)
+		}
+	}
+	gone := client(t, 300*time.Millisecond, script(t, "exit 1")...)
+	if _, err := gone.Start(ctx, Found{}); !errors.Is(err, ErrGone) || gone.Starts() != 2 {
+		t.Errorf("%v, started %d times", err, gone.Starts())
+	}
+}
 
 // script makes a program of a shell's lines.
 func script(t *testing.T, lines string) []string {

@@ -320,7 +320,7 @@ func (w *world) deletes(name string) {
 	}
 }
 
-// puts judges what is put under a public name: of a tile one content, ever; and a head only where all of its tree stands.
+// puts judges what is put under a public name: of a tile one content, ever; and a head only where all of its tree stands, with no identity twice.
 func (w *world) puts(name string, content []byte) {
 	digest := sha256.Sum256(content)
 	if was, ok := w.ever[name]; ok && was != digest && strings.HasPrefix(name, tilesPrefix) {
@@ -361,7 +361,12 @@ func (w *world) putsHead(name, note string) {
 			}
 		}
 	}
+	identities := map[stores.Identity]bool{}
 	for i, one := range all {
+		if identities[one.identity] {
+			w.breaks("%s is put, and the identity of entry %d stands before it", name, i)
+		}
+		identities[one.identity] = true
 		stored, err := tlog.StoredHashesForRecordHash(int64(i), one.hash(), knownHashes(hashes))
 		if err != nil {
 			w.breaks("%v", err)

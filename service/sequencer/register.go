@@ -103,58 +103,197 @@ func later(s, than step.State) bool { return s.Size >= than.Size && s.Moment > t
 // mostTries is how often what others change meanwhile is looked at again.
 const mostTries = 50
 
-// takeUp reads the register at the start. One that knows less than the store is refused, and so is one that is gone.
+// takeUp looks at the start whether the log may be gone on with: the program says so, by what is found of it (wagtenib/service/decider).
 func (s *Sequencer) takeUp(ctx context.Context) error {
 	for try := 0; try < mostTries; try++ {
-		text, err := s.config.Register.Read(ctx)
-		if errors.Is(err, stores.ErrAbsent) {
+		f, err := s.find(ctx)
+		if err != nil {
+			return err
+		}
+		creates, err := s.config.Decider.Start(ctx, f.Found)
+		var refusal decider.Refusal
+		if errors.As(err, &refusal) {
+			// Another node may have gone on meanwhile.
+			if moved, err := s.movedSince(ctx, f); err != nil {
+				return err
+			} else if moved {
+				continue
+			}
+			return s.refusedBy(refusal, f)
+		}
+		if err != nil {
+			return fmt.Errorf("sequencer: %w", err)
+		}
+		if creates {
 			if err := s.create(ctx); err != nil {
 				return err
 			}
 			continue
 		}
-		if err != nil {
-			return fmt.Errorf("sequencer: %w", err)
-		}
-		k, err := s.knownOf(ctx, text)
-		if err != nil {
-			return err
-		}
-		if s.isBehind(k) {
-			return s.behindSaw(k)
-		}
-		published, err := s.config.Register.Published(ctx)
-		if err != nil {
-			return fmt.Errorf("sequencer: %w", err)
-		}
-		further, err := s.config.Objects.List(ctx, headsPrefix, headName(k.state), 1)
-		if err != nil {
-			return fmt.Errorf("sequencer: %w", err)
-		}
-		moved, err := s.agrees(ctx, k)
-		if err != nil {
-			return err
-		}
-		if moved {
-			continue
-		}
-		if len(further) == 0 && !publishedAt(k.state).Before(published) {
-			s.mu.Lock()
-			s.newest = k
-			s.mu.Unlock()
-			s.heard = time.Now()
-			return s.takeUpHead(ctx, published, k)
-		}
-		// Another node may have set it meanwhile.
-		again, err := s.config.Register.Read(ctx)
-		if err != nil {
-			return fmt.Errorf("sequencer: %w", err)
-		}
-		if again == text {
-			return fmt.Errorf("%w: it has %d entries at %d ms; the store has %v, and %d at %d ms are published", ErrSetBack, k.state.Size, k.state.Moment, further, published.Size, published.Moment)
-		}
+		s.mu.Lock()
+		s.newest = f.k
+		s.mu.Unlock()
+		s.heard = time.Now()
+		return s.takeUpHead(ctx, f.published, f.k)
 	}
 	return fmt.Errorf("%w: in %d tries it didn't stand still", ErrSetBack, mostTries)
+}
+
+// found is what is found of a log at the start: as the program is told it, and what was read.
+type found struct {
+	decider.Found
+	k         known
+	published stores.Published
+	// last is what the signer says of the last head that it let through.
+	last *signer.Head
+	// stands is an object of a log, where there is no register.
+	stands string
+}
+
+// rooted is a head as the program is told it.
+func rooted(head signer.Head) *decider.Rooted {
+	return &decider.Rooted{Point: decider.Point{Size: head.Size, Moment: head.Moment}, Root: hex.EncodeToString(head.Root[:])}
+}
+
+// find reads the register, and behind it all that may be ahead of it.
+func (s *Sequencer) find(ctx context.Context) (f found, err error) {
+	f.Creates = s.config.Create
+	if f.Register, err = s.registerText(ctx); err != nil {
+		return f, err
+	}
+	if f.Register != "" {
+		if f.k, err = s.knownOf(ctx, f.Register); err != nil {
+			return f, err
+		}
+	} else if f.stands, err = s.anyOf(ctx); err != nil {
+		return f, err
+	}
+	f.Stands = f.stands != ""
+	if s.saw.state.Moment > 0 {
+		f.Seen = rooted(headOf(s.saw.state))
+	}
+	f.published, err = s.config.Register.Published(ctx)
+	if err != nil && !errors.Is(err, stores.ErrAbsent) {
+		return f, fmt.Errorf("sequencer: %w", err)
+	}
+	if f.published != (stores.Published{}) {
+		f.Published = &decider.Point{Size: f.published.Size, Moment: f.published.Moment}
+	}
+	if f.last, err = s.lastSigned(ctx); err != nil {
+		return f, err
+	}
+	if f.Guarded = s.isGuarded(); f.last != nil {
+		f.Guard = rooted(*f.last)
+	}
+	f.Listed, err = s.newestListed(ctx, f)
+	return f, err
+}
+
+// registerText reads the register's text, which is empty where there is none.
+func (s *Sequencer) registerText(ctx context.Context) (string, error) {
+	text, err := s.config.Register.Read(ctx)
+	if errors.Is(err, stores.ErrAbsent) {
+		return "", nil
+	}
+	return text, wrapped(err)
+}
+
+// anyOf gives an object that the store has of a log, or none.
+func (s *Sequencer) anyOf(ctx context.Context) (string, error) {
+	for _, prefix := range []string{headsPrefix, tilesPrefix, stagingPrefix} {
+		names, err := s.config.Objects.List(ctx, prefix, "", 1)
+		if err != nil || len(names) > 0 {
+			return strings.Join(names, ""), wrapped(err)
+		}
+	}
+	return "", nil
+}
+
+// isGuarded says whether a guard stands before the key.
+func (s *Sequencer) isGuarded() bool { return s.config.Signer.Receipts() != signer.Unguarded }
+
+// lastSigned is the last head that the guard let through, nil where it let none through, or there is no guard.
+func (s *Sequencer) lastSigned(ctx context.Context) (*signer.Head, error) {
+	if !s.isGuarded() {
+		return nil, nil
+	}
+	last, err := s.config.Signer.Last(ctx)
+	return last, wrapped(err)
+}
+
+// newestListed is the newest head in the store that is behind the register's or behind the guard's last one, nil where there is none.
+func (s *Sequencer) newestListed(ctx context.Context, f found) (*decider.Point, error) {
+	after := ""
+	if f.Register != "" {
+		after = headName(f.k.state)
+	}
+	if f.Guarded && f.last == nil {
+		after = ""
+	} else if f.last != nil {
+		if name := headName(step.State{Size: f.last.Size, Moment: f.last.Moment}); name < after {
+			after = name
+		}
+	}
+	newest := ""
+	for {
+		names, err := s.config.Objects.List(ctx, headsPrefix, after, stores.MostListed)
+		if err != nil {
+			return nil, wrapped(err)
+		}
+		if len(names) == 0 {
+			break
+		}
+		after = names[len(names)-1]
+		newest = after
+	}
+	if newest == "" {
+		return nil, nil
+	}
+	at, err := stateOfHead(newest)
+	return &decider.Point{Size: at.Size, Moment: at.Moment}, err
+}
+
+// movedSince says whether another node set the register, or had a head signed, since this was found.
+func (s *Sequencer) movedSince(ctx context.Context, f found) (bool, error) {
+	text, err := s.registerText(ctx)
+	if err != nil || text != f.Register {
+		return true, err
+	}
+	last, err := s.lastSigned(ctx)
+	if err != nil || last == nil || f.last == nil {
+		return (last == nil) != (f.last == nil), err
+	}
+	return *last != *f.last, nil
+}
+
+// refusedBy is why the log isn't taken up.
+func (s *Sequencer) refusedBy(refusal decider.Refusal, f found) error {
+	state := f.k.state
+	switch refusal {
+	case decider.BehindSeen:
+		return s.behindSaw(f.k)
+	case decider.TwoRoots:
+		return fmt.Errorf("%w: the register's text, or the guard's state: of %d entries at %d ms they have two roots", ErrDamaged, state.Size, state.Moment)
+	case decider.BehindGuard:
+		return fmt.Errorf("%w: it has %d entries at %d ms, and the signer let a head of %d at %d ms through", ErrSetBack, state.Size, state.Moment, f.last.Size, f.last.Moment)
+	case decider.GuardBehind:
+		return fmt.Errorf("%w: it is older than the log, whose store has a head of %d entries at %d ms", signer.ErrState, f.Listed.Size, f.Listed.Moment)
+	case decider.BehindListed:
+		return fmt.Errorf("%w: it has %d entries at %d ms; the store has a head of %d at %d ms", ErrSetBack, state.Size, state.Moment, f.Listed.Size, f.Listed.Moment)
+	case decider.BehindPublished:
+		return fmt.Errorf("%w: it has %d entries at %d ms; %d at %d ms are published", ErrSetBack, state.Size, state.Moment, f.published.Size, f.published.Moment)
+	}
+	switch {
+	case !s.config.Create:
+		return fmt.Errorf("%w: there is none, and none is to be created", ErrSetBack)
+	case f.Seen != nil:
+		return fmt.Errorf("%w: there is none, and this node saw %d entries at %d ms", ErrSetBack, f.Seen.Size, f.Seen.Moment)
+	case f.Stands:
+		return fmt.Errorf("%w: there is none, and the store has %s", ErrSetBack, f.stands)
+	case f.Guard != nil:
+		return fmt.Errorf("%w: there is none, and the signer let a head of %d entries at %d ms through", ErrSetBack, f.Guard.Size, f.Guard.Moment)
+	}
+	return fmt.Errorf("%w: there is none, and %d entries at %d ms are published", ErrSetBack, f.published.Size, f.published.Moment)
 }
 
 // takeUpHead publishes the newest head that is in the store, where what is published is before it: a head is put behind all that it stands for.
@@ -215,40 +354,6 @@ func publishedAt(state step.State) stores.Published {
 	return stores.Published{Size: state.Size, Moment: state.Moment}
 }
 
-// agrees sees that the signer's last head is the newest state's, or one before it that no published head is later than. It says that
-// something moved where another node changed one of them meanwhile.
-func (s *Sequencer) agrees(ctx context.Context, k known) (moved bool, err error) {
-	if s.config.Signer.Receipts() == signer.Unguarded {
-		return false, nil
-	}
-	last, err := s.config.Signer.Last(ctx)
-	if err != nil {
-		return false, fmt.Errorf("sequencer: %w", err)
-	}
-	after, newest := "", headOf(k.state)
-	if last != nil {
-		after = headName(step.State{Size: last.Size, Moment: last.Moment})
-	}
-	if last != nil && *last != newest && (last.Size > newest.Size || last.Moment >= newest.Moment) {
-		text, err := s.config.Register.Read(ctx)
-		if err != nil || text != k.text {
-			return true, wrapped(err)
-		}
-		if last.Size == newest.Size && last.Moment == newest.Moment {
-			return false, fmt.Errorf("%w: the register's text, or the guard's state: of %d entries at %d ms they have two roots", ErrDamaged, last.Size, last.Moment)
-		}
-		return false, fmt.Errorf("%w: it has %d entries at %d ms, and the signer let a head of %d at %d ms through", ErrSetBack, newest.Size, newest.Moment, last.Size, last.Moment)
-	}
-	further, err := s.config.Objects.List(ctx, headsPrefix, after, 1)
-	if err != nil || len(further) == 0 {
-		return false, wrapped(err)
-	}
-	if now, err := s.config.Signer.Last(ctx); err != nil || now != nil && (last == nil || *now != *last) {
-		return true, wrapped(err)
-	}
-	return false, fmt.Errorf("%w: it is older than the log, whose store has %s", signer.ErrState, further[0])
-}
-
 func wrapped(err error) error {
 	if err != nil {
 		return fmt.Errorf("sequencer: %w", err)
@@ -256,23 +361,8 @@ func wrapped(err error) error {
 	return nil
 }
 
-// create makes the register of a new log, where the store has nothing of one.
+// create makes the register of a new log.
 func (s *Sequencer) create(ctx context.Context) error {
-	if !s.config.Create {
-		return fmt.Errorf("%w: there is none, and none is to be created", ErrSetBack)
-	}
-	if s.saw.state.Moment > 0 {
-		return fmt.Errorf("%w: there is none, and this node saw %d entries at %d ms", ErrSetBack, s.saw.state.Size, s.saw.state.Moment)
-	}
-	for _, prefix := range []string{headsPrefix, tilesPrefix, stagingPrefix} {
-		names, err := s.config.Objects.List(ctx, prefix, "", 1)
-		if err != nil {
-			return fmt.Errorf("sequencer: %w", err)
-		}
-		if len(names) > 0 {
-			return fmt.Errorf("%w: there is none, and the store has %s", ErrSetBack, names[0])
-		}
-	}
 	moment, _, err := s.clock.moment(0, "")
 	if err != nil {
 		return err

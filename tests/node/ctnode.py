@@ -117,6 +117,57 @@ def told_in(value, node, texts):
     return ("Stepped", said(text)[1], len(objects)), {"new": text, "objects": objects}
 
 
+def flag(value, key):
+    if not isinstance(value.get(key), bool):
+        raise Refused(key)
+    return value[key]
+
+
+def head_in(value, key, text=None):
+    """The size and the moment of the head under a key, none where nothing stands there; with a register's text, and whether its root is that one's."""
+    if key not in value:
+        return None
+    numbers = [part(value[key], word, int) for word in ("size", "moment")]
+    if not all(0 <= number <= MOST for number in numbers):
+        raise Refused(key)
+    if text is None:
+        return numbers
+    root = part(value[key], "root", str).encode()
+    return numbers, len(root) == 64 and text.encode()[39:103] == root
+
+
+def reaches(head, other):
+    """Whether a head is another one, or may come behind it."""
+    return head == other or head[0] >= other[0] and head[1] > other[1]
+
+
+def reaches_other(head, other):
+    return other is None or (other[1] if head == other[0] else reaches(head, other[0]))
+
+
+def beginning(found):
+    """What a node does that finds this where it starts: that it goes on, or creates a register, or why it does neither."""
+    text = part(found, "register", str) if "register" in found else ""
+    register = [said(text)[0], said(text)[1].moment] if "register" in found else None
+    seen, guard = head_in(found, "seen", text), head_in(found, "guard", text)
+    guarded, stands, creates = (flag(found, key) for key in ("guarded", "stands", "creates"))
+    published, listed = head_in(found, "published"), head_in(found, "listed")
+    if register is None:
+        nothing = not stands and all(it is None for it in (seen, guard, published, listed))
+        return {"begin": "creates"} if creates and nothing else {"refused": "gone"}
+    if not reaches_other(register, seen):
+        return {"refused": "behind-seen"}
+    if guarded and not reaches_other(register, guard):
+        return {"refused": "two-roots" if register == guard[0] else "behind-guard"}
+    if guarded and listed and not (guard and reaches(guard[0], listed)):
+        return {"refused": "guard-behind"}
+    if listed and not reaches(register, listed):
+        return {"refused": "behind-listed"}
+    if published and not reaches(register, published):
+        return {"refused": "behind-published"}
+    return {"begin": "goes"}
+
+
 # What of a line's second part the next command is about, by what came of which command.
 APT = {("Reading", "Read"), ("Looking", "Bundle"), ("Stepping", "Stepped"), ("Stepping", "Listed")}
 
@@ -125,6 +176,8 @@ def reply(line, machine):
     """The reply to a line, without its end."""
     try:
         asked = json.loads(line) if len(line) <= LONGEST else None
+        if isinstance(asked, dict) and "begin" in asked:
+            return beginning(asked["begin"] if isinstance(asked["begin"], dict) else {})
         node, texts = node_in(part(asked, "node", dict))
         outcome, told = told_in(part(asked, "told", dict), node, texts)
     except (Refused, ValueError):

@@ -106,6 +106,25 @@ def wrong_lines():
     yield right + " " * (LONGEST + 1 - len(right.encode()))
 
 
+def starts():
+    """What a node may find where it starts: a register at, before and behind each other head, of one root and another, or none of these."""
+    text, root, other = text_of(State(7, 5, 0)), HASHES[:64], HASHES[1:65]
+    flags = {"guarded": True, "stands": False, "creates": True}
+    heads = [{"size": size, "moment": moment} for size, moment in ((10, 7), (10, 6), (10, 8), (9, 6), (9, 7), (9, 8), (11, 6), (11, 7), (MOST, MOST), (0, 0))]
+    yield {**flags, "register": text}
+    yield from ({**flags, "register": text, "guarded": guarded, key: head} for head in heads for key in ("published", "listed") for guarded in (True, False))
+    rooted = [{**head, "root": of} for head in heads for of in (root, other, root[1:], root.upper())]
+    yield from ({**flags, "register": text, "guarded": guarded, key: head} for head in rooted for key in ("seen", "guard") for guarded in (True, False))
+    yield from ({**flags, "register": text, "guard": {**guard, "root": root}, "listed": head} for guard in heads for head in heads)
+    yield from ({**flags, "stands": stands, "creates": creates} for stands in (True, False) for creates in (True, False))
+    yield from ({**flags, key: rooted[0]} for key in ("seen", "guard", "published", "listed"))
+    right = {**flags, "register": text, "seen": rooted[0], "guard": rooted[0], "published": heads[0], "listed": heads[0]}
+    yield right
+    yield from ({it: value for it, value in right.items() if it != key} for key in right)
+    yield from ({**right, key: value} for key in right for value in (None, 7, {}, [], "text", {"size": 1}, {"size": -1, "moment": 1, "root": root}, {"size": 1, "moment": MOST + 1, "root": root}))
+    yield from ({**right, "register": said} for said in (text[1:], text[:-1], text.replace("growth ", "Growth ")))
+
+
 def runs():
     """All lines; an empty one has no reply."""
     for node in commands():
@@ -119,6 +138,9 @@ def runs():
     # Digits in upper case are the same number; 32 digits of chance are no moment before.
     yield asked(READING, ("Read", State(11, 7, 11))).replace("000b", "000B")
     yield asked(READING, ("Read", State(11, MOST, 11)))
+    yield from (line_of({"begin": found}) for found in starts())
+    yield from (line_of({"begin": found}) for found in (None, 7, [], "text", {}))
+    yield line_of({**json.loads(right), "begin": None})
 
 
 def main():

@@ -1,3 +1,4 @@
 pub mod WrittenNodes
 pub mod LineLogs
+mod LineStarts
 pub mod Names

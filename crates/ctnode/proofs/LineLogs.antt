@@ -11,12 +11,14 @@ use Rattle.ct_node.specs.declared.node.Node.TheVariants.{Reading, Looking, Stepp
 use Rattle.ct_node.specs.declared.node.Outcome.{Outcome}
 use Rattle.ct_node.specs.declared.node.Outcome.TheVariants.{Done, Promise, Lost, Read, Published, Bundle, Stepped, Listed}
 use Rattle.ct_node.specs.Worlds.{Has, World, Happening, Comes, Makes, Puts, Goes, Told, comes, happens, beginning, MayHappen, LeadTo, IsFirstState, IsSoundWorld, WorldsAreSound}
+use Rattle.ct_node.specs.LookUps.{AllLookUp}
 use Rattle.ct_node_log.specs.Logs.{StandsOf, NodesWriteOneLog}
+use Rattle.ct_node_log.specs.Once.{NodesAddOnce}
 use Rattle.ctnode.specs.NodeAsks.{NodeAsked, node_texts_in, node_in, doing_in, came_of, came_in, seen_moment, node_asked_in}
 use Rattle.ctnode.specs.NodeDoings.{NodeTexts, NodeDoing, NodeCame, doing_after}
 use Rattle.ctnode.specs.NodeWords.{node_data, doing_data}
 use Rattle.ctnode.specs.NodeLaws.{GivesCommands, asked_data}
-use Rattle.ctnode.specs.LineLog.{IsStateText, AreCommandTexts, TellsLines, LinesWorld, no_texts, lines_beginning, LineHappening, Beside, Asked, IsNoTelling, happens_by_lines, MayHappenByLines, LeadToByLines, LinesWriteOneLog, LinesNameOneContent, CommandsHaveTexts}
+use Rattle.ctnode.specs.LineLog.{IsStateText, AreCommandTexts, TellsLines, LinesWorld, no_texts, lines_beginning, LineHappening, Beside, Asked, IsNoTelling, happens_by_lines, MayHappenByLines, LeadToByLines, LinesWriteOneLog, AllLookUpByLines, LinesAddOnce, LinesNameOneContent, CommandsHaveTexts}
 use Rattle.ctnode.proofs.WrittenNodes.{some_map, some_then, Dressed, TextsBy, TextsOf, after_dressed, objects_read, written_read, said_dressed, asked_told, given_is_sent, lines_are_histories}
 
 -- ---- what is written of a node has its texts
@@ -210,6 +212,17 @@ lines_write_one_log sound one_log H line plan known count b hs w first leads is 
     ))
     (λ (pair : SomeCollide H). inr pair)
     (one_log H line plan known count b (of_machine hs) w.world first machine.0 is steps)
+
+all_looked : (ids : State → List (List ℕ)) (hs : List LineHappening) (w : LinesWorld) → AllLookUpByLines ids w hs → AllLookUp ids w.world (of_machine hs)
+unfolding as_machine of_machine AllLookUp AllLookUpByLines
+all_looked ids [] w u = tt
+all_looked ids (Beside h ∷ hs) w u = (u.0, all_looked ids hs (happens_by_lines w (Beside h)) u.1)
+all_looked ids (Asked d told a ∷ hs) w u = (tt, all_looked ids hs (happens_by_lines w (Asked d told a)) u.1)
+
+pub lines_add_once : NodesAddOnce → LinesAddOnce
+lines_add_once add_once H line ids known count b hs w first leads log same steps looks =
+    let machine = all_happen count line hs (lines_beginning b) w (first_stands count line b) leads in
+    add_once H line ids known count b (of_machine hs) w.world first machine.0 log same steps (all_looked ids hs (lines_beginning b) looks)
 
 pub lines_name_one_content : NodesWriteOneLog → LinesNameOneContent
 lines_name_one_content one_log H line plan known count b hs w first leads is steps d e l m n c i j says other i_less j_less same =

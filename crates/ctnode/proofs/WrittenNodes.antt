@@ -17,7 +17,10 @@ use Rattle.ctnode.specs.NodeTexts.{text_state, name_state}
 use Rattle.ctnode.specs.NodeDoings.{NodeTexts, NodeDoing, NodeCame, texts_after}
 use Rattle.ctnode.specs.NodeAsks.{NodeAsked, node_texts_in, came_texts_in, objects_count, of_seen, of_new, of_objects, of_step, deleting_in, node_of_text, node_of_word, node_in, doing_in, outcome_of_word, outcome_with, came_in, seen_moment, came_of, node_asked_in}
 use Rattle.ctnode.specs.LineLog.{AreCommandTexts}
-use Rattle.ctnode.specs.NodeWords.{node_data, node_reply_data, objects_list}
+use Rattle.ctnode.specs.NodeWords.{NodeReply, RepliesNext, RepliesBegin, node_data, node_reply_data, objects_list}
+use Rattle.ctnode.specs.NodeStarts.{beginning_data}
+use Rattle.ct_node.specs.declared.starting.Beginning.{Beginning}
+use Rattle.ct_node.specs.declared.starting.Beginning.TheVariants.{Goes, Creates, Gone, BehindSeen, BehindGuard, TwoRoots, GuardBehind, BehindListed, BehindPublished}
 use Rattle.ct_node.specs.Worlds.{Has}
 use Rattle.ctnode.specs.NodeLaws.{LinesAreTheMachine, LinesAreHistories, GivesCommands, asked_data}
 
@@ -45,9 +48,21 @@ node_no_float (Answering l) t = refl
 or_no : (b : Bool) → b ≡ false → (b || false) ≡ false
 or_no b e = ap (λ z. z || false) e
 
-pub reply_no_float : (reply : Option NodeDoing) → has_float (node_reply_data reply) ≡ false
+begin_no_float : (b : Beginning) → has_float (beginning_data b) ≡ false
+begin_no_float Goes = refl
+begin_no_float Creates = refl
+begin_no_float Gone = refl
+begin_no_float BehindSeen = refl
+begin_no_float BehindGuard = refl
+begin_no_float TwoRoots = refl
+begin_no_float GuardBehind = refl
+begin_no_float BehindListed = refl
+begin_no_float BehindPublished = refl
+
+pub reply_no_float : (reply : Option NodeReply) → has_float (node_reply_data reply) ≡ false
 reply_no_float None = refl
-reply_no_float (Some d) = or_no (has_float (node_data d.node d.texts)) (node_no_float d.node d.texts)
+reply_no_float (Some (RepliesNext d)) = or_no (has_float (node_data d.node d.texts)) (node_no_float d.node d.texts)
+reply_no_float (Some (RepliesBegin b)) = begin_no_float b
 
 -- ---- what a line says is read as the machine's
 

@@ -1,8 +1,10 @@
 pub mod NodeTexts
 pub mod NodeDoings
+pub mod NodeStarts
 pub mod NodeAsks
 pub mod NodeAskedView
 pub mod NodeWords
+pub mod NodeReplyView
 pub mod NodeLaws
 pub mod LineLog
 pub mod NodeSession

@@ -14,6 +14,9 @@ use Rattle.ct_node.specs.declared.node.Outcome.{Outcome}
 use Rattle.ct_node.specs.declared.node.Outcome.TheVariants.{Read, Stepped}
 use Rattle.ct_node.specs.Worlds.{Has, Object, World, Happening, Told, happens, beginning, MayHappen, MayBeTold, IsFirstState}
 use Rattle.ct_node_log.specs.Logs.{IsOf, AreStepsMade, StandsOf}
+use Rattle.ct_growth.specs.Identities.{AreNewFrom}
+use Rattle.ct_node.specs.LookUps.{LooksUp}
+use Rattle.ct_node_log.specs.Once.{entry_identities, AreStepsAdding}
 use Rattle.ctnode.specs.NodeTexts.{text_state, name_state}
 use Rattle.ctnode.specs.NodeAsks.{NodeAsked, objects_count, node_asked_in, doing_in}
 use Rattle.ctnode.specs.NodeDoings.{NodeTexts, NodeDoing, doing_after}
@@ -121,6 +124,25 @@ LinesNameOneContent =
     → AreStepsMade H line count plan w.world.made → (d e : Data) (l m : State) (n c i j : ℕ) → SaysToPut w d l n → SaysToPut w e m c → i < n → j < c
     → (plan (record { state = l; index = i })).0 ≡ (plan (record { state = m; index = j })).0
     → ((plan (record { state = l; index = i })).1 ≡ (plan (record { state = m; index = j })).1) ⊎ SomeCollide H
+
+-- where a step is made, it is looked up
+abbrev pub LooksUpByLines : (State → List (List ℕ)) → LinesWorld → LineHappening → Type 0
+LooksUpByLines ids w (Beside h) = LooksUp ids w.world h
+LooksUpByLines ids w (Asked d told a) = ⊤
+
+-- each step that is made on the way is looked up
+unfoldable pub AllLookUpByLines : (State → List (List ℕ)) → LinesWorld → List LineHappening → Type 0
+AllLookUpByLines ids w [] = ⊤
+AllLookUpByLines ids w (h ∷ hs) = LooksUpByLines ids w h × AllLookUpByLines ids (happens_by_lines w h) hs
+
+-- Whatever happens by lines, where each step was looked up before and no place is missing, the register's line is that of a log that begins with the
+-- entries that were known, and that has behind these no identity that stands before; or two different strings with one hash are given.
+abbrev pub LinesAddOnce : Type 0
+LinesAddOnce =
+    (H : List ℕ → List ℕ) (line : State → StateLine) (ids : State → List (List ℕ)) (known : List Tiled) (count : State → ℕ) (b : State)
+    (hs : List LineHappening) (w : LinesWorld) → IsFirstState count b → LeadToByLines count line (lines_beginning b) hs w → IsLog H known (line b)
+    → (ids b ≡ entry_identities known) → AreStepsAdding H line ids w.world.made → AllLookUpByLines ids (lines_beginning b) hs
+    → ((E : List Tiled) × IsLog H E (line w.world.held) × (known ≡ take (length known) E) × AreNewFrom (length known) (entry_identities E)) ⊎ SomeCollide H
 
 -- Whatever happens by lines, of each command that was given the texts are of its states, and begin with their lines.
 abbrev pub CommandsHaveTexts : Type 0

@@ -10,6 +10,8 @@ use Rattle.ct_node.specs.declared.node.Node.TheVariants.{Reading, Looking, Stepp
 use Rattle.ct_node.specs.declared.node.Outcome.{Outcome}
 use Rattle.ct_node.specs.declared.node.Outcome.TheVariants.{Done, Promise, Lost, Read, Published, Bundle, Stepped, Listed}
 use Rattle.ctnode.specs.NodeTexts.{text_state, name_state, next_text, said_by}
+use Rattle.ct_node.specs.declared.starting.Found.{Found}
+use Rattle.ctnode.specs.NodeStarts.{node_found_in}
 use Rattle.ctnode.specs.NodeDoings.{NodeTexts, NodeDoing, NodeCame}
 
 -- a text, or none
@@ -155,10 +157,24 @@ came_of d doing = option_and_then (λ v. asked_with doing (came_in (seen_moment 
 abbrev pub node_asked_in : Data → Option NodeAsked
 node_asked_in d = option_and_then (λ doing. came_of d doing) (option_and_then (λ v. doing_in v) (get (codes "node") d))
 
+-- What a line says: a node, and what came of its command; or what a node finds where it starts.
+pub data LineSaid : Type 0 where
+  SaysNext : NodeAsked → LineSaid
+  SaysBegin : Found → LineSaid
+
+-- what an object says, which has what a node finds, or none of that
+abbrev pub line_said_with : Data → Option Data → Option LineSaid
+line_said_with d None = option_map (λ a. SaysNext a) (node_asked_in d)
+line_said_with d (Some v) = option_map (λ f. SaysBegin f) (node_found_in v)
+
+-- what an object says
+abbrev pub line_said_in : Data → Option LineSaid
+line_said_in d = line_said_with d (get (codes "begin") d)
+
 -- what a line says by the JSON value that it is, or nothing
-abbrev pub node_asked_by : Option Data → Option NodeAsked
-node_asked_by value = option_and_then node_asked_in value
+abbrev pub node_asked_by : Option Data → Option LineSaid
+node_asked_by value = option_and_then line_said_in value
 
 -- what a line of at most 65,536 bytes says, or nothing
-abbrev pub node_asked : List ℕ → Option NodeAsked
+abbrev pub node_asked : List ℕ → Option LineSaid
 node_asked line = node_asked_by (value_of_line 65536 line)

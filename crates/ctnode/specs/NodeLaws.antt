@@ -6,9 +6,13 @@ use Rattle.ct_node.specs.declared.node.Node.{Node}
 use Rattle.ct_node.specs.Nodes.{after}
 use Rattle.ct_node.specs.Worlds.{Has, World, Told, happens}
 use Rattle.ctnode.specs.NodeTexts.{text_said, said_of, next_text, number_digits, bundle_name, name_state}
-use Rattle.ctnode.specs.NodeAsks.{NodeAsked, node_asked_in, node_in}
+use Rattle.ct_node.specs.declared.starting.Point.{Point}
+use Rattle.ct_node.specs.declared.starting.Found.{Found}
+use Rattle.ct_node.specs.declared.starting.Beginning.TheVariants.{Goes}
+use Rattle.ct_node.specs.Starts.{NoneIsAhead}
+use Rattle.ctnode.specs.NodeAsks.{NodeAsked, SaysBegin, node_asked_in, node_in, node_asked}
 use Rattle.ctnode.specs.NodeDoings.{doing_after}
-use Rattle.ctnode.specs.NodeWords.{doing_data}
+use Rattle.ctnode.specs.NodeWords.{doing_data, RepliesBegin, node_replied}
 
 -- The next command of whatever an object says is, read again, the machine's: what comes behind the machine's node that the object says, where that came.
 abbrev pub LinesAreTheMachine : Type 0
@@ -48,3 +52,11 @@ abbrev pub TextsSayTheirState : Type 0
 TextsSayTheirState =
     (n m b s : ℕ) (rest node : List ℕ) → n < 2 ^ 64 → m < 2 ^ 64 → b < 2 ^ 64 → s < 2 ^ 64 → length rest ≡ 256
     → text_said (next_text (codes "growth " ++ number_digits n ++ number_digits m ++ rest) node b s) ≡ Some (said_of n m b s)
+
+-- Where a line says what a node finds where it starts, with a register's text, what is replied is that it goes on exactly where no head that the line
+-- says is ahead of that text's.
+abbrev pub LinesBeginBehindNone : Type 0
+LinesBeginBehindNone =
+    (line : List ℕ) (f : Found) (p : Point) → node_asked line ≡ Some (SaysBegin f) → f.register ≡ Some p
+    → (node_replied (node_asked line) ≡ Some (RepliesBegin Goes) → NoneIsAhead f p)
+    × (NoneIsAhead f p → node_replied (node_asked line) ≡ Some (RepliesBegin Goes))

@@ -2,12 +2,12 @@
 use Rattle.std.specs.Prelude.{◌≡◌, ℕ, List, ◌++◌, Option, codes}
 use Rattle.serde_json.specs.Data.{Data}
 use Rattle.line_program.specs.ByLine.{by_value, IsRunByLine, IsBrokenByLine}
-use Rattle.ctnode.specs.NodeDoings.{NodeDoing}
 use Rattle.ctnode.specs.NodeAsks.{node_asked_by}
-use Rattle.ctnode.specs.NodeWords.{node_replied, node_line, is_no_node}
+use Rattle.ctnode.specs.NodeWords.{NodeReply, node_replied, node_line, is_no_node}
 
--- what a line that isn't empty comes to, by the JSON value that it is: the next command of the node that it says, or nothing
-abbrev pub ComesToCommand : Option Data → Option NodeDoing → Type 0
+-- what a line that isn't empty comes to, by the JSON value that it is: the next command of the node that it says, or what one does
+-- where it starts; or nothing
+abbrev pub ComesToCommand : Option Data → Option NodeReply → Type 0
 ComesToCommand value reply = reply ≡ node_replied (node_asked_by value)
 
 -- a run over the input was written, where the bytes are known, and this is its exit status

@@ -6,10 +6,13 @@ use Rattle.serde_json.specs.Written.{compact_text}
 use Rattle.json_lines.specs.Values.{number_data}
 use Rattle.ct_node.specs.declared.node.Node.{Node}
 use Rattle.ct_node.specs.declared.node.Node.TheVariants.{Reading, Looking, Stepping, Staging, Swapping, Promising, Deleting, Putting, Placing, Heading, Answering}
+use Rattle.ct_node.specs.declared.starting.Beginning.{Beginning}
+use Rattle.ct_node.specs.Starts.{started}
 use Rattle.ctnode.specs.declared.texts.Said.{Said}
 use Rattle.ctnode.specs.NodeTexts.{said_by, bundle_name}
 use Rattle.ctnode.specs.NodeDoings.{NodeTexts, NodeDoing, doing_after}
-use Rattle.ctnode.specs.NodeAsks.{NodeAsked}
+use Rattle.ctnode.specs.NodeStarts.{beginning_data}
+use Rattle.ctnode.specs.NodeAsks.{LineSaid, SaysNext, SaysBegin}
 
 -- a register's text as an object, with what it says: the name of its state's bundle, its moment, and how many entries the log has
 abbrev pub held_said_data : List ℕ → Said → Data
@@ -72,20 +75,31 @@ node_data (Answering l) t = new_data (codes "answer") t
 abbrev pub doing_data : NodeDoing → Data
 doing_data d = node_data d.node d.texts
 
--- the next command of a node of whose command this came; none where a line said nothing
-abbrev pub node_replied : Option NodeAsked → Option NodeDoing
-node_replied asked = option_map (λ a. doing_after a.doing a.came) asked
+-- What is replied to a line that says something: a node's next command, or what it does where it starts.
+pub data NodeReply : Type 0 where
+  RepliesNext : NodeDoing → NodeReply
+  RepliesBegin : Beginning → NodeReply
+
+-- the next command of a node of whose command this came, or what one does that finds this
+abbrev pub replied_to : LineSaid → NodeReply
+replied_to (SaysNext a) = RepliesNext (doing_after a.doing a.came)
+replied_to (SaysBegin f) = RepliesBegin (started f)
+
+-- the same; none where a line said nothing
+abbrev pub node_replied : Option LineSaid → Option NodeReply
+node_replied said = option_map replied_to said
 
 -- the object of a reply
-abbrev pub node_reply_data : Option NodeDoing → Data
+abbrev pub node_reply_data : Option NodeReply → Data
 node_reply_data None = object (member (codes "refused") (string (codes "bad-line")) no_members)
-node_reply_data (Some d) = object (member (codes "node") (doing_data d) no_members)
+node_reply_data (Some (RepliesNext d)) = object (member (codes "node") (doing_data d) no_members)
+node_reply_data (Some (RepliesBegin b)) = beginning_data b
 
 -- the line of a reply: compact JSON, keys in byte order, and the byte 0A (RFC 8259)
-abbrev pub node_line : Option NodeDoing → List ℕ
+abbrev pub node_line : Option NodeReply → List ℕ
 node_line reply = compact_text (node_reply_data reply) ++ 10 ∷ []
 
 -- whether a line is refused as none
-abbrev pub is_no_node : Option NodeDoing → Bool
+abbrev pub is_no_node : Option NodeReply → Bool
 is_no_node None = true
-is_no_node (Some d) = false
+is_no_node (Some r) = false

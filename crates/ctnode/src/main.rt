@@ -3,14 +3,15 @@
 //! Nothing is kept between lines: what a node is stands in its line, so any process may go on for any node, and one line has one reply. What
 //! comes behind what is `ct_node`'s to say.
 //!
-//! - `request` reads a node and what came of its command, and `replies` writes the next command; `doing` has a command with its texts, and
-//!   `texts` what a register's text and a bundle's name say.
+//! - `request` reads a node and what came of its command, and `replies` writes the next command; `doing` has a command with its texts,
+//!   `texts` what a register's text and a bundle's name say, and `found` what a node finds where it starts.
 //! - `program` has what the program is of those by `line_program`: what it replies to a line, its name, how it is called, and what a run is. `main`
 //!   is `answer_process` of it.
 //! - `laws` has what the lines are of the machine.
 #![tactic(auto)]
 
 mod doing;
+mod found;
 mod laws;
 mod program;
 mod replies;

@@ -4,8 +4,7 @@ ghost use Rattle.std.specs.Prelude.{⊤, Option, codes};
 ghost use Rattle.line_program.specs.ByLine.{by_value};
 ghost use Rattle.line_program.specs.Calls.{asked_without_options};
 ghost use Rattle.line_program.proofs.ByLine.{not_begun};
-ghost use Rattle.ctnode.specs.NodeDoings.{NodeDoing};
-ghost use Rattle.ctnode.specs.NodeWords.{node_line, is_no_node};
+ghost use Rattle.ctnode.specs.NodeWords.{NodeReply, node_line, is_no_node};
 ghost use Rattle.ctnode.specs.NodeSession.{ComesToCommand, IsNodeRun, IsNodeRunBroken, node_usage};
 
 use crate::replies::{is_bad, reply_line, reply_to};
@@ -40,7 +39,7 @@ pub struct Ctnode;
 impl Replier for Ctnode {
     ghost longest = { 65536 };
 
-    ghost Gave = { Option NodeDoing };
+    ghost Gave = { Option NodeReply };
 
     ghost comes = { λ program. ComesToCommand };
 

@@ -4,15 +4,27 @@ ghost use Rattle.std.specs.Prelude.{◌≡◌, Some, IfOk, codes, map, option_ma
 ghost use Rattle.serde_json.specs.View.{view};
 ghost use Rattle.serde_json.specs.Data.{string};
 ghost use Rattle.ctnode.specs.NodeDoings.{texts_view, doing_view};
-ghost use Rattle.ctnode.specs.NodeWords.{held_said_data, held_data, objects_data, seen_data, new_data, put_data, step_data, delete_data, node_data, doing_data, node_replied, node_reply_data, node_line, is_no_node};
-ghost use Rattle.ctnode.specs.NodeAskedView.{asked_view};
+ghost use Rattle.ctnode.specs.NodeWords.{held_said_data, held_data, objects_data, seen_data, new_data, put_data, step_data, delete_data, node_data, doing_data, RepliesNext, node_replied, node_reply_data, node_line, is_no_node};
+ghost use Rattle.ctnode.specs.NodeAsks.{SaysNext};
+ghost use Rattle.ctnode.specs.NodeReplyView.{reply_view};
+ghost use Rattle.ctnode.specs.NodeAskedView.{asked_view, line_view};
 
 use crate::doing::{Doing, Texts, next};
-use crate::request::Asked;
+use crate::found::beginning_value;
+use crate::request::{Asked, LineAsked};
 use crate::texts::{Said, name_of, said_or_nothing};
-use ct_node::Node;
+use ct_node::{Beginning, Node, start};
 use serde_json::{Value, json};
 use std::alloc::{AllocError, Global};
+
+/// What is replied to a line that says something.
+#[derive(Drop)]
+pub enum Reply {
+    /// The next command of a node.
+    Next(Doing),
+    /// What a node does where it starts.
+    Begin(Beginning),
+}
 
 // A register's text as an object, with what it says.
 fn said_value(alloc: Global, text: &str, said: &Said) -> Result<Value, AllocError>
@@ -118,36 +130,48 @@ fn node_value(alloc: Global, node: Node, texts: &Texts) -> Result<Value, AllocEr
     }
 }
 
+// The object of a node's next command.
+fn next_value(alloc: Global, doing: &Doing) -> Result<Value, AllocError>
+    ensures { IfOk result (λ v. view v ≡ node_reply_data (Some (RepliesNext (doing_view doing.now)))) }
+{
+    let node = node_value(alloc, doing.node, &doing.texts)?;
+    json!(in alloc; {"node": node})
+}
+
 // The object of a reply.
-fn reply_value(alloc: Global, reply: &Option<Doing>) -> Result<Value, AllocError>
-    ensures { IfOk result (λ v. view v ≡ node_reply_data (option_map doing_view reply.now)) }
+fn reply_value(alloc: Global, reply: &Option<Reply>) -> Result<Value, AllocError>
+    ensures { IfOk result (λ v. view v ≡ node_reply_data (option_map reply_view reply.now)) }
 {
     match reply {
-        Some(doing) => {
-            let node = node_value(alloc, doing.node, &doing.texts)?;
-            json!(in alloc; {"node": node})
-        }
+        Some(Reply::Next(doing)) => next_value(alloc, doing),
+        Some(Reply::Begin(beginning)) => beginning_value(alloc, *beginning),
         None => json!(in alloc; {"refused": "bad-line"}),
     }
 }
 
-// The next command of a node, where a line said one and what came of its command.
-pub(crate) fn reply_to(asked: Option<Asked>) -> Result<Option<Doing>, AllocError>
-    ensures { IfOk result (λ o. option_map doing_view o ≡ node_replied (option_map asked_view asked)) }
+// The next command of a node.
+fn reply_next(asked: Asked) -> Result<Option<Reply>, AllocError>
+    ensures { IfOk result (λ o. option_map reply_view o ≡ node_replied (Some (SaysNext (asked_view asked)))) }
+{
+    let doing = next(asked.doing, asked.came)?;
+    Ok(Some(Reply::Next(doing)))
+}
+
+// What is replied to what a line says, where it says something.
+pub(crate) fn reply_to(asked: Option<LineAsked>) -> Result<Option<Reply>, AllocError>
+    ensures { IfOk result (λ o. option_map reply_view o ≡ node_replied (option_map line_view asked)) }
 {
     match asked {
-        Some(asked) => {
-            let doing = next(asked.doing, asked.came)?;
-            Ok(Some(doing))
-        }
+        Some(LineAsked::Next(asked)) => reply_next(asked),
+        Some(LineAsked::Begin(found)) => Ok(Some(Reply::Begin(start(found)))),
         None => Ok(None),
     }
 }
 
 // The line of a reply.
 #[tactic(auto, using(crate::proofs::WrittenNodes::reply_no_float))]
-pub(crate) fn reply_line(alloc: Global, reply: &Option<Doing>) -> Result<Vec<u8>, AllocError>
-    ensures { IfOk result (λ t. t.items ≡ node_line (option_map doing_view reply.now)) }
+pub(crate) fn reply_line(alloc: Global, reply: &Option<Reply>) -> Result<Vec<u8>, AllocError>
+    ensures { IfOk result (λ t. t.items ≡ node_line (option_map reply_view reply.now)) }
 {
     let value = reply_value(alloc, reply)?;
     let mut text = value.to_string(alloc)?.into_bytes();
@@ -156,8 +180,8 @@ pub(crate) fn reply_line(alloc: Global, reply: &Option<Doing>) -> Result<Vec<u8>
 }
 
 // Whether a line is refused as none.
-pub(crate) fn is_bad(reply: &Option<Doing>) -> bool
-    ensures { result ≡ is_no_node (option_map doing_view reply.now) }
+pub(crate) fn is_bad(reply: &Option<Reply>) -> bool
+    ensures { result ≡ is_no_node (option_map reply_view reply.now) }
 {
     reply.is_none()
 }

@@ -1,4 +1,4 @@
-//! What a line says: a node, by the command that it has out, and what came of that.
+//! What a line says: a node, by the command that it has out, and what came of that; or what a node finds where it starts.
 
 ghost use Rattle.std.specs.Prelude.{◌≡◌, IfOk, map, option_map, string_bytes};
 ghost use Rattle.serde_json.specs.View.{view, items_view};
@@ -7,13 +7,15 @@ ghost use Rattle.json_lines.specs.Fields.{each_item};
 ghost use Rattle.ct_node.specs.declared.node.Node.TheVariants.{Looking, Stepping, Staging, Swapping, Promising, Putting, Placing, Heading, Answering};
 ghost use Rattle.ct_node.specs.declared.node.Outcome.TheVariants.{Read, Bundle, Stepped, Listed};
 ghost use Rattle.ctnode.specs.NodeDoings.{texts_view, doing_view, came_view};
-ghost use Rattle.ctnode.specs.NodeAsks.{or_empty, held_in, objects_in, node_texts_in, made_in, came_texts_in, objects_count, of_seen, of_new, of_objects, of_step, deleting_in, node_of_text, node_of_word, node_with, doing_with, doing_in, outcome_of_word, outcome_with, came_with, came_in, seen_moment, asked_with, came_of, node_asked_in, node_asked};
+ghost use Rattle.ctnode.specs.NodeAsks.{or_empty, held_in, objects_in, node_texts_in, made_in, came_texts_in, objects_count, of_seen, of_new, of_objects, of_step, deleting_in, node_of_text, node_of_word, node_with, doing_with, doing_in, outcome_of_word, outcome_with, came_with, came_in, seen_moment, asked_with, came_of, node_asked_in, SaysNext, SaysBegin, line_said_in, node_asked};
+ghost use Rattle.ctnode.specs.NodeStarts.{node_found_in};
 ghost use Rattle.ctnode.specs.NodeTexts.{name_state};
-ghost use Rattle.ctnode.specs.NodeAskedView.{asked_view};
+ghost use Rattle.ctnode.specs.NodeAskedView.{asked_view, line_view};
 
 use crate::doing::{Came, Doing, Texts};
+use crate::found::found;
 use crate::texts::{said_or_nothing, state_of, state_of_name, text_of};
-use ct_node::{Node, Outcome};
+use ct_node::{Found, Node, Outcome};
 use json_lines::{fields, line_value};
 use serde_json::Value;
 use std::alloc::{AllocError, Global};
@@ -25,6 +27,15 @@ pub struct Asked {
     pub doing: Doing,
     /// What came of its command.
     pub came: Came,
+}
+
+/// What a line says.
+#[derive(Drop)]
+pub enum LineAsked {
+    /// A node, and what came of its command.
+    Next(Asked),
+    /// What a node finds where it starts.
+    Begin(Found),
 }
 
 // The longest line, in bytes, without its end.
@@ -395,12 +406,42 @@ fn asked_in(alloc: Global, value: &Value) -> Result<Option<Asked>, AllocError>
     }
 }
 
+// A line that says a node, where it does.
+fn next_asked(asked: Option<Asked>) -> Option<LineAsked>
+    ensures { option_map line_view result ≡ option_map (λ a. SaysNext a) (option_map asked_view asked) }
+{
+    match asked {
+        Some(asked) => Some(LineAsked::Next(asked)),
+        None => None,
+    }
+}
+
+// A line that says what a node finds where it starts, where it does.
+fn begin_asked(value: &Value) -> Option<LineAsked>
+    ensures { option_map line_view result ≡ option_map (λ f. SaysBegin f) (node_found_in (view value.now)) }
+{
+    match found(value) {
+        Some(found) => Some(LineAsked::Begin(found)),
+        None => None,
+    }
+}
+
+// What an object says.
+fn line_asked(alloc: Global, value: &Value) -> Result<Option<LineAsked>, AllocError>
+    ensures { IfOk result (λ o. option_map line_view o ≡ line_said_in (view value.now)) }
+{
+    match value.get("begin") {
+        Some(field) => Ok(begin_asked(field)),
+        None => Ok(next_asked(asked_in(alloc, value)?)),
+    }
+}
+
 // What a line says, without its end.
-pub(crate) fn read_asked(alloc: Global, line: &[u8]) -> Result<Option<Asked>, AllocError>
-    ensures { IfOk result (λ o. option_map asked_view o ≡ node_asked line.now) }
+pub(crate) fn read_asked(alloc: Global, line: &[u8]) -> Result<Option<LineAsked>, AllocError>
+    ensures { IfOk result (λ o. option_map line_view o ≡ node_asked line.now) }
 {
     match line_value(alloc, LONGEST, line)? {
-        Some(value) => asked_in(alloc, &value),
+        Some(value) => line_asked(alloc, &value),
         None => Ok(None),
     }
 }

@@ -39,7 +39,7 @@ fn number_in(text: &[u8], from: usize) -> Option<u64>
 }
 
 // Whether a word stands from a place of a text on.
-fn stands(text: &[u8], from: usize, word: &[u8]) -> bool
+pub(crate) fn stands(text: &[u8], from: usize, word: &[u8]) -> bool
     requires { from + length word.now ≤ length text.now }
     ensures { result ≡ has_word from word.now text.now }
 {
@@ -86,7 +86,7 @@ fn numbers_in(text: &[u8]) -> Option<Said>
 }
 
 // What a register's text says, where it is one.
-fn said_in(text: &[u8]) -> Option<Said>
+pub(crate) fn said_in(text: &[u8]) -> Option<Said>
     ensures { result ≡ text_said text.now }
 {
     if text.len() < 340 {

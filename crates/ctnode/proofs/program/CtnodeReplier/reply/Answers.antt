@@ -1,12 +1,12 @@
 use Rattle.std.proofs.Common.{◌∙◌, ap}
 use Rattle.std.specs.Prelude.{option_map}
-use Rattle.ctnode.specs.NodeDoings.{doing_view}
+use Rattle.ctnode.specs.NodeReplyView.{reply_view}
 use Rattle.ctnode.specs.NodeWords.{node_replied}
 use Rattle.ctnode.proofs.program.CtnodeReplier.reply.Goals as goal
 
 pub returns : goal.returns
 returns c = (
-  option_map doing_view c.in_ok-reply.reply,
+  option_map reply_view c.in_ok-reply.reply,
   c.in_ok-reply.ensures ∙ ap node_replied c.in_ok-asked.ensures,
   c.in_ok-text.ensures,
   c.is_bad.ensures,
