@@ -114,6 +114,8 @@ pub fn proof_of_handed<H: NodeHash>(
     ensures fault { IfErr result (λ fault. IsHandedFault fault (proof_tiles m n) (contents_in contents.now)) }
     // The tiles of a list of leaves aren't refused, unless memory is.
     ensures never_refused { IfErr result (λ fault. (D : List (List ℕ)) → AreTilesOf H.digest D (proof_tiles m n) (contents_in contents.now) → fault ≡ Memory) }
+    // Each of its hashes has 32 bytes.
+    ensures hashes { IfOk result (λ proof. AreHashes proof.items) }
     // Whatever the bytes were: where the verifier accepts the proof for the roots of two lists of leaves, the first begins the second, or
     // two different strings with one hash are given.
     ensures tells { IfOk result (λ proof. (E : List (List ℕ)) (D : List (List ℕ)) → IsAcceptedFor H.digest E D proof.items

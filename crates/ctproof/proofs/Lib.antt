@@ -1,3 +1,4 @@
 pub mod NoFloat
 pub mod HashTiles
+pub mod Tells
 pub mod Promised

@@ -43,18 +43,29 @@ reading_tiles (Proof m n) = proof_tiles m n
 abbrev pub MayRead : Reading → ℕ → Type 0
 MayRead reading count = IsReading reading × (count ≤ length (reading_tiles reading))
 
+-- a leaf for which the verifier accepts this path stands in its list; or two different strings with one hash are given
+abbrev pub TellsLeaf : ℕ → List (List ℕ) → (List ℕ → List ℕ) → Type 0
+TellsLeaf m hashes H = (D : List (List ℕ)) (leaf : List ℕ) → IsAccepted H D leaf m hashes → IsAudited H D leaf m hashes ⊎ SomeCollide H
+
+-- of two lists for whose roots the verifier accepts this proof the first begins the second; or two different strings with one hash are given
+abbrev pub TellsBeginning : List (List ℕ) → (List ℕ → List ℕ) → Type 0
+TellsBeginning hashes H = (E : List (List ℕ)) (D : List (List ℕ)) → IsAcceptedFor H E D hashes → IsBeginning E D ⊎ SomeCollide H
+
+-- of every hash function with digests of 32 bytes, and so of SHA-256
+abbrev pub OfEveryHash : ((List ℕ → List ℕ) → Type 0) → Type 0
+OfEveryHash Holds = ((H : List ℕ → List ℕ) → ((x : List ℕ) → length (H x) ≡ 32) → Holds H) × Holds sha256
+
 -- The reply tells the hashes that are read out of the bytes of tiles. Where the tiles are those of a list D of leaf hashes it is MTH(D[n]),
--- PATH(m, D[n]) or PROOF(m, D[n]) (RFC 6962, section 2.1). Whatever the bytes are: a leaf for which the verifier accepts the path stands in
--- its list, and of two lists for whose roots it accepts the proof the first begins the second, or two different strings with one hash are given.
+-- PATH(m, D[n]) or PROOF(m, D[n]) (RFC 6962, section 2.1), by SHA-256. Whatever the bytes are, the path tells a leaf, and the proof a beginning.
 abbrev pub TellsHashes : Reading → List (List ℕ) → ReaderReply → Type 0
 TellsHashes (Root n) contents reply = (root : List ℕ) × (reply ≡ shows_root root)
     × ((D : List (List ℕ)) → AreTilesOf sha256 D (root_tiles n) contents → n ≤ length D → root ≡ mth sha256 (take n D))
 TellsHashes (Path m n) contents reply = (hashes : List (List ℕ)) × (reply ≡ shows_path hashes)
     × ((D : List (List ℕ)) → AreTilesOf sha256 D (path_tiles m n) contents → n ≤ length D → hashes ≡ path sha256 m (take n D))
-    × ((D : List (List ℕ)) (leaf : List ℕ) → IsAccepted sha256 D leaf m hashes → IsAudited sha256 D leaf m hashes ⊎ SomeCollide sha256)
+    × OfEveryHash (TellsLeaf m hashes)
 TellsHashes (Proof m n) contents reply = (hashes : List (List ℕ)) × (reply ≡ shows_proof hashes)
     × ((D : List (List ℕ)) → AreTilesOf sha256 D (proof_tiles m n) contents → n ≤ length D → hashes ≡ proof sha256 m (take n D))
-    × ((E : List (List ℕ)) (D : List (List ℕ)) → IsAcceptedFor sha256 E D hashes → IsBeginning E D ⊎ SomeCollide sha256)
+    × OfEveryHash (TellsBeginning hashes)
 
 -- how the first tile without right bytes is refused; that memory was refused has no reply
 abbrev pub RefusesHanded : HandedFault → Refusal → Type 0

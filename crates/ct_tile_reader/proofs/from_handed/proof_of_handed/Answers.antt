@@ -17,6 +17,9 @@ returns-in_err-tiles-clause-never_refused g c =
     left_with (λ fault. (D : List (List ℕ)) → AreTilesOf H D (proof_tiles c.args.m c.args.n) contents → fault ≡ Memory) met c.from_residual-in_err-tiles.result
     c.from_residual-in_err-tiles.ensures.1 (λ D are. absurd (own_not_refused H D (proof_tiles c.args.m c.args.n) contents met faulty are))
 
+pub returns-clause-hashes : goal.returns-clause-hashes
+returns-clause-hashes g c = subst AreHashes c.deref-2.ensures.value c.are_hashes.ensures
+
 pub returns-clause-tells : goal.returns-clause-tells
 returns-clause-tells g c E D accepted =
     let are = subst AreHashes c.deref-2.ensures.value c.are_hashes.ensures in

@@ -1,7 +1,12 @@
 use Rattle.ct_tile_reader.specs.Handed.{contents_in}
 use Rattle.ct_tile_reader.specs.Needed.{path_tiles}
 use Rattle.ctproof.proofs.HashTiles.{path_named, refusal_named}
+use Rattle.ctproof.proofs.Tells.{path_shown}
 use Rattle.ctproof.proofs.answering.path_reply.Goals as goal
+
+pub returns-in-Ok-clause-reply : goal.returns-in-Ok-clause-reply
+returns-in-Ok-clause-reply c =
+    path_shown c.args.index c.args.size (contents_in c.args.contents.now) c.in-Ok.path.items c.in-Ok.ensures.whole c.in-Ok.ensures.path
 
 pub returns-in_ok-from-in-Err-clause-named : goal.returns-in_ok-from-in-Err-clause-named
 returns-in_ok-from-in-Err-clause-named c =
