@@ -1,7 +1,7 @@
 #!/usr/bin/env bash
 # Builds the programs twice, in folders of other names and lengths, by other numbers of processors, and compares their bytes: reproduce.sh [CRATE..].
-# Without a crate: the programs in Go, and, where the kit is on the PATH, those whose crates are proved here already (crates/NAME/out): each is linked
-# anew from what is proved, and so is libwagtenib. Where all of them are, two releases are made of them, whose SHA256SUMS have to be one. Ends with status 1
+# Without a crate: the programs in Go, and, where the kit is on the PATH, those whose crates are built here already (make programs): each is linked
+# anew from what is proved, and so is libwagtenib. (What `rt ci` left in crates/*/out has no mark of rt's of what it is made from: rt proves that once more.) Where all of them are, two releases are made of them, whose SHA256SUMS have to be one. Ends with status 1
 # where two builds differ.
 set -eu
 cd "$(dirname "$0")/.."
