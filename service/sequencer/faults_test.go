@@ -2,7 +2,6 @@ package sequencer
 
 import (
 	"context"
-	"fmt"
 	"net/http/httptest"
 	"os"
 	"path/filepath"
@@ -16,6 +15,7 @@ import (
 	"wagtenib/service/signer"
 	"wagtenib/service/step"
 	"wagtenib/service/stores"
+	"wagtenib/service/trial/unsure"
 )
 
 // TestRegisterSetBack copies a register, goes on, and puts the copy back: a node that runs stops, and none starts.
@@ -404,31 +404,11 @@ func TestGivenUp(t *testing.T) {
 	p.right(t, got)
 }
 
-// unsure is a register that says of some swaps that it doesn't know: of those that it did, and of those that it didn't.
-type unsure struct {
-	stores.Register
-	swaps int
-}
-
-func (u *unsure) Swap(ctx context.Context, old, new string) error {
-	u.swaps++
-	switch u.swaps % 4 {
-	case 1:
-		return fmt.Errorf("%w: it wasn't done", stores.ErrUnknown)
-	case 2:
-		if err := u.Register.Swap(ctx, old, new); err != nil {
-			return err
-		}
-		return fmt.Errorf("%w: it was done", stores.ErrUnknown)
-	}
-	return u.Register.Swap(ctx, old, new)
-}
-
 func TestUnknownSwaps(t *testing.T) {
 	t.Parallel()
 	p, ctx, got := newPlace(t), limited(t), &answers{}
 	config := p.config(t)
-	config.Register = &unsure{Register: config.Register}
+	config.Register = &unsure.Register{Register: config.Register, Every: 4}
 	s := started(t, config, hooks{})
 	must(t, got.submitAll(ctx, s, 0, 60, 8))
 	report := p.right(t, got)

@@ -24,6 +24,8 @@ import (
 
 	"wagtenib/service/pipe"
 	"wagtenib/service/stores"
+	"wagtenib/service/trial"
+	"wagtenib/service/trial/unsure"
 )
 
 // model is a second program beside the proved guard, with the same lines; built is where that one is, once it is built.
@@ -41,19 +43,7 @@ func guards() map[string][]string {
 	return all
 }
 
-func must(t testing.TB, err error) {
-	t.Helper()
-	if err != nil {
-		t.Fatal(err)
-	}
-}
-
-func wants(t testing.TB, err, kind error) {
-	t.Helper()
-	if !errors.Is(err, kind) {
-		t.Fatalf("%v isn't: %v", err, kind)
-	}
-}
+var must, wants = trial.Must, trial.Wants
 
 // refused sees that something was refused by a name.
 func refused(t testing.TB, name string, err error) {
@@ -76,11 +66,7 @@ func stateOf(last *Head) string {
 	return string(line)
 }
 
-func limited(t testing.TB) context.Context {
-	ctx, cancel := context.WithTimeout(context.Background(), time.Minute)
-	t.Cleanup(cancel)
-	return ctx
-}
+func limited(t testing.TB) context.Context { return trial.Limited(t, time.Minute) }
 
 func newKey(t testing.TB) *Key {
 	private, err := ecdsa.GenerateKey(elliptic.P256(), rand.Reader)
@@ -481,12 +467,12 @@ func TestStates(t *testing.T) {
 	wants(t, err, ErrState)
 	_, err = Behind(ctx, key, Guard{Command: model, State: register(t, t.TempDir()), Create: true, Receipts: "none"})
 	wants(t, err, ErrState)
-	full := &unsure{Register: register(t, t.TempDir()), fails: errors.New("a disk is full")}
+	full := &unsure.Register{Register: register(t, t.TempDir()), Every: 3, Fails: errors.New("a disk is full")}
 	_, err = Behind(ctx, key, Guard{Command: model, State: full, Create: true, Receipts: InHead})
-	wants(t, err, full.fails)
+	wants(t, err, full.Fails)
 	must(t, full.Register.Create(ctx, stateOf(&first)+"\n"))
 	_, err = Behind(ctx, key, Guard{Command: model, State: full, Receipts: InHead})
-	wants(t, err, full.fails)
+	wants(t, err, full.Fails)
 }
 
 // TestStateSetBack puts a guard's state back below a signer that runs: nothing is signed until it comes back.
@@ -586,49 +572,18 @@ func orElse(one, other error) error {
 	return other
 }
 
-// unsure is a register that doesn't know the outcome of some swaps: of those that it did, and of those that it didn't.
-type unsure struct {
-	stores.Register
-	swaps int
-	fails error
-}
-
-func (u *unsure) Create(ctx context.Context, text string) error {
-	if u.fails != nil {
-		return u.fails
-	}
-	return u.Register.Create(ctx, text)
-}
-
-func (u *unsure) Swap(ctx context.Context, old, new string) error {
-	u.swaps++
-	if u.fails != nil {
-		return u.fails
-	}
-	switch u.swaps % 3 {
-	case 1:
-		return fmt.Errorf("%w: it wasn't done", stores.ErrUnknown)
-	case 2:
-		if err := u.Register.Swap(ctx, old, new); err != nil {
-			return err
-		}
-		return fmt.Errorf("%w: it was done", stores.ErrUnknown)
-	}
-	return u.Register.Swap(ctx, old, new)
-}
-
 // TestUnkept has the state not be kept: nothing is signed, and the guard's own head is forgotten.
 func TestUnkept(t *testing.T) {
 	t.Parallel()
 	ctx, key, right, fork := limited(t), newKey(t), listOf(t, 20, 20), listOf(t, 20, 3)
-	state := &unsure{Register: register(t, t.TempDir())}
+	state := &unsure.Register{Register: register(t, t.TempDir()), Every: 3}
 	g, err := Behind(ctx, key, Guard{Command: model, State: state, Create: true, Receipts: InHead})
 	must(t, err)
 	defer g.Close()
 	_, err = g.SignHead(ctx, right.head(t, 4, 100), nil)
 	must(t, err)
 	for _, fails := range []error{stores.ErrUnknown, errors.New("a disk is full")} {
-		state.fails = fails
+		state.Fails = fails
 		_, err = g.SignHead(ctx, fork.head(t, 8, 101), fork.proof(t, 4, 8))
 		refused(t, "inconsistent", err)
 		_, err = g.SignHead(ctx, right.head(t, 8, 101), right.proof(t, 4, 8))
@@ -640,7 +595,7 @@ func TestUnkept(t *testing.T) {
 			t.Errorf("%+v, %v", last, err)
 		}
 	}
-	state.fails = nil
+	state.Fails = nil
 	_, err = g.SignHead(ctx, right.head(t, 9, 102), right.proof(t, 4, 9))
 	must(t, err)
 }
