@@ -2,6 +2,7 @@ package sequencer
 
 import (
 	"context"
+	"crypto/sha256"
 	"errors"
 	"fmt"
 	"os"
@@ -11,6 +12,7 @@ import (
 	"time"
 
 	"wagtenib/service/decider"
+	"wagtenib/service/step"
 )
 
 // lying is a program that decides, and says something else where a command is DO.
@@ -111,4 +113,38 @@ func TestDeciderThatIsGone(t *testing.T) {
 		t.Errorf("it was started %d times", f.DeciderStarts)
 	}
 	p.right(t, got)
+}
+
+// TestNames: an object is named by its name and the digest of its content, as docs/NODE.md has it.
+func TestNames(t *testing.T) {
+	t.Parallel()
+	one := step.Object{Name: "tile/0/000.p/1", Digest: sha256.Sum256([]byte("one"))}
+	if named := nameIn(one); named != "tile/0/000.p/1 7692c3ad3540bb803c020b3aee66cd8887123234ea0c6e7143c0add73ff431ed" {
+		t.Errorf("%s", named)
+	}
+}
+
+// TestBundleOfAPastState: where the bundle is gone of a state that was read, and the register has gone on, nothing is damaged: the next round looks again.
+func TestBundleOfAPastState(t *testing.T) {
+	t.Parallel()
+	p, ctx, got := newPlace(t), limited(t), &answers{}
+	s := started(t, p.config(t), hooks{})
+	must(t, got.submitAll(ctx, s, 0, 5, 5))
+	past := s.newestKnown()
+	must(t, got.submitAll(ctx, s, 5, 9, 4))
+	must(t, os.Remove(filepath.Join(p.objects(), headName(past.state))))
+	must(t, os.RemoveAll(filepath.Join(p.objects(), past.look.Seen.Bundle)))
+	other := readingNode(s)
+	past.seen = time.Now().Add(-2 * helpsAfter)
+	other.newest, other.heard = past, time.Now()
+	if told, err := other.doLook(ctx, &turn{k: past, command: past.look}); told != nil || err != nil {
+		t.Errorf("%v, %v", told, err)
+	}
+	other.newest = s.newestKnown()
+	now := other.newest
+	now.seen = past.seen
+	must(t, os.Remove(filepath.Join(p.objects(), headName(now.state))))
+	must(t, os.RemoveAll(filepath.Join(p.objects(), now.look.Seen.Bundle)))
+	_, err := other.doLook(ctx, &turn{k: now, command: now.look})
+	wants(t, err, ErrDamaged)
 }
