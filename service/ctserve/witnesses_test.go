@@ -14,6 +14,7 @@ import (
 	"strings"
 	"syscall"
 	"testing"
+	"time"
 
 	"golang.org/x/mod/sumdb/note"
 
@@ -143,8 +144,17 @@ func TestWatchedWitness(t *testing.T) {
 		}
 	}
 	for entries := 1; entries < 4; entries++ {
-		if status, answer := post(p.clients, at.submission()); status != 200 {
-			t.Fatalf("%d %s", status, answer)
+		// (a witness that is late on a slow machine is a 503, and the entry may stand; sent again, it is answered once its head is cosigned)
+		submission := at.submission()
+		for {
+			status, answer := post(p.clients, submission)
+			if status == 200 {
+				break
+			}
+			if status != 503 {
+				t.Fatalf("%d %s", status, answer)
+			}
+			time.Sleep(50 * time.Millisecond)
 		}
 		watches(one+"\n"+two+"\n", "2", fmt.Sprintf("%d leaves are cosigned by x.example", entries), 0)
 		kept, err := os.ReadFile(filepath.Join(log, "cosigned"))
