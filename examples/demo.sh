@@ -171,9 +171,9 @@ END
 
 show_watched() {
   echo "== ctlog | ctmonitor: the head and the entries of that log, as they were replied, and a watched name =="
-  proved crates/ctmonitor/src/program.rt "where the exit status isn't 1, what is written, and the status, are what a run over these answers of a log gives" <<'END'
-ensures answered { result ≢ 1 → IsAnswered (monitor_call (map string_bytes words.now)) (R.remaining input)
-    (W.contents output.old) (W.contents output.new) (E.contents faults.old) (E.contents faults.new) result }
+  proved crates/ctmonitor/src/program.rt "where a run ends with a status, what is written, and the status, are what a run over these answers of a log gives" <<'END'
+ensures written { IfOk result (λ status. IsRun (map string_bytes names.now) (B.remaining reader.old) (B.remaining reader.new)
+    (W.contents writer.old) (W.contents writer.new) status) }
 END
   { cat examples/real-chains.jsonl && echo '{"who":"frozen","op":"get-entries","start":0,"end":99}'; } >"$work/asked"
   "$program" --fronts 1 --ring "$ring" --open-at "$open_at" --close-at "$close_at" <"$work/asked" >"$work/told" || fail "$program ended with status $?"
