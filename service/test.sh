@@ -21,9 +21,9 @@ if [ "${1:-}" = race ]; then
   ./build.sh test "" -race -timeout 2h -json | ./count.py
   echo "service: no data race was seen, and the Go part is as expected, in $((SECONDS - began)) s."
 elif [ "${1:-}" = engines ]; then
-  ./engines.sh run ./build.sh test "" -json | ./count.py
+  ./engines.sh run ./build.sh test "" -timeout 2h -json | ./count.py
   echo "service: the Go part is as expected, in $((SECONDS - began)) s."
 else
-  ./build.sh test "" -json | ./count.py
+  ./build.sh test "" -timeout 2h -json | ./count.py
   echo "service: the Go part is as expected, in $((SECONDS - began)) s, without engines (make service-engines tries those that are installed)."
 fi
