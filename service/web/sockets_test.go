@@ -368,12 +368,18 @@ func TestIdleConnectionsGo(t *testing.T) {
 			}
 			return err
 		}
-		first, second := dialed(), dialed()
-		for _, connection := range []net.Conn{first, second} {
+		var idle []net.Conn
+		for f.front.connections.waiting() < 2 {
+			connection := dialed()
 			if err := answered(connection); err != nil {
 				t.Fatal(err)
 			}
+			// (what is answered may still count as asked on for a moment)
+			for idle = append(idle, connection); f.front.connections.waiting() != len(idle); {
+				time.Sleep(time.Millisecond)
+			}
 		}
+		first, second := idle[0], idle[1]
 		f.log.Slow = time.Hour
 		busy := dialed()
 		fmt.Fprintf(busy, "GET /checkpoint HTTP/1.1\r\nHost: log\r\n\r\n")
