@@ -109,26 +109,33 @@ def programs(crates):
 
 
 class Log:
-    """A log of ctserve in a folder, which is made."""
+    """A log of ctserve in a folder, which is made where it isn't there."""
 
     def __init__(self, folder, crates=CRATES, **settings):
         self.folder, self.port, self.operator = folder, free_port(), free_port()
-        folder.mkdir()
-        for name in ("log", "root"):
-            run("openssl", "ecparam", "-name", "prime256v1", "-genkey", "-noout", "-out", folder / f"{name}.key")
-            os.chmod(folder / f"{name}.key", 0o600)
-        (folder / "log.pem").write_text(run("openssl", "ec", "-in", folder / "log.key", "-pubout"))
-        self.roots = folder / "roots.pem"
-        run("openssl", "req", "-x509", "-key", folder / "root.key", "-subj", "/CN=a root", "-days", 30, "-out", self.roots)
+        self.roots, new = folder / "roots.pem", not folder.exists()
+        if new:
+            folder.mkdir()
+            for name in ("log", "root"):
+                run("openssl", "ecparam", "-name", "prime256v1", "-genkey", "-noout", "-out", folder / f"{name}.key")
+                os.chmod(folder / f"{name}.key", 0o600)
+            (folder / "log.pem").write_text(run("openssl", "ec", "-in", folder / "log.key", "-pubout"))
+            run("openssl", "req", "-x509", "-key", folder / "root.key", "-subj", "/CN=a root", "-days", 30, "-out", self.roots)
         commands, self.models = programs(crates)
         words = {"origin": ORIGIN, "listen": f"127.0.0.1:{self.port}", "operator-listen": f"127.0.0.1:{self.operator}", "signing-key": folder / "log.key",
                  "roots": self.roots, "folder": folder / "log", "most-connections-by-address": 5000, **commands, **settings}  # fmt: skip
         self.settings = folder / "bench.conf"
         self.settings.write_text("".join(f"{name.replace('_', '-')} {value}\n" for name, value in words.items()))
         self.url, self.said = f"http://127.0.0.1:{self.port}", folder / "ctserve.log"
+        self.start(*["--create"] if new else [])
+
+    def start(self, *words):
+        """Starts ctserve; the answer is the seconds until it serves."""
+        began = time.monotonic()
         with self.said.open("w") as to:
-            self.process = subprocess.Popen([SERVICE / "out" / "ctserve", "--config", self.settings, "--create"], stdout=to, stderr=subprocess.STDOUT)
+            self.process = subprocess.Popen([SERVICE / "out" / "ctserve", "--config", self.settings, *words], stdout=to, stderr=subprocess.STDOUT)
         until(lambda: '"event":"serving"' in self.said.read_text(), "ctserve doesn't serve", self.process, self.said)
+        return time.monotonic() - began
 
     def reload(self):
         """The command that has it read its roots anew."""

@@ -1,0 +1,272 @@
+// Writes the tiles of a log that nobody submitted to, in C2SP static-ct-api's form, and the rows of its places (bench/large.py).
+//
+//	fabricate tiles OBJECTS ENTRIES MOMENT              writes data and hash tiles below the folder OBJECTS; prints the root, the digest of the partial
+//	                                                    data tile, and a line with the name of each partial tile: of data, then by levels
+//	fabricate rows TABLE FOLDER ENTRIES MOMENT > rows   the rows of TABLE, places or leaves, in their order: 32 bytes and an index of 8, each;
+//	                                                    FOLDER has for a while what they are sorted by
+//
+// The certificate at index i is i in 8 bytes behind 52 bytes that are zero. All entries have the moment MOMENT, in milliseconds.
+package main
+
+import (
+	"bufio"
+	"bytes"
+	"crypto/sha256"
+	"encoding/binary"
+	"fmt"
+	"io"
+	"math/bits"
+	"os"
+	"path/filepath"
+	"sort"
+	"strconv"
+	"sync"
+)
+
+const (
+	// width is how many hashes, or entries, a full tile has (C2SP tlog-tiles).
+	width = 256
+	// certificate is how many bytes an entry's has.
+	certificate = 60
+	// workers is how many goroutines make tiles.
+	workers = 2
+	// buckets is into how many files rows go, by their first byte, before each is sorted.
+	buckets = 256
+	// row is how many bytes one has: a hash and an index.
+	row = 32 + 8
+)
+
+type hash = [32]byte
+
+func stop(err error) {
+	if err != nil {
+		fmt.Fprintln(os.Stderr, "fabricate:", err)
+		os.Exit(1)
+	}
+}
+
+// entry is a TimestampedEntry (RFC 6962, section 3.4), with the extension leaf_index of static-ct-api.
+func entry(index, moment uint64) []byte {
+	b := binary.BigEndian.AppendUint64(make([]byte, 0, 128), moment)
+	b = append(b, 0, 0, 0, 0, certificate)
+	b = append(b, make([]byte, certificate-8)...)
+	b = binary.BigEndian.AppendUint64(b, index)
+	b = append(b, 0, 8, 0, 0, 5, byte(index>>32))
+	return binary.BigEndian.AppendUint32(b, uint32(index))
+}
+
+// leafHash is MTH of the one leaf (RFC 6962, section 2.1): of MerkleTreeLeaf, which has version and type before the entry.
+func leafHash(entry []byte) hash { return sha256.Sum256(append([]byte{0, 0, 0}, entry...)) }
+
+// identity is what places are looked up by: the hash of the entry's type and certificate.
+func identity(index uint64) hash {
+	signed := entry(index, 0)[13 : 13+certificate]
+	return sha256.Sum256(append([]byte{0, 0}, signed...))
+}
+
+// node is the hash of a node over its children (RFC 6962, section 2.1).
+func node(left, right hash) hash {
+	b := append(append([]byte{1}, left[:]...), right[:]...)
+	return sha256.Sum256(b)
+}
+
+// root is that of subtrees of one size, but for the last, which may be smaller.
+func root(hashes []hash) hash {
+	if len(hashes) == 0 {
+		return sha256.Sum256(nil)
+	}
+	if len(hashes) == 1 {
+		return hashes[0]
+	}
+	k := 1 << (bits.Len(uint(len(hashes)-1)) - 1)
+	return node(root(hashes[:k]), root(hashes[k:]))
+}
+
+// name is a tile's, as tlog-tiles writes it; level is data, or a number.
+func name(level string, index, wide int) string {
+	path := fmt.Sprintf("%03d", index%1000)
+	for index /= 1000; index > 0; index /= 1000 {
+		path = fmt.Sprintf("x%03d/%s", index%1000, path)
+	}
+	if wide < width {
+		path += fmt.Sprintf(".p/%d", wide)
+	}
+	return "tile/" + level + "/" + path
+}
+
+func write(objects, name string, content []byte) error {
+	path := filepath.Join(objects, name)
+	err := os.WriteFile(path, content, 0o644)
+	if os.IsNotExist(err) {
+		if err = os.MkdirAll(filepath.Dir(path), 0o755); err == nil {
+			err = os.WriteFile(path, content, 0o644)
+		}
+	}
+	return err
+}
+
+func join(hashes []hash) []byte {
+	b := make([]byte, 0, 32*len(hashes))
+	for _, h := range hashes {
+		b = append(b, h[:]...)
+	}
+	return b
+}
+
+// tree is what is known of the tiles while they are written.
+type tree struct {
+	objects string
+	moment  uint64
+	// data is the partial data tile, and partial are the names of all partial tiles.
+	data    []byte
+	partial []string
+	// edge are the hashes of the partial tile of each level, from below.
+	edge [][]hash
+}
+
+// leaves writes the data tile and the hash tile of so many entries from a multiple of width on, and gives the hashes.
+func (t *tree) leaves(tile, wide int) (data []byte, hashes []hash) {
+	hashes = make([]hash, wide)
+	for at := range hashes {
+		e := entry(uint64(width*tile+at), t.moment)
+		hashes[at] = leafHash(e)
+		data = append(append(data, e...), 0, 0)
+	}
+	stop(write(t.objects, name("data", tile, wide), data))
+	stop(write(t.objects, name("0", tile, wide), join(hashes)))
+	return data, hashes
+}
+
+// bottom writes all data tiles, and all tiles of level 0, and gives the hashes of the level above.
+func (t *tree) bottom(entries int) []hash {
+	above := make([]hash, entries/width)
+	tiles := make(chan int, 64)
+	var all sync.WaitGroup
+	for i := 0; i < workers; i++ {
+		all.Add(1)
+		go func() {
+			defer all.Done()
+			for tile := range tiles {
+				_, hashes := t.leaves(tile, width)
+				above[tile] = root(hashes)
+			}
+		}()
+	}
+	for tile := range above {
+		tiles <- tile
+	}
+	close(tiles)
+	all.Wait()
+	var last []hash
+	if wide := entries % width; wide > 0 {
+		t.data, last = t.leaves(len(above), wide)
+		t.partial = append(t.partial, name("data", len(above), wide), name("0", len(above), wide))
+	}
+	t.edge = append(t.edge, last)
+	return above
+}
+
+// level writes the tiles of a level above the lowest, and gives the hashes of the one above it.
+func (t *tree) level(number int, hashes []hash) []hash {
+	level, above := strconv.Itoa(number), make([]hash, len(hashes)/width)
+	for tile := range above {
+		full := hashes[width*tile : width*(tile+1)]
+		stop(write(t.objects, name(level, tile, width), join(full)))
+		above[tile] = root(full)
+	}
+	last := hashes[width*len(above):]
+	if len(last) > 0 {
+		partial := name(level, len(above), len(last))
+		stop(write(t.objects, partial, join(last)))
+		t.partial = append(t.partial, partial)
+	}
+	t.edge = append(t.edge, last)
+	return above
+}
+
+// root is that of the tree: each level's partial tile is carried on by what is below it.
+func (t *tree) root() hash {
+	var carried []hash
+	for _, hashes := range t.edge {
+		if all := append(append([]hash{}, hashes...), carried...); len(all) > 0 {
+			carried = []hash{root(all)}
+		}
+	}
+	return root(carried)
+}
+
+func tiles(objects string, entries int, moment uint64) {
+	t := &tree{objects: objects, moment: moment}
+	hashes := t.bottom(entries)
+	for number := 1; len(hashes) > 0; number++ {
+		hashes = t.level(number, hashes)
+	}
+	fmt.Printf("%x %x\n", t.root(), sha256.Sum256(t.data))
+	for _, name := range t.partial {
+		fmt.Println(name)
+	}
+}
+
+// spread writes the rows of a table into files by their first byte.
+func spread(folder string, key func(uint64) hash, entries uint64) []*os.File {
+	files, to := make([]*os.File, buckets), make([]*bufio.Writer, buckets)
+	for i := range files {
+		var err error
+		files[i], err = os.Create(filepath.Join(folder, fmt.Sprintf("%02x", i)))
+		stop(err)
+		to[i] = bufio.NewWriterSize(files[i], 1<<16)
+	}
+	for i := uint64(0); i < entries; i++ {
+		key := key(i)
+		_, err := to[key[0]].Write(binary.BigEndian.AppendUint64(key[:], i))
+		stop(err)
+	}
+	for _, one := range to {
+		stop(one.Flush())
+	}
+	return files
+}
+
+func rows(key func(uint64) hash, folder string, entries uint64) {
+	out := bufio.NewWriterSize(os.Stdout, 1<<20)
+	for _, file := range spread(folder, key, entries) {
+		_, err := file.Seek(0, io.SeekStart)
+		stop(err)
+		b, err := io.ReadAll(file)
+		stop(err)
+		sorted := make([][]byte, len(b)/row)
+		for at := range sorted {
+			sorted[at] = b[row*at : row*(at+1)]
+		}
+		sort.Slice(sorted, func(i, j int) bool { return bytes.Compare(sorted[i], sorted[j]) < 0 })
+		for _, one := range sorted {
+			_, err := out.Write(one)
+			stop(err)
+		}
+		stop(file.Close())
+		stop(os.Remove(file.Name()))
+	}
+	stop(out.Flush())
+}
+
+func number(word string) uint64 {
+	n, err := strconv.ParseUint(word, 10, 63)
+	stop(err)
+	return n
+}
+
+func main() {
+	words := os.Args[1:]
+	switch {
+	case len(words) == 4 && words[0] == "tiles":
+		tiles(words[1], int(number(words[2])), number(words[3]))
+	case len(words) == 5 && words[0] == "rows" && words[1] == "places":
+		rows(identity, words[2], number(words[3]))
+	case len(words) == 5 && words[0] == "rows" && words[1] == "leaves":
+		moment := number(words[4])
+		rows(func(index uint64) hash { return leafHash(entry(index, moment)) }, words[2], number(words[3]))
+	default:
+		fmt.Fprintln(os.Stderr, "fabricate: tiles OBJECTS ENTRIES MOMENT, or rows places|leaves FOLDER ENTRIES MOMENT")
+		os.Exit(2)
+	}
+}
