@@ -152,6 +152,8 @@ func TestSite(t *testing.T) {
 		"server 127.0.0.1:9001;": 1, "server 127.0.0.1:9004;": 1, "location /2027h1/ {": 1, "location ~ ^/2027h2/tile/data/ {": 1, "limit_conn ctserve_2027h1 70;": 3,
 		"limit_conn ctserve_all 70;": 1, "203.0.113.0/24 0;": 3, "2001:db8::7/128 0;": 2, "location @whole_1 {": 1, "location @whole_2 {": 0, "location @away_1 {": 1,
 		"proxy_pass http://ctserve_2026;": 2, "error_page 421 = @whole_1;": 1,
+		// (of log.example, and of the name for submissions)
+		"access_log off;": 2, "client_header_timeout 10s;": 2, "reset_timedout_connection on;": 2, "limit_conn_status 429;": 2,
 	} {
 		if count := strings.Count(site, text); count != many {
 			t.Errorf("%q stands there %d times, and not %d: %s", text, count, many, site)

@@ -2,10 +2,14 @@ package main
 
 import (
 	"bytes"
+	"fmt"
 	"os"
 	"regexp"
 	"strings"
 	"testing"
+	"time"
+
+	"wagtenib/service/trial"
 )
 
 // defaults are the settings that --help lists, with what it says of each; a setting whose default isn't said has none.
@@ -44,12 +48,9 @@ func TestPagesNameSettings(t *testing.T) {
 	others := map[string]bool{"list-entry": true, "made-again": true, "root-left-out": true, "read-only": true, "statement_timeout": true, "pre-vote": true, "auto-compaction-mode=periodic": true}
 	whole := ""
 	for _, page := range []string{"../../docs/OPERATING.md", "../INCIDENTS.md"} {
-		text, err := os.ReadFile(page)
-		if err != nil {
-			t.Fatal(err)
-		}
-		whole += strings.Join(strings.Fields(string(text)), " ") + "\n"
-		for _, quoted := range regexp.MustCompile("`([^`\n]+)`").FindAllStringSubmatch(string(text), -1) {
+		text := trial.Page(t, page)
+		whole += text + "\n"
+		for _, quoted := range regexp.MustCompile("`([^`]+)`").FindAllStringSubmatch(text, -1) {
 			word := strings.TrimLeft(strings.Fields(quoted[1])[0], "-")
 			if !regexp.MustCompile(`^[a-z]+(-[a-z]+)+$`).MatchString(word) || others[word] {
 				continue
@@ -80,4 +81,55 @@ func TestPagesNameSettings(t *testing.T) {
 			t.Errorf("%s isn't %s: %s", said.name, said.standard, settings[said.name])
 		}
 	}
+}
+
+// TestPageSaysBounds: the bounds that service/README.md says of the program are those that are here.
+func TestPageSaysBounds(t *testing.T) {
+	trial.Says(t, trial.Page(t, "../README.md"), map[string]bool{
+		"So eight shards at most": mostShards == 8,
+	})
+	s, err := parse([]string{"--roots", "r", "--origin", "o.example", "--signing-key", "k"}, &bytes.Buffer{})
+	trial.Must(t, err)
+	if s.node.mostProofs != 64 || s.limits.ProofsByAddress != 16 {
+		t.Errorf("%d proofs at once, of one address %d", s.node.mostProofs, s.limits.ProofsByAddress)
+	}
+}
+
+// TestUnit: systemd doesn't end or start a log against what it says of itself: it waits for longer than an end takes, starts none anew whose settings
+// aren't ones or whose stores were set back, lets it open as many connections as it takes, and starts it once the clock is right.
+func TestUnit(t *testing.T) {
+	text, err := os.ReadFile("../ctserve@.service")
+	trial.Must(t, err)
+	unit := map[string]string{}
+	for _, line := range strings.Split(string(text), "\n") {
+		if name, value, isSet := strings.Cut(line, "="); isSet {
+			unit[name] += value
+		}
+	}
+	s, err := parse([]string{"--roots", "r", "--origin", "o.example", "--signing-key", "k"}, &bytes.Buffer{})
+	trial.Must(t, err)
+	seconds, err := time.ParseDuration(unit["TimeoutStopSec"] + "s")
+	if err != nil || seconds <= s.endWithin {
+		t.Errorf("systemd kills it behind %v, %v, and an end takes up to %v", seconds, err, s.endWithin)
+	}
+	var files, memory int
+	if _, err := fmt.Sscanf(unit["LimitNOFILE"]+" "+unit["MemoryMax"], "%d %dG", &files, &memory); err != nil || files < 2*s.limits.Connections {
+		t.Errorf("%d files, %v, for %d connections", files, err, s.limits.Connections)
+	}
+	// (beside what a log of any size holds)
+	if wanted := s.limits.AnswerBytes + s.limits.WaitingBytes; int64(memory)<<30 < 2*wanted {
+		t.Errorf("%d GiB of memory, and answers and submissions alone have %d bytes", memory, wanted)
+	}
+	if wanted := fmt.Sprint(2, statusSetBack); unit["RestartPreventExitStatus"] != wanted || unit["Restart"] != "always" {
+		t.Errorf("it is started anew behind all but %q, and not %q", unit["RestartPreventExitStatus"], wanted)
+	}
+	for _, name := range []string{"After", "Wants"} {
+		if !strings.Contains(unit[name], "time-sync.target") {
+			t.Errorf("%s is %q", name, unit[name])
+		}
+	}
+	trial.Says(t, trial.Page(t, "../../docs/OPERATING.md"), map[string]bool{
+		"ends with status 3, which the unit doesn't start again": statusSetBack == 3,
+		"A setting of unknown name ends a start with status 2":   run([]string{"--no-such-word"}, &bytes.Buffer{}, openNode) == 2,
+	})
 }

@@ -4,6 +4,8 @@ package trial
 import (
 	"context"
 	"errors"
+	"os"
+	"strings"
 	"testing"
 	"time"
 )
@@ -31,4 +33,25 @@ func Limited(t testing.TB, most time.Duration) context.Context {
 	ctx, cancel := context.WithTimeout(context.Background(), most)
 	t.Cleanup(cancel)
 	return ctx
+}
+
+// Page gives the text of a page on one line.
+func Page(t testing.TB, path string) string {
+	t.Helper()
+	text, err := os.ReadFile(path)
+	Must(t, err)
+	return strings.Join(strings.Fields(string(text)), " ")
+}
+
+// Says sees that a page says each of these, and that it is so in the code.
+func Says(t testing.TB, page string, sentences map[string]bool) {
+	t.Helper()
+	for sentence, isSo := range sentences {
+		if !strings.Contains(page, sentence) {
+			t.Errorf("the page doesn't say %q", sentence)
+		}
+		if !isSo {
+			t.Errorf("it isn't so that %q", sentence)
+		}
+	}
 }
