@@ -8,11 +8,13 @@ import (
 	"os"
 	"path/filepath"
 	"strings"
+	"sync"
 	"testing"
 	"time"
 
 	"wagtenib/service/decider"
 	"wagtenib/service/step"
+	"wagtenib/service/stores"
 )
 
 // lying is a program that decides, and says something else where a command is DO.
@@ -147,4 +149,48 @@ func TestBundleOfAPastState(t *testing.T) {
 	must(t, os.RemoveAll(filepath.Join(p.objects(), now.look.Seen.Bundle)))
 	_, err := other.doLook(ctx, &turn{k: now, command: now.look})
 	wants(t, err, ErrDamaged)
+}
+
+// overtaken is a register behind whose first swap others go on, before who swapped reads it again.
+type overtaken struct {
+	stores.Register
+	once   *sync.Once
+	others func()
+}
+
+func (o overtaken) Swap(ctx context.Context, old, new string) error {
+	err := o.Register.Swap(ctx, old, new)
+	if err == nil {
+		o.once.Do(o.others)
+	}
+	return err
+}
+
+// TestOvertakenBehindASwap: where another node rolls a step out, and goes on, before who decided it reads the register again, that one's round ends without a
+// fault: of a state that is past nothing is put, and who waited for the step is answered as a repeat, with its place.
+func TestOvertakenBehindASwap(t *testing.T) {
+	t.Parallel()
+	p, ctx, got := newPlace(t), limited(t), &answers{}
+	quicker := started(t, p.config(t), hooks{})
+	must(t, got.submitAll(ctx, quicker, 0, 5, 5))
+	config := p.config(t)
+	config.Register = overtaken{config.Register, &sync.Once{}, func() {
+		if err := got.submitAll(ctx, quicker, 6, 7, 1); err != nil {
+			t.Error(err)
+		}
+	}}
+	s := started(t, config, hooks{})
+	must(t, got.submitAll(ctx, s, 5, 6, 1))
+	if f := s.Figures(); f.Fault != "" || f.Steps != 1 || f.LostSwaps != 0 || f.Repeats != 1 {
+		t.Errorf("%+v", f)
+	}
+	if f := quicker.Figures(); f.Helped != 1 || f.Fault != "" {
+		t.Errorf("the other node: %+v", f)
+	}
+	for number, index := range map[int]uint64{5: 5, 6: 6} {
+		if at := got.numberAt(t, index); at != number {
+			t.Errorf("%d stands at %d", at, index)
+		}
+	}
+	p.right(t, got)
 }

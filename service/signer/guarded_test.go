@@ -9,6 +9,7 @@ import (
 	"encoding/json"
 	"errors"
 	"fmt"
+	"io"
 	mathrand "math/rand"
 	"net"
 	"os"
@@ -1002,32 +1003,91 @@ func TestKilled(t *testing.T) {
 	}
 }
 
-// TestOtherKey has a client whose signer comes back with another key.
+// otherReceipts is a signer that says that it looks at something else before a timestamp is signed.
+type otherReceipts struct{ Signer }
+
+func (otherReceipts) Receipts() Receipts { return Promised }
+
+// TestOtherKey has a client whose signer comes back with another key, or looks at something else before it signs timestamps: that one isn't asked, and where the first
+// one is back, it is.
 func TestOtherKey(t *testing.T) {
 	t.Parallel()
-	ctx, keys := limited(t), []*Key{newKey(t), newKey(t)}
-	opened := 0
-	c, err := Ask(ctx, func(ctx context.Context) (*pipe.End, error) {
-		path, key := filepath.Join(t.TempDir(), "socket"), keys[opened%2]
-		go func() { _ = Listen(ctx, key, path) }()
-		for {
-			if end, err := pipe.Dial(ctx, path, MostLine); err == nil {
-				opened++
-				return end, nil
+	ctx, key := limited(t), newKey(t)
+	for what, other := range map[string]Signer{"another key": newKey(t), "other receipts": otherReceipts{key}} {
+		signers, opened := []Signer{key, other}, 0
+		c, err := Ask(ctx, func(ctx context.Context) (*pipe.End, error) {
+			path, next := filepath.Join(t.TempDir(), "socket"), signers[opened%2]
+			go func() { _ = Listen(ctx, next, path) }()
+			for {
+				if end, err := pipe.Dial(ctx, path, MostLine); err == nil {
+					opened++
+					return end, nil
+				}
+				time.Sleep(time.Millisecond)
 			}
-			time.Sleep(time.Millisecond)
+		}, 10*time.Second)
+		must(t, err)
+		must(t, c.Close())
+		if _, err = c.Last(ctx); !errors.Is(err, ErrKey) {
+			t.Errorf("%s: %v", what, err)
 		}
-	}, 10*time.Second)
-	must(t, err)
-	must(t, c.Close())
-	_, err = c.Last(ctx)
-	wants(t, err, ErrKey)
-	_, err = c.Last(ctx)
-	must(t, err)
+		_, err = c.Last(ctx)
+		must(t, err)
+	}
 	var eight [8]byte
 	binary.BigEndian.PutUint64(eight[:], 5)
 	if message := (Head{Moment: 5}).message(); len(message) != 50 || string(message[2:10]) != string(eight[:]) {
 		t.Errorf("%x", message)
+	}
+}
+
+// TestSocketOfASigner: a signer's socket is of its user and group alone; it takes the place of a socket, and of no file.
+func TestSocketOfASigner(t *testing.T) {
+	t.Parallel()
+	folder := t.TempDir()
+	path, file := filepath.Join(folder, "socket"), filepath.Join(folder, "file")
+	for i := 0; i < 2; i++ {
+		listener, err := listenAt(path)
+		must(t, err)
+		defer listener.Close()
+		if info, err := os.Stat(path); err != nil || info.Mode() != os.ModeSocket|0o660 {
+			t.Errorf("%v, %v", info.Mode(), err)
+		}
+	}
+	must(t, os.WriteFile(file, []byte("something"), 0o600))
+	if _, err := listenAt(file); err == nil {
+		t.Error("a file is taken for a socket")
+	}
+	if content, err := os.ReadFile(file); err != nil || string(content) != "something" {
+		t.Errorf("%q, %v", content, err)
+	}
+	if left, err := os.ReadDir(folder); err != nil || len(left) != 2 {
+		t.Errorf("%v, %v", left, err)
+	}
+}
+
+// timely is a signer that says how long it has for an answer.
+type timely struct {
+	Signer
+	has chan time.Duration
+}
+
+func (s timely) Last(ctx context.Context) (*Head, error) {
+	until, isBounded := ctx.Deadline()
+	if !isBounded {
+		until = time.Now().Add(24 * time.Hour)
+	}
+	s.has <- time.Until(until)
+	return nil, nil
+}
+
+// TestRequestHasAnEnd: whoever asks, a signer has its time for an answer, so that a register that doesn't answer holds no line for ever.
+func TestRequestHasAnEnd(t *testing.T) {
+	t.Parallel()
+	of := timely{newKey(t), make(chan time.Duration, 1)}
+	must(t, Serve(context.Background(), of, strings.NewReader(`{"last":true}`+"\n"), io.Discard))
+	if has := <-of.has; has > answersWithin || has < answersWithin/2 {
+		t.Errorf("it has %v", has)
 	}
 }
 

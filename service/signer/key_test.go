@@ -71,6 +71,16 @@ func TestKeys(t *testing.T) {
 	if _, err := OpenKey(at("nowhere.pem")); !errors.Is(err, os.ErrNotExist) {
 		t.Error(err)
 	}
+	for _, name := range []string{"p384", "ed25519"} {
+		openssl("pkey", "-in", at(name+".pem"), "-pubout", "-outform", "DER", "-out", at("public.der"))
+		public, err := os.ReadFile(at("public.der"))
+		if err != nil {
+			t.Fatal(err)
+		}
+		if err := Check(public, message, nil); !errors.Is(err, ErrKey) {
+			t.Errorf("a public key of %s: %v", name, err)
+		}
+	}
 }
 
 // pem is the key as a file has it.

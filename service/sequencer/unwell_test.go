@@ -1,0 +1,322 @@
+package sequencer
+
+import (
+	"bytes"
+	"context"
+	"crypto/sha256"
+	"encoding/base64"
+	"encoding/hex"
+	"errors"
+	"os"
+	"path/filepath"
+	"strings"
+	"testing"
+	"time"
+
+	"wagtenib/service/decider"
+	"wagtenib/service/signer"
+	"wagtenib/service/step"
+	"wagtenib/service/stores"
+)
+
+// What is here has a store fail, or lie, at one call of one function, beside a node that carries the log.
+
+// unwellPlaces fails at what it is told to; leaves are the leaves' places, where others than the store's are.
+type unwellPlaces struct {
+	stores.Places
+	finds, replaces bool
+	leaves          stores.Places
+}
+
+func (p unwellPlaces) Find(ctx context.Context, identities []stores.Identity) (map[stores.Identity]stores.Place, error) {
+	if p.finds {
+		return nil, errUnwell
+	}
+	return p.Places.Find(ctx, identities)
+}
+
+func (p unwellPlaces) Replace(ctx context.Context, placed []stores.Placed) error {
+	if p.replaces {
+		return errUnwell
+	}
+	return p.Places.Replace(ctx, placed)
+}
+
+func (p unwellPlaces) Leaves() stores.Places {
+	if p.leaves != nil {
+		return p.leaves
+	}
+	return p.Places.Leaves()
+}
+
+// unraised is a register in which nothing is published any more.
+type unraised struct{ stores.Register }
+
+func (unraised) Raise(context.Context, stores.Published) error { return errUnwell }
+
+// TestLooksThatFail: where the store fails at what a node looks at before it goes on, that is what the node says; it takes nothing for as it has to be.
+func TestLooksThatFail(t *testing.T) {
+	t.Parallel()
+	p, ctx, got := newPlace(t), limited(t), &answers{}
+	s := started(t, p.config(t), hooks{})
+	must(t, got.submitAll(ctx, s, 0, 5, 5))
+	k, head := s.newestKnown(), *s.seen()
+	for what, of := range map[string]struct {
+		unwell func(*Config)
+		looks  func(*Sequencer) error
+		// well is what it gives where nothing fails.
+		well error
+	}{
+		"heads behind the register's aren't listed": {func(c *Config) { c.Objects = unwellObjects{c.Objects, headsPrefix} },
+			func(s *Sequencer) error { return s.lookAfter(ctx, k) }, nil},
+		"the register isn't read once more": {func(c *Config) { c.Register = &unwellRegister{Register: c.Register, reads: true} },
+			func(s *Sequencer) error { return s.isFurther(ctx, k, headName(k.state)) }, ErrSetBack},
+		"identities aren't found": {func(c *Config) { c.Places = unwellPlaces{Places: c.Places, finds: true} },
+			func(s *Sequencer) error { return s.knowsPlaces(ctx, k) }, nil},
+		"leaves aren't found": {func(c *Config) {
+			c.Places = unwellPlaces{Places: c.Places, leaves: unwellPlaces{Places: c.Places.Leaves(), finds: true}}
+		},
+			func(s *Sequencer) error { return s.knowsPlaces(ctx, k) }, nil},
+		"how far it is published isn't read": {func(c *Config) { c.Register = &unwellRegister{Register: c.Register, asks: true} },
+			func(s *Sequencer) error { s.newest = k; return s.startsWithPlaces(ctx) }, nil},
+		"a head isn't published": {func(c *Config) { c.Register = unraised{c.Register} },
+			func(s *Sequencer) error {
+				err := s.raise(ctx, stores.Published{}, head)
+				if err != nil && s.seen() != nil {
+					t.Error("a head that isn't published is given")
+				}
+				return err
+			}, nil},
+	} {
+		node := readingNode(s)
+		if err := of.looks(node); !errors.Is(err, of.well) || of.well == nil && err != nil {
+			t.Errorf("well: %s: %v", what, err)
+		}
+		node = readingNode(s)
+		of.unwell(&node.config)
+		if err := of.looks(node); !errors.Is(err, errUnwell) {
+			t.Errorf("%s: %v", what, err)
+		}
+	}
+}
+
+// TestPlacesThatLackHalf: places that lost the identities, or the leaves, aren't the log's; and who builds them anew doesn't go on where one half isn't set.
+func TestPlacesThatLackHalf(t *testing.T) {
+	t.Parallel()
+	p, ctx, got := newPlace(t), limited(t), &answers{}
+	config := p.config(t)
+	s := started(t, config, hooks{})
+	must(t, got.submitAll(ctx, s, 0, 5, 5))
+	empty, err := stores.OpenSQLite(ctx, filepath.Join(t.TempDir(), "places"))
+	must(t, err)
+	t.Cleanup(func() { empty.Close() })
+	for what, places := range map[string]stores.Places{
+		"identities": unwellPlaces{Places: empty, leaves: config.Places.Leaves()},
+		"leaves":     unwellPlaces{Places: config.Places, leaves: empty.Leaves()},
+	} {
+		node := readingNode(s)
+		node.config.Places = places
+		if err := node.knowsPlaces(ctx, s.newestKnown()); !errors.Is(err, ErrPlaces) {
+			t.Errorf("without %s: %v", what, err)
+		}
+	}
+	for what, places := range map[string]stores.Places{
+		"identities": unwellPlaces{Places: config.Places, replaces: true},
+		"leaves":     unwellPlaces{Places: config.Places, leaves: unwellPlaces{Places: config.Places.Leaves(), replaces: true}},
+	} {
+		building := config
+		building.Places = places
+		err := RebuildPlaces(ctx, building, func(left uint64) { t.Errorf("%s aren't set, and it is told that %d entries are left", what, left) })
+		if !errors.Is(err, errUnwell) {
+			t.Errorf("%s: %v", what, err)
+		}
+	}
+}
+
+// TestWrongCheckpoint: what the step's program gives as a head's text has to be the text of the state's tree: no other is put.
+func TestWrongCheckpoint(t *testing.T) {
+	t.Parallel()
+	p, ctx, got := newPlace(t), limited(t), &answers{}
+	s := started(t, p.config(t), hooks{})
+	must(t, got.submitAll(ctx, s, 0, 5, 5))
+	head, state := *s.seen(), s.newestKnown().state
+	right := string(head.Note[:bytes.Index(head.Note, []byte("\n\n"))+1])
+	for what, text := range map[string]string{
+		"another size":   strings.Replace(right, "\n5\n", "\n6\n", 1),
+		"another root":   origin + "\n5\n" + base64.StdEncoding.EncodeToString(make([]byte, 32)) + "\n",
+		"another origin": "other." + right,
+		"nothing":        "",
+	} {
+		if made, err := readingNode(s).signedHead(ctx, state, step.Head{Checkpoint: text}, nil); !errors.Is(err, errNote) {
+			t.Errorf("%s: %q, %v", what, made.Note, err)
+		}
+	}
+	made, err := readingNode(s).signedHead(ctx, state, step.Head{Checkpoint: right}, nil)
+	must(t, err)
+	if !strings.HasPrefix(string(made.Note), right+"\n— ") {
+		t.Errorf("%q", made.Note)
+	}
+}
+
+// refuser is a signer that lets no head through.
+type refuser struct{ signer.Signer }
+
+func (refuser) SignHead(context.Context, signer.Head, [][32]byte) ([]byte, error) {
+	return nil, signer.Refusal{Name: "older"}
+}
+
+// instead is a store that has something else under a name.
+type instead struct {
+	stores.Objects
+	name    string
+	content []byte
+}
+
+func (o instead) Get(ctx context.Context, name string, most int64) ([]byte, error) {
+	if name == o.name {
+		return o.content, nil
+	}
+	return o.Objects.Get(ctx, name, most)
+}
+
+// TestRefusedHeadThatStands: where the signer refuses a head which another node put, that is the head; not so what isn't of the state.
+func TestRefusedHeadThatStands(t *testing.T) {
+	t.Parallel()
+	p, ctx, got := newPlace(t), limited(t), &answers{}
+	s := started(t, p.config(t), hooks{})
+	must(t, got.submitAll(ctx, s, 0, 5, 5))
+	earlier := *s.seen()
+	must(t, got.submitAll(ctx, s, 5, 9, 4))
+	k := s.newestKnown()
+	node := readingNode(s)
+	node.config.Signer = refuser{node.config.Signer}
+	if head, err := node.putHead(ctx, k.state, step.Head{}, nil); err != nil || head.TreeSize != 9 {
+		t.Errorf("%d entries, %v", head.TreeSize, err)
+	}
+	node.config.Objects = instead{node.config.Objects, headName(k.state), earlier.Note}
+	_, err := node.putHead(ctx, k.state, step.Head{}, nil)
+	wants(t, err, ErrDamaged)
+}
+
+// TestIssuersThatArentRead: an issuer that isn't read now isn't damaged; one that is missing is, until it is there again.
+func TestIssuersThatArentRead(t *testing.T) {
+	t.Parallel()
+	p, ctx, got := newPlace(t), limited(t), &answers{}
+	config := p.config(t)
+	// (else it puts an issuer again that is missing)
+	config.TendEvery = time.Hour
+	s := started(t, config, hooks{})
+	must(t, got.submitAll(ctx, s, 1, 2, 1))
+	found, err := s.config.Objects.List(ctx, issuersPrefix, "", 1)
+	must(t, err)
+	node := readingNode(s)
+	objects := &unreadable{Objects: node.config.Objects}
+	node.config.Objects = objects
+	looked := newIssuers(node)
+	decoded, err := hex.DecodeString(strings.TrimPrefix(found[0], issuersPrefix))
+	must(t, err)
+	fingerprint := *(*[32]byte)(decoded)
+	isDamaged := func(many int) {
+		t.Helper()
+		if is, seen := looked.damage(); is != many {
+			t.Errorf("%d are damaged, and not %d: %s", is, many, seen)
+		}
+	}
+	objects.set(found[0], waysUnread["refused"])
+	wants(t, looked.look(ctx, fingerprint), errTried)
+	isDamaged(0)
+	objects.set(found[0], nil)
+	path := filepath.Join(p.objects(), found[0])
+	content, putBack := keeps(t, path)
+	must(t, os.Remove(path))
+	must(t, looked.look(ctx, fingerprint))
+	isDamaged(1)
+	objects.set(found[0], waysUnread["refused"])
+	wants(t, looked.look(ctx, fingerprint), errTried)
+	isDamaged(1)
+	objects.set(found[0], nil)
+	if putBack(); len(content) == 0 {
+		t.Error("an issuer without bytes")
+	}
+	must(t, looked.look(ctx, fingerprint))
+	isDamaged(0)
+}
+
+// unwellAdds fails at adding places; leaves are as unwellPlaces'.
+type unwellAdds struct{ unwellPlaces }
+
+func (unwellAdds) Add(context.Context, []stores.Placed) error { return errUnwell }
+
+// refusesPuts has the puts below a prefix fail.
+func refusesPuts(config *Config, prefix string) {
+	objects := &refusing{Objects: config.Objects, prefix: prefix}
+	objects.on.Store(true)
+	config.Objects = objects
+}
+
+// TestCommandsThatFail: where a store or the signer fails below a command, the program isn't told that it is done, and the round ends by why.
+func TestCommandsThatFail(t *testing.T) {
+	t.Parallel()
+	p, ctx, got := newPlace(t), limited(t), &answers{}
+	s := started(t, p.config(t), hooks{})
+	must(t, got.submitAll(ctx, s, 0, 5, 5))
+	k, head := s.newestKnown(), *s.seen()
+	const tile = "tile/0/000.p/5"
+	content, err := s.config.Objects.Get(ctx, tile, stores.MostObject)
+	must(t, err)
+	object := step.Object{Name: tile, Content: content, Digest: sha256.Sum256(content)}
+	turnOf := func(node *Sequencer) *turn {
+		command := *k.look
+		command.New = command.Seen
+		command.New.Bundle = stagingPrefix + strings.Repeat("0", 48)
+		of := &turn{k: k, command: &command, bundle: []byte("a bundle"), head: step.Head{Checkpoint: string(head.Note[:bytes.Index(head.Note, []byte("\n\n"))+1])}}
+		of.placed.add(stores.Identity{1}, stores.Identity{2}, stores.Place{Index: 4, Timestamp: 1})
+		of.placed.wrong = of.placed.identities
+		command.Objects = of.keep([]step.Object{object})
+		node.queue = newQueue(1, 1<<10)
+		of.batch, of.receipts = []*waiting{{ctx: ctx, done: make(chan answer, 1)}}, []step.Receipt{{LeafIndex: 0}}
+		must(t, node.queue.seat(of.batch[0]))
+		return of
+	}
+	for what, of := range map[string]struct {
+		carry  func(*Sequencer, context.Context, *turn) (decider.Told, error)
+		unwell func(*Config)
+	}{
+		"a bundle isn't put":      {(*Sequencer).doStage, func(c *Config) { refusesPuts(c, stagingPrefix) }},
+		"tiles aren't put":        {(*Sequencer).doPut, func(c *Config) { refusesPuts(c, tilesPrefix) }},
+		"identities aren't added": {(*Sequencer).doPlace, func(c *Config) { c.Places = unwellAdds{unwellPlaces{Places: c.Places}} }},
+		"leaves aren't added": {(*Sequencer).doPlace, func(c *Config) {
+			c.Places = unwellPlaces{Places: c.Places, leaves: unwellAdds{unwellPlaces{Places: c.Places.Leaves()}}}
+		}},
+		"wrong places aren't set":    {(*Sequencer).doPlace, func(c *Config) { c.Places = unwellPlaces{Places: c.Places, replaces: true} }},
+		"a head isn't put":           {(*Sequencer).doHead, func(c *Config) { refusesPuts(c, headsPrefix) }},
+		"a head isn't published":     {(*Sequencer).doHead, func(c *Config) { c.Register = unraised{c.Register} }},
+		"the signer gives no head":   {(*Sequencer).doHead, func(c *Config) { c.Signer = &unwellSigner{Signer: c.Signer, asks: true} }},
+		"timestamps aren't signed":   {(*Sequencer).doAnswer, func(c *Config) { c.Signer = &unwellSigner{Signer: c.Signer, asks: true} }},
+		"the register isn't swapped": {(*Sequencer).doSwap, func(c *Config) { c.Register = unswapped{c.Register} }},
+	} {
+		node := readingNode(s)
+		of.unwell(&node.config)
+		turn := turnOf(node)
+		told, err := of.carry(node, ctx, turn)
+		if told != nil || !errors.Is(err, errTried) && !errors.Is(err, errUnwell) {
+			t.Errorf("%s: %v, %v", what, told, err)
+		}
+		if len(turn.batch[0].done) > 0 || turn.answered || node.rolled != "" {
+			t.Errorf("%s: somebody is answered, or it counts as rolled out", what)
+		}
+	}
+	for what, carry := range map[string]func(*Sequencer, context.Context, *turn) (decider.Told, error){
+		"stage": (*Sequencer).doStage, "put": (*Sequencer).doPut, "place": (*Sequencer).doPlace, "head": (*Sequencer).doHead,
+	} {
+		node := readingNode(s)
+		if told, err := carry(node, ctx, turnOf(node)); err != nil || told["came"] != "done" {
+			t.Errorf("where all is well: %s: %v, %v", what, told, err)
+		}
+	}
+}
+
+// unswapped is a register that can't be swapped, and says that it isn't.
+type unswapped struct{ stores.Register }
+
+func (unswapped) Swap(context.Context, string, string) error { return errUnwell }
