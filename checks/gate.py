@@ -1,6 +1,7 @@
 #!/usr/bin/env python3
 """Runs `rt ci`, the merge gate, and prints each of its lines behind the time so far. Its last line, 'N passed, M failed', is printed once
-more, with the tests of the Go part in it, of which the file COUNT in the environment has how many passed and failed; the status is that of `rt ci`.
+more, with the tests of the Go part in it, of which the file COUNT in the environment has how many passed and failed, and the programs that did what
+their own words ask for (tests/command_lines.py), once `rt ci` has built them; the status is that of `rt ci`, or 1 where one of these failed.
 
 `rt ci` tells of a crate when it is done, and not how many of its functions are proved so far; while it tells nothing, a line a minute says
 how long it has been at work.
@@ -175,8 +176,19 @@ def with_go(last):
     return f"{passed} passed, {failed} failed"
 
 
+def with_words(last):
+    """The last line with the programs that are given words of their own, and how many of them failed; none where `rt ci` wasn't at its end."""
+    found, script = re.fullmatch(r"(\d+) passed, (\d+) failed", last), ROOT / "tests" / "command_lines.py"
+    if not found or not script.is_file():
+        return last, 0
+    tried = subprocess.run([sys.executable, script], stdout=subprocess.PIPE, stderr=subprocess.STDOUT, text=True)
+    print(tried.stdout, end="", flush=True)
+    passed, failed = len(re.findall(r" as due$", tried.stdout, re.M)), 1 if tried.returncode else 0
+    return f"{int(found[1]) + passed} passed, {int(found[2]) + failed} failed", failed
+
+
 def run():
-    """Runs `rt ci` and tells of it; the answer is its status."""
+    """Runs `rt ci` and tells of it; the answer is its status, or 1 where a program doesn't do what its words ask for."""
     start, said = time.monotonic(), time.monotonic()
     ended, telling = threading.Event(), threading.Lock()
 
@@ -204,8 +216,9 @@ def run():
         # (where this program is ended, what it has begun is too)
         gate.terminate()
     ended.set()
+    last, failed = with_words(last) if status == 0 else (last, 0)
     print(with_go(last), flush=True)
-    return status if status >= 0 else 1
+    return failed if status == 0 else max(status, 1)
 
 
 if __name__ == "__main__":

@@ -116,6 +116,21 @@ def try_counted(repository):
     os.environ.pop("COUNT")
 
 
+def try_words(repository):
+    """Behind a gate whose proofs passed the built programs are given words of their own, which its last line counts, and its status tells."""
+    script = repository.folder / "tests" / "command_lines.py"
+    script.parent.mkdir()
+    for end, rt, due, last in (
+        ("", "echo 3 passed, 0 failed", 0, "5 passed, 0 failed"),
+        ("sys.exit(1)", "echo 3 passed, 0 failed", 1, "5 passed, 1 failed"),
+        ("", "echo 2 passed, 1 failed; exit 1", 1, "2 passed, 1 failed"),
+    ):
+        script.write_text(f"import sys\nprint('one: 7 command lines as due')\nprint('two: 8 command lines as due')\nprint('three: other')\n{end}\n")
+        ended, said = repository.run("checks/gate.py", rt=rt)
+        hold(f"a gate whose programs end with {end or 'status 0'}", (ended, said.splitlines()[-1]), (due, last))
+    shutil.rmtree(script.parent)
+
+
 def try_left(repository):
     """What a gate that was killed has left in must-fail is taken out, whole or cut off, and no other edit; not while a gate is at work."""
     repository.put("must-fail", LEFT)
@@ -244,7 +259,7 @@ def try_sockets(folder):
 
 
 def main():
-    for case in (try_gate, try_counted, try_left, try_rooms, try_ended, try_prove, try_build, try_order):
+    for case in (try_gate, try_counted, try_words, try_left, try_rooms, try_ended, try_prove, try_build, try_order):
         with tempfile.TemporaryDirectory() as folder:
             case(Repository(pathlib.Path(folder)))
     with tempfile.TemporaryDirectory() as folder:

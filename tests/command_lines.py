@@ -1,0 +1,131 @@
+#!/usr/bin/env python3
+"""Gives the built programs over lines words of their own: command_lines.py [FOLDER]
+
+Std's contracts don't say which words a process has, and what its standard streams hold, so no clause sees a program that passes over its words, or
+reads where it is asked for help. FOLDER has the built programs, each as NAME/out/NAME (crates, where it isn't given; `rt run -- --help` in
+crates/NAME builds one). Each that is there is given its stored lines, and then the same lines under words that ask for help, for the version, and for
+nothing that there is; a word that isn't UTF-8; an input that can't be read, and outputs that can't be written. What is due is what the program's page
+says, and its stored run. Where no lines are asked for, none are read. Those that aren't built are named. The status is 1 where something isn't so, and
+where none is built.
+"""
+import os
+import pathlib
+import subprocess
+import sys
+import tempfile
+
+from sweep import CRATES
+
+VERSION = (CRATES.parent / "VERSION").read_text().strip()
+UNREADABLE = b"\xff"
+LIMIT = 60
+# Of each program: its page, its exit statuses, words that its options take, and words that ask for nothing that there is.
+OPTIONLESS = [["lines"], ["--origin", "log.example"], ["-"], [""], ["--Help"]]
+PROGRAMS = {
+    "ctmonitor": ("docs/MONITOR.md", "01234", ["--name", "a.example"], [["lines"], ["--name"], ["--name", "a", "--name"], ["--names", "a"], [""], ["a" * 3000]]),
+    "ctguard": (
+        "docs/GUARD.md",
+        "0124",
+        ["--origin", "a", "--receipts", "promised", "--origin", "b", "--receipts", "in-head"],
+        [["lines"], ["--origin"], ["--origin", ""], ["--origin", "a\nb"], ["--receipts", "some"], ["--origin", "a", "--origins", "b"], [""], ["a" * 3000]],
+    ),
+    "cttile": ("docs/GROWTH.md", "0124", ["--origin", "a"] * 5, [["lines"], ["--origin"], ["--origin", ""], ["--origin", "a\nb"], ["--receipts", "promised"], [""]]),
+    "ctproof": ("docs/TILES.md", "0124", [], OPTIONLESS),
+    "ctwitness": ("docs/WITNESS.md", "0124", [], OPTIONLESS),
+    "ctnode": ("docs/NODE.md", "0124", [], OPTIONLESS),
+}
+
+
+class Other(Exception):
+    """Something isn't as it is due."""
+
+
+def ran(program, words, source, sink=subprocess.PIPE):
+    """The status of a run over a file, what it wrote, what it told, and how many bytes of the file it read."""
+    with open(source, "rb") as lines:
+        run = subprocess.run([program, *words], stdin=lines, stdout=sink, stderr=subprocess.PIPE, timeout=LIMIT)
+        read = os.lseek(lines.fileno(), 0, os.SEEK_CUR)
+    return run.returncode, run.stdout, run.stderr, read
+
+
+def due(what, found, wanted):
+    if found != wanted:
+        raise Other(f"{what}: {str(found)[:300]} and not {str(wanted)[:300]}")
+
+
+def judge_help(name, page, statuses, text):
+    """Whether help says how the program is called, where its page is, and what its exit statuses are."""
+    lines = text.decode().splitlines()
+    due("help begins", lines[0].lower().startswith(f"usage: {name}"), True)
+    due(f"help names {page}", page in text.decode(), True)
+    due("exit statuses", "".join(line.split()[0] for line in lines[lines.index("Exit status:") + 1 :]), statuses)
+
+
+def judge_words(name, program, lines):
+    """Judges what a program does by its words alone, and answers how many runs that are."""
+    page, statuses, options, refused = PROGRAMS[name]
+    (status, usage, told, read), runs = ran(program, ["--help"], lines), 1
+    due("--help", (status, told, read), (0, b"", 0))
+    judge_help(name, page, statuses, usage)
+    for words in (["-h"], [*options, "--help", "lines"], [*options, "-h", ""]):
+        due(" ".join(words), ran(program, words, lines), (0, usage, b"", 0))
+        runs += 1
+    for words in (["--version"], [*options, "--version", "--help"], *([["-V"]] if name == "ctmonitor" else [])):
+        due(" ".join(words), ran(program, words, lines), (0, f"{name} {VERSION}\n".encode(), b"", 0))
+        runs += 1
+    for words in refused:
+        status, written, told, read = ran(program, words, lines)
+        due(repr(words)[:80], (status, written, read), (2, b"", 0))
+        due(f"{words!r:.80} told", told.startswith(b"error: ") if name == "ctmonitor" else told == usage, True)
+        runs += 1
+    for words in ([UNREADABLE], [*options, UNREADABLE], ["--help", UNREADABLE]):
+        status, written, told, read = ran(program, words, lines)
+        if name == "ctmonitor":
+            due("a word that isn't UTF-8", (status, written, read, told.startswith(b"error: an argument isn't UTF-8\n")), (2, b"", 0, True))
+        else:
+            due("a word that isn't UTF-8", (status, written, told, read), (1, b"", f"{name}: read\n".encode(), 0))
+        runs += 1
+    return runs
+
+
+def judge_streams(name, program, lines):
+    """Judges what it does over its stored lines, over an input that can't be read, and where its output can't be written; and answers how many runs that are."""
+    own = CRATES / name
+    words = (own / "args").read_text().splitlines() if (own / "args").exists() else []
+    status = int((own / "status").read_text()) if (own / "status").exists() else 0
+    due("its stored run", ran(program, words, lines), (status, (own / "stdout").read_bytes(), b"", len(lines.read_bytes())))
+    with tempfile.TemporaryDirectory() as folder:
+        source = os.open(folder, os.O_RDONLY)
+        try:
+            run = subprocess.run([program, *words], stdin=source, capture_output=True, timeout=LIMIT)
+        finally:
+            os.close(source)
+    due("an input that is a folder", (run.returncode, run.stdout, run.stderr), (1, b"", f"{name}: read\n".encode()))
+    for asked in (words, ["--help"], ["--version"]):
+        with open("/dev/full", "wb") as full:
+            status, _, told, _ = ran(program, asked, lines, full)
+        due(f"{asked} where the output is full", (status, told), (1, f"{name}: write\n".encode()))
+    return 5
+
+
+def main():
+    built = pathlib.Path(sys.argv[1]) if len(sys.argv) > 1 else CRATES
+    programs = {name: built / name / "out" / name for name in PROGRAMS}
+    if not any(program.exists() for program in programs.values()):
+        sys.exit(f"command_lines.py: no program is built in {built}")
+    others = 0
+    for name, program in programs.items():
+        if not program.exists():
+            print(f"{name} isn't built, and wasn't tried")
+            continue
+        lines = CRATES / name / "stdin"
+        try:
+            print(f"{name}: {judge_words(name, program, lines) + judge_streams(name, program, lines)} command lines as due")
+        except (Other, subprocess.TimeoutExpired) as other:
+            print(f"{name}: {other}")
+            others += 1
+    sys.exit(1 if others else 0)
+
+
+if __name__ == "__main__":
+    main()
