@@ -126,7 +126,7 @@ container: ## builds the image of service/Containerfile out of a release's packa
 	@checks/needs.sh service
 	@PYTHONDONTWRITEBYTECODE=1 tests/bare/container.py --built "$(BUILT)"
 
-# As root, with the kit. What it lists beside it isn't run by it, with the reason or what runs it.
+# As root, with the kit. It lists what others run.
 pages: ## runs the commands of README.md and of the other pages in a fresh clone, as they stand and in their order: what is quick without the kit, the gate runs
 	@checks/needs.sh test
 	@PYTHONDONTWRITEBYTECODE=1 tests/pages.py

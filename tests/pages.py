@@ -4,11 +4,12 @@ the kit: all of README.md's but the gate, of the other pages those that readme.p
 
     pages.py [--only WORD].. [--long] [--anew] [--keep]
 
-As root: it runs in a network of its own, which has loopback alone, so that ports are as typed, and over /usr/local, /etc and /var lies what goes at the
-end, so that `make install` and `ldconfig` are, too. What a command serves stays until its page ends, or another one serves; then it is
-interrupted, as by Ctrl-C. What is proved in this checkout goes along, and rt looks whether it is of these sources; with --anew it doesn't, and all is
-proved, in hours. With --long it runs those that take a quarter of an hour and more, too; with --only the commands that have one of these words. It prints each command with its seconds, and what isn't run with the reason, and ends with status 1 at the first that
-does something else than its page says.
+As root: it runs in a network of its own, which has loopback alone, so that ports are as typed, and over /usr/local, /etc and others lies what goes at the
+end, so that `make install`, `ldconfig` and `useradd` are, too. What a command serves stays until its page ends, or another one serves that doesn't stand
+on it; then it is interrupted, as by Ctrl-C. The token whose key a page names is softhsm's, made here (Debian's softhsm2, opensc and
+libengine-pkcs11-openssl). What is proved in this checkout goes along, and rt looks whether it is of these sources; with --anew it doesn't, and all is
+proved, in hours. With --long it runs those that take a quarter of an hour and more, too; with --only the commands that have one of these words. It prints
+each command with its seconds, and by what the others are run, and ends with status 1 at the first that does something else than its page says.
 """
 import argparse
 import ctypes
@@ -27,7 +28,7 @@ sys.path += [str(ROOT / "tests" / "bare"), str(ROOT / "checks")]
 
 from bare import Network  # noqa: E402
 from documents import pages  # noqa: E402
-from readme import BLOCK, CHECKPOINT, FOUND, LONG, NOT_RUN, PAGES, SIGNED, TARGETS, commands, elsewhere, run_by, targets  # noqa: E402
+from readme import BLOCK, CHECKPOINT, FOUND, LONG, PAGES, SIGNED, TARGETS, commands, elsewhere, run_by, targets  # noqa: E402
 
 README = ROOT / "README.md"
 NEW_MOUNTS = 0x00020000
@@ -35,9 +36,22 @@ NEW_MOUNTS = 0x00020000
 PROVES, WITHIN = 4 * 3600, 1800
 PROVING = ("make demo", "make programs", "make serve", "make link", "make check", "make wrong", "(cd crates", "make reproduce", "make service-", "make load", "make sweep")
 # What serves until it is interrupted, by what it says once it does.
-SERVING = {"make serve-ctlogd": "http://127.0.0.1:8618 with ", "make serve-witness": '"event":"serving"', "make serve": '"event":"serving"'}
-# What a page says is built before a command, and what ends what goes on behind one.
-BEFORE = {"make load": "(cd crates/house_tests && rt test)", "make sweep": "(cd crates/memory_tests && rt test)"}
+FRONT = "http://127.0.0.1:8618 with "
+SERVING = {"make serve-ctlogd": FRONT, "make serve-witness": '"event":"serving"', "make serve": '"event":"serving"', "runuser -u ct-front": FRONT, "examples/http/front.py": FRONT}
+# What listens at a socket until it is interrupted, and what serves over that.
+LISTENING, OVER = {"runuser -u ct-signer": "/run/ct/signer"}, "runuser -u ct-front"
+# What a page says is built or there before a command, and what ends what goes on behind one.
+TOKEN = """set -e
+pin=$(printf 8765 | tee /etc/ct/pin)
+softhsm2-util --init-token --free --label ct-log --so-pin 12345678 --pin "$pin"
+pkcs11-tool --module "$(ls /usr/lib/softhsm/libsofthsm2.so /usr/lib/*-linux-gnu/softhsm/libsofthsm2.so 2>/dev/null | head -n 1)" --login --pin "$pin" --keypairgen --key-type EC:prime256v1 --id 01 --label log
+"""
+BEFORE = {
+    "make load": ["(cd crates/house_tests && rt test)"], "make sweep": ["(cd crates/memory_tests && rt test)"], "examples/http/front.py --key": ["mkdir /etc/ct", TOKEN],
+    # (what lies there is of a front with the token's key)
+    "make serve-ctlogd": ["rm -rf ct-state"],
+    "useradd --system ct-signer": ["(cd crates/ctguard && rt run -- --version)", "(cd crates/ctlogd && rt run -- --version)"],
+}
 ENDS = {"make cluster": "make cluster-stop"}
 # The status and the form of what others print, by how they begin; else any with status 0.
 DUE = {
@@ -61,7 +75,7 @@ def own_mounts(work):
     over = work / "over"
     over.mkdir()
     subprocess.run(["mount", "-t", "tmpfs", "tmpfs", over], check=True)
-    for folder in ("/usr/local", "/etc", "/var/cache"):
+    for folder in filter(os.path.isdir, ("/usr/local", "/etc", "/var/cache", "/var/lib/softhsm", "/srv", "/run")):
         upper, use = over / folder.replace("/", "_"), over / f"{folder.replace('/', '_')}.work"
         upper.mkdir()
         use.mkdir()
@@ -84,7 +98,7 @@ class Clone:
     """A fresh clone, and what runs in it."""
 
     def __init__(self, work, anew):
-        self.top, self.serving, self.count = work / "wagtenib", None, 0
+        self.top, self.serving, self.count = work / "wagtenib", [], 0
         self.output, self.faults = work / "output", work / "faults"
         subprocess.run(["git", "clone", "--quiet", ROOT, self.top], check=True)
         for proved in [] if anew else [*ROOT.glob("crates/*/out/rlib"), *ROOT.glob("crates/*/out/incremental")]:
@@ -104,16 +118,21 @@ class Clone:
 
     def run(self, command):
         """Runs a command, or starts it, and sees that it does what is due."""
-        if command in BEFORE:
-            self.run(BEFORE[command])
+        for beginning, before in BEFORE.items():
+            if command.startswith(beginning):
+                for other in before:
+                    self.run(other)
         print(f"$ {command}", flush=True)
         self.count += 1
         begun = time.monotonic()
         if command.startswith("cc program.c"):
             self.program_in_c()
-        serves = next((says for beginning, says in SERVING.items() if command.split("#")[0].strip() == beginning), None)
+        serves = next((says for beginning, says in SERVING.items() if re.match(rf"{beginning}( *#| -|$)", command)), None)
+        listens = next((path for beginning, path in LISTENING.items() if command.startswith(beginning)), None)
         if serves:
-            self.serve(command, serves)
+            self.serve(command, lambda: serves in self.told())
+        elif listens:
+            self.serve(command, lambda: os.path.exists(listens))
         else:
             self.await_end(command)
         if command.startswith("cc program.c"):
@@ -136,12 +155,13 @@ class Clone:
         if ended != status or not re.fullmatch(form, said):
             fail(f"{command}: status {ended} where {status} is due: {self.told()[-6000:]}")
 
-    def serve(self, command, says):
-        self.end()
-        self.serving = self.start(command)
+    def serve(self, command, does):
+        if not command.startswith(OVER):
+            self.end()
+        self.serving.append(self.start(command))
         last = time.monotonic() + PROVES
-        while says not in self.told():
-            if self.serving.poll() is not None or time.monotonic() > last:
+        while not does():
+            if self.serving[-1].poll() is not None or time.monotonic() > last:
                 fail(f"{command} doesn't serve: {self.told()[-6000:]}")
             time.sleep(0.3)
 
@@ -159,9 +179,8 @@ class Clone:
         process.wait()
 
     def end(self):
-        if self.serving:
-            self.interrupt(self.serving)
-            self.serving = None
+        while self.serving:
+            self.interrupt(self.serving.pop())
 
     def program_in_c(self):
         """Writes program.c: the block in C of the page on linking, of a tree of one leaf."""
@@ -192,6 +211,8 @@ def main():
         fail("it wants root, and the kit on the PATH")
     elsewhere()
     work = pathlib.Path(tempfile.mkdtemp(prefix="pages-"))
+    # (users of their own read it, too)
+    work.chmod(0o755)
     Network()
     own_mounts(work)
     clone = Clone(work, given.anew)
@@ -206,8 +227,7 @@ def main():
                     done.add(command)
             clone.end()
         by = {runs: [command for command, other in left.items() if other == runs] for runs in dict.fromkeys(left.values())}
-        print("Not run here: " + ", ".join(f"{len(given)} by {runs}" for runs, given in by.items() if runs not in NOT_RUN) + "; and by no test:")
-        print("".join(f"    {command} (wants {runs})\n" for runs in NOT_RUN for command in by.get(runs, [])), end="")
+        print("Not run here: " + ", ".join(f"{len(given)} by {runs}" for runs, given in by.items()) + ".")
         of, kit = (subprocess.run(words, cwd=ROOT, capture_output=True, text=True).stdout.strip() for words in (["git", "rev-parse", "--short=12", "HEAD"], ["rt", "version"]))
         print(f"pages.py: {clone.count} commands do what their pages say, in a fresh clone of {of}, with {kit}.")
     finally:

@@ -7,7 +7,7 @@ else that of expected.py. A command of README.md that this script doesn't know i
 that isn't as README.md has it. Where Go or one of its packages isn't installed, it says so, and runs none that needs them.
 
 A command of another page stands in ELSEWHERE, and a target of the Makefile that a page names in its text in TARGETS, each with what runs it: this
-script, in that copy; bare/bare.py, on a bare Debian with the packages of a release; pages.py, in a fresh clone with the kit; or nothing, with the reason.
+script, in that copy; bare/bare.py, on a bare Debian with the packages of a release; or pages.py, in a fresh clone with the kit.
 One that doesn't is a fault, and so is one that stands there and on no page.
 """
 import json
@@ -125,24 +125,21 @@ class Page:
 
 
 HERE, BARE, PAGES, LONG, GATE = "readme.py", "make bare", "make pages", "pages.py --long", "make test"
-# What isn't run by a test, and why.
-NET, KEY, USERS, ANY = "the net", "a key of somebody's witness", "users, or a token, of an operator's own", "a crate's name"
-NOT_RUN = (NET, KEY, USERS, ANY)
 # The commands of the other pages, each by how it begins, and what runs it.
 ELSEWHERE = {
     "docs/OPERATING.md": {"": BARE},
-    "docs/MONITOR.md": {"apt-get": BARE, "LOG=tiled+": BARE, "ctmonitor-watch --logs https://": NET, "ctmonitor-log-list https://": NET, "ctmonitor-audit": NET, "cat > /etc/ctmonitor-watch.conf": BARE, "systemctl": BARE, "mkdir -p ct-watch": BARE},
+    "docs/MONITOR.md": {"apt-get": BARE, "LOG=tiled+": BARE, "ctmonitor-watch --logs https://": BARE, "ctmonitor-log-list https://": BARE, "ctmonitor-audit": BARE, "cat > /etc/ctmonitor-watch.conf": BARE, "systemctl": BARE, "mkdir -p ct-watch": BARE},
     "docs/TILES.md": {"(cd crates/print_steps && rt run)": PAGES, "make tiles": PAGES},
     "examples/README.md": {"examples/pem_lines.py": HERE, "examples/bad_lines.py": HERE},
-    "examples/http/README.md": {"runuser": USERS, "examples/http/front.py --key": USERS},
+    "examples/http/README.md": {"useradd": PAGES, "install -d": PAGES, "runuser": PAGES, "examples/http/front.py --key": PAGES},
     "examples/link/README.md": {"make link": PAGES, "make install": PAGES, "ldconfig": PAGES, "cc program.c": PAGES},
     "release/README.md": {"make programs release": PAGES, "cd release/out && sha256sum": PAGES, "apt-get install": BARE},
     "service/README.md": {"make service-engines": PAGES, "make service-test": GATE, "make service": HERE, "openssl genpkey": BARE, "cp 2027h1.pem": BARE, "cat > /etc/ctwitness/a.conf": BARE,
-                          "runuser -u ctwitness": BARE, "systemctl": BARE, "LOG=tiled+https://log.example ctmonitor-watch --cosign": KEY},
+                          "runuser -u ctwitness": BARE, "systemctl": BARE, "LOG=tiled+https://2027h1.log.example ctmonitor-watch --cosign": BARE},
 }
 # What the pages name in their text, README.md's tables too.
 TARGETS = {
-    "make test": GATE, "make test TURN=0": GATE, "make sources": GATE, "make service-test": GATE, "make bare": "itself", "make container": "itself", "make pages": "itself", "make wrong CRATE=..": ANY,
+    "make test": GATE, "make test TURN=0": GATE, "make sources": GATE, "make service-test": GATE, "make bare": "itself", "make container": "itself", "make pages": "itself",
     **dict.fromkeys(("make check", "make wrong CRATE=ct_guard", "make service-race", "make service-faults", "make load", "make sweep", "make fuzz SECONDS=180"), LONG),
     **dict.fromkeys(("make serve", "make demo", "make install", "make release", "make programs", "make link", "make service", "make service-clients",
                      "make service-engines", "make serve-witness", "make serve-ctlogd", "make interop", "make cluster", "make fuzz", "make reproduce", "make demo install"), PAGES),
@@ -241,8 +238,7 @@ def main():
     for target, runs in TARGETS.items():
         by.setdefault(runs, []).append(target)
     print(f"README.md: {page.count} commands do what it says, in its order, where nothing is built{left_out}.")
-    print(f"The other pages have {sum(map(len, others.values()))} commands, and all name {len(TARGETS)} targets: " + ", ".join(f"{len(given)} by {runs}" for runs, given in by.items() if runs not in NOT_RUN)
-          + "; run by no test: " + "; ".join(f"{command} (wants {runs})" for runs in NOT_RUN for command in by.get(runs, [])) + ".")
+    print(f"The other pages have {sum(map(len, others.values()))} commands, and all name {len(TARGETS)} targets: " + ", ".join(f"{len(given)} by {runs}" for runs, given in by.items()) + ".")
 
 
 if __name__ == "__main__":

@@ -449,7 +449,7 @@ def main():
     if page.returncode:
         fail(page.stderr.decode())
     sys.stdout.write(page.stdout.decode())
-    for script in ("watch_check.py", "show_check.py"):
+    for script in ("watch_check.py", "show_check.py", "audit_check.py"):
         watched = run(f"monitor/{script}")
         if watched.returncode:
             fail(f"monitor/{script}: {watched.stderr.decode()}")

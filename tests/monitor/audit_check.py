@@ -24,7 +24,6 @@ from watch_check import LEAVES, MANY, MANY_TEXTS, MONITOR, Signed, SignedTiles, 
 TESTS = pathlib.Path(__file__).resolve().parent.parent
 BUILT = TESTS.parent / "crates" / "ctproof" / "out" / "ctproof"
 MOMENT, DAY, INDEX = answers.MOMENT, 86_400_000, 300
-LIST = bytes.fromhex("060a2b06010401d679020402")
 
 
 def fail(why):
@@ -40,9 +39,9 @@ class Promised:
 
     def __init__(self, folder):
         made = Made(folder)
-        self.certificate, self.issuer, self.other = (made.certificate("plain", serial) for serial in ("0x10", "0x11", "0x12"))
+        self.certificate, self.issuer, self.other = (made.certificate("plain", serial) for serial in ("10", "11", "12"))
         openssl("ecparam", "-name", "prime256v1", "-genkey", "-noout", "-out", made.key)
-        self.stranger = made.certificate("plain", "0x13")
+        self.stranger = made.certificate("plain", "13")
         self.tbs = promises.tbs_of(self.certificate)
         self.key_hash = answers.merkle.sha256(promises.key_of(promises.tbs_of(self.issuer)))
 
@@ -60,15 +59,9 @@ class Promised:
         return head + vector(2, extensions) + b"\4\3" + vector(2, signature)
 
     def with_list(self, *timestamps):
-        """The certificate with a list of timestamps behind its extensions (section 3.3)."""
-        fields = promises.only(0x30, self.tbs, "tbs")
-        rest = promises.after(promises.FIELDS, fields)
-        listed = promises.only(0x30, promises.only(0xA3, rest, "extensions"), "extensions") if rest else b""
-        value = promises.written(4, vector(2, b"".join(vector(2, one) for one in timestamps)))
-        listed += promises.written(0x30, LIST + promises.written(4, value))
-        tbs = promises.written(0x30, fields[: len(fields) - len(rest)] + promises.written(0xA3, promises.written(0x30, listed)))
+        """The certificate with a list of timestamps behind its extensions."""
         outer = promises.only(0x30, self.certificate, "certificate")
-        return promises.written(0x30, tbs + outer[len(self.tbs) :])
+        return promises.written(0x30, promises.with_timestamps(self.tbs, *timestamps) + outer[len(self.tbs) :])
 
 
 class TiledLog(SignedTiles):
