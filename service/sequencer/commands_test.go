@@ -9,6 +9,7 @@ import (
 	"path/filepath"
 	"strings"
 	"sync"
+	"sync/atomic"
 	"testing"
 	"time"
 
@@ -192,5 +193,38 @@ func TestOvertakenBehindASwap(t *testing.T) {
 			t.Errorf("%d stands at %d", at, index)
 		}
 	}
+	p.right(t, got)
+}
+
+// TestAnotherIsWaitedFor: a state that another node set a moment ago, and hasn't rolled out yet, is left to that one for a while; behind that its bundle is read.
+func TestAnotherIsWaitedFor(t *testing.T) {
+	t.Parallel()
+	p, ctx, got := newPlace(t), limited(t), &answers{}
+	var holds atomic.Bool
+	held, release := make(chan struct{}), make(chan struct{})
+	s := started(t, p.config(t), hooks{phase: func(name string) {
+		if name == "swapped" && holds.CompareAndSwap(true, false) {
+			close(held)
+			<-release
+		}
+	}})
+	must(t, got.submitAll(ctx, s, 0, 5, 5))
+	holds.Store(true)
+	done := make(chan error, 1)
+	go func() { done <- got.submitAll(ctx, s, 5, 6, 1) }()
+	<-held
+	other := readingNode(s)
+	other.heard = time.Now()
+	k, err := other.learn(ctx)
+	must(t, err)
+	if told, err := other.doLook(ctx, &turn{k: k, command: k.look}); told != nil || err != nil || other.helped.Load() != 0 {
+		t.Errorf("at once: %v, %v", told, err)
+	}
+	k.seen = time.Now().Add(-2 * helpsAfter)
+	if told, err := other.doLook(ctx, &turn{k: k, command: k.look}); err != nil || told["came"] != "bundle" || other.helped.Load() != 1 {
+		t.Errorf("behind a while: %v, %v", told, err)
+	}
+	close(release)
+	must(t, <-done)
 	p.right(t, got)
 }

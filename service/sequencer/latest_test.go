@@ -202,6 +202,8 @@ func TestOutgrown(t *testing.T) {
 	config.Register = register
 	here := started(t, config, hooks{})
 	must(t, got.submitAll(ctx, here, 0, 20, 4))
+	// (one that goes while it is copied ends that)
+	eventually(t, "the bundle before is deleted", func() bool { return len(staged(t, p)) == 1 })
 	other := p.copied(t, "objects", "register", "places.db", "guard")
 	must(t, got.submitAll(ctx, here, 20, 40, 4))
 	register.on.Store(true)

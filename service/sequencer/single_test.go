@@ -206,6 +206,9 @@ func TestSameStep(t *testing.T) {
 	s := started(t, config, hooks{})
 	must(t, got.submitAll(ctx, s, 0, 5, 5))
 	eventually(t, "one bundle is left", func() bool { return len(staged(t, p)) == 1 })
+	if f := s.Figures(); f.LostSwaps != 1 {
+		t.Errorf("%d swaps are counted as lost", f.LostSwaps)
+	}
 	p.right(t, got)
 }
 

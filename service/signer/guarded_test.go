@@ -438,7 +438,7 @@ func TestStates(t *testing.T) {
 		of := Guard{Command: guard, State: register(t, t.TempDir()), Receipts: InHead}
 		_, err := Behind(ctx, key, of)
 		wants(t, err, ErrState)
-		for _, text := range []string{"x", `{"guard":2,"last":null}`, `{"guard":1,"last":{}}`, `{"last":null,"guard":1}`, stateOf(&first)[1:],
+		for _, text := range []string{"x", `{"guard":2,"last":null}`, `{"guard":1,"last":{}}`, `{"last":null,"guard":1}`, `{"guard": 1, "last": null}`, stateOf(&first)[1:],
 			strings.Replace(stateOf(&first), `"tree_size":5`, `"tree_size":05`, 1), strings.Replace(stateOf(&first), `"timestamp"`, `"x":1,"timestamp"`, 1)} {
 			of := Guard{Command: guard, State: register(t, t.TempDir()), Receipts: InHead}
 			must(t, of.State.Create(ctx, text))
@@ -1207,11 +1207,47 @@ func TestLines(t *testing.T) {
 	for i, line := range replies {
 		var came reply
 		must(t, json.Unmarshal([]byte(line), &came))
+		if i == 6 && !strings.Contains(came.Failed, "4097 timestamps at once") {
+			t.Errorf("more than may be asked for at once: %s", line)
+		}
 		if wanted := i == len(lines)-1; (len(came.Signatures) == 1) != wanted || !wanted && i != len(lines)-2 && came.Failed+came.Refused == "" {
 			t.Errorf("%.80s: %s", lines[i], line)
 		}
 	}
 	if err := Serve(limited(t), g, strings.NewReader("half a line"), &told); err != nil {
 		t.Error(err)
+	}
+}
+
+// unable is a signer that signs no head, and says why.
+type unable struct {
+	Signer
+	why error
+}
+
+func (s unable) SignHead(context.Context, Head, [][32]byte) ([]byte, error) { return nil, s.why }
+
+// TestFailuresByLines: why a signer in another process signs nothing comes through as what it is: another head that was let through, a state that isn't one, a refusal with
+// its name, and anything else as a process that is gone.
+func TestFailuresByLines(t *testing.T) {
+	t.Parallel()
+	ctx, key := limited(t), newKey(t)
+	for _, of := range []struct{ why, kind, not error }{
+		{fmt.Errorf("x: %w", ErrMoved), ErrMoved, ErrState},
+		{fmt.Errorf("x: %w", ErrState), ErrState, ErrMoved},
+		{TooFar, TooFar, ErrMoved},
+		{errors.New("x"), pipe.ErrGone, ErrRefused},
+	} {
+		path := filepath.Join(t.TempDir(), "socket")
+		listener, err := listenAt(path)
+		must(t, err)
+		t.Cleanup(func() { listener.Close() })
+		go func(s Signer) { _ = newClients().serve(ctx, s, listener) }(unable{key, of.why})
+		c, err := Ask(ctx, func(ctx context.Context) (*pipe.End, error) { return pipe.Dial(ctx, path, MostLine) }, 20*time.Second)
+		must(t, err)
+		t.Cleanup(func() { c.Close() })
+		if _, err := c.SignHead(ctx, Head{Size: 1, Moment: 1}, nil); !errors.Is(err, of.kind) || errors.Is(err, of.not) {
+			t.Errorf("%v comes as %v", of.why, err)
+		}
 	}
 }
