@@ -217,6 +217,8 @@ func TestAnotherIsWaitedFor(t *testing.T) {
 	other.heard = time.Now()
 	k, err := other.learn(ctx)
 	must(t, err)
+	// (it doesn't get late here)
+	k.seen = time.Now().Add(longest)
 	if told, err := other.doLook(ctx, &turn{k: k, command: k.look}); told != nil || err != nil || other.helped.Load() != 0 {
 		t.Errorf("at once: %v, %v", told, err)
 	}

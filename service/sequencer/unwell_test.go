@@ -14,6 +14,7 @@ import (
 	"time"
 
 	"wagtenib/service/decider"
+	"wagtenib/service/log"
 	"wagtenib/service/signer"
 	"wagtenib/service/step"
 	"wagtenib/service/stores"
@@ -320,3 +321,92 @@ func TestCommandsThatFail(t *testing.T) {
 type unswapped struct{ stores.Register }
 
 func (unswapped) Swap(context.Context, string, string) error { return errUnwell }
+
+// TestHeadOfAnotherRoot: at a start the store's newest head isn't given where it has another root than the register's text; the loop says so then.
+func TestHeadOfAnotherRoot(t *testing.T) {
+	t.Parallel()
+	p, ctx, got := newPlace(t), limited(t), &answers{}
+	s := started(t, p.config(t), hooks{})
+	must(t, got.submitAll(ctx, s, 0, 5, 5))
+	k := s.newestKnown()
+	node := readingNode(s)
+	must(t, node.takeUpHead(ctx, stores.Published{}, k))
+	if head := node.seen(); head == nil || head.TreeSize != 5 {
+		t.Errorf("where it is the register's: %v", head)
+	}
+	k.state.Root[0] ^= 1
+	node = readingNode(s)
+	must(t, node.takeUpHead(ctx, stores.Published{}, k))
+	if head := node.seen(); head != nil {
+		t.Errorf("%+v is given", head)
+	}
+}
+
+// TestHeadsThatAreGiven: the newest head that a node saw never goes back; and where the published head is missing, an earlier one of its size isn't given in its place.
+func TestHeadsThatAreGiven(t *testing.T) {
+	t.Parallel()
+	p, ctx, got := newPlace(t), limited(t), &answers{}
+	s := started(t, p.config(t), hooks{})
+	must(t, got.submitAll(ctx, s, 0, 5, 5))
+	earlier := *s.seen()
+	must(t, got.submitAll(ctx, s, 5, 9, 4))
+	newest := *s.seen()
+	node := readingNode(s)
+	for _, head := range []log.Head{earlier, newest, earlier, newest} {
+		node.see(head)
+	}
+	node.see(earlier)
+	if seen := node.seen(); seen.TreeSize != newest.TreeSize {
+		t.Errorf("a head of %d entries is given behind one of %d", seen.TreeSize, newest.TreeSize)
+	}
+	published := publishedOf(newest)
+	if head, err := readingNode(s).headAt(ctx, published); err != nil || head.TreeSize != 9 {
+		t.Errorf("%d entries, %v", head.TreeSize, err)
+	}
+	published.Moment++
+	_, err := readingNode(s).headAt(ctx, published)
+	wants(t, err, ErrDamaged)
+}
+
+// TestWhatIsntDeletedIsntPutRight: where what stands in the way can't be deleted, nothing counts as made again.
+func TestWhatIsntDeletedIsntPutRight(t *testing.T) {
+	t.Parallel()
+	p, ctx, got := newPlace(t), limited(t), &answers{}
+	s := started(t, p.config(t), hooks{})
+	must(t, got.submitAll(ctx, s, 0, 5, 5))
+	node := readingNode(s)
+	node.config.Objects = undeleted{node.config.Objects}
+	wants(t, node.putRight(ctx, "tile/0/000.p/5", []byte("another content")), errTried)
+	must(t, node.putRight(ctx, "tile/0/001.p/7", []byte("what isn't there")))
+	if node.mended != 1 {
+		t.Errorf("%d objects count as made again", node.mended)
+	}
+}
+
+// TestTilesByWhoIsBehind: a node that saw an older head gives the tiles of a newer one; and while something at its edge is damaged it gives no partial tile that isn't the tree's.
+func TestTilesByWhoIsBehind(t *testing.T) {
+	t.Parallel()
+	p, ctx, got := newPlace(t), limited(t), &answers{}
+	s := started(t, p.config(t), hooks{})
+	must(t, got.submitAll(ctx, s, 0, 5, 5))
+	node := readingNode(s)
+	_, err := node.Checkpoint(ctx)
+	must(t, err)
+	const partial = "tile/0/000.p/5"
+	right, err := node.Object(ctx, partial, stores.MostObject)
+	must(t, err)
+	bent := append([]byte{}, right...)
+	bent[7] ^= 1
+	node.config.Objects = instead{s.config.Objects, partial, bent}
+	node.fault = ErrDamaged
+	_, err = node.Object(ctx, partial, stores.MostObject)
+	wants(t, err, log.ErrStore, ErrDamaged)
+	node.config.Objects = s.config.Objects
+	if content, err := node.Object(ctx, partial, stores.MostObject); err != nil || !bytes.Equal(content, right) {
+		t.Errorf("put right: %v", err)
+	}
+	must(t, got.submitAll(ctx, s, 5, 300, 295))
+	if content, err := node.Object(ctx, "tile/0/000", stores.MostObject); err != nil || !bytes.HasPrefix(content, right) {
+		t.Errorf("a tile of a newer head: %d bytes, %v", len(content), err)
+	}
+}
