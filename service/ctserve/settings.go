@@ -159,15 +159,8 @@ func parse(words []string, help io.Writer) (*settings, error) {
 	flags.StringVar(&n.address, "nodes-address", "", "`URL` by which other nodes find this one")
 	flags.StringVar(&s.nodesSecretAt, "nodes-secret", "", "`file` with what the nodes show each other, 16 bytes or more, that none but its owner may read")
 
-	err := fileRules.Parse(flags, words)
-	if errors.Is(err, flag.ErrHelp) {
+	if err := fileRules.Settle(flags, words, s.settle, errUsage); err != nil {
 		return nil, err
-	}
-	if err == nil {
-		err = s.settle()
-	}
-	if err != nil {
-		return nil, fmt.Errorf("%w: %v", errUsage, err)
 	}
 	return s, nil
 }

@@ -76,15 +76,8 @@ func parse(words []string, help io.Writer) (*settings, error) {
 		return nil
 	})
 	flags.BoolVar(&s.verifierKey, "verifier-key", false, "writes the key that logs and clients know this witness by, and ends")
-	err := fileRules.Parse(flags, words)
-	if errors.Is(err, flag.ErrHelp) {
+	if err := fileRules.Settle(flags, words, s.settle, errUsage); err != nil {
 		return nil, err
-	}
-	if err == nil {
-		err = s.settle()
-	}
-	if err != nil {
-		return nil, fmt.Errorf("%w: %v", errUsage, err)
 	}
 	return s, nil
 }

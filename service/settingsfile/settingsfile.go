@@ -3,6 +3,7 @@ package settingsfile
 
 import (
 	"bufio"
+	"errors"
 	"flag"
 	"fmt"
 	"os"
@@ -30,6 +31,19 @@ func (r Rules) Parse(flags *flag.FlagSet, words []string) error {
 		return r.read(flags, path)
 	}
 	return nil
+}
+
+// Settle parses, and then has settle look at what was set. What is wrong with either is told as this fault; where help was asked for, it gives
+// flag.ErrHelp, and settle looks at nothing.
+func (r Rules) Settle(flags *flag.FlagSet, words []string, settle func() error, fault error) error {
+	err := r.Parse(flags, words)
+	if err == nil {
+		err = settle()
+	}
+	if err == nil || errors.Is(err, flag.ErrHelp) {
+		return err
+	}
+	return fmt.Errorf("%w: %v", fault, err)
 }
 
 // read sets from a file, with a line 'name value' a flag and comments behind #, what the command line didn't. What a line sets, its flag

@@ -53,6 +53,34 @@ func TestParseAlone(t *testing.T) {
 	}
 }
 
+// TestSettle: what is wrong with the words, or with what they set, is the program's fault of usage; where help is asked for, nothing is looked at.
+func TestSettle(t *testing.T) {
+	usage, unfit := errors.New("program"), errors.New("4 is too much")
+	for _, c := range []struct {
+		words, told string
+		looks       int
+		wanted      error
+	}{
+		{"--size 3", "", 1, nil},
+		{"--size 4", "program: 4 is too much", 1, usage},
+		{"--size three", `program: invalid value "three" for flag -size: parse error`, 0, usage},
+		{"--help", "flag: help requested", 0, flag.ErrHelp},
+	} {
+		flags, size, _ := made()
+		looks := 0
+		err := (Rules{}).Settle(flags, strings.Fields(c.words), func() error {
+			looks++
+			if *size > 3 {
+				return unfit
+			}
+			return nil
+		}, usage)
+		if !errors.Is(err, c.wanted) || err != nil && err.Error() != c.told || looks != c.looks {
+			t.Errorf("%s: %v, looked at %d times", c.words, err, looks)
+		}
+	}
+}
+
 // made are flags, with what they set.
 func made() (flags *flag.FlagSet, size *int, logs *[]string) {
 	flags, logs = flag.NewFlagSet("", flag.ContinueOnError), &[]string{}
