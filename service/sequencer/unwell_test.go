@@ -410,3 +410,17 @@ func TestTilesByWhoIsBehind(t *testing.T) {
 		t.Errorf("a tile of a newer head: %d bytes, %v", len(content), err)
 	}
 }
+
+// TestAnotherRootOfOneSize: a state doesn't go on from a head of its size with another root, however late it is; and does from its own.
+func TestAnotherRootOfOneSize(t *testing.T) {
+	t.Parallel()
+	p, ctx, got := newPlace(t), limited(t), &answers{}
+	s := started(t, p.config(t), hooks{})
+	must(t, got.submitAll(ctx, s, 0, 5, 5))
+	k := s.newestKnown()
+	head := headOf(k.state)
+	head.Moment--
+	must(t, readingNode(s).extends(ctx, k, head, nil))
+	head.Root[0] ^= 1
+	wants(t, readingNode(s).extends(ctx, k, head, nil), ErrSetBack)
+}
