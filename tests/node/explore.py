@@ -3,10 +3,11 @@
 
     explore.py [--histories 60] [--seed 1] [--program crates/ctnode/out/ctnode]
 
-A history is a world in which commands come late, twice or never, nodes are killed, told twice, or go on from what they were before, and readings are
-old. Of the right machine each history has to stay sound, and at its end a node that starts has to publish the newest state; each wrong machine has to be
-found out by the clause that it breaks, and so has a store in which a place is missing. With a program, the right machine is that program, asked by lines (lines.py). It prints a line for each
-machine, and ends with status 1 where one isn't as it should be.
+A history is a world in which commands come late, twice or never, nodes are killed, told twice, or go on from what they were before, readings are old,
+tiles are swept where a wider one was put, and heads where a later one was. Of the right machine each history has to stay sound, who starts goes on from
+nothing that is behind a head, and at its end a node that starts has to publish the newest state; each wrong machine has to be found out by the clause that
+it breaks, and so has a store in which a place is missing, or which sweeps anything. With a program, the right machine is that program, asked by lines
+(lines.py). It prints a line for each machine, and ends with status 1 where one isn't as it should be.
 """
 import argparse
 import random
@@ -30,6 +31,8 @@ FIRST = State(1, 0, 0)
 STEPS = 150
 # So many identities wait, again and again.
 IDENTITIES = 12
+# Objects of one index and of moments in a row are one tile's, until it has so many hashes.
+FULL = 4
 
 
 def count(state):
@@ -37,8 +40,18 @@ def count(state):
     return 0 if state == FIRST else (state.moment + state.salt) % 3
 
 
+def tile_of(thing):
+    """The tile that an object is of, and how wide it is there."""
+    state, index = thing
+    return (index, state.moment // FULL), state.moment % FULL
+
+
 class Machine:
     """The right machine: what a node does next."""
+
+    def starts(self, register, listed):
+        """Whether a node goes on from a state where it starts, and the store lists this head, or none."""
+        return listed is None or listed.moment <= register.moment
 
     def follows(self, seen, new):
         return new.before == seen.moment and seen.moment < new.moment
@@ -123,6 +136,13 @@ class Program(Machine):
             sys.exit(f"explore.py: behind {outcome} of {node} the program has {behind}")
         return behind
 
+    def starts(self, register, listed):
+        from lines import begin_asked, goes_on
+
+        self.process.stdin.write(f"{begin_asked(register, listed)}\n")
+        self.process.stdin.flush()
+        return goes_on(self.process.stdout.readline())
+
 
 def wrong(**methods):
     """A machine with other methods."""
@@ -143,19 +163,26 @@ WRONG = {
     "promise before the swap": ("promised", wrong(staged=lambda self, seen, new, objects: ("Promising", new, objects))),
     "lost taken for done": ("objects", wrong(lost=lambda self, node: self.behind_done(node))),
     "nothing is put": ("publishes", wrong(looking=lambda self, seen, objects: READING)),
+    "goes on from what is behind a head": ("newest", wrong(starts=lambda self, register, listed: True)),
+    "doesn't start beside its own head": ("on", wrong(starts=lambda self, register, listed: listed is None)),
 }
+# Each wrong store with the clause that has to find it out.
+STORES = {"a place is missing": "others", "a tile goes where none is wider": "kept", "the newest head goes": "latest"}
 
 
 class World:
     """What stands, and which commands were given and came."""
 
-    def __init__(self, forgets=False):
-        self.forgets = forgets
+    def __init__(self, store=None):
+        self.store = store
         self.identities = {FIRST: frozenset({0})}
         self.held, self.past = FIRST, [FIRST]
         self.bundles, self.heads, self.places = {FIRST}, {FIRST}, {FIRST}
         self.answered, self.promised, self.objects = set(), set(), set()
         self.made, self.sent, self.came = set(), [READING], set()
+        # What of objects and heads still stands.
+        self.standing, self.listed = set(), {FIRST}
+        self.started = None
 
     def comes(self, node):
         """A command that was given takes effect; the register takes a state only in place of the one that it holds, and objects are put once all stand."""
@@ -174,6 +201,8 @@ class World:
             self.bundles.discard(node[2])
         elif verb != "Putting":
             {"Placing": self.places, "Heading": self.heads, "Promising": self.promised, "Answering": self.answered}[verb].add(node[1])
+            if verb == "Heading":
+                self.listed.add(node[1])
 
     def lacking(self, node):
         """What of a command's objects doesn't stand."""
@@ -182,12 +211,35 @@ class World:
     def puts(self, chance, node):
         """One object of a command stands, whichever."""
         if node[0] == "Putting" and node[2]:
-            self.objects.add((node[1], chance.randrange(node[2])))
+            self.stands({(node[1], chance.randrange(node[2]))})
+
+    def stands(self, objects):
+        self.objects |= objects
+        self.standing |= objects
+
+    def sweeps(self, chance):
+        """Some tile and some head are deleted, where a wider one and a later one were put."""
+        if self.standing:
+            tile, width = tile_of(chance.choice(sorted(self.standing)))
+            if self.store == "a tile goes where none is wider" or any(other == tile and wide > width for other, wide in map(tile_of, self.objects)):
+                self.standing = {thing for thing in self.standing if tile_of(thing) != (tile, width)}
+        head = chance.choice(sorted(self.listed))
+        if len(self.listed) > 1 and self.store == "the newest head goes" or any(other.moment > head.moment for other in self.heads):
+            self.listed.discard(head)
+
+    def begins(self, chance, machine):
+        """A node starts: it has read the register, however long ago, and lists the heads that stand behind that."""
+        register, newest = chance.choice(self.past), max(self.listed)
+        goes = machine.starts(register, newest if newest.moment >= register.moment else None)
+        if goes and any(state.moment > register.moment for state in self.heads):
+            self.started = "newest"
+        if not goes and register == self.held:
+            self.started = "on"
 
     def steps(self, chance, seen):
         """A step that is made of a state, with any moments, of identities for which no place was found; none where that state is of others."""
         new = State(seen.moment + chance.choice((0, 1, 2)), seen.moment - (chance.random() < 0.2), chance.choice((0, 1)))
-        places = [] if self.forgets and chance.random() < 0.5 else self.places
+        places = [] if self.store == "a place is missing" and chance.random() < 0.5 else self.places
         found = set().union(*(self.identities[state] for state in places))
         some = frozenset(it for it in range(IDENTITIES) if it not in found and chance.random() < 0.3)
         if self.identities.setdefault(new, some) & found:
@@ -244,7 +296,12 @@ class World:
             return "promised"
         if sum(len(self.identities[state]) for state in past) > len(set().union(*(self.identities[state] for state in past))):
             return "others"
-        return None if held in self.bundles else "bundle"
+        if held not in self.bundles:
+            return "bundle"
+        widest = dict(sorted(map(tile_of, self.standing)))
+        if any(widest.get(tile, -1) < width for tile, width in map(tile_of, self.objects)):
+            return "kept"
+        return "latest" if max(self.listed).moment < max(self.heads).moment else self.started
 
     def fault_of_all(self):
         """The clause of the law over what is sound that doesn't hold, or none."""
@@ -266,16 +323,16 @@ class World:
             if held in self.heads:
                 return self.held == held
             if node[0] == "Putting":
-                self.objects.update(self.lacking(node))
+                self.stands(set(self.lacking(node)))
             self.comes(node)
             known = {"Reading": ("Read", held), "Looking": ("Bundle", count(held))}
             node = self.tells(machine, node, known.get(node[0], ("Done",)))
         return False
 
 
-def history(chance, machine, forgets):
+def history(chance, machine, store):
     """A history: the clause that doesn't hold behind it, or none, and the world."""
-    world = World(forgets)
+    world = World(store)
     for _ in range(STEPS):
         # (what was given last is likelier than what was given long ago)
         node = chance.choice(world.sent[-4:] if chance.random() < 0.8 else world.sent)
@@ -284,17 +341,20 @@ def history(chance, machine, forgets):
             world.comes(node)
         elif told := world.outcomes(chance, node):
             world.tells(machine, node, chance.choice(told))
+        if chance.random() < 0.2:
+            world.sweeps(chance)
+            world.begins(chance, machine)
         if fault := world.fault():
             return fault, world
     fault = world.fault_of_all() or (None if world.is_published_by(machine) else "publishes")
     return fault, world
 
 
-def histories(machine, seed, number, forgets=False):
+def histories(machine, seed, number, store=None):
     """How often each clause didn't hold, and how many histories answered somebody."""
     found, answered = Counter(), 0
     for at in range(number):
-        fault, world = history(random.Random(f"{seed} {at}"), machine, forgets)
+        fault, world = history(random.Random(f"{seed} {at}"), machine, store)
         found[fault] += 1
         answered += bool(world.answered or world.promised)
     return found, answered
@@ -310,8 +370,8 @@ def main():
     found, answered = histories(machine, words.seed, words.histories)
     print(f"the right machine: sound in {found.pop(None, 0)} of {words.histories} histories, of which {answered} answered somebody")
     missed = [f"the right machine breaks {clause}" for clause in found] + ["no history of the right machine answered anybody"] * (not answered)
-    for name, (clause, machine) in [*WRONG.items(), ("a place is missing", ("others", Machine()))]:
-        found, _ = histories(machine, words.seed, words.histories, forgets=clause == "others")
+    for name, (clause, machine) in [*WRONG.items(), *((name, (clause, Machine())) for name, clause in STORES.items())]:
+        found, _ = histories(machine, words.seed, words.histories, name if name in STORES else None)
         sound = found.pop(None, 0)
         print(f"{name}: {', '.join(f'{which} in {times}' for which, times in found.most_common())}, sound in {sound}")
         if not found[clause]:

@@ -65,6 +65,19 @@ def asked(node, outcome):
     return line_of({"node": node_of(node), "told": outcome_of(outcome)})
 
 
+def begin_asked(register, listed):
+    """A line of a node that starts, where the register has this state, and the store lists this head, or none."""
+    found = {"register": text_of(register), "guarded": False, "stands": True, "creates": False}
+    if listed is not None:
+        found["listed"] = {"size": listed.moment + 3, "moment": listed.moment}
+    return line_of({"begin": found})
+
+
+def goes_on(line):
+    """Whether a reply says that a node that starts goes on."""
+    return json.loads(line) == {"begin": "goes"}
+
+
 def node_in(line):
     """The node that a reply says."""
     return read_node(json.loads(line)["node"])[0]

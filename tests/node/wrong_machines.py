@@ -4,8 +4,8 @@
     wrong_machines.py
 
 The edits of crates/ct_node/wrong-bodies change the code alone, so each is refused where the code isn't what the definition says. Here both are changed, and
-rt has to prove the four functions of src/node.rt, and to refuse the lemma of proofs/Sound.antt that is about that very transition. Each takes 20 seconds of
-a processor. It prints a line for each, and ends with status 1 where one isn't as it should be.
+rt has to prove the functions of src/node.rt and src/starting.rt, and to refuse the lemma that is about that very transition. So too where a sweep may delete
+more. Each takes 20 seconds of a processor. It prints a line for each, and ends with status 1 where one isn't as it should be.
 """
 import pathlib
 import re
@@ -15,8 +15,8 @@ import sys
 import tempfile
 
 ROOT = pathlib.Path(__file__).resolve().parent.parent.parent
-DEFINED, WRITTEN = "specs/Nodes.antt", "src/node.rt"
-FUNCTIONS = {"is_past", "may_follow", "Node::next"}
+NODES, STARTS = ("specs/Nodes.antt", "src/node.rt"), ("specs/Starts.antt", "src/starting.rt")
+FUNCTIONS = {"is_past", "may_follow", "Node::next", "begin", "create", "start"}
 
 # Of each machine the lemma that has to be refused, and what stands where, and what is put there: in the definition, and in the code.
 MACHINES = {
@@ -71,6 +71,36 @@ MACHINES = {
         ("(Node::Swapping(_, _, _), Outcome::Lost) => Node::Reading", "(Node::Swapping(_, new, count), Outcome::Lost) => Node::Putting(new, count)"),
     ),
 }
+STARTING = {
+    "goes on from behind a listed head": (
+        "none_ahead",
+        ("if not (is_free p f.listed) then", "if not (is_free p f.published) then"),
+        ("if !free(head, found.listed) {", "if !free(head, found.published) {"),
+    ),
+    "creates beside a guard's head": (
+        "known_nothing",
+        ("is_nothing f.listed && (is_nothing f.guard && not f.stands)", "is_nothing f.listed && not f.stands"),
+        ("        && found.guard.is_none()", ""),
+    ),
+    "two roots are told of a guard that is ahead": (
+        "guard_tells",
+        ("then TwoRoots else BehindGuard", "then BehindGuard else TwoRoots"),
+        ("Beginning::TwoRoots\n        } else {\n            Beginning::BehindGuard", "Beginning::BehindGuard\n        } else {\n            Beginning::TwoRoots"),
+    ),
+}
+# The same of what may be deleted, which is no code.
+SWEPT = "specs/Sweeps.antt"
+SWEEPING = {
+    "a tile goes where none is wider": ("stands_on", ("Has p w.world.objects × Wider n (name p) ×", "Has p w.world.objects × (name p ≡ name p) ×")),
+    "the newest head goes": ("later_left", ("(l.moment < m.moment) × AreLeft", "(l.moment ≤ m.moment) × AreLeft")),
+}
+
+# Of each machine the lemma, and of each file what stands there, and what is put there.
+ALL = {
+    **{name: (lemma, [(file, *change) for file, change in zip(NODES, changes)]) for name, (lemma, *changes) in MACHINES.items()},
+    **{name: (lemma, [(file, *change) for file, change in zip(STARTS, changes)]) for name, (lemma, *changes) in STARTING.items()},
+    **{name: (lemma, [(SWEPT, *change)]) for name, (lemma, change) in SWEEPING.items()},
+}
 
 
 def changed(path, old, new):
@@ -81,10 +111,10 @@ def changed(path, old, new):
 
 
 def checked(crate):
-    """What rt says of a crate: whether it is proved, which of the machine's functions are, and the lemmas of proofs/Sound.antt that aren't."""
+    """What rt says of a crate: whether it is proved, which of the machine's functions are, and the lemmas that aren't."""
     ran = subprocess.run(["rt", "check"], cwd=crate, stdout=subprocess.PIPE, stderr=subprocess.STDOUT, text=True)
-    proved = set(re.findall(r"^fn ct_node::node::(is_past|may_follow|putting|Node::next): proved$", ran.stdout, re.M))
-    refused = re.findall(r"Sound\.antt:\d+:\d+: error: `(\w+)`", ran.stdout)
+    proved = FUNCTIONS & set(re.findall(r"^fn ct_node::(?:node|starting)::(\S+): proved$", ran.stdout, re.M))
+    refused = re.findall(r"\w+\.antt:\d+:\d+: error: `(\w+)`", ran.stdout)
     return "logic=proved" in ran.stdout, proved, refused
 
 
@@ -96,12 +126,13 @@ def main():
         pathlib.Path(room, "crates.txt").write_text("ct_node:\n")
         shutil.copy(ROOT / "HANDLES", room)
         pathlib.Path(room, ".git").mkdir()
-        right = {file: (crate / file).read_text() for file in (DEFINED, WRITTEN)}
+        files = {file for _, changes in ALL.values() for file, _, _ in changes}
+        right = {file: (crate / file).read_text() for file in files}
         if not checked(crate)[0]:
             sys.exit("wrong_machines.py: the right machine isn't proved")
-        for name, (lemma, definition, code) in MACHINES.items():
-            changed(crate / DEFINED, *definition)
-            changed(crate / WRITTEN, *code)
+        for name, (lemma, changes) in ALL.items():
+            for file, old, new in changes:
+                changed(crate / file, old, new)
             whole, proved, refused = checked(crate)
             for file, text in right.items():
                 (crate / file).write_text(text)

@@ -8,20 +8,20 @@ use Rattle.ct_node.specs.declared.starting.Other.{Other}
 use Rattle.ct_node.specs.declared.starting.Found.{Found}
 use Rattle.ct_node.specs.declared.starting.Beginning.{Beginning}
 use Rattle.ct_node.specs.declared.starting.Beginning.TheVariants.{Goes, Creates, Gone, BehindSeen, BehindGuard, TwoRoots, GuardBehind, BehindListed, BehindPublished}
-use Rattle.ct_node.specs.Starts.{is_at, comes_behind, reaches, reaches_other, is_free, is_free_of_other, is_two, guard_reaches, begun, is_nothing, created, started, started_by, shown_next, shown_over, IsNoFurther, IfAny, IsNoOther, NoneIsAhead, GoesBehindNone, CreatesOverNothing, ShownNeverGoesBack}
+use Rattle.ct_node.specs.Starts.{is_at, comes_behind, reaches, reaches_other, is_free, is_free_of_other, is_two, guard_reaches, by_published, by_listed, by_guarded, of_guard, by_guard, begun, is_nothing, may_create, created, started, started_by, shown_next, shown_over, IsNoFurther, IfAny, IsNoOther, NoneIsAhead, GoesBehindNone, NothingIsKnown, CreatesOverNothing, ShownNeverGoesBack}
 
 -- ---- tests
 abbrev IsNoTrue : Bool → Type 0
 IsNoTrue true = ⊥
 IsNoTrue false = ⊤
 
-no_false : false ≡ true → ⊥
+pub no_false : false ≡ true → ⊥
 no_false q = subst IsNoTrue q tt
 
-no_true : true ≡ false → ⊥
+pub no_true : true ≡ false → ⊥
 no_true q = no_false (sym q)
 
-and_true : (a b : Bool) → (a && b) ≡ true → (a ≡ true) × (b ≡ true)
+pub and_true : (a b : Bool) → (a && b) ≡ true → (a ≡ true) × (b ≡ true)
 and_true true b q = (refl, q)
 and_true false b q = absurd (no_false q)
 
@@ -41,19 +41,19 @@ right : (a b : Bool) → b ≡ true → (a || b) ≡ true
 right true b p = refl
 right false b p = p
 
-not_false : (t : Bool) → not t ≡ false → t ≡ true
+pub not_false : (t : Bool) → not t ≡ false → t ≡ true
 not_false true q = refl
 not_false false q = absurd (no_true q)
 
-is_false : (t : Bool) → t ≡ true → not t ≡ false
+pub is_false : (t : Bool) → t ≡ true → not t ≡ false
 is_false true q = refl
 is_false false q = absurd (no_false q)
 
-gate_open : (g x : Bool) → (g && not x) ≡ false → g ≡ true → x ≡ true
+pub gate_open : (g x : Bool) → (g && not x) ≡ false → g ≡ true → x ≡ true
 gate_open true x q e = not_false x q
 gate_open false x q e = absurd (no_false e)
 
-gate_shut : (g x : Bool) → (g ≡ true → x ≡ true) → (g && not x) ≡ false
+pub gate_shut : (g x : Bool) → (g ≡ true → x ≡ true) → (g && not x) ≡ false
 gate_shut true x f = is_false x (f refl)
 gate_shut false x f = refl
 
@@ -61,7 +61,7 @@ gate_shut false x f = refl
 same_point : (p q : Point) → p.size ≡ q.size → p.moment ≡ q.moment → q ≡ p
 same_point p q s m = ap (λ (n : ℕ). record { size = n; moment = q.moment }) (sym s) ∙ ap (λ (n : ℕ). record { size = p.size; moment = n }) (sym m)
 
-at_same : (p q : Point) → is_at p q ≡ true → q ≡ p
+pub at_same : (p q : Point) → is_at p q ≡ true → q ≡ p
 at_same p q e =
     let b = and_true (p.size == q.size) (p.moment == q.moment) e in same_point p q (eqb-true p.size q.size b.0) (eqb-true p.moment q.moment b.1)
 
@@ -74,7 +74,7 @@ no_further p q e =
     ⊎_elim (λ (a : is_at p q ≡ true). inl (at_same p q a)) (λ (b : comes_behind p q ≡ true). inr (behind_further p q b))
     (or_true (is_at p q) (comes_behind p q) e)
 
-same_at : (p q : Point) → q ≡ p → is_at p q ≡ true
+pub same_at : (p q : Point) → q ≡ p → is_at p q ≡ true
 same_at p q e =
     subst (λ (z : Point). is_at p z ≡ true) (sym e)
     (both (p.size == p.size) (p.moment == p.moment) (eq-eqb p.size p.size refl) (eq-eqb p.moment p.moment refl))
@@ -82,11 +82,11 @@ same_at p q e =
 further_behind : (p q : Point) → (q.size ≤ p.size) × (q.moment < p.moment) → comes_behind p q ≡ true
 further_behind p q h = both (nat_le q.size p.size) (nat_lt q.moment p.moment) (le-leb q.size p.size h.0) (lt-ltb q.moment p.moment h.1)
 
-reached : (p q : Point) → IsNoFurther q p → reaches p q ≡ true
+pub reached : (p q : Point) → IsNoFurther q p → reaches p q ≡ true
 reached p q (inl e) = left (is_at p q) (comes_behind p q) (same_at p q e)
 reached p q (inr h) = right (is_at p q) (comes_behind p q) (further_behind p q h)
 
-no_other : (p : Point) (o : Other) → reaches_other p o ≡ true → IsNoOther p o
+pub no_other : (p : Point) (o : Other) → reaches_other p o ≡ true → IsNoOther p o
 no_other p o e =
     ⊎_elim
     (λ (a : (is_at p o.at && o.same) ≡ true). let b = and_true (is_at p o.at) o.same a in (inl (at_same p o.at b.0), λ f. b.1))
@@ -95,37 +95,37 @@ no_other p o e =
     (inr h, λ f. let m : o.at.moment ≡ p.moment = ap (λ (z : Point). z.moment) f in absurd (omega (arith, m, h.1))))
     (or_true (is_at p o.at && o.same) (comes_behind p o.at) e)
 
-reached_other : (p : Point) (o : Other) → IsNoOther p o → reaches_other p o ≡ true
+pub reached_other : (p : Point) (o : Other) → IsNoOther p o → reaches_other p o ≡ true
 reached_other p o (inl e, f) = left (is_at p o.at && o.same) (comes_behind p o.at) (both (is_at p o.at) o.same (same_at p o.at e) (f e))
 reached_other p o (inr h, f) = right (is_at p o.at && o.same) (comes_behind p o.at) (further_behind p o.at h)
 
-free : (p : Point) (o : Option Point) → is_free p o ≡ true → IfAny (λ q. IsNoFurther q p) o
+pub free : (p : Point) (o : Option Point) → is_free p o ≡ true → IfAny (λ q. IsNoFurther q p) o
 free p None e = tt
 free p (Some q) e = no_further p q e
 
-freed : (p : Point) (o : Option Point) → IfAny (λ q. IsNoFurther q p) o → is_free p o ≡ true
+pub freed : (p : Point) (o : Option Point) → IfAny (λ q. IsNoFurther q p) o → is_free p o ≡ true
 freed p None e = refl
 freed p (Some q) e = reached p q e
 
-free_other : (p : Point) (o : Option Other) → is_free_of_other p o ≡ true → IfAny (IsNoOther p) o
+pub free_other : (p : Point) (o : Option Other) → is_free_of_other p o ≡ true → IfAny (IsNoOther p) o
 free_other p None e = tt
 free_other p (Some o) e = no_other p o e
 
-freed_other : (p : Point) (o : Option Other) → IfAny (IsNoOther p) o → is_free_of_other p o ≡ true
+pub freed_other : (p : Point) (o : Option Other) → IfAny (IsNoOther p) o → is_free_of_other p o ≡ true
 freed_other p None e = refl
 freed_other p (Some o) e = reached_other p o e
 
-abbrev Reaches : Option Other → Point → Type 0
+abbrev pub Reaches : Option Other → Point → Type 0
 Reaches g q = (h : Other) × (g ≡ Some h) × IsNoFurther q h.at
 
-guard_has : (g : Option Other) (o : Option Point) (q : Point) → guard_reaches g o ≡ true → o ≡ Some q → Reaches g q
+pub guard_has : (g : Option Other) (o : Option Point) (q : Point) → guard_reaches g o ≡ true → o ≡ Some q → Reaches g q
 guard_has g o q e is = has g (subst (λ (z : Option Point). guard_reaches g z ≡ true) is e)
   where
     has : (g : Option Other) → guard_reaches g (Some q) ≡ true → Reaches g q
     has (Some h) e = (h, refl, no_further h.at q e)
     has None e = absurd (no_false e)
 
-guard_had : (g : Option Other) (o : Option Point) → ((q : Point) → o ≡ Some q → Reaches g q) → guard_reaches g o ≡ true
+pub guard_had : (g : Option Other) (o : Option Point) → ((q : Point) → o ≡ Some q → Reaches g q) → guard_reaches g o ≡ true
 guard_had g None f = refl
 guard_had g (Some q) f =
     let r = f q refl in subst (λ (z : Option Other). guard_reaches z (Some q) ≡ true) (sym r.1) (reached r.0.at q r.2)
@@ -159,25 +159,13 @@ two_stop true h = h
 two_stop false h = h
 
 module _ (f : Found) (p : Point) where
-  abbrev last : Beginning
-  last = if not (is_free p f.published) then BehindPublished else Goes
-
-  abbrev fourth : Beginning
-  fourth = if not (is_free p f.listed) then BehindListed else last
-
-  abbrev third : Beginning
-  third = if f.guarded && not (guard_reaches f.guard f.listed) then GuardBehind else fourth
-
-  abbrev second : Beginning
-  second = if f.guarded && not (is_free_of_other p f.guard) then (if is_two p f.guard then TwoRoots else BehindGuard) else third
-
   none_ahead : IsGoes (begun f p) → NoneIsAhead f p
   none_ahead h =
-      let a = goes_if (not (is_free_of_other p f.seen)) BehindSeen second (λ z. z) h in
-      let b = goes_if (f.guarded && not (is_free_of_other p f.guard)) (if is_two p f.guard then TwoRoots else BehindGuard) third
+      let a = goes_if (not (is_free_of_other p f.seen)) BehindSeen (by_guard f p) (λ z. z) h in
+      let b = goes_if (f.guarded && not (is_free_of_other p f.guard)) (of_guard f p) (by_guarded f p)
       (two_stop (is_two p f.guard)) a.1 in
-      let c = goes_if (f.guarded && not (guard_reaches f.guard f.listed)) GuardBehind fourth (λ z. z) b.1 in
-      let d = goes_if (not (is_free p f.listed)) BehindListed last (λ z. z) c.1 in
+      let c = goes_if (f.guarded && not (guard_reaches f.guard f.listed)) GuardBehind (by_listed f p) (λ z. z) b.1 in
+      let d = goes_if (not (is_free p f.listed)) BehindListed (by_published f p) (λ z. z) c.1 in
       let e = goes_if (not (is_free p f.published)) BehindPublished Goes (λ z. z) d.1 in
       record {
         seen = free_other p f.seen (not_false (is_free_of_other p f.seen) a.0);
@@ -189,12 +177,12 @@ module _ (f : Found) (p : Point) where
 
   goes_behind : NoneIsAhead f p → IsGoes (begun f p)
   goes_behind n =
-      goes_by (not (is_free_of_other p f.seen)) BehindSeen second (is_false (is_free_of_other p f.seen) (freed_other p f.seen n.seen))
-      (goes_by (f.guarded && not (is_free_of_other p f.guard)) (if is_two p f.guard then TwoRoots else BehindGuard) third
+      goes_by (not (is_free_of_other p f.seen)) BehindSeen (by_guard f p) (is_false (is_free_of_other p f.seen) (freed_other p f.seen n.seen))
+      (goes_by (f.guarded && not (is_free_of_other p f.guard)) (of_guard f p) (by_guarded f p)
       (gate_shut f.guarded (is_free_of_other p f.guard) (λ g. freed_other p f.guard (n.guard g)))
-      (goes_by (f.guarded && not (guard_reaches f.guard f.listed)) GuardBehind fourth
+      (goes_by (f.guarded && not (guard_reaches f.guard f.listed)) GuardBehind (by_listed f p)
       (gate_shut f.guarded (guard_reaches f.guard f.listed) (λ g. guard_had f.guard f.listed (λ q is. n.guards g q is)))
-      (goes_by (not (is_free p f.listed)) BehindListed last (is_false (is_free p f.listed) (freed p f.listed n.listed))
+      (goes_by (not (is_free p f.listed)) BehindListed (by_published f p) (is_false (is_free p f.listed) (freed p f.listed n.listed))
       (goes_by (not (is_free p f.published)) BehindPublished Goes (is_false (is_free p f.published) (freed p f.published n.published)) tt))))
 
 started_at : (f : Found) (p : Point) → f.register ≡ Some p → started f ≡ begun f p
@@ -219,35 +207,42 @@ creates_if : (t : Bool) → IsCreates (if t then Creates else Gone) → t ≡ tr
 creates_if true h = refl
 creates_if false h = absurd h
 
+-- what stands behind a test
+pub if_true : (t : Bool) (x rest : Beginning) → t ≡ true → (if t then x else rest) ≡ x
+if_true true x rest e = refl
+if_true false x rest e = absurd (no_false e)
+
+pub if_false : (t : Bool) (x rest : Beginning) → t ≡ false → (if t then x else rest) ≡ rest
+if_false true x rest e = absurd (no_true e)
+if_false false x rest e = refl
+
 creates_no : (t : Bool) (x rest : Beginning) → (IsCreates x → ⊥) → (IsCreates rest → ⊥) → IsCreates (if t then x else rest) → ⊥
 creates_no true x rest stops never h = stops h
 creates_no false x rest stops never h = never h
 
 begun_creates_no : (f : Found) (p : Point) → IsCreates (begun f p) → ⊥
 begun_creates_no f p =
-    creates_no (not (is_free_of_other p f.seen)) BehindSeen (second f p) (λ z. z)
-    (creates_no (f.guarded && not (is_free_of_other p f.guard)) (if is_two p f.guard then TwoRoots else BehindGuard) (third f p)
+    creates_no (not (is_free_of_other p f.seen)) BehindSeen (by_guard f p) (λ z. z)
+    (creates_no (f.guarded && not (is_free_of_other p f.guard)) (of_guard f p) (by_guarded f p)
     (creates_no (is_two p f.guard) TwoRoots BehindGuard (λ z. z) (λ z. z))
-    (creates_no (f.guarded && not (guard_reaches f.guard f.listed)) GuardBehind (fourth f p) (λ z. z)
-    (creates_no (not (is_free p f.listed)) BehindListed (last f p) (λ z. z)
+    (creates_no (f.guarded && not (guard_reaches f.guard f.listed)) GuardBehind (by_listed f p) (λ z. z)
+    (creates_no (not (is_free p f.listed)) BehindListed (by_published f p) (λ z. z)
     (creates_no (not (is_free p f.published)) BehindPublished Goes (λ z. z) (λ z. z)))))
 
 where_none : (f : Found) (o : Option Point) → IsCreates (started_by f o) → (o ≡ None) × IsCreates (created f)
 where_none f None h = (refl, h)
 where_none f (Some p) h = absurd (begun_creates_no f p h)
 
-pub creates_over_nothing : CreatesOverNothing
-creates_over_nothing f e =
-    let n = where_none f f.register (subst IsCreates (sym e) tt) in
+pub known_nothing : (f : Found) → f.register ≡ None → may_create f ≡ true → NothingIsKnown f
+known_nothing f none t =
     let rest : Bool = is_nothing f.guard && not f.stands in
-    let all = and_true f.creates (is_nothing f.seen && (is_nothing f.published && (is_nothing f.listed && rest)))
-    (creates_if (f.creates && (is_nothing f.seen && (is_nothing f.published && (is_nothing f.listed && rest)))) n.1) in
+    let all = and_true f.creates (is_nothing f.seen && (is_nothing f.published && (is_nothing f.listed && rest))) t in
     let a = and_true (is_nothing f.seen) (is_nothing f.published && (is_nothing f.listed && rest)) all.1 in
     let b = and_true (is_nothing f.published) (is_nothing f.listed && rest) a.1 in
     let c = and_true (is_nothing f.listed) rest b.1 in
     let d = and_true (is_nothing f.guard) (not f.stands) c.1 in
     record {
-      register = n.0;
+      register = none;
       seen = nothing f.seen a.0;
       published = nothing f.published b.0;
       listed = nothing f.listed c.0;
@@ -259,6 +254,23 @@ creates_over_nothing f e =
     no_stands : (t : Bool) → not t ≡ true → t ≡ false
     no_stands true q = absurd (no_false q)
     no_stands false q = refl
+
+pub nothing_known : (f : Found) → NothingIsKnown f → may_create f ≡ true
+nothing_known f n =
+    let rest : Bool = is_nothing f.guard && not f.stands in
+    let d = both (is_nothing f.guard) (not f.stands) (ap is_nothing n.guard) (ap not n.stands) in
+    let c = both (is_nothing f.listed) rest (ap is_nothing n.listed) d in
+    let b = both (is_nothing f.published) (is_nothing f.listed && rest) (ap is_nothing n.published) c in
+    let a = both (is_nothing f.seen) (is_nothing f.published && (is_nothing f.listed && rest)) (ap is_nothing n.seen) b in
+    both f.creates (is_nothing f.seen && (is_nothing f.published && (is_nothing f.listed && rest))) n.creates a
+
+pub creates_over_nothing : CreatesOverNothing
+creates_over_nothing f = (
+  λ e.
+      let n = where_none f f.register (subst IsCreates (sym e) tt) in
+      known_nothing f n.0 (creates_if (may_create f) n.1),
+  λ n. ap (started_by f) n.register ∙ if_true (may_create f) Creates Gone (nothing_known f n),
+)
 
 -- ---- what is shown
 no_further_than : (x y z : Point) → IsNoFurther x y → IsNoFurther y z → IsNoFurther x z

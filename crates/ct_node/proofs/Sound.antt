@@ -7,7 +7,7 @@ use Rattle.ct_node.specs.declared.node.Node.TheVariants.{Reading, Looking, Stepp
 use Rattle.ct_node.specs.declared.node.Outcome.{Outcome}
 use Rattle.ct_node.specs.declared.node.Outcome.TheVariants.{Done, Promise, Lost, Read, Published, Bundle, Stepped, Listed}
 use Rattle.ct_node.specs.Nodes.{after, follows, is_behind, on_reading, on_looking, on_stepping, on_staging, on_swapping, on_promising, on_deleting, on_putting, on_placing, on_heading, on_answering}
-use Rattle.ct_node.specs.Worlds.{Has, Object, Made, World, beginning, Happening, Comes, Makes, Puts, Goes, Told, IsChain, PastsAreChains, StepsFindAll, CanBePublished, comes, happens, MayCome, MayBeTold, MayHappen, LeadTo, IsSoundWorld, IsFirstState, WorldsAreSound, HeadsAreWhole, NamesHaveOneContent, HoldsNewest}
+use Rattle.ct_node.specs.Worlds.{Has, Object, Made, World, beginning, Happening, Comes, Makes, Puts, Goes, Told, IsChain, PastsAreChains, StepsFindAll, CanBePublished, comes, happens, MayCome, MayBeTold, MayHappen, LeadTo, IsSoundWorld, IsFirstState, WorldsAreSound, HeadsAreWhole, NamesHaveOneContent, HoldsNewest, StagedStand, AskedAreTaken}
 
 -- the object at a place of a state's bundle
 abbrev pub at : State → ℕ → Object
@@ -160,6 +160,23 @@ module _ (count : State → ℕ) (b : State) where
     pub sent : (s : Node) → Has s w.sent → Knows w s
     pub came : (s : Node) → Has s w.came → Did w s
 
+  -- what stands is sound whatever else was given, came and was made
+  sound_beside : (w : World) (made : List Made) (sent came : List Node) → IsSoundWorld count w
+      → IsSoundWorld count (record w { made = made; sent = sent; came = came })
+  sound_beside w made sent came s =
+      record {
+        rolled = s.rolled;
+        order = s.order;
+        later = s.later;
+        heads = s.heads;
+        tiles = s.tiles;
+        placed = s.placed;
+        objects = s.objects;
+        answered = s.answered;
+        promised = s.promised;
+        bundle = s.bundle;
+      }
+
   -- ---- a node goes on
   tell_reading : (w : World) (o : Outcome) → Kept w → MayBeTold count w Reading o → Knows w (on_reading o)
   tell_reading w (Read k) a m = m
@@ -266,19 +283,7 @@ module _ (count : State → ℕ) (b : State) where
       let g : Grows w v = record { past = λ l h. h; heads = λ l h. h; places = λ l h. h; objects = λ l h. h; made = λ l h. h; dead = λ l h. h; stands = λ l h. h } in
       let r : Knows w (after s o) = tell w s o a (a.sent s m.0) m.1 in
       record {
-        sound =
-            record {
-              rolled = a.sound.rolled;
-              order = a.sound.order;
-              later = a.sound.later;
-              heads = a.sound.heads;
-              tiles = a.sound.tiles;
-              placed = a.sound.placed;
-              objects = a.sound.objects;
-              answered = a.sound.answered;
-              promised = a.sound.promised;
-              bundle = a.sound.bundle;
-            };
+        sound = sound_beside w w.made (after s o ∷ w.sent) w.came a.sound;
         newest = a.newest;
         top = a.top;
         reads = inr a.reads;
@@ -399,19 +404,7 @@ module _ (count : State → ℕ) (b : State) where
         stands = λ x h. h;
       } in
       record {
-        sound =
-            record {
-              rolled = a.sound.rolled;
-              order = a.sound.order;
-              later = a.sound.later;
-              heads = a.sound.heads;
-              tiles = a.sound.tiles;
-              placed = a.sound.placed;
-              objects = a.sound.objects;
-              answered = a.sound.answered;
-              promised = a.sound.promised;
-              bundle = a.sound.bundle;
-            };
+        sound = sound_beside w w.made w.sent (Putting l n ∷ w.came) a.sound;
         newest = a.newest;
         top = a.top;
         reads = a.reads;
@@ -666,19 +659,7 @@ module _ (count : State → ℕ) (b : State) where
         stands = λ x h. h;
       } in
       record {
-        sound =
-            record {
-              rolled = a.sound.rolled;
-              order = a.sound.order;
-              later = a.sound.later;
-              heads = a.sound.heads;
-              tiles = a.sound.tiles;
-              placed = a.sound.placed;
-              objects = a.sound.objects;
-              answered = a.sound.answered;
-              promised = a.sound.promised;
-              bundle = a.sound.bundle;
-            };
+        sound = sound_beside w (step k l ∷ w.made) w.sent w.came a.sound;
         newest = a.newest;
         top = a.top;
         reads = a.reads;
@@ -812,6 +793,18 @@ newest_first h (l ∷ rest) n = (rest, ap (λ z. z ∷ rest) (sym n))
 
 pub holds_newest : HoldsNewest
 holds_newest count b hs w i m = newest_first w.held w.past (led count b (beginning b) hs w (begin count b i) m).top
+
+pub staged_stand : StagedStand
+staged_stand count b hs w i m k l n sent e =
+    let r = (led count b (beginning b) hs w (begin count b i) m).sent (Swapping k l n) sent in
+    let h : w.held.moment ≡ k.moment = ap (λ (z : State). z.moment) e in
+    ⊎_elim
+    (λ (stands : Has l w.bundles). stands)
+    (λ (dead : Dead count b w l). absurd (omega (arith, h, r.1.0, dead.1)))
+    r.3
+
+pub asked_are_taken : AskedAreTaken
+asked_are_taken count b hs w i m l sent = ((led count b (beginning b) hs w (begin count b i) m).sent (Heading l) sent).0
 
 pub names_have_one_content : NamesHaveOneContent
 names_have_one_content count b hs w i m plan agree o p ho hp same =

@@ -43,24 +43,43 @@ guard_reaches g None = true
 guard_reaches (Some g) (Some q) = reaches g.at q
 guard_reaches None (Some q) = false
 
+-- where none but a published head may be ahead of p
+abbrev pub by_published : Found → Point → Beginning
+by_published f p = if not (is_free p f.published) then BehindPublished else Goes
+
+-- where one that is listed may be, too
+abbrev pub by_listed : Found → Point → Beginning
+by_listed f p = if not (is_free p f.listed) then BehindListed else by_published f p
+
+-- where one that is listed may be ahead of the guard's, too
+abbrev pub by_guarded : Found → Point → Beginning
+by_guarded f p = if f.guarded && not (guard_reaches f.guard f.listed) then GuardBehind else by_listed f p
+
+-- where the guard's last head is ahead of p
+abbrev pub of_guard : Found → Point → Beginning
+of_guard f p = if is_two p f.guard then TwoRoots else BehindGuard
+
+-- where that may be so, too
+abbrev pub by_guard : Found → Point → Beginning
+by_guard f p = if f.guarded && not (is_free_of_other p f.guard) then of_guard f p else by_guarded f p
+
 -- where the register has the head p, the first of these that is so
 abbrev pub begun : Found → Point → Beginning
-begun f p =
-    if not (is_free_of_other p f.seen) then BehindSeen
-    else (if f.guarded && not (is_free_of_other p f.guard) then (if is_two p f.guard then TwoRoots else BehindGuard)
-    else (if f.guarded && not (guard_reaches f.guard f.listed) then GuardBehind
-    else (if not (is_free p f.listed) then BehindListed
-    else (if not (is_free p f.published) then BehindPublished else Goes))))
+begun f p = if not (is_free_of_other p f.seen) then BehindSeen else by_guard f p
 
 -- whether there is none
 abbrev pub is_nothing : {A : Type 0} → Option A → Bool
 is_nothing None = true
 is_nothing (Some x) = false
 
+-- one is to be created, and nothing is known of a log
+abbrev pub may_create : Found → Bool
+may_create f =
+    f.creates && (is_nothing f.seen && (is_nothing f.published && (is_nothing f.listed && (is_nothing f.guard && not f.stands))))
+
 -- where there is no register
 abbrev pub created : Found → Beginning
-created f =
-    if f.creates && (is_nothing f.seen && (is_nothing f.published && (is_nothing f.listed && (is_nothing f.guard && not f.stands)))) then Creates else Gone
+created f = if may_create f then Creates else Gone
 
 -- where the register has a head, or there is none
 abbrev pub started_by : Found → Option Point → Beginning
@@ -104,7 +123,7 @@ pub record NoneIsAhead (f : Found) (p : Point) : Type 0 where
 abbrev pub GoesBehindNone : Type 0
 GoesBehindNone = (f : Found) (p : Point) → f.register ≡ Some p → (started f ≡ Goes → NoneIsAhead f p) × (NoneIsAhead f p → started f ≡ Goes)
 
--- it creates a register only where it is to, and nothing is known of a log
+-- there is no register, one is to be created, and nothing is known of a log
 pub record NothingIsKnown (f : Found) : Type 0 where
   pub register : f.register ≡ None
   pub seen : f.seen ≡ None
@@ -114,9 +133,45 @@ pub record NothingIsKnown (f : Found) : Type 0 where
   pub stands : f.stands ≡ false
   pub creates : f.creates ≡ true
 
--- what is created is over nothing
+-- a node creates a register exactly where that is so
 abbrev pub CreatesOverNothing : Type 0
-CreatesOverNothing = (f : Found) → started f ≡ Creates → NothingIsKnown f
+CreatesOverNothing = (f : Found) → (started f ≡ Creates → NothingIsKnown f) × (NothingIsKnown f → started f ≡ Creates)
+
+-- the register has this head, and none that this machine saw is ahead of it
+abbrev pub PassesSeen : Found → Point → Type 0
+PassesSeen f p = (f.register ≡ Some p) × IfAny (IsNoOther p) f.seen
+
+-- the same, and none that the guard let through is ahead
+abbrev pub PassesGuard : Found → Point → Type 0
+PassesGuard f p = PassesSeen f p × (f.guarded ≡ true → IfAny (IsNoOther p) f.guard)
+
+-- the guard's last head is no less far than this one
+abbrev pub IsOfGuard : Found → Point → Type 0
+IsOfGuard f q = (g : Other) × (f.guard ≡ Some g) × IsNoFurther q g.at
+
+-- the same, and none that is listed is ahead of the guard's
+abbrev pub PassesGuarded : Found → Point → Type 0
+PassesGuarded f p = PassesGuard f p × (f.guarded ≡ true → (q : Point) → f.listed ≡ Some q → IsOfGuard f q)
+
+-- the same, and none that is listed is ahead
+abbrev pub PassesListed : Found → Point → Type 0
+PassesListed f p = PassesGuarded f p × IfAny (λ q. IsNoFurther q p) f.listed
+
+-- What each answer of a start says, where the ones that are asked for before it don't hold.
+abbrev pub TellsWhy : Found → Beginning → Type 0
+TellsWhy f Goes = (p : Point) × (f.register ≡ Some p) × NoneIsAhead f p
+TellsWhy f Creates = NothingIsKnown f
+TellsWhy f Gone = (f.register ≡ None) × (NothingIsKnown f → ⊥)
+TellsWhy f BehindSeen = (p : Point) × (f.register ≡ Some p) × ((o : Other) × (f.seen ≡ Some o) × (IsNoOther p o → ⊥))
+TellsWhy f BehindGuard = (p : Point) × PassesSeen f p × (f.guarded ≡ true) × ((o : Other) × (f.guard ≡ Some o) × (IsNoOther p o → ⊥) × (o.at ≡ p → ⊥))
+TellsWhy f TwoRoots = (p : Point) × PassesSeen f p × (f.guarded ≡ true) × ((o : Other) × (f.guard ≡ Some o) × (o.at ≡ p) × (o.same ≡ false))
+TellsWhy f GuardBehind = (p : Point) × PassesGuard f p × (f.guarded ≡ true) × ((q : Point) × (f.listed ≡ Some q) × (IsOfGuard f q → ⊥))
+TellsWhy f BehindListed = (p : Point) × PassesGuarded f p × ((q : Point) × (f.listed ≡ Some q) × (IsNoFurther q p → ⊥))
+TellsWhy f BehindPublished = (p : Point) × PassesListed f p × ((q : Point) × (f.published ≡ Some q) × (IsNoFurther q p → ⊥))
+
+-- each answer says what is so, and no two can be said of one start
+abbrev pub AnswersTell : Type 0
+AnswersTell = (f : Found) → TellsWhy f (started f) × ((b : Beginning) → TellsWhy f b → b ≡ started f)
 
 -- the heads that are shown, where these are found one after the other
 abbrev pub shown_over : Option Point → List Point → List Point

@@ -193,6 +193,18 @@ HoldsNewest =
     (count : State → ℕ) (b : State) (hs : List Happening) (w : World) → IsFirstState count b → LeadTo count (beginning b) hs w
     → (rest : List State) × (w.past ≡ w.held ∷ rest)
 
+-- where a swap that was given may still come, the bundle of its state stands: none that a state may need is deleted
+abbrev pub StagedStand : Type 0
+StagedStand =
+    (count : State → ℕ) (b : State) (hs : List Happening) (w : World) → IsFirstState count b → LeadTo count (beginning b) hs w → (k l : State) (n : ℕ)
+    → Has (Swapping k l n) w.sent → w.held ≡ k → Has l w.bundles
+
+-- a head is asked for only of a state that the register took
+abbrev pub AskedAreTaken : Type 0
+AskedAreTaken =
+    (count : State → ℕ) (b : State) (hs : List Happening) (w : World) → IsFirstState count b → LeadTo count (beginning b) hs w → (l : State)
+    → Has (Heading l) w.sent → Has l w.past
+
 -- who has a step made from a state finds the places of all entries of it and of the states before it, and all their objects
 abbrev pub StepsFindAll : Type 0
 StepsFindAll =

@@ -12,7 +12,8 @@
 //! The premises are the definition `MayHappen`: a command comes only if it was given; the register takes a state only in place of the one that it
 //! holds; what is deleted is that bundle and no other; and nobody is told what isn't so.
 //!
-//! [`start`] says whether a node that starts goes on from what the register has, and [`show`] which head it shows ([`laws::starts`]).
+//! [`start`] says whether a node that starts goes on from what the register has, and [`show`] which head it shows ([`laws::starts`]); what that has to
+//! do with what stands is [`laws::take_ups`]. What may be deleted of what nobody reads any more is [`laws::sweeps`].
 #![tactic(auto)]
 
 pub mod laws;

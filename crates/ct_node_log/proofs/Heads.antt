@@ -12,29 +12,12 @@ use Rattle.ct_monitor.specs.Heads.{IsHeadOfAll}
 use Rattle.ct_verify.specs.Laws.{SomeCollide}
 use Rattle.ct_node.specs.declared.state.State.{State}
 use Rattle.ct_node.specs.declared.node.Node.TheVariants.{Heading}
-use Rattle.ct_node.specs.Worlds.{Has, Object, World, Happening, Comes, happens, MayHappen, beginning, IsFirstState, LeadTo, IsSoundWorld, WorldsAreSound}
+use Rattle.ct_node.specs.Worlds.{Has, Object, World, AskedAreTaken}
 use Rattle.ct_step.specs.Entries.{tree_leaves}
 use Rattle.ct_step.specs.Lines.{LineAttempt, IsStepOf}
 use Rattle.ct_step.specs.Steps.{IsLog, line_head}
 use Rattle.ct_node_log.specs.Logs.{IsOf, StandsOf, NodesWriteOneLog}
 use Rattle.ct_node_log.specs.Heads.{NewestIsAsked, HeadsLetThroughAreOf, GuardedHeadsAreOfOneLog}
-
--- ---- a head that is asked for is that of a state that the register took
-
--- one thing more happens behind the others
-one_more : (count : State → ℕ) (u : World) (hs : List Happening) (w : World) (h : Happening) → LeadTo count u hs w → MayHappen count w h
-    → LeadTo count u (hs ++ h ∷ []) (happens w h)
-unfolding LeadTo
-one_more count u [] w h leads may = (subst (λ (v : World). MayHappen count v h) (sym leads) may, ap (λ (v : World). happens v h) leads)
-one_more count u (g ∷ hs) w h leads may = (leads.0, one_more count (happens u g) hs w h leads.1 may)
-
--- the command may come, and behind it the head stands
-asked_is_taken : WorldsAreSound → (count : State → ℕ) (b : State) (hs : List Happening) (w : World) → IsFirstState count b
-    → LeadTo count (beginning b) hs w → (l : State) → Has (Heading l) w.sent → Has l w.past
-asked_is_taken sound count b hs w begins leads l sent =
-    let v : World = happens w (Comes (Heading l)) in
-    let s : IsSoundWorld count v = sound count b (hs ++ Comes (Heading l) ∷ []) v begins (one_more count (beginning b) hs w (Comes (Heading l)) leads (sent, tt)) in
-    s.heads l (inl refl)
 
 -- ---- the line of such a state is that of a beginning of the entries
 
@@ -95,8 +78,8 @@ module _ (H : List ℕ → List ℕ) (line : State → StateLine) (b : State) (k
       (λ (pair : SomeCollide H). inr pair)
       (back H sized last steps (take n.0 (tree_leaves E)) through n.2)
 
-pub guarded_heads_are_of_one_log : NodesWriteOneLog → WorldsAreSound → HeadsGoBack → GuardedHeadsAreOfOneLog
-guarded_heads_are_of_one_log agree sound back H sized line plan known count b hs w begins leads is made =
+pub guarded_heads_are_of_one_log : NodesWriteOneLog → AskedAreTaken → HeadsGoBack → GuardedHeadsAreOfOneLog
+guarded_heads_are_of_one_log agree taken back H sized line plan known count b hs w begins leads is made =
     ⊎_elim
     (λ (r : (E : List Tiled) × (known ≡ take (length known) E) × StandsOf H line b plan E w).
     inl (
@@ -104,7 +87,7 @@ guarded_heads_are_of_one_log agree sound back H sized line plan known count b hs
       r.1,
       r.2,
       heads_of H line b known r.0 back sized w
-          (λ l sent. line_of H line b known r.0 r.1 is l (r.2.past l (asked_is_taken sound count b hs w begins leads l sent))),
+          (λ l sent. line_of H line b known r.0 r.1 is l (r.2.past l (taken count b hs w begins leads l sent))),
     ))
     (λ (pair : SomeCollide H). inr pair)
     (agree H line plan known count b hs w begins leads is made)

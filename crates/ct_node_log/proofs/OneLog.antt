@@ -15,10 +15,10 @@ use Rattle.ct_log_state.specs.Bundle.{IsBundleOf}
 use Rattle.ct_log_state.specs.Resumed.{BundlesAreResumed, object_parts}
 use Rattle.ct_step.specs.Lines.{LineAttempt, IsMadeOfLine, AreLineAttempts, LineSequencersAgree, taken_lines, IsStepOf, CarryOnLines}
 use Rattle.ct_node_log.specs.Logs.{IsAttempt, AreStepsMade, IsOf, IsResumed, NodesWriteOneLog}
-use Rattle.ct_node_log.specs.Names.{objects_of, StepsHaveOneContent}
+use Rattle.ct_node_log.specs.Names.{objects_of, IsTileOfEntries, StepsWriteTiles, StepsHaveOneContent}
 
 -- two strings with one hash are one, or they differ
-same_or_other : (H : List ℕ → List ℕ) (a b : List ℕ) → H a ≡ H b → (a ≡ b) ⊎ SomeCollide H
+pub same_or_other : (H : List ℕ → List ℕ) (a b : List ℕ) → H a ≡ H b → (a ≡ b) ⊎ SomeCollide H
 same_or_other H a b e =
     ⊎_elim
     (λ (same : bytes_eq a b ≡ true). inl ((bytes_eq-Decides a b).0 same))
@@ -161,6 +161,16 @@ module _ (H : List ℕ → List ℕ) where
         (λ (pair : SomeCollide H). inr pair)
         (same_or_other H p.0 a.step.bundle.items (p.2.0 ∙ digest))
 
+    are_tiles : StepsWriteTiles → (E : List Tiled) (w : World) → count b ≡ 0 → IsSoundWorld count w → ((l : State) → Has l w.past → IsPut E l)
+        → (o : Object) → Has o w.objects → IsTileOfEntries H E (plan o)
+    are_tiles tiles E w none s put o ho =
+        let x = s.objects o ho in
+        ⊎_elim
+        (λ (f : o.state ≡ b). let n : count o.state ≡ count b = ap count f in absurd (omega (arith, n, none, x.1)))
+        (λ (c : (a : LineAttempt) × (a.step.line ≡ line o.state) × IsStepOf H E a × ((i : ℕ) → i < count o.state → Has (plan (record { state = o.state; index = i })) (objects_of H E a))).
+        tiles H E c.0 c.2 (plan o) (c.3 o.index x.1))
+        (put o.state x.0)
+
     one_content : StepsHaveOneContent → (E : List Tiled) (w : World) → count b ≡ 0 → IsSoundWorld count w → ((l : State) → Has l w.past → IsPut E l)
         → (o p : Object) → Has o w.objects → Has p w.objects → (plan o).0 ≡ (plan p).0 → (plan o).1 ≡ (plan p).1
     one_content contents E w none s put o p ho hp e =
@@ -176,8 +186,8 @@ module _ (H : List ℕ → List ℕ) where
         (put p.state y.0))
         (put o.state x.0)
 
-pub nodes_write_one_log : LineSequencersAgree → WorldsAreSound → PastsAreChains → StepsHaveOneContent → BundlesAreResumed → NodesWriteOneLog
-nodes_write_one_log agree sound chains contents again H line plan known count b hs w begins leads is steps =
+pub nodes_write_one_log : LineSequencersAgree → WorldsAreSound → PastsAreChains → StepsWriteTiles → StepsHaveOneContent → BundlesAreResumed → NodesWriteOneLog
+nodes_write_one_log agree sound chains tiles contents again H line plan known count b hs w begins leads is steps =
     let s : IsSoundWorld count w = sound count b hs w begins leads in
     let q = (some H line count plan b w.made steps w.past (chains count b hs w begins leads)).1 in
     let xs : List LineAttempt = q.0 in
@@ -201,6 +211,7 @@ nodes_write_one_log agree sound chains contents again H line plan known count b 
         past = past;
         answered = λ l h. (s.answered l h, past l (s.heads l (s.answered l h)));
         promised = λ l h. past l (s.promised l h);
+        tiles = are_tiles H line count plan b w.made steps tiles r.0 w begins.0 s put;
         names = one_content H line count plan b w.made steps contents r.0 w begins.0 s put;
       },
     ))

@@ -10,6 +10,7 @@ use Rattle.ct_log_state.specs.Resumed.{AnswersResume, object_parts}
 use Rattle.ct_log_state.specs.declared.bundle.Object.{Object as Found}
 use Rattle.ct_step.specs.Lines.{LineAttempt, IsMadeOfLine, IsStepOf}
 use Rattle.ct_step.specs.Steps.{IsLog}
+use Rattle.ct_node_log.specs.Names.{IsTileOfEntries}
 
 -- What is put of a state are objects that `resume` gave of its line and of some bytes, wherever these came from. `line` gives the line of a state,
 -- count how many objects are put of it, and plan each by its index, as a name and a content.
@@ -31,11 +32,12 @@ abbrev pub IsOf : (List ℕ → List ℕ) → (State → StateLine) → State �
 IsOf H line b E l = (l ≡ b) ⊎ ((a : LineAttempt) × (a.step.line ≡ line l) × IsStepOf H E a)
 
 -- What stands is of the entries E: each state that the register took (past); each whose waiting were answered, and its head stands (answered);
--- each whose waiting were answered by a promise (promised). All that was ever put under one name is one content (names).
+-- each whose waiting were answered by a promise (promised). All that was ever put are tiles of E (tiles), and under one name one content (names).
 pub record StandsOf (H : List ℕ → List ℕ) (line : State → StateLine) (b : State) (plan : Object → List ℕ × List ℕ) (E : List Tiled) (w : World) : Type 0 where
   pub past : (l : State) → Has l w.past → IsOf H line b E l
   pub answered : (l : State) → Has l w.answered → Has l w.heads × IsOf H line b E l
   pub promised : (l : State) → Has l w.promised → IsOf H line b E l
+  pub tiles : (o : Object) → Has o w.objects → IsTileOfEntries H E (plan o)
   pub names : (o p : Object) → Has o w.objects → Has p w.objects → (plan o).0 ≡ (plan p).0 → (plan o).1 ≡ (plan p).1
 
 -- Whatever happens, there is one list of entries, which begins with those that were known, that all is of that stands; or two different strings

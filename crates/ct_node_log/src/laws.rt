@@ -1,14 +1,16 @@
 //! What follows of the definitions, each a clause of a function that does nothing but call on other laws.
 
 ghost use Rattle.ct_node_log.specs.Heads.{GuardedHeadsAreOfOneLog};
+ghost use Rattle.ct_node_log.specs.Kept.{NodesKeepTiles};
 ghost use Rattle.ct_node_log.specs.Logs.{NodesWriteOneLog};
-ghost use Rattle.ct_node_log.specs.Names.{StepsHaveOneContent};
+ghost use Rattle.ct_node_log.specs.Names.{StepsWriteTiles, StepsHaveOneContent};
 ghost use Rattle.ct_node_log.specs.Once.{NodesAddOnce};
+ghost use Rattle.ct_node_log.specs.Public.{PublicNamesHaveOneContent};
 
 /// Whatever becomes of the commands of any number of nodes, where their steps are `take_step`'s and what they put of a state is `resume`'s of
 /// its line, and of any bytes: there is one list of entries. The line of each state that the register took is that of a beginning of it. Each
 /// state whose waiting were answered has a published head, and is of a step whose receipts, bundle and entries are that list's. Of each public
-/// name of a tile one content was ever put. Or two different strings with one digest are given.
+/// name of a tile one content was ever put, which is that of the list's tile. Or two different strings with one digest are given.
 pub fn nodes()
     ensures one_log { NodesWriteOneLog }
 {
@@ -16,6 +18,26 @@ pub fn nodes()
     ct_node::laws::worlds();
     names();
     ct_log_state::laws::bundles();
+}
+
+/// Beside such nodes anybody puts certificates of issuers, each under the name of its own digest: of any two objects, tiles, data tiles or issuers, that were
+/// ever put under one name the content is one, or two different strings with one digest are given.
+pub fn public_names()
+    ensures { PublicNamesHaveOneContent }
+{
+    nodes();
+}
+
+/// Beside such nodes anybody deletes tiles once a wider one was put, and heads once a later one was: all that was ever put can still be read, each tile under
+/// its own name or as the beginning of a wider one, so all that a head stands for; and so can a head that is no earlier than any. Or two different strings
+/// with one digest are given.
+pub fn kept()
+    ensures { NodesKeepTiles }
+{
+    nodes();
+    ct_node::laws::sweeps();
+    ct_node::laws::worlds();
+    ct_tile_names::laws::names();
 }
 
 /// Beside such nodes stand any guards before the log's key, over one register of their own: of the heads that they let through one behind the other,
@@ -29,8 +51,10 @@ pub fn heads()
     ct_guard::laws::heads_go_back();
 }
 
-/// Two objects of steps of one log that have one name have one content, whoever made them.
+/// Each object of a step of one log is the tile of its entries that its name says (`tiles`), so two that have one name have one content, whoever made them
+/// (`one_content`).
 pub fn names()
+    ensures tiles { StepsWriteTiles }
     ensures one_content { StepsHaveOneContent }
 {
     ct_tiles::laws::tiles();

@@ -3,4 +3,4 @@ use Rattle.ct_node_log.proofs.Heads.{guarded_heads_are_of_one_log}
 use Rattle.ct_node_log.proofs.laws.heads.Goals as goal
 
 pub returns : goal.returns
-returns c = record { one_log = guarded_heads_are_of_one_log c.nodes.ensures.one_log c.worlds.ensures.sound c.heads_go_back.ensures }
+returns c = record { one_log = guarded_heads_are_of_one_log c.nodes.ensures.one_log c.worlds.ensures.asked c.heads_go_back.ensures }

@@ -3,4 +3,8 @@ use Rattle.ct_node_log.proofs.OneLog.{nodes_write_one_log}
 use Rattle.ct_node_log.proofs.laws.nodes.Goals as goal
 
 pub returns : goal.returns
-returns c = record { one_log = nodes_write_one_log c.sequencers_over_lines.ensures c.worlds.ensures.sound c.worlds.ensures.chain c.names.ensures.one_content c.bundles.ensures.resumed }
+returns c = record {
+  one_log =
+      nodes_write_one_log c.sequencers_over_lines.ensures c.worlds.ensures.sound c.worlds.ensures.chain c.names.ensures.tiles
+      c.names.ensures.one_content c.bundles.ensures.resumed;
+}

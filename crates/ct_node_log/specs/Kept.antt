@@ -1,0 +1,50 @@
+-- What is left of a log's tiles, where partial ones are deleted. H is any hash function on byte lists.
+use Rattle.std.specs.Prelude.{◌≡◌, ◌⊎◌, ℕ, ◌<◌, ◌≤◌, List, length, take}
+use Rattle.ct_data_tiles.specs.TileLeaf.{Tiled}
+use Rattle.ct_log_state.specs.declared.line.StateLine.{StateLine}
+use Rattle.ct_tile_names.specs.Names.{IsTile, name_text}
+use Rattle.ct_tile_names.specs.declared.tile.Tile.{Tile}
+use Rattle.ct_verify.specs.Laws.{SomeCollide}
+use Rattle.ct_node.specs.declared.state.State.{State}
+use Rattle.ct_node.specs.Worlds.{Has, Object, World, IsFirstState}
+use Rattle.ct_node.specs.Sweeps.{SweptWorld, SweptHappening, swept_beginning, LeadToSwept}
+use Rattle.ct_step.specs.Steps.{IsLog}
+use Rattle.ct_node_log.specs.Logs.{AreStepsMade, StandsOf}
+
+-- the tile that is whole where the one is partial, by its name
+abbrev pub whole_name : Tile → List ℕ
+whole_name t = name_text (record t { width = 256 })
+
+-- each object's tile, by the whole one's name, and how wide it is
+abbrev pub tile_and_width : (Object → Tile) → Object → List ℕ × ℕ
+tile_and_width of o = (whole_name (of o), (of o).width)
+
+-- of each object that was put the name is that of its tile
+abbrev pub AreNamed : (Object → Tile) → (Object → List ℕ × List ℕ) → World → Type 0
+AreNamed of plan w = (o : Object) → Has o w.objects → IsTile (of o) × ((plan o).0 ≡ name_text (of o))
+
+-- the content of the one object begins with that of the other
+abbrev pub BeginsWithAll : List ℕ × List ℕ → List ℕ × List ℕ → Type 0
+BeginsWithAll o p = take (length p.1) o.1 ≡ p.1
+
+-- of the object there stands one that begins with all of it, under its name, or that of the wider tile of its content and index
+abbrev pub IsReadable : (Object → Tile) → (Object → List ℕ × List ℕ) → SweptWorld → Object → Type 0
+IsReadable of plan w o =
+    (p : Object) × Has p w.objects × (of p ≡ record (of o) { width = (of p).width }) × ((of o).width ≤ (of p).width) × BeginsWithAll (plan p) (plan o)
+
+-- What can be read: all objects that were ever put (objects), so all of each state that a head stands for (covered); and a head that is no earlier than any
+-- that was ever put (heads).
+pub record CanBeRead (count : State → ℕ) (of : Object → Tile) (plan : Object → List ℕ × List ℕ) (w : SweptWorld) : Type 0 where
+  pub objects : (o : Object) → Has o w.world.objects → IsReadable of plan w o
+  pub covered : (l m : State) → Has l w.world.heads → Has m w.world.past → m.moment ≤ l.moment → (i : ℕ) → i < count m
+      → IsReadable of plan w (record { state = m; index = i })
+  pub heads : (l : State) → Has l w.world.heads → (m : State) × Has m w.heads × (l.moment ≤ m.moment)
+
+-- Whatever becomes of the nodes' commands, where tiles are deleted only once a wider one was put, and heads only once a later one was: there is one list of
+-- entries, which begins with those that were known, that all is of that was put, and it can be read; or two different strings with one hash are given.
+abbrev pub NodesKeepTiles : Type 0
+NodesKeepTiles =
+    (H : List ℕ → List ℕ) (line : State → StateLine) (plan : Object → List ℕ × List ℕ) (of : Object → Tile) (known : List Tiled) (count : State → ℕ)
+    (b : State) (hs : List SweptHappening) (w : SweptWorld) → IsFirstState count b → LeadToSwept count (tile_and_width of) (swept_beginning b) hs w
+    → IsLog H known (line b) → AreStepsMade H line count plan w.world.made → AreNamed of plan w.world
+    → ((E : List Tiled) × (known ≡ take (length known) E) × StandsOf H line b plan E w.world × CanBeRead count of plan w) ⊎ SomeCollide H
