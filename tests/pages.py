@@ -36,7 +36,7 @@ NEW_MOUNTS = 0x00020000
 PROVES, WITHIN = 4 * 3600, 1800
 PROVING = ("make demo", "make programs", "make serve", "make link", "make check", "make wrong", "(cd crates", "make reproduce", "make service-", "make load", "make sweep")
 # What serves until it is interrupted, by what it says once it does.
-FRONT = "http://127.0.0.1:8618 with "
+FRONT = "http://127.0.0.1:8618/ with "
 SERVING = {"make serve-ctlogd": FRONT, "make serve-witness": '"event":"serving"', "make serve": '"event":"serving"', "runuser -u ct-front": FRONT, "examples/http/front.py": FRONT}
 # What listens at a socket until it is interrupted, and what serves over that.
 LISTENING, OVER = {"runuser -u ct-signer": "/run/ct/signer"}, "runuser -u ct-front"
