@@ -87,10 +87,12 @@ short() {
   sed -E 's/(_hash":"[^"]{8})[^"]+"/\1.."/g' | cut -c1-140 | sed 's/^/    /'
 }
 
-# Watches a made-up log: the lines of run $1 have to give its verdicts and its exit status, as $2 computed them.
+# Watches a made-up log: the lines of run $1 have to give its verdicts and its exit status, as $2 computed them. No name is watched where leaves are no certificates.
 watch() {
   status=0
-  "$monitor" --name microsoft.com --name debian <"$work/$1.in" >"$work/$1.told" || status=$?
+  names=(--name microsoft.com --name globalsign --name .cryptography.io --name debian)
+  [ "$1" != tiled-short ] || names=()
+  "$monitor" ${names[@]+"${names[@]}"} <"$work/$1.in" >"$work/$1.told" || status=$?
   cmp -s "$work/$1.told" "$work/$1.out" || fail "ctmonitor's verdicts on the run $1 differ from those of tests/monitor/$2"
   [ "$status" = "$(cat "$work/$1.status")" ] || fail "ctmonitor ended the run $1 with status $status"
 }

@@ -91,7 +91,7 @@ STARTING = {
 # The same of what may be deleted, which is no code.
 SWEPT = "specs/Sweeps.antt"
 SWEEPING = {
-    "a tile goes where none is wider": ("stands_on", ("Has p w.world.objects × Wider n (name p) ×", "Has p w.world.objects × (name p ≡ name p) ×")),
+    "a tile goes where none is wider": ("stands_on", ("Has p w.world.objects × IsWider n (tile p) ×", "Has p w.world.objects × (tile p ≡ tile p) ×")),
     "the newest head goes": ("later_left", ("(l.moment < m.moment) × AreLeft", "(l.moment ≤ m.moment) × AreLeft")),
 }
 
