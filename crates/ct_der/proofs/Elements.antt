@@ -84,10 +84,6 @@ takes_4 h (a ∷ c ∷ d ∷ f ∷ b) n r k fits e =
 IsBytes-rest : (b : ℕ) (bytes : List ℕ) → IsBytes (b ∷ bytes) → IsBytes bytes
 IsBytes-rest b bytes h i = h (suc i)
 
-at_132 : ℕ → List ℕ → Result (ℕ × List ℕ) DerFault
-unfolding length_at
-at_132 h b = cond (eqb h 132) (long_4 b) (Err LongLength)
-
 length_takes : (b : List ℕ) (n : ℕ) (r : List ℕ) → IsBytes b → length_at b ≡ Ok (n, r) → (l : List ℕ) × IsLength l n × (b ≡ l ++ r)
 unfolding length_at
 length_takes [] n r fits e = absurd cc

@@ -76,7 +76,7 @@ pub record Front (tag : ℕ) (b c r : List ℕ) : Type 0 where
   pub inner : IsBytes c
   pub rest : IsBytes r
 
-element_found : (b c r : List ℕ) (tag : ℕ) → IsBytes b → element_at b ≡ Ok (tag, c, r) → Front tag b c r
+pub element_found : (b c r : List ℕ) (tag : ℕ) → IsBytes b → element_at b ≡ Ok (tag, c, r) → Front tag b c r
 element_found b c r tag fits e =
     let f = read_elements_are_there b c r tag fits e in
     let h : IsBytes (f.0 ++ r) = subst IsBytes f.2 fits in
@@ -99,7 +99,7 @@ pub record Whole (tag : ℕ) (b c : List ℕ) : Type 0 where
   pub is : IsTlv tag c b
   pub inner : IsBytes c
 
-whole_of : (tag : ℕ) (b c r : List ℕ) → Front tag b c r → length r ≡ 0 → Whole tag b c
+pub whole_of : (tag : ℕ) (b c r : List ℕ) → Front tag b c r → length r ≡ 0 → Whole tag b c
 whole_of tag b c r f none =
     let same : b ≡ f.x = f.text ∙ ap (λ (y : List ℕ). f.x ++ y) (nil_from_length r none) ∙ append-nil f.x in
     record { is = subst (λ (y : List ℕ). IsTlv tag c y) (sym same) f.is; inner = f.inner }

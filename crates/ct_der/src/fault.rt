@@ -1,5 +1,8 @@
 //! Why bytes begin with no element.
 
+ghost use Rattle.std.specs.Prelude.{◌≡◌};
+ghost use Rattle.ct_der.specs.FaultName.{der_fault_name};
+
 use thiserror::Error;
 
 /// Why bytes begin with no element: the first fault from the left (X.690, sections 8.1 and 10.1). A fault's text is its name.
@@ -26,4 +29,21 @@ pub enum DerFault {
     /// Bytes follow the last element.
     #[error("trailing")]
     Trailing,
+}
+
+impl DerFault {
+    /// Its name.
+    pub fn name(self) -> &'static str
+        ensures { result.now ≡ der_fault_name self }
+    {
+        match self {
+            DerFault::Truncated => "truncated",
+            DerFault::LongTag => "long-tag",
+            DerFault::IndefiniteLength => "indefinite-length",
+            DerFault::LongLength => "long-length",
+            DerFault::PaddedLength => "padded-length",
+            DerFault::OtherTag => "other-tag",
+            DerFault::Trailing => "trailing",
+        }
+    }
 }

@@ -6,9 +6,10 @@ use Rattle.ct_tree.specs.Tree.{hash_leaf, mth}
 use Rattle.ct_tiles.specs.Tiles.{chunk_roots, behind, hashes, edge, lone_root}
 use Rattle.ct_tiles.proofs.EdgeRoot.{root_step, length-lone_root, root_at_top, starts_alone}
 use Rattle.ct_tiles.proofs.Words.{level_has_length}
+use Rattle.ct_verify.proofs.Shown.{parts}
 use Rattle.ct_verify.specs.Laws.{AreHashes, SomeCollide}
 use Rattle.ct_growth.specs.Believed.{tile_widths, carried_over, edge_root, BelievedEdgesTell, EdgesAreBelieved}
-use Rattle.ct_growth.proofs.Roots.{has_32, cut_same, root_32, roots_tell, length-lone, lone_32, lone_tells}
+use Rattle.ct_growth.proofs.Roots.{has_32, root_32, roots_tell, length-lone, lone_32, lone_tells}
 
 -- ---- the right edge of a list
 pub carried-push : (H : List ℕ → List ℕ) (tiles : List (List (List ℕ))) (tile c : List (List ℕ))
@@ -124,7 +125,7 @@ module _ (H : List ℕ → List ℕ) (long : (x : List ℕ) → length (H x) ≡
       (λ (above : (S ≡ T) × (lone_root H (s ++ c) ≡ lone_root H (t ++ d))).
       ⊎_elim
       (λ (here : s ++ c ≡ t ++ d).
-      let z = cut_same s t c d w.0 here in
+      let z = parts s t c d w.0 here in
       inl (ap (λ (x : List (List ℕ)). x ∷ S) z.0 ∙ ap (λ (x : List (List (List ℕ))). t ∷ x) above.0, z.1))
       (λ (found : SomeCollide H). inr found)
       (lone_tells H long (s ++ c) (t ++ d) both u v above.1))

@@ -1,49 +1,22 @@
 -- Two lists of hashes with one root are one list, or two different strings have one hash.
-use Rattle.std.proofs.Common.{◌≡◌, ◌⊎◌, ◌∙◌, ℕ, zero, suc, ◌-◌, ◌<◌, ◌≤◌, true, false, List, [], ◌∷◌, ◌++◌, length, take, drop, sym, refl, ap, arith, inl, inr, ⊎_elim, length-drop}
-use Rattle.std.specs.Str.{bytes_eq}
-use Rattle.std.proofs.lemmas.Bool.{cases_Bool, both_ways}
-use Rattle.std.proofs.lemmas.Slice.Eq.{bytes_eq-Decides}
+use Rattle.std.proofs.Common.{◌≡◌, ◌⊎◌, ◌∙◌, ℕ, zero, suc, ◌-◌, ◌<◌, ◌≤◌, List, [], ◌∷◌, ◌++◌, length, take, drop, sym, refl, ap, arith, inl, inr, ⊎_elim, length-drop}
 use Rattle.std.proofs.lemmas.List.{length-take-le, take-append-drop}
 use Rattle.std.proofs.lemmas.List.Elements.{All-nil, All-cons, All-head, All-take, All-drop}
 use Rattle.ct_tree.proofs.Mth.{mth-nil, mth-one, mth-split_at}
 use Rattle.ct_tree.proofs.Split.{split_pos, split_lt}
 use Rattle.ct_tree.specs.Tree.{split, mth, hash_node}
 use Rattle.ct_tiles.specs.Tiles.{lone_root}
+use Rattle.ct_verify.proofs.Shown.{left_nodes}
 use Rattle.ct_verify.specs.Laws.{AreHashes, SomeCollide}
 
 abbrev pub has_32 : List ℕ → Type 0
 has_32 x = length x ≡ 32
-
--- a list in two parts
-pub cut_same : {X : Type 0} (a b c d : List X) → length a ≡ length b → a ++ c ≡ b ++ d → (a ≡ b) × (c ≡ d)
-cut_same [] [] c d l e = (refl, e)
-cut_same [] (y ∷ b) c d l e = absurd (omega (arith, l))
-cut_same (x ∷ a) [] c d l e = absurd (omega (arith, l))
-cut_same (x ∷ a) (y ∷ b) c d l e =
-    let first : x ≡ y = cc in
-    let behind : a ++ c ≡ b ++ d = cc in
-    let more = cut_same a b c d (omega (arith, l)) behind in
-    (ap (λ z. z ∷ a) first ∙ ap (λ z. y ∷ z) more.0, more.1)
-
-same_tail : {X : Type 0} (x y : X) (a b : List X) → x ∷ a ≡ y ∷ b → a ≡ b
-same_tail x y a b e = cc
 
 module _ (H : List ℕ → List ℕ) (long : (x : List ℕ) → length (H x) ≡ 32) where
   pub root_32 : (D : List (List ℕ)) → AreHashes D → length (mth H D) ≡ 32
   root_32 [] a = ap length (mth-nil H) ∙ long []
   root_32 (x ∷ []) a = ap length (mth-one H x) ∙ All-head has_32 x [] a
   root_32 (x ∷ y ∷ D) a = ap length (mth-split_at H (x ∷ y ∷ D) (split (length (x ∷ y ∷ D))) (omega arith) refl) ∙ long _
-
-  -- two nodes with one hash
-  nodes_tell : (a b c d : List ℕ) → length a ≡ 32 → length c ≡ 32 → hash_node H a b ≡ hash_node H c d
-      → ((a ≡ c) × (b ≡ d)) ⊎ SomeCollide H
-  nodes_tell a b c d l m e =
-      let s = 1 ∷ a ++ b in
-      let t = 1 ∷ c ++ d in
-      ⊎_elim
-      (λ (same : bytes_eq s t ≡ true). inl (cut_same a c b d (l ∙ sym m) (same_tail 1 1 (a ++ b) (c ++ d) ((bytes_eq-Decides s t).0 same))))
-      (λ (other : bytes_eq s t ≡ false). inr (s, t, (λ q. both_ways (bytes_eq s t) other ((bytes_eq-Decides s t).1 q), e)))
-      (cases_Bool (bytes_eq s t))
 
   tell_within : (fuel : ℕ) (E D : List (List ℕ)) → length D ≤ fuel → length E ≡ length D → AreHashes E → AreHashes D → mth H E ≡ mth H D
       → (E ≡ D) ⊎ SomeCollide H
@@ -83,8 +56,8 @@ module _ (H : List ℕ → List ℕ) (long : (x : List ℕ) → length (H x) ≡
           (λ (found : SomeCollide H). inr found)
           (tell (take k E) (take k D) (omega arith) (omega arith) (All-take has_32 k E a) (All-take has_32 k D b) same.0))
           (λ (found : SomeCollide H). inr found)
-          (nodes_tell (mth H (take k E)) (mth H (drop k E)) (mth H (take k D)) (mth H (drop k D))
-          (root_32 (take k E) (All-take has_32 k E a)) (root_32 (take k D) (All-take has_32 k D b)) (sym over_e ∙ e ∙ over_d))
+          (left_nodes H (mth H (take k E)) (mth H (drop k E)) (mth H (take k D)) (mth H (drop k D))
+          (root_32 (take k E) (All-take has_32 k E a) ∙ sym (root_32 (take k D) (All-take has_32 k D b))) (sym over_e ∙ e ∙ over_d))
 
   -- two lists of one length with one root
   pub roots_tell : (E D : List (List ℕ)) → length E ≡ length D → AreHashes E → AreHashes D → mth H E ≡ mth H D → (E ≡ D) ⊎ SomeCollide H

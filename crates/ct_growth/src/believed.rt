@@ -1,14 +1,13 @@
 //! A state whose right edge was kept elsewhere, by whoever need not be trusted.
 
-ghost use Rattle.std.specs.Prelude.{◌≡◌, ◌++◌, length, map, All, IfOk, MatchResult};
+ghost use Rattle.std.specs.Prelude.{◌≡◌, length, map, All, IfOk, MatchResult};
 ghost use Rattle.std.specs.Bool.{MatchBool};
-ghost use Rattle.ct_tiles.specs.Tiles.{lone_root};
 ghost use Rattle.ct_verify.specs.Laws.{AreHashes};
 ghost use Rattle.ct_growth.specs.Believed.{tile_widths, edge_root, BelievesState, StopsBelief};
 ghost use Rattle.ct_growth.specs.declared.believed.EdgeFault.TheVariants.{Memory};
 
 use crate::growth::State;
-use ct_tiles::Edge;
+use ct_tiles::{Edge, joined, root_alone};
 use ct_tree::reference::root;
 use ct_tree::{Head, NodeHash, is_same_digest};
 use std::alloc::{AllocError, Global};
@@ -78,35 +77,6 @@ fn have_widths(tiles: &[Vec<[u8; 32]>], size: u64) -> bool
     true
 }
 
-// The hashes of a partial tile and what is carried there, in order.
-fn with_carried(
-    alloc: Global,
-    tile: &[[u8; 32]],
-    carried: &[[u8; 32]],
-) -> Result<Vec<[u8; 32]>, AllocError>
-    ensures { IfOk result (λ v. v.items ≡ tile.now ++ carried.now) }
-{
-    let mut hashes = Vec::new(alloc);
-    hashes.extend_from_slice(tile)?;
-    hashes.extend_from_slice(carried)?;
-    Ok(hashes)
-}
-
-// The root of some hashes, and nothing of none.
-fn carried_on<H: NodeHash>(
-    alloc: Global,
-    h: &H,
-    hashes: &[[u8; 32]],
-) -> Result<Vec<[u8; 32]>, AllocError>
-    ensures { IfOk result (λ v. v.items ≡ lone_root H.digest hashes.now) }
-{
-    let mut lone = Vec::new(alloc);
-    if !hashes.is_empty() {
-        lone.push(root(h, hashes))?;
-    }
-    Ok(lone)
-}
-
 // The root that partial tiles give, level 0 first.
 fn root_of_tiles<H: NodeHash>(
     alloc: Global,
@@ -117,8 +87,8 @@ fn root_of_tiles<H: NodeHash>(
 {
     let mut carried = Vec::new(alloc);
     for tile in tiles {
-        let hashes = with_carried(alloc, tile, &carried)?;
-        carried = carried_on(alloc, h, &hashes)?;
+        let hashes = joined(alloc, tile, &carried)?;
+        carried = root_alone(alloc, h, &hashes)?;
     }
     Ok(root(h, &carried))
 }

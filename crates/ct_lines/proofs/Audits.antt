@@ -71,8 +71,6 @@ unfolding verdict
 not_accepted D leaf m p e = ap (λ t. cond t (verdict_on (evid sha256 D leaf m p)) proof_refused) e
 
 -- the whole: the answer to an audit against a published size
-pub size_unknown : (log : Log) (leaf : List ℕ) (m n : ℕ) (p : List (List ℕ)) → is_size log n ≡ false → audit_answer log (audit leaf m n p) ≡ refused UnknownSize
-size_unknown log leaf m n p e = ap (λ t. cond (not t) (refused UnknownSize) (verdict (first_leaves log n) leaf m p)) e
 
 pub size_known : (log : Log) (leaf : List ℕ) (m n : ℕ) (p : List (List ℕ)) → is_size log n ≡ true
     → audit_answer log (audit leaf m n p) ≡ verdict (first_leaves log n) leaf m p

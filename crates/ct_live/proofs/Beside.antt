@@ -1,6 +1,6 @@
 -- Both ends of each ring at hand.
 use Rattle.std.proofs.Common.{◌≡◌, ◌≢◌, ◌<◌, ◌≤◌, ◌+◌, ℕ, zero, suc, List, [], ◌∷◌, ◌++◌, length, map, set, Option, refl, sym, ap, subst, ◌∙◌, arith}
-use Rattle.std.proofs.Common.{append_assoc, append-nil, length-append, get_or, below_more, Vec, Global}
+use Rattle.std.proofs.Common.{append_assoc, append-nil, get_or, below_more, Vec, Global}
 use Rattle.std.specs.Prelude.{Some, slice_get}
 use mathlib.Core.List.{IsPrefix}
 use Rattle.std.specs.List.{AllZip, concat}
@@ -19,7 +19,8 @@ use Rattle.rtrb.specs.declared.producer.Producer.{Producer}
 use Rattle.ct_live.specs.Rings.{all_received, all_sent, texts, ArePairs, ArePrefixes, AreTakenBelow}
 use Rattle.ct_live.specs.Written.{Passes, PassesSome}
 use Rattle.json_lines.specs.Sends.{SendsSome}
-use Rattle.ct_live.proofs.Merging.{get_mapped, mapped_same, put_there, put_elsewhere}
+use Rattle.ct_tasks.proofs.PlanLemmas.{put_there, put_elsewhere}
+use Rattle.ct_live.proofs.Merging.{get_mapped, mapped_same}
 use Rattle.ct_live.proofs.Writing.{some_behind}
 
 pairs_put : {A B : Type 0} (R : A → B → Type 0) (xs : List A) (ys : List B) (k : ℕ) (x : A) (y : B) → AllZip R xs ys → R x y
@@ -146,10 +147,6 @@ module _ {T : Type 0} where
       (sym (mapped_there (λ (r : Consumer T Global AnyItems). received r) cs k c beside)
       ∙ ap (λ (l : List (List T)). slice_get l k) (er ∙ same ∙ sym es)
       ∙ mapped_there (λ (r : Producer T Global AnyItems). sent r) ps k p below))
-
--- where items are left, not all was received
-pub not_taken : {A : Type 0} (received known all : List A) → received ++ known ≡ all → length known ≢ 0 → received ≢ all
-not_taken received known all whole more same = more (omega (arith, ap length whole, ap length same, length-append received known))
 
 -- a text more was written
 pub passes_more : (a b c : Option (List ℕ)) (before between after : List (Vec ℕ Global)) (t : Vec ℕ Global) → after ≡ between ++ t ∷ []

@@ -12,7 +12,7 @@ use Rattle.ct_lines.specs.declared.request.FrontRequest.{FrontRequest}
 use Rattle.ct_live.specs.Merges.{IsMergeOf}
 use Rattle.ct_live.specs.Rings.{all_sent}
 use Rattle.ct_live.specs.declared.pipes.answering.Numbered.{Numbered}
-use Rattle.ct_live.specs.LiveGiven.{GivesLine, GivesStep, HaveGiven}
+use Rattle.ct_live.specs.LiveGiven.{GivesLine, GivesStep}
 use Rattle.ct_live.specs.LiveLines.{AsksLive}
 use Rattle.ct_live.specs.LiveInput.{operator_given, operator_task_asked, front_given, front_task_asked}
 use Rattle.ct_live.specs.LiveTasks.{LiveStep, gives_front, live_step, gives_operator}
@@ -66,14 +66,6 @@ gives_line fronts k (b ∷ bs) s (Some now) old new some asks (is, same) = (not_
   where
     not_empty : b ∷ bs ≡ [] → ⊥
     not_empty e = cc
-
--- an empty line asks nothing
-pub gives_nothing : (fronts k : ℕ) (line : List ℕ) (a : Inlets) → line ≡ [] → GivesLine fronts k line None a a
-gives_nothing fronts k [] a none = λ steps h. ([], tt, subst (λ (l : List (ℕ × LiveStep)). HaveGiven l a) (sym (append-nil steps)) h)
-gives_nothing fronts k (b ∷ bs) a none = absurd (cons_nil none)
-  where
-    cons_nil : b ∷ bs ≡ [] → ⊥
-    cons_nil e = cc
 
 -- the same of the tasks as the code has them
 pub given_to_front : (old new : Inlets) (ps qs : List (Producer (Numbered FrontRequest) Global AnyItems)) (k f p : ℕ) (t : FrontRequest) (s : LiveTask)

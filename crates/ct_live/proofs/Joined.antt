@@ -1,6 +1,5 @@
 -- The parties and their rings stay what they are while the threads run.
 use Rattle.std.proofs.Common.{◌≡◌, ◌∙◌, ℕ, List, [], ◌∷◌, ◌++◌, map, refl, reverse, sym, length, Vec, Global, true≢false}
-use Rattle.std.specs.List.{AllZip}
 use Rattle.std.specs.Prelude.{Result, Ok, Err, IsOk, OnOk}
 use Rattle.rtrb.specs.Ring.{IsPair, SameProducer, SameConsumer}
 use Rattle.rtrb.specs.declared.AnyItems.{AnyItems}
@@ -18,7 +17,7 @@ use Rattle.ct_parties.proofs.TurnLemmas.{in_turn_keeps}
 use Rattle.ct_live.specs.Answered.{AnswersWith, AreAnswered}
 use Rattle.ct_live.specs.Rings.{ArePairs, SameProducers, SameConsumers}
 use Rattle.ct_live.specs.declared.pipes.answering.Numbered.{Numbered}
-use Rattle.ct_live.proofs.Merging.{zip_self}
+use Rattle.ct_live.proofs.Merging.{zip_self, zip_trans}
 use Rattle.ct_live.proofs.Turns.{producer_trans}
 use Rattle.std.proofs.lemmas.List.Elements.{length_all_zip}
 use Rattle.ct_live.specs.LiveParties.{OperatorReplies}
@@ -97,14 +96,6 @@ house_kept before after o p i did worked =
     fronts_kept o.sequencer p.sequencer (worker_fronts before) (worker_fronts after) on.house on.count (fronts_same before after did) i
 
 -- ---- the rings into which tasks are given
-
-zip_trans : {A : Type 0} (R : A → A → Type 0) → ((x y z : A) → R x y → R y z → R x z) → (xs ys zs : List A) → AllZip R xs ys → AllZip R ys zs → AllZip R xs zs
-zip_trans R trans [] [] [] a b = tt
-zip_trans R trans [] [] (z ∷ zs) a b = absurd b
-zip_trans R trans [] (y ∷ ys) zs a b = absurd a
-zip_trans R trans (x ∷ xs) [] zs a b = absurd a
-zip_trans R trans (x ∷ xs) (y ∷ ys) [] a b = absurd b
-zip_trans R trans (x ∷ xs) (y ∷ ys) (z ∷ zs) a b = (trans x y z a.0 b.0, zip_trans R trans xs ys zs a.1 b.1)
 
 pub producers_self : {T : Type 0} (ps : List (Producer T Global AnyItems)) → SameProducers ps ps
 producers_self ps = zip_self SameProducer (λ r. ((refl, refl, refl, refl), refl)) ps

@@ -1,5 +1,4 @@
 pub mod Merging
-pub mod Sending
 pub mod Writing
 pub mod Beside
 pub mod Opened

@@ -3,7 +3,7 @@ use Rattle.std.proofs.Common.{◌≡◌, ◌≢◌, ◌<◌, ◌≤◌, ◌+◌,
 use Rattle.std.proofs.Common.{append-nil, get_or, Bool, true, false}
 use Rattle.std.specs.Prelude.{All, Some, slice_get, nat_eq}
 use Rattle.std.specs.List.{AllZip, AllWithin}
-use Rattle.std.proofs.lemmas.List.{length-set, get_or-set_same, map-set}
+use Rattle.std.proofs.lemmas.List.{length-set, map-set}
 use Rattle.std.proofs.lemmas.List.Elements.{filter_map-append, All-append, All-cons, All-from_all_within, AllWithin-more_set, AllWithin-none, AllWithin-upto}
 use Rattle.std.proofs.lemmas.Bool.Decides.{eqb_tells}
 use Rattle.std.proofs.lemmas.Option.{same_Some, slice_get_within, slice_get-get_or, slice_get-map}
@@ -13,23 +13,9 @@ use Rattle.rtrb.specs.Ring.{sent, known_free, known_items, SameProducer, SameCon
 use Rattle.rtrb.specs.declared.AnyItems.{AnyItems}
 use Rattle.rtrb.specs.declared.consumer.Consumer.{Consumer}
 use Rattle.rtrb.specs.declared.producer.Producer.{Producer}
+use Rattle.ct_tasks.proofs.PlanLemmas.{put_there, put_elsewhere}
 use Rattle.ct_live.specs.Rings.{all_sent, AreSeenEmpty, EmptiedAt, IsSeenFull, SameProducers, SameConsumers}
 use Rattle.ct_live.specs.Merges.{part, part_of, IsMergeOf}
-
--- the element that was put there, and the others
-pub put_there : {A : Type 0} (xs : List A) (i : ℕ) (x y : A) → slice_get xs i ≡ Some x → slice_get (set xs i y) i ≡ Some y
-put_there {A = A} xs i x y at =
-    let below = slice_get_within xs i x at in
-    let inside : i < length (set xs i y) = subst (λ (n : ℕ). i < n) (sym (length-set xs i y)) below in
-    slice_get-get_or (set xs i y) i y inside ∙ ap (λ (z : A). Some z) (get_or-set_same xs i y y below)
-
-pub put_elsewhere : {A : Type 0} (xs : List A) (i j : ℕ) (y : A) → j ≢ i → slice_get (set xs i y) j ≡ slice_get xs j
-put_elsewhere [] zero j y apart = refl
-put_elsewhere [] (suc i) j y apart = refl
-put_elsewhere (z ∷ zs) zero zero y apart = absurd (apart refl)
-put_elsewhere (z ∷ zs) zero (suc j) y apart = refl
-put_elsewhere (z ∷ zs) (suc i) zero y apart = refl
-put_elsewhere (z ∷ zs) (suc i) (suc j) y apart = put_elsewhere zs i j y (λ e. apart (ap (λ (n : ℕ). suc n) e))
 
 -- pairs of one party
 abbrev pub pairs_of : {A : Type 0} → ℕ → List A → List (ℕ × A)
@@ -125,7 +111,7 @@ module _ {T : Type 0} where
 
 -- ---- step after step
 
-zip_trans : {A : Type 0} (R : A → A → Type 0) → ((x y z : A) → R x y → R y z → R x z) → (xs ys zs : List A) → AllZip R xs ys → AllZip R ys zs → AllZip R xs zs
+pub zip_trans : {A : Type 0} (R : A → A → Type 0) → ((x y z : A) → R x y → R y z → R x z) → (xs ys zs : List A) → AllZip R xs ys → AllZip R ys zs → AllZip R xs zs
 zip_trans R trans [] [] [] a b = tt
 zip_trans R trans [] [] (z ∷ zs) a b = absurd b
 zip_trans R trans [] (y ∷ ys) zs a b = absurd a

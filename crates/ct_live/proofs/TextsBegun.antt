@@ -3,13 +3,13 @@ use Rattle.std.proofs.Common.{◌≡◌, ◌<◌, ◌∙◌, ℕ, List, [], ◌�
 use Rattle.std.specs.List.{concat}
 use Rattle.std.specs.Prelude.{Option, Some, None}
 use Rattle.std.proofs.KnownBytes.{Appends-nil}
+use Rattle.std.specs.Io.KnownBytes.{Appends}
 use Rattle.ct_core.specs.Replies.{a_published_head}
 use Rattle.ct_core.specs.Settlement.{Log}
 use Rattle.ct_lines.specs.Frozen.{line_answer}
 use Rattle.json_lines.specs.Sends.{SendsSome}
 use Rattle.json_lines.specs.Lines.{lines_of, IsNextLine}
 use Rattle.ct_live.specs.Tagged.{tagged}
-use Rattle.ct_live.proofs.Sending.{some_of_all}
 use Rattle.ct_live.proofs.Writing.{some_behind}
 use Rattle.ct_tree.specs.declared.head.Head.{Head}
 use Rattle.ct_live.specs.LiveGiven.{AreRead}
@@ -25,6 +25,10 @@ use Rattle.ct_live.proofs.Texts.{replies_both, RepliesSoFar}
 -- nothing is one
 pub nothing_begun : (a : Option (List ℕ)) (bytes : List ℕ) → SendsSome a a bytes
 nothing_begun a bytes = ([], (bytes, refl), Appends-nil a)
+
+-- all of them are one
+some_of_all : (a b : Option (List ℕ)) (bytes : List ℕ) → Appends a b bytes → SendsSome a b bytes
+some_of_all a b bytes w = (bytes, ([], sym (append-nil bytes)), w)
 
 -- it is one of more bytes too
 pub begins_more : (a b : Option (List ℕ)) (bytes more : List ℕ) → SendsSome a b bytes → SendsSome a b (bytes ++ more)

@@ -9,15 +9,12 @@ use Rattle.ct_parties.specs.InTurn.{InTurn}
 use Rattle.ct_parties.specs.Serving.{Serving, ServesAll, ServesAllButLast, Turn}
 use Rattle.ct_parties.proofs.TurnLemmas.{in_turn_keeps}
 use Rattle.ct_live.specs.Answered.{AnswersMore, AnswersAllButLast, SendsNothing, SendsTagged, ReceivesNext, ReceivesNoMore}
-use Rattle.ct_live.specs.Working.{AllWork, Works}
 use Rattle.ct_live.specs.declared.pipes.answering.Inbox.{Inbox}
 use Rattle.ct_live.specs.declared.pipes.answering.Numbered.{Numbered}
 use Rattle.ct_live.specs.declared.pipes.answering.Outbox.{Outbox}
 use Rattle.ct_live.specs.declared.pipes.fault.ThreadFault.{ThreadFault}
 use Rattle.ct_live.specs.declared.pipes.fault.ThreadFault.TheVariants.{Memory}
-use Rattle.ct_live.specs.declared.pipes.workers.Worker.{Worker}
 use Rattle.ct_live.proofs.Merging.{consumer_trans}
-use Rattle.ct_live.proofs.Opened.{pairs_more}
 
 pub producer_trans : {T : Type 0} (x y z : Producer T Global AnyItems) → SameProducer x y → SameProducer y z → SameProducer x z
 producer_trans x y z a b = ((b.0.0 ∙ a.0.0, b.0.1 ∙ a.0.1, b.0.2 ∙ a.0.2, b.0.3 ∙ a.0.3), b.1 ∙ a.1)
@@ -162,10 +159,3 @@ module _ {P T : Type 0} (does : P → T → List ℕ → P → Type 0) where
       → IfErr r (λ fault. ServesRingsButLast a fault b.source b.sink) → Same a b.source b.sink
   rings_same a b (Ok x) all cut = all_same a b all
   rings_same a b (Err fault) all cut = but_last_same a fault b.source b.sink cut
-
--- one party more did its tasks
-pub all_work_more : {P T : Type 0} (does : P → T → List ℕ → P → Type 0) (xs ys zs : List (Worker P T)) (x y : Worker P T) → zs ≡ ys ++ y ∷ []
-    → AllWork does xs ys → Works does x y
-    → AllWork does (xs ++ x ∷ []) zs
-all_work_more {P = P} {T = T} does xs ys zs x y e all one =
-    subst (λ (l : List (Worker P T)). AllWork does (xs ++ x ∷ []) l) (sym e) (pairs_more (Works does) xs ys x y all one)

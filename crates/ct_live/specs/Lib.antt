@@ -18,3 +18,4 @@ pub mod LiveReplied
 pub mod LiveGiven
 pub mod LiveEnding
 pub mod LiveThreads
+pub mod ReadingAhead

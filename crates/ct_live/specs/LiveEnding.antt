@@ -21,6 +21,7 @@ use Rattle.ct_live.specs.Written.{BeginsOn, WritesOn}
 use Rattle.json_lines.specs.Sends.{SendsSome}
 use Rattle.ct_live.specs.declared.pipes.answering.Numbered.{Numbered}
 use Rattle.ct_live.specs.declared.pipes.fault.ThreadFault.{ThreadFault}
+use Rattle.ct_live.specs.declared.pipes.fault.ThreadFault.TheVariants as thread_case
 use Rattle.json_lines.specs.declared.fault.Unwritten.{Unwritten}
 use Rattle.ct_live.specs.LiveReplied.{BeginsWhole, ClosesLog}
 use Rattle.ct_live.specs.ReplyObjects.{object_text}
@@ -116,6 +117,10 @@ pub record HaveDone (written : Result Unit Unwritten) (operated : Result Unit Th
   pub writer : IsOk written
   pub operator : IsOk operated
   pub fronts : fault ≡ None
+
+-- a thread ended since a growth was refused: the operator's, or a front's
+abbrev pub LackMemory : Result Unit ThreadFault → Option ThreadFault → Type 0
+LackMemory operated fault = (operated ≡ Err thread_case.Memory) ⊎ (fault ≡ Some thread_case.Memory)
 
 -- What came once all threads had ended, where a fault broke it off: before the log was closed; or behind that, all had done what they had to,
 -- and of what the closed log replies a beginning was written.

@@ -1,13 +1,13 @@
 //! What comes once all threads have ended.
 
-ghost use Rattle.std.specs.Prelude.{◌≡◌, ◌≢◌, ◌<◌, ◌⊎◌, ◌++◌, ◌∷◌, [], true, None, IsOk, IfOk, IfErr, OnOk, OnErr, vec_len, vec_capacity};
+ghost use Rattle.std.specs.Prelude.{◌≡◌, ◌≢◌, ◌<◌, ◌⊎◌, ◌++◌, ◌∷◌, [], true, None, Err, IsOk, IfOk, IfErr, OnOk, OnErr, vec_len, vec_capacity};
 ghost use Rattle.std.specs.Io.KnownBytes.{Appends};
 ghost use mathlib.Core.List.{IsPrefix};
 ghost use Rattle.rtrb.specs.Ring.{sent, received, IsPair};
 ghost use Rattle.ct_parties.specs.Fronts.{AreFrontsOf};
 ghost use Rattle.ct_live.specs.Rings.{all_received, all_sent, ArePairs, ArePrefixes};
 ghost use Rattle.ct_live.specs.Written.{WritesOn, BeginsOn};
-ghost use Rattle.ct_live.specs.LiveEnding.{EndsBrokenOff, EndsLive, EndsLog, EndsLogSome, HaveDone, WritesNoMore};
+ghost use Rattle.ct_live.specs.LiveEnding.{EndsBrokenOff, EndsLive, EndsLog, EndsLogSome, HaveDone, LackMemory, WritesNoMore};
 ghost use Rattle.ct_live.specs.ThreadFaults.{fault_of_thread};
 ghost use Rattle.ct_live.specs.LiveReplied.{ClosesLog, RefusesClosing};
 ghost use Rattle.ct_live.specs.LiveWorkers.{AreBeside, party_fronts};
@@ -17,7 +17,7 @@ use crate::closed::{send_last_head, serve_closed};
 use crate::front::LiveFront;
 use crate::giving::{End, Giver, Inlets};
 use crate::operator::OperatorWorker;
-use crate::pipes::{JoinedParties, Numbered, ThreadFault, are_taken, write_left};
+use crate::pipes::{JoinedParties, Numbered, ThreadFault, are_taken, fault_with, write_left};
 use ct_house::{Front, Sequencer};
 use ct_lines::FrontRequest;
 use ct_parties::close;
@@ -80,7 +80,8 @@ impl From<ThreadFault> for Fault {
     }
 }
 
-// What ended the threads before their time, if anything did.
+// What ended the threads before their time, if anything did: that nothing could be written before all else, and that memory was refused before
+// that all were to end.
 fn fault_of(
     written: &Result<(), Unwritten>,
     operated: &Result<(), ThreadFault>,
@@ -88,15 +89,15 @@ fn fault_of(
 ) -> Result<(), Fault>
     ensures done { OnOk result (HaveDone written.now operated.now fronts.now) }
     ensures faults { IfErr result (λ f. f ≢ Fault.ClockBack) }
+    ensures refused { IsOk written.now → LackMemory operated.now fronts.now → result ≡ Err Fault.Memory }
+    ensures memory { result ≡ Err Fault.Memory → LackMemory operated.now fronts.now }
 {
     if written.is_err() {
         return Err(Fault::Write);
     }
-    match (operated, fronts) {
-        (Ok(()), None) => Ok(()),
-        (Err(ThreadFault::Stopped), Some(fault)) => Err(Fault::from(*fault)),
-        (Err(fault), _) => Err(Fault::from(*fault)),
-        (Ok(()), Some(fault)) => Err(Fault::from(*fault)),
+    match fault_with(*fronts, *operated) {
+        None => Ok(()),
+        Some(fault) => Err(Fault::from(fault)),
     }
 }
 
@@ -108,6 +109,7 @@ fn ready_fronts(
     parties: Vec<LiveFront>,
 ) -> Result<Vec<Front>, Fault>
     ensures done { OnOk result (IsOk done × (received ≡ true)) }
+    ensures told { IfErr done (λ f. result ≡ Err f) }
     ensures fronts { IfOk result (λ v. v.items ≡ party_fronts parties.items) }
     ensures faults { IfErr done (λ f. f ≢ Fault.ClockBack) → IfErr result (λ f. f ≢ Fault.ClockBack) }
 {
@@ -132,6 +134,7 @@ fn write_rest<W: Write>(
 ) -> Result<Vec<Front>, Fault>
     requires { ArePairs answers.old rings.old }
     ensures done { OnOk result (IsOk done × (received ≡ true)) }
+    ensures told { IfErr done (λ f. result ≡ Err f) }
     ensures fronts { IfOk result (λ v. v.items ≡ party_fronts parties.items) }
     ensures all { OnOk result (all_received rings.new ≡ all_sent answers.old) }
     ensures written { OnOk result (WritesOn rings.old rings.new (W.contents output.old) (W.contents output.new)) }
@@ -219,6 +222,7 @@ pub fn end_live<H: Threads + Wait + Sync, B: BufRead + Drop, W: Write>(
     ensures broken { OnErr result (EndsBrokenOff left.giver.inlets (party_fronts left.fronts.parties.items) left.fronts.tasks.items
         left.fronts.answers.items operator left.written left.operated left.fronts.fault close_at left.end left.giver.lines.next
         (B.remaining left.giver.lines.input) rings.old (W.contents output.old) (W.contents output.new)) }
+    ensures refused { IsOk left.written → LackMemory left.operated left.fronts.fault → result ≡ Err Fault.Memory }
     ensures late { IfErr result (λ f. f ≡ Fault.ClockBack → HaveDone left.written left.operated left.fronts.fault
         × EndsLive (EndsLog RefusesClosing close_at (W.contents output.new)) left.giver.inlets (party_fronts left.fronts.parties.items)
         left.fronts.tasks.items left.fronts.answers.items operator left.end left.giver.lines.next (B.remaining left.giver.lines.input) rings.old

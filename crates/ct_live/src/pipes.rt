@@ -20,8 +20,8 @@
 //!   on it: it only ends waits. `breaker` has all of them end, and `fault` says why one ended before its time.
 //! - `ahead` reads an input ahead in a thread of its own, so that the breaker ends the reader's wait for it too.
 //!
-//! `specs/Merges.antt`, `Rings`, `Written`, `Answered`, `Working`, `Parkers`, `Tagged` and `NewRings` are the words of
-//! the contracts.
+//! `specs/Merges.antt`, `Rings`, `Written`, `Answered`, `Working`, `Parkers`, `Tagged`, `NewRings` and `ReadingAhead` are the
+//! words of the contracts.
 
 mod ahead;
 mod answering;
@@ -45,6 +45,7 @@ pub use parkers::{Parkers, Waiter};
 pub use post::{deliver, give};
 pub use tagging::tag;
 pub use workers::{
-    JoinedParties, Worked, Worker, WorkerPromise, WorkerThread, join_workers, start_workers,
+    JoinedParties, Worked, Worker, WorkerPromise, WorkerThread, fault_with, join_workers,
+    start_workers,
 };
 pub use writer::write_answers;

@@ -1,10 +1,10 @@
 -- Bundles are read as they were written.
 use Rattle.std.proofs.Common.{◌≡◌, ◌∙◌, ◌<◌, ◌≤◌, ◌^◌, ℕ, List, [], ◌∷◌, ◌++◌, length, map, sym, refl, ap, subst, arith, length-append, append_assoc, inl, inr, Result, Ok, Err}
-use Rattle.std.proofs.lemmas.List.{append-nil, nil_from_length}
+use Rattle.std.proofs.lemmas.List.{append-nil}
 use Rattle.std.proofs.lemmas.List.Concat.{flat_map-append}
 use Rattle.ct_log_state.specs.Resumed.{object_parts, BundlesAreResumed, BundlesTell}
 use Rattle.ct_log_state.specs.declared.rolling_out.ResumeFault.TheVariants.{Bundle, Memory}
-use Rattle.std.proofs.lemmas.List.Elements.{All-nil, All-head, All-tail, All-push}
+use Rattle.std.proofs.lemmas.List.Elements.{All-head, All-tail, All-push}
 use Rattle.std.specs.Prelude.{All}
 use Rattle.ct_codec.specs.Bytes.{num, vec}
 use Rattle.ct_codec.proofs.Apart.{num_split, vec_split}
@@ -31,7 +31,7 @@ object_split (n, c) (m, d) r s h k e =
     (ap (λ (x : List ℕ). (x, c)) front.0 ∙ ap (λ (x : List ℕ). (m, x)) behind.0, behind.1)
 
 -- an object isn't nothing
-object_some : (o : List ℕ × List ℕ) (r : List ℕ) → 6 ≤ length (bundled_text o ++ r)
+pub object_some : (o : List ℕ × List ℕ) (r : List ℕ) → 6 ≤ length (bundled_text o ++ r)
 object_some (n, c) r =
     omega (
       arith,
@@ -68,9 +68,6 @@ bundle-push (p ∷ done) o =
 pub bundle-append : (a b : List (List ℕ × List ℕ)) → bundle_text (a ++ b) ≡ bundle_text a ++ bundle_text b
 bundle-append a b = flat_map-append bundled_text a b
 
-pub read-none : (bytes : List ℕ) (done : List (List ℕ × List ℕ)) → done ≡ [] → ReadSoFar done bytes bytes
-read-none bytes done e = subst (λ (d : List (List ℕ × List ℕ)). ReadSoFar d bytes bytes) (sym e) (record { fit = All-nil IsObject; text = refl })
-
 pub read-more : (done all : List (List ℕ × List ℕ)) (o : List ℕ × List ℕ) (bytes rest more : List ℕ) → ReadSoFar done bytes rest → IsObject o
     → rest ≡ bundled_text o ++ more → all ≡ done ++ o ∷ [] → ReadSoFar all bytes more
 read-more done all o bytes rest more r h e a =
@@ -94,12 +91,6 @@ read-stuck done objects bytes rest r some none b =
     stuck : (more : List (List ℕ × List ℕ)) → rest ≡ bundle_text more → All IsObject more → ⊥
     stuck [] e h = some (ap length e)
     stuck (o ∷ more) e h = none o (bundle_text more) (All-head IsObject o more h) e
-
-pub read-all : (done : List (List ℕ × List ℕ)) (bytes rest : List ℕ) → ReadSoFar done bytes rest → length rest ≡ 0 → IsBundleOf done bytes
-read-all done bytes rest r e = record {
-  fit = r.fit;
-  text = r.text ∙ ap (λ (x : List ℕ). bundle_text done ++ x) (nil_from_length rest e) ∙ append-nil (bundle_text done);
-}
 
 -- one text has one list of objects
 same_objects : (a b : List (List ℕ × List ℕ)) (bytes : List ℕ) → IsBundleOf a bytes → IsBundleOf b bytes → a ≡ b

@@ -13,7 +13,7 @@ use Rattle.std.proofs.lemmas.List.Elements.{All-nil, All-cons, All-append, All-g
 use Rattle.hex.specs.Hex.{encode_with, encode_lower, lower_digits, decode_of, IsBytes}
 use Rattle.hex.proofs.HexLemmas.{length-encode_with, decode_of-encode_lower, decode_of-same}
 use Rattle.ct_codec.specs.Bytes.{num}
-use Rattle.ct_codec.proofs.Apart.{num_split}
+use Rattle.ct_codec.proofs.Apart.{num_split, split_equal}
 use Rattle.ct_codec.proofs.Refusals.{length-num}
 use Rattle.ct_log_state.specs.Lines.{IsStateLine, state_line_bytes, state_line_text, NoStateLine, StateLinesDiffer, StateLinesAreLines}
 use Rattle.ct_log_state.specs.declared.line.StateLine.{StateLine}
@@ -60,7 +60,7 @@ bytes-small a h =
     (All-append small a.bundle (a.data_tile ++ a.before) h.bundle.1
     (All-append small a.data_tile a.before h.data_tile.1 h.before.1))))
 
-indexed : (xs : List ℕ) → All small xs → IsBytes xs
+pub indexed : (xs : List ℕ) → All small xs → IsBytes xs
 indexed xs a i =
     ⊎_elim
     (λ (inside : i < length xs). All-get_or small xs i 0 inside a)
@@ -76,18 +76,8 @@ digits_same x y p q e =
     decode_of-same (encode_lower x) x y (decode_of-encode_lower x p) (ap decode_of e ∙ decode_of-encode_lower y q)
 
 -- ---- two lines
-cut_same : (a b c d : List ℕ) → length a ≡ length b → a ++ c ≡ b ++ d → (a ≡ b) × (c ≡ d)
-cut_same [] [] c d l e = (refl, e)
-cut_same [] (y ∷ b) c d l e = absurd (omega (arith, l))
-cut_same (x ∷ a) [] c d l e = absurd (omega (arith, l))
-cut_same (x ∷ a) (y ∷ b) c d l e =
-    let first : x ≡ y = cc in
-    let behind : a ++ c ≡ b ++ d = cc in
-    let more = cut_same a b c d (omega (arith, l)) behind in
-    (ap (λ z. z ∷ a) first ∙ ap (λ z. y ∷ z) more.0, more.1)
-
 pub behind_word : (x y : List ℕ) → codes "growth " ++ x ≡ codes "growth " ++ y → x ≡ y
-behind_word x y e = (cut_same (codes "growth ") (codes "growth ") x y refl e).1
+behind_word x y e = (split_equal (codes "growth ") (codes "growth ") x y refl e).1
 
 abbrev line_of : ℕ → ℕ → List ℕ → List ℕ → List ℕ → List ℕ → StateLine
 line_of n t r b d p = record { tree_size = n; timestamp = t; root = r; bundle = b; data_tile = d; before = p }
@@ -96,9 +86,9 @@ same_fields : (a b : StateLine) → IsStateLine a → IsStateLine b → state_li
 same_fields a b h k e =
     let n = num_split 8 a.tree_size b.tree_size _ _ (omega (arith, h.size)) (omega (arith, k.size)) e in
     let t = num_split 8 a.timestamp b.timestamp _ _ (omega (arith, h.moment)) (omega (arith, k.moment)) n.1 in
-    let r = cut_same a.root b.root _ _ (h.root.0 ∙ sym k.root.0) t.1 in
-    let u = cut_same a.bundle b.bundle _ _ (h.bundle.0 ∙ sym k.bundle.0) r.1 in
-    let d = cut_same a.data_tile b.data_tile _ _ (h.data_tile.0 ∙ sym k.data_tile.0) u.1 in
+    let r = split_equal a.root b.root _ _ (h.root.0 ∙ sym k.root.0) t.1 in
+    let u = split_equal a.bundle b.bundle _ _ (h.bundle.0 ∙ sym k.bundle.0) r.1 in
+    let d = split_equal a.data_tile b.data_tile _ _ (h.data_tile.0 ∙ sym k.data_tile.0) u.1 in
     ap (λ (z : ℕ). line_of z a.timestamp a.root a.bundle a.data_tile a.before) n.0
     ∙ ap (λ (z : ℕ). line_of b.tree_size z a.root a.bundle a.data_tile a.before) t.0
     ∙ ap (λ (z : List ℕ). line_of b.tree_size b.timestamp z a.bundle a.data_tile a.before) r.0
@@ -174,10 +164,6 @@ chunk n x r S e f l a =
 not_false : (b : Bool) → not b ≡ false → b ≡ true
 not_false true e = refl
 not_false false e = absurd (both_ways true e refl)
-
-some_value : {T : Type 0} (o : Option T) → IsSome o → (x : T) × (o ≡ Some x)
-some_value (Some x) h = (x, refl)
-some_value None h = cc h
 
 -- the digits behind the word
 pub digits_of : (text digits : List ℕ) (line : StateLine) → digits ≡ drop 7 text → state_line_text line ≡ text → encode_lower (state_line_bytes line) ≡ digits

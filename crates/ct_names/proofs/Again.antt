@@ -5,10 +5,10 @@ use Rattle.ct_der.specs.declared.fault.DerFault.TheVariants.{Truncated}
 use Rattle.ct_der.specs.Element.{IsTlv}
 use Rattle.ct_der.specs.Reading.{◌>>=◌, element_at, expected_at, only_at, optional_at}
 use Rattle.ct_der.proofs.Elements.{elements_are_read}
-use Rattle.ct_der.proofs.Prefixes.{beginnings_are_truncated}
 use Rattle.ct_der.proofs.Readings.{NotFirst, absent, expected_here, only_here, other_first, present, some_bytes}
-use Rattle.ct_names.specs.declared.fault.Place.TheVariants as at
-use Rattle.ct_names.specs.declared.fault.Unread.{Unread}
+use Rattle.ct_der.proofs.Prefixes.{beginnings_are_truncated}
+use Rattle.ct_promise.specs.declared.field.Place.TheVariants as at
+use Rattle.ct_promise.specs.declared.field.Unread.{Unread}
 use Rattle.ct_names.specs.Names.{Named, is_alt}
 use Rattle.ct_names.specs.Reading.{placed, each, all_of, alt_at, attribute_at, rdn_at, extension_at, extensions_at, front_at, behind_at, parts_at, tbs_at, tbs_names, certificate_names, bare_names}
 use Rattle.ct_names.specs.Certificate.{names_in_all, text_of_all, Each, Many, IsOptional, IsField, IsAltName, IsAttribute, IsRdn, IsValue, IsExtension, AreExtensions, IsTbs}

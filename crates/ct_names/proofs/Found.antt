@@ -1,33 +1,22 @@
 -- What is read is in the grammar.
 use Rattle.std.proofs.Common.{◌≡◌, ◌<◌, ◌≤◌, ℕ, zero, suc, Bool, true, false, cond, eqb, List, [], ◌∷◌, ◌++◌, length, Option, Result, Ok, Err, refl, sym, ap, subst, ◌∙◌, inl, inr, arith}
 use Rattle.std.proofs.lemmas.Bool.{eqb-true}
-use Rattle.std.proofs.lemmas.List.{append-nil, length-append, nil_from_length}
+use Rattle.std.proofs.lemmas.List.{length-append}
 use Rattle.ct_der.specs.declared.fault.DerFault.{DerFault}
 use Rattle.ct_der.specs.declared.fault.DerFault.TheVariants.{OtherTag, Trailing}
 use Rattle.ct_der.specs.Element.{IsTlv}
 use Rattle.ct_der.specs.Reading.{◌>>=◌, element_at, expected_at, only_at, optional_at}
 use Rattle.ct_der.specs.Laws.{IsBytes}
-use Rattle.ct_der.proofs.Elements.{read_elements_are_there, bind_ok}
-use Rattle.ct_der.proofs.Readings.{Front, Whole, bytes_behind, bytes_before, content_bytes, expected_found, only_found, optional_found, one_ok, some_bytes}
-use Rattle.ct_names.specs.declared.fault.Place.{Place}
-use Rattle.ct_names.specs.declared.fault.Place.TheVariants as at
-use Rattle.ct_names.specs.declared.fault.Unread.{Unread}
+use Rattle.ct_der.proofs.Elements.{bind_ok}
+use Rattle.ct_der.proofs.Readings.{Front, element_found, expected_found, whole_of, only_found, optional_found, one_ok, some_bytes}
+use Rattle.ct_promise.specs.declared.field.Place.{Place}
+use Rattle.ct_promise.specs.declared.field.Place.TheVariants as at
+use Rattle.ct_promise.specs.declared.field.Unread.{Unread}
 use Rattle.ct_names.specs.Names.{Named, is_alt, is_bad_alt, is_bad_common, alt_of, common_of}
 use Rattle.ct_names.specs.Reading.{placed, each, all_of, alt_at, attribute_at, rdn_at, extension_at, extensions_at, front_at, behind_at, parts_at, tbs_at, tbs_names, certificate_names, bare_names}
 use Rattle.ct_names.specs.Certificate.{Many, IsOptional, IsField, IsAltName, IsAttribute, IsRdn, IsValue, IsExtension, AreExtensions, IsTbs, BareNamesOf}
 use Rattle.ct_names.specs.Laws.{ReadCertificatesAreThere}
 use Rattle.ct_names.proofs.Loops.{Item}
-
-element_found : (b c r : List ℕ) (tag : ℕ) → IsBytes b → element_at b ≡ Ok (tag, c, r) → Front tag b c r
-element_found b c r tag fits e =
-    let f = read_elements_are_there b c r tag fits e in
-    let h : IsBytes (f.0 ++ r) = subst IsBytes f.2 fits in
-    record { x = f.0; is = f.1; text = f.2; inner = content_bytes tag c f.0 f.1 (bytes_before f.0 r h); rest = bytes_behind f.0 r h }
-
-whole_of : (tag : ℕ) (b c r : List ℕ) → Front tag b c r → length r ≡ 0 → Whole tag b c
-whole_of tag b c r f none =
-    let same : b ≡ f.x = f.text ∙ ap (λ (y : List ℕ). f.x ++ y) (nil_from_length r none) ∙ append-nil f.x in
-    record { is = subst (λ (y : List ℕ). IsTlv tag c y) (sym same) f.is; inner = f.inner }
 
 placed_ok : {X : Type 0} (p : Place) (r : Result X DerFault) (x : X) → placed p r ≡ Ok x → r ≡ Ok x
 placed_ok p (Ok y) x e = cc

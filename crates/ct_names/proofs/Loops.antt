@@ -2,9 +2,9 @@
 use Rattle.std.proofs.Common.{◌≡◌, ℕ, zero, suc, ◌≤◌, ◌<◌, List, [], ◌∷◌, ◌++◌, length, Result, Ok, Err, refl, sym, ap, ◌∙◌, append_assoc, arith}
 use Rattle.std.proofs.lemmas.List.{append-nil}
 use Rattle.ct_der.specs.Reading.{◌>>=◌}
-use Rattle.ct_names.specs.declared.fault.Unread.{Unread}
-use Rattle.ct_names.specs.declared.fault.NamesError.{NamesError}
-use Rattle.ct_names.specs.declared.fault.NamesError.TheVariants as errors
+use Rattle.ct_promise.specs.declared.field.Unread.{Unread}
+use Rattle.ct_names.specs.declared.fault.NamesFault.{NamesFault}
+use Rattle.ct_names.specs.declared.fault.NamesFault.TheVariants as faults
 use Rattle.ct_names.specs.Names.{Named}
 use Rattle.ct_names.specs.Reading.{Fails, each, all_of}
 
@@ -54,10 +54,10 @@ goes_on item old now new more rest after bytes g some shorter read added =
       total = sym (regroup g.more more (each item step.0 after)) ∙ ap (with_front g.more) (sym one) ∙ g.total;
     }
 
-pub ends : (e : NamesError) (item : Item) (old now : List Named) (rest bytes : List ℕ) → Going item old now rest bytes → 0 < length rest
+pub ends : (e : NamesFault) (item : Item) (old now : List Named) (rest bytes : List ℕ) → Going item old now rest bytes → 0 < length rest
     → Fails e (item rest) → Fails e (all_of item bytes)
-ends errors.Memory item old now rest bytes g some fails = tt
-ends (errors.At u) item old now rest bytes g some fails =
+ends faults.Memory item old now rest bytes g some fails = tt
+ends (faults.At u) item old now rest bytes g some fails =
     let step = next item g.room rest some g.enough in
     sym g.total ∙ ap (with_front g.more) (step.2 ∙ ap (λ (x : Result (List Named × List ℕ) Unread). x >>= λ r. each item step.0 r.1 >>= λ ns. Ok (r.0 ++ ns)) fails)
 

@@ -5,11 +5,11 @@ use Rattle.std.specs.List.{AllByRecursion}
 use Rattle.ct_der.specs.Element.{IsTlv}
 use Rattle.ct_der.proofs.Elements.{elements_stand_apart}
 use Rattle.ct_der.proofs.Readings.{one_ok, some_bytes}
-use Rattle.ct_tbs_cut.specs.Reading.{after_fields}
-use Rattle.ct_tbs_cut.specs.Tbs.{may, IsFieldOf, AreFields, tbs_fields, IsExtensionWith, IsOther, all_joined, IsExtensionsField}
-use Rattle.ct_tbs_cut.specs.declared.fault.Place.{Place}
-use Rattle.ct_tbs_cut.specs.declared.fault.Place.TheVariants as at
-use Rattle.ct_tbs_cut.proofs.Here.{head_here, head_alone}
+use Rattle.ct_promise.specs.Reading.{after_fields}
+use Rattle.ct_promise.specs.Tbs.{may, IsFieldOf, AreFields, tbs_fields, IsExtensionWith, IsOther, all_joined, IsExtensionsField}
+use Rattle.ct_promise.specs.declared.field.Place.{Place}
+use Rattle.ct_promise.specs.declared.field.Place.TheVariants as at
+use Rattle.ct_promise.proofs.Here.{head_here, head_alone}
 use Rattle.ct_names.specs.Certificate.{names_in_all, text_of_all, Each, Many, IsOptional, IsExtension, IsValue, AreExtensions, IsTbs}
 use Rattle.ct_names.specs.Laws.{NamesStayUnderTheCut, NamesAreOfTheTbs}
 use Rattle.ct_names.specs.Names.{Named, is_alt}

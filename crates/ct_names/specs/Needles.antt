@@ -1,5 +1,6 @@
 -- Texts that are looked for in bytes at once, by the dots of the bytes.
-use Rattle.std.specs.Prelude.{◌≡◌, ◌+◌, ◌-◌, ◌*◌, ◌%◌, ◌<◌, ◌++◌, ◌⊎◌, ℕ, Bool, false, true, List, [], ◌∷◌, length, take, drop, slice_index, slice_index_or, slice_get, Option, Some, None, nat_lt, nat_eq, ◌==◌, ◌&&◌, ◌||◌, if◌then◌else◌}
+use Rattle.std.specs.Prelude.{◌≡◌, ◌+◌, ◌-◌, ◌*◌, ◌%◌, ◌<◌, ◌++◌, ◌⊎◌, ℕ, Bool, false, true, List, [], ◌∷◌}
+use Rattle.std.specs.Prelude.{length, take, drop, slice_index, slice_index_or, slice_get, Option, Some, None, nat_lt, nat_eq, ◌==◌, ◌&&◌, ◌||◌, if◌then◌else◌}
 use Rattle.std.specs.List.{ends_with, starts_with}
 use Rattle.std.specs.Str.{str_to_ascii_lowercase}
 use Rattle.std.specs.Global.{Vec}

@@ -3,11 +3,11 @@ use Rattle.std.specs.Prelude.{◌≡◌, ◌++◌, ℕ, zero, suc, List, [], ◌
 use Rattle.ct_der.specs.Reading.{◌>>=◌, element_at, expected_at, only_at, optional_at}
 use Rattle.ct_der.specs.declared.fault.DerFault.{DerFault}
 use Rattle.ct_der.specs.declared.fault.DerFault.TheVariants.{OtherTag, Trailing}
-use Rattle.ct_names.specs.declared.fault.Place.{Place}
-use Rattle.ct_names.specs.declared.fault.Place.TheVariants as at
-use Rattle.ct_names.specs.declared.fault.Unread.{Unread}
-use Rattle.ct_names.specs.declared.fault.NamesError.{NamesError}
-use Rattle.ct_names.specs.declared.fault.NamesError.TheVariants as errors
+use Rattle.ct_promise.specs.declared.field.Place.{Place}
+use Rattle.ct_promise.specs.declared.field.Place.TheVariants as at
+use Rattle.ct_promise.specs.declared.field.Unread.{Unread}
+use Rattle.ct_names.specs.declared.fault.NamesFault.{NamesFault}
+use Rattle.ct_names.specs.declared.fault.NamesFault.TheVariants as faults
 use Rattle.ct_names.specs.Names.{Named, is_alt, is_bad_alt, is_bad_common, alt_of, common_of}
 
 -- what an element's reading gives, its fault with the field
@@ -16,22 +16,22 @@ placed p (Ok x) = Ok x
 placed p (Err f) = Err (record { place = p; fault = f })
 
 -- what a function refused is what reading refuses, unless memory ran out
-abbrev pub Fails : {Y : Type 0} → NamesError → Result Y Unread → Type 0
-Fails errors.Memory read = Unit {0}
-Fails (errors.At u) read = read ≡ Err u
+abbrev pub Fails : {Y : Type 0} → NamesFault → Result Y Unread → Type 0
+Fails faults.Memory read = Unit {0}
+Fails (faults.At u) read = read ≡ Err u
 
 -- what a function answered, seen by view, is what reading gives, unless memory ran out
-abbrev pub GivesNames : {X Y : Type 0} → (X → Y) → Result X NamesError → Result Y Unread → Type 0
+abbrev pub GivesNames : {X Y : Type 0} → (X → Y) → Result X NamesFault → Result Y Unread → Type 0
 GivesNames view (Ok x) read = read ≡ Ok (view x)
 GivesNames view (Err e) read = Fails e read
 
 -- the names that the reading of an item gives stand behind the old ones, and what it leaves is the answer
-abbrev pub Adds : {X : Type 0} → (X → List ℕ) → List Named → List Named → Result X NamesError → Result (List Named × List ℕ) Unread → Type 0
+abbrev pub Adds : {X : Type 0} → (X → List ℕ) → List Named → List Named → Result X NamesFault → Result (List Named × List ℕ) Unread → Type 0
 Adds view old new (Ok x) read = (more : List Named) × (read ≡ Ok (more, view x)) × (new ≡ old ++ more)
 Adds view old new (Err e) read = Fails e read
 
 -- the names that the reading of all items gives stand behind the old ones
-abbrev pub AddsAll : {X : Type 0} → List Named → List Named → Result X NamesError → Result (List Named) Unread → Type 0
+abbrev pub AddsAll : {X : Type 0} → List Named → List Named → Result X NamesFault → Result (List Named) Unread → Type 0
 AddsAll old new (Ok x) read = (more : List Named) × (read ≡ Ok more) × (new ≡ old ++ more)
 AddsAll old new (Err e) read = Fails e read
 

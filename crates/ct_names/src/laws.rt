@@ -1,6 +1,7 @@
 //! Laws of names, each the contract of a function that does nothing.
 
-ghost use Rattle.ct_names.specs.Laws.{CertificatesAreRead, BareCertificatesAreRead, CertificatesHaveOneReading, BeginningsAreRefused, BareBeginningsAreRefused, CoveringIsByLabels, ReadCertificatesAreThere, NamesStayUnderTheCut, NamesAreOfTheTbs};
+ghost use Rattle.ct_names.specs.Laws.{CertificatesAreRead, BareCertificatesAreRead, CertificatesHaveOneReading, BeginningsAreRefused, BareBeginningsAreRefused};
+ghost use Rattle.ct_names.specs.Laws.{CoveringIsByLabels, ReadCertificatesAreThere, NamesStayUnderTheCut, NamesAreOfTheTbs};
 
 /// The names of each certificate of the grammar are read (RFC 5280, section 4.1).
 pub fn certificates_are_read()

@@ -23,7 +23,7 @@ mod reading;
 mod ready;
 mod watched;
 
-pub use fault::{NamesError, Place, Unread};
+pub use fault::NamesFault;
 pub use matching::{behind_dot, covers, narrowed, without_dot};
 pub use name::{Name, NameKind};
 pub use reading::{names_of_certificate, names_of_tbs};

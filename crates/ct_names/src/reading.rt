@@ -5,11 +5,13 @@ ghost use Rattle.std.specs.Option.{option_map};
 ghost use Rattle.ct_der.specs.Reading.{Gives, element_at, expected_at, only_at, optional_at};
 ghost use Rattle.ct_names.specs.Certificate.{NamesOf, BareNamesOf};
 ghost use Rattle.ct_names.specs.Names.{Named, named_all, is_common, is_alt, is_bad_alt, is_bad_common, alt_of, common_of};
-ghost use Rattle.ct_names.specs.Reading.{placed, GivesNames, Adds, AddsAll, all_of, alt_at, attribute_at, rdn_at, extension_at, extensions_at, front_at, behind_at, parts_at, tbs_at, tbs_names, certificate_names, bare_names};
+ghost use Rattle.ct_names.specs.Reading.{placed, GivesNames, Adds, AddsAll, all_of, alt_at, attribute_at, rdn_at, extension_at};
+ghost use Rattle.ct_names.specs.Reading.{extensions_at, front_at, behind_at, parts_at, tbs_at, tbs_names, certificate_names, bare_names};
 
-use crate::fault::{NamesError, Place, Unread};
+use crate::fault::NamesFault;
 use crate::name::{Name, NameKind};
 use ct_der::{DerFault, Element, expected, next_element, only, optional};
+use ct_promise::{Place, Unread};
 use std::alloc::{AllocError, Global};
 
 // The element that the bytes of a field begin with, and the bytes behind it.
@@ -148,13 +150,13 @@ fn push_common<'a>(
 
 // Adds the name of the general name that the bytes begin with, and answers what follows (RFC 5280, section 4.2.1.6).
 #[tactic(auto, unfolding(crate::specs::Reading::alt_at))]
-fn push_alt<'a>(names: &mut Vec<Name<'a>>, bytes: &'a [u8]) -> Result<&'a [u8], NamesError>
+fn push_alt<'a>(names: &mut Vec<Name<'a>>, bytes: &'a [u8]) -> Result<&'a [u8], NamesFault>
     ensures adds { Adds (λ r. r.now) (named_all names.old.items) (named_all names.new.items) result (alt_at bytes.now) }
     ensures shorter { IfOk result (λ r. length r.now < length bytes.now) }
 {
     let (found, rest) = element_in(Place::AltNames, bytes)?;
     if is_constructed_name(found.tag) {
-        return Err(NamesError::At(Unread {
+        return Err(NamesFault::At(Unread {
             place: Place::AltNames,
             fault: DerFault::OtherTag,
         }));
@@ -164,7 +166,7 @@ fn push_alt<'a>(names: &mut Vec<Name<'a>>, bytes: &'a [u8]) -> Result<&'a [u8], 
 }
 
 // Adds the names of the general names that the bytes are.
-fn push_alts<'a>(names: &mut Vec<Name<'a>>, bytes: &'a [u8]) -> Result<(), NamesError>
+fn push_alts<'a>(names: &mut Vec<Name<'a>>, bytes: &'a [u8]) -> Result<(), NamesFault>
     ensures { AddsAll (named_all names.old.items) (named_all names.new.items) result (all_of alt_at bytes.now) }
 {
     let mut rest = bytes;
@@ -176,7 +178,7 @@ fn push_alts<'a>(names: &mut Vec<Name<'a>>, bytes: &'a [u8]) -> Result<(), Names
 
 // Adds the common name of the attribute that the bytes begin with, and answers what follows (RFC 5280, section 4.1.2.4).
 #[tactic(auto, unfolding(crate::specs::Reading::attribute_at))]
-fn push_attribute<'a>(names: &mut Vec<Name<'a>>, bytes: &'a [u8]) -> Result<&'a [u8], NamesError>
+fn push_attribute<'a>(names: &mut Vec<Name<'a>>, bytes: &'a [u8]) -> Result<&'a [u8], NamesFault>
     ensures adds { Adds (λ r. r.now) (named_all names.old.items) (named_all names.new.items) result (attribute_at bytes.now) }
     ensures shorter { IfOk result (λ r. length r.now < length bytes.now) }
 {
@@ -184,13 +186,13 @@ fn push_attribute<'a>(names: &mut Vec<Name<'a>>, bytes: &'a [u8]) -> Result<&'a 
     let (oid, behind) = expected_in(Place::Subject, 6, pair)?;
     let (value, end) = element_in(Place::Subject, behind)?;
     if !end.is_empty() {
-        return Err(NamesError::At(Unread {
+        return Err(NamesFault::At(Unread {
             place: Place::Subject,
             fault: DerFault::Trailing,
         }));
     }
     if is_other_string(oid, value.tag) {
-        return Err(NamesError::At(Unread {
+        return Err(NamesFault::At(Unread {
             place: Place::Subject,
             fault: DerFault::OtherTag,
         }));
@@ -200,7 +202,7 @@ fn push_attribute<'a>(names: &mut Vec<Name<'a>>, bytes: &'a [u8]) -> Result<&'a 
 }
 
 // Adds the common names of the attributes that the bytes are.
-fn push_attributes<'a>(names: &mut Vec<Name<'a>>, bytes: &'a [u8]) -> Result<(), NamesError>
+fn push_attributes<'a>(names: &mut Vec<Name<'a>>, bytes: &'a [u8]) -> Result<(), NamesFault>
     ensures { AddsAll (named_all names.old.items) (named_all names.new.items) result (all_of attribute_at bytes.now) }
 {
     let mut rest = bytes;
@@ -212,7 +214,7 @@ fn push_attributes<'a>(names: &mut Vec<Name<'a>>, bytes: &'a [u8]) -> Result<(),
 
 // Adds the common names of the relative distinguished name that the bytes begin with, and answers what follows (RFC 5280, section 4.1.2.4).
 #[tactic(auto, unfolding(crate::specs::Reading::rdn_at))]
-fn push_rdn<'a>(names: &mut Vec<Name<'a>>, bytes: &'a [u8]) -> Result<&'a [u8], NamesError>
+fn push_rdn<'a>(names: &mut Vec<Name<'a>>, bytes: &'a [u8]) -> Result<&'a [u8], NamesFault>
     ensures adds { Adds (λ r. r.now) (named_all names.old.items) (named_all names.new.items) result (rdn_at bytes.now) }
     ensures shorter { IfOk result (λ r. length r.now < length bytes.now) }
 {
@@ -222,7 +224,7 @@ fn push_rdn<'a>(names: &mut Vec<Name<'a>>, bytes: &'a [u8]) -> Result<&'a [u8], 
 }
 
 // Adds the common names of the relative distinguished names that the bytes are.
-fn push_rdns<'a>(names: &mut Vec<Name<'a>>, bytes: &'a [u8]) -> Result<(), NamesError>
+fn push_rdns<'a>(names: &mut Vec<Name<'a>>, bytes: &'a [u8]) -> Result<(), NamesFault>
     ensures { AddsAll (named_all names.old.items) (named_all names.new.items) result (all_of rdn_at bytes.now) }
 {
     let mut rest = bytes;
@@ -234,7 +236,7 @@ fn push_rdns<'a>(names: &mut Vec<Name<'a>>, bytes: &'a [u8]) -> Result<(), Names
 
 // Adds the names of the extension that the bytes begin with, and answers what follows (RFC 5280, section 4.2).
 #[tactic(auto, unfolding(crate::specs::Reading::extension_at))]
-fn push_extension<'a>(names: &mut Vec<Name<'a>>, bytes: &'a [u8]) -> Result<&'a [u8], NamesError>
+fn push_extension<'a>(names: &mut Vec<Name<'a>>, bytes: &'a [u8]) -> Result<&'a [u8], NamesFault>
     ensures adds { Adds (λ r. r.now) (named_all names.old.items) (named_all names.new.items) result (extension_at bytes.now) }
     ensures shorter { IfOk result (λ r. length r.now < length bytes.now) }
 {
@@ -250,7 +252,7 @@ fn push_extension<'a>(names: &mut Vec<Name<'a>>, bytes: &'a [u8]) -> Result<&'a 
 }
 
 // Adds the names of the extensions that the bytes are.
-fn push_extensions<'a>(names: &mut Vec<Name<'a>>, bytes: &'a [u8]) -> Result<(), NamesError>
+fn push_extensions<'a>(names: &mut Vec<Name<'a>>, bytes: &'a [u8]) -> Result<(), NamesFault>
     ensures { AddsAll (named_all names.old.items) (named_all names.new.items) result (all_of extension_at bytes.now) }
 {
     let mut rest = bytes;
@@ -323,7 +325,7 @@ fn tbs_of(bytes: &[u8]) -> Result<&[u8], Unread>
 
 // The names in the content of a TBSCertificate.
 #[tactic(auto, unfolding(crate::specs::Reading::tbs_names))]
-fn names_in(alloc: Global, tbs: &[u8]) -> Result<Vec<Name<'_>>, NamesError>
+fn names_in(alloc: Global, tbs: &[u8]) -> Result<Vec<Name<'_>>, NamesFault>
     ensures { GivesNames (λ v. named_all v.items) result (tbs_names tbs.now) }
 {
     let (subject, extensions) = parts_of(tbs)?;
@@ -335,7 +337,7 @@ fn names_in(alloc: Global, tbs: &[u8]) -> Result<Vec<Name<'_>>, NamesError>
 
 // The names of a certificate, in the words of reading.
 #[tactic(auto, unfolding(crate::specs::Reading::certificate_names))]
-fn read_certificate(alloc: Global, bytes: &[u8]) -> Result<Vec<Name<'_>>, NamesError>
+fn read_certificate(alloc: Global, bytes: &[u8]) -> Result<Vec<Name<'_>>, NamesFault>
     ensures { GivesNames (λ v. named_all v.items) result (certificate_names bytes.now) }
 {
     let tbs = tbs_of(bytes)?;
@@ -348,7 +350,7 @@ fn read_certificate(alloc: Global, bytes: &[u8]) -> Result<Vec<Name<'_>>, NamesE
 /// # Errors
 ///
 /// `At` where the bytes are no certificate of the grammar: the first fault that reading meets. `Memory` where a growth is refused.
-pub fn names_of_certificate(alloc: Global, bytes: &[u8]) -> Result<Vec<Name<'_>>, NamesError>
+pub fn names_of_certificate(alloc: Global, bytes: &[u8]) -> Result<Vec<Name<'_>>, NamesFault>
     // What is read is a certificate of the grammar, with these names.
     ensures found { IfOk result (λ v. NamesOf (named_all v.items) bytes.now) }
     // The names of each certificate of the grammar are read, unless memory is refused.
@@ -361,7 +363,7 @@ pub fn names_of_certificate(alloc: Global, bytes: &[u8]) -> Result<Vec<Name<'_>>
 
 // The names of a TBSCertificate, in the words of reading.
 #[tactic(auto, unfolding(crate::specs::Reading::bare_names))]
-fn read_tbs(alloc: Global, bytes: &[u8]) -> Result<Vec<Name<'_>>, NamesError>
+fn read_tbs(alloc: Global, bytes: &[u8]) -> Result<Vec<Name<'_>>, NamesFault>
     ensures { GivesNames (λ v. named_all v.items) result (bare_names bytes.now) }
 {
     let tbs = only_in(Place::Tbs, 48, bytes)?;
@@ -374,7 +376,7 @@ fn read_tbs(alloc: Global, bytes: &[u8]) -> Result<Vec<Name<'_>>, NamesError>
 /// # Errors
 ///
 /// `At` where the bytes are no TBSCertificate of the grammar: the first fault that reading meets. `Memory` where a growth is refused.
-pub fn names_of_tbs(alloc: Global, bytes: &[u8]) -> Result<Vec<Name<'_>>, NamesError>
+pub fn names_of_tbs(alloc: Global, bytes: &[u8]) -> Result<Vec<Name<'_>>, NamesFault>
     // What is read is a TBSCertificate of the grammar, with these names.
     ensures found { IfOk result (λ v. BareNamesOf (named_all v.items) bytes.now) }
     // The names of each TBSCertificate of the grammar are read, unless memory is refused.

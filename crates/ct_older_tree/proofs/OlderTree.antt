@@ -2,62 +2,18 @@
 -- strings have one hash. Nothing is asked of the first root.
 use Rattle.std.proofs.Common.{refl, zero, suc, ◌⊎◌, inl, inr, ⊎_elim, ◌≡◌, ℕ, ◌-◌, ◌<◌, ◌≤◌, sym, ◌∙◌, ap, arith, Bool, true, false, List, [], ◌∷◌, ◌++◌}
 use Rattle.std.proofs.Common.{length, take, drop, map, Some, length-drop}
-use Rattle.std.specs.Str.{bytes_eq}
-use Rattle.std.proofs.lemmas.Bool.{cases_Bool, both_ways, cases_lt}
-use Rattle.std.proofs.lemmas.Slice.Eq.{bytes_eq-Decides}
+use Rattle.std.proofs.lemmas.Bool.{cases_lt}
 use Rattle.std.proofs.lemmas.List.{length-map, length-take-le, take-map, drop-map, take-take, take_all}
-use Rattle.std.proofs.lemmas.List.Elements.{All-nil, All-cons, All-head, All-tail}
 use Rattle.ct_tree.proofs.Split.{split_pos, split_lt}
 use Rattle.ct_tree.specs.Tree.{split, hash_leaf, hash_node, mth_of_leaves}
 use Rattle.ct_verify.proofs.RebuildLaws.{first_root}
-use Rattle.ct_verify.proofs.Shown.{leaves_length, leaves_split, parts, parts_right, tail_same}
+use Rattle.ct_verify.proofs.Shown.{last_of, left_nodes, right_nodes, leaves_length, leaves_split}
 use Rattle.ct_verify.proofs.Walking.{short, inner_left, inner_right, whole_value}
 use Rattle.ct_verify.specs.Laws.{AreHashes, SomeCollide}
 use Rattle.ct_verify.specs.Rebuild.{both_roots}
 use Rattle.ct_older_tree.specs.OlderTree.{ProofGoesBack}
 
--- the last of some hashes
-abbrev Lasts : List (List ℕ) → Type 0
-Lasts p = (q : List (List ℕ)) × (s : List ℕ) × (p ≡ q ++ s ∷ []) × (length s ≡ 32) × AreHashes q
-
-last_of : (p : List (List ℕ)) → 0 < length p → AreHashes p → Lasts p
-last_of [] some a = absurd (omega arith)
-last_of (s ∷ []) some a = ([], s, refl, All-head (λ x. length x ≡ 32) s [] a, All-nil (λ x. length x ≡ 32))
-last_of (t ∷ s ∷ p) some a =
-    let z = last_of (s ∷ p) (omega arith) (All-tail (λ x. length x ≡ 32) t (s ∷ p) a) in
-    (t ∷ z.0, z.1, ap (λ v. t ∷ v) z.2, z.3, All-cons (λ x. length x ≡ 32) t z.0 (All-head (λ x. length x ≡ 32) t (s ∷ p) a) z.4)
-
-same_or_not : (x y : List ℕ) → (x ≡ y) ⊎ (¬ (x ≡ y))
-same_or_not x y =
-    ⊎_elim
-    (λ (t : bytes_eq x y ≡ true). inl ((bytes_eq-Decides x y).0 t))
-    (λ (f : bytes_eq x y ≡ false). inr (λ s. both_ways (bytes_eq x y) f ((bytes_eq-Decides x y).1 s)))
-    (cases_Bool (bytes_eq x y))
-
 module _ (H : List ℕ → List ℕ) where
-  -- two strings with one hash
-  one_hash : (x y : List ℕ) → H x ≡ H y → (x ≡ y) ⊎ SomeCollide H
-  one_hash x y e =
-      ⊎_elim
-      (λ (same : x ≡ y). inl same)
-      (λ (other : ¬ (x ≡ y)). inr (x, y, (other, e)))
-      (same_or_not x y)
-
-  -- two nodes with one hash, whose left or right parts are equally long
-  left_nodes : (s y A B : List ℕ) → length s ≡ length A → hash_node H s y ≡ hash_node H A B → ((s ≡ A) × (y ≡ B)) ⊎ SomeCollide H
-  left_nodes s y A B l e =
-      ⊎_elim
-      (λ (u : 1 ∷ s ++ y ≡ 1 ∷ A ++ B). inl (parts s A y B l (tail_same 1 1 (s ++ y) (A ++ B) u)))
-      (λ (pair : SomeCollide H). inr pair)
-      (one_hash (1 ∷ s ++ y) (1 ∷ A ++ B) e)
-
-  right_nodes : (y s A B : List ℕ) → length s ≡ length B → hash_node H y s ≡ hash_node H A B → ((y ≡ A) × (s ≡ B)) ⊎ SomeCollide H
-  right_nodes y s A B l e =
-      ⊎_elim
-      (λ (u : 1 ∷ y ++ s ≡ 1 ∷ A ++ B). inl (parts_right y A s B l (tail_same 1 1 (y ++ s) (A ++ B) u)))
-      (λ (pair : SomeCollide H). inr pair)
-      (one_hash (1 ∷ y ++ s) (1 ∷ A ++ B) e)
-
   -- MTH of more than k of the leaves
   first_leaves : (m k : ℕ) (D : List (List ℕ)) → split (length D) ≡ k → k < m → m < length D
       → mth_of_leaves H (take m D) ≡ hash_node H (mth_of_leaves H (take k D)) (mth_of_leaves H (take (m - k) (drop k D)))

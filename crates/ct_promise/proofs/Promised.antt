@@ -13,18 +13,19 @@ use Rattle.ct_codec.specs.Leaf.{precertificate, leaf_text, LeafText}
 use Rattle.ct_tree.specs.Tree.{hash_leaf, mth_of_leaves}
 use Rattle.ct_verify.specs.Verdict.{AcceptsInclusion}
 use Rattle.ct_verify.proofs.Telling.{path_tells}
-use Rattle.ct_tbs_cut.specs.declared.fault.CutFault.{CutFault}
-use Rattle.ct_tbs_cut.specs.Tbs.{Parts, IsWithout, IsTbsOf}
-use Rattle.ct_tbs_cut.specs.Reading.{parts_cut_at, without, whole_tbs_at, key_at}
-use Rattle.ct_tbs_cut.proofs.Found.{read_cuts_are_there, tbs_found, key_found}
-use Rattle.ct_tbs_cut.proofs.Here.{cuts_are_read, tbs_here, key_here}
-use Rattle.ct_tbs_cut.proofs.Written.{written_cuts_are_there, cuts_are_written}
+use Rattle.ct_promise.specs.declared.fault.CutFault.{CutFault}
+use Rattle.ct_promise.specs.Tbs.{Parts, IsWithout, IsTbsOf}
+use Rattle.ct_promise.specs.Reading.{parts_cut_at, without, whole_tbs_at, key_at}
+use Rattle.ct_promise.proofs.Found.{read_cuts_are_there, tbs_found, key_found}
+use Rattle.ct_promise.proofs.Here.{cuts_are_read, tbs_here, key_here}
+use Rattle.ct_promise.proofs.Written.{written_cuts_are_there, cuts_are_written}
 use Rattle.ct_promise.specs.declared.fault.Document.{Document}
 use Rattle.ct_promise.specs.declared.fault.Document.TheVariants.{Certificate, Issuer}
 use Rattle.ct_promise.specs.declared.fault.Unfit.{Unfit}
 use Rattle.ct_promise.specs.declared.fault.Unfit.TheVariants.{BadPoison, TooLong}
 use Rattle.ct_promise.specs.declared.fault.PromiseFault.{PromiseFault}
-use Rattle.ct_promise.specs.Promise.{poison_identifier, poison_text, list_identifier, in_document, promised_entry_at, promised_leaf_at, promised_at, GivesPromise, IsEntryOf, IsPromised, IsPromiseKept, StandsInAll}
+use Rattle.ct_promise.specs.Promise.{poison_identifier, poison_text, list_identifier, in_document, promised_entry_at, promised_leaf_at}
+use Rattle.ct_promise.specs.Promise.{promised_at, GivesPromise, IsEntryOf, IsPromised, IsPromiseKept, StandsInAll}
 
 bound : {A B F : Type 0} (r : Result A F) (f : A → Result B F) (y : B) → (r >>= f) ≡ Ok y → (x : A) × (r ≡ Ok x) × (f x ≡ Ok y)
 bound (Ok x) f y e = (x, refl, e)

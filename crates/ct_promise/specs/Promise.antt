@@ -7,9 +7,9 @@ use Rattle.ct_tree.specs.Tree.{hash_leaf, mth_of_leaves}
 use Rattle.ct_verify.specs.Verdict.{AcceptsInclusion, RefusesInclusion}
 use Rattle.ct_verify.specs.Evidence.{IsAudited}
 use Rattle.ct_verify.specs.Laws.{SomeCollide}
-use Rattle.ct_tbs_cut.specs.declared.fault.CutFault.{CutFault}
-use Rattle.ct_tbs_cut.specs.Tbs.{Parts, IsParted, IsWithout, IsCutOut, IsTbsOf, IsKeyOf}
-use Rattle.ct_tbs_cut.specs.Reading.{parts_cut_at, without, whole_tbs_at, key_at}
+use Rattle.ct_promise.specs.declared.fault.CutFault.{CutFault}
+use Rattle.ct_promise.specs.Tbs.{Parts, IsParted, IsWithout, IsCutOut, IsTbsOf, IsKeyOf}
+use Rattle.ct_promise.specs.Reading.{parts_cut_at, without, whole_tbs_at, key_at}
 use Rattle.ct_promise.specs.declared.fault.Document.{Document}
 use Rattle.ct_promise.specs.declared.fault.Document.TheVariants.{Certificate, Issuer}
 use Rattle.ct_promise.specs.declared.fault.Unfit.{Unfit}

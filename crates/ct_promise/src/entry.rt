@@ -2,12 +2,12 @@
 
 ghost use Rattle.std.specs.Prelude.{◌≡◌, ◌++◌, ℕ, List, Ok, IfOk};
 ghost use Rattle.ct_der.specs.Reading.{Gives};
-ghost use Rattle.ct_tbs_cut.specs.Cuts.{parts_of, IsCutOf};
-ghost use Rattle.ct_tbs_cut.specs.Reading.{parts_cut_at, without};
+ghost use Rattle.ct_promise.specs.Cuts.{parts_of, IsCutOf};
+ghost use Rattle.ct_promise.specs.Reading.{parts_cut_at, without};
 ghost use Rattle.ct_promise.specs.Promise.{poison_identifier, poison_text, in_document, promised_entry_at, GivesPromise, IsEntryOf};
 
+use crate::cutting::{Cut, cut_extension, push_without};
 use crate::fault::{Document, PromiseFault, Unfit};
-use ct_tbs_cut::{Cut, cut_extension, push_without};
 use std::alloc::Global;
 
 // The contents of the object identifier of the poison, 1.3.6.1.4.1.11129.2.4.3.

@@ -1,13 +1,27 @@
-//! Why there is no entry and no leaf.
+//! Why there is no cut, no entry and no leaf.
 
 ghost use Rattle.std.specs.Prelude.{◌≡◌};
 ghost use Rattle.ct_promise.specs.declared.fault.PromiseFault.TheVariants.{Memory, Unfit as Refused};
 ghost use Rattle.ct_promise.specs.Unkept.{unkept_of};
 
-use ct_tbs_cut::CutFault;
+use crate::field::Unread;
 use ct_verify::ProofFault;
 use std::alloc::{AllocError, AllocFailed};
 use thiserror::Error;
+
+/// Why there is no cut.
+#[derive(Clone, Copy, Debug, PartialEq, Eq, Error)]
+pub enum CutFault {
+    /// The bytes aren't of the grammar in `specs/Tbs.antt`, as far as they were read.
+    #[error("{0}")]
+    At(Unread),
+    /// No extension has this identifier.
+    #[error("no-extension")]
+    NoExtension,
+    /// Two extensions have this identifier.
+    #[error("second-extension")]
+    SecondExtension,
+}
 
 /// Which document a fault is in. Its text is its name.
 #[derive(Clone, Copy, Debug, PartialEq, Eq, Error)]

@@ -4,13 +4,13 @@ ghost use Rattle.std.specs.Prelude.{◌≡◌, ◌<◌, ◌^◌, ◌++◌, ℕ, 
 ghost use Rattle.sha2.specs.Sha256.{sha256};
 ghost use Rattle.ct_codec.specs.Leaf.{precertificate, leaf_text};
 ghost use Rattle.ct_der.specs.Reading.{Gives};
-ghost use Rattle.ct_tbs_cut.specs.Reading.{whole_tbs_at, key_at};
+ghost use Rattle.ct_promise.specs.Reading.{whole_tbs_at, key_at};
 ghost use Rattle.ct_promise.specs.Promise.{in_document, promised_leaf_at, promised_at, GivesPromise, IsPromised};
 
 use crate::entry::{cut_in, without_cut};
 use crate::fault::{Document, PromiseFault, Unfit};
+use crate::reading::{key_of, tbs_of};
 use ct_codec::numbers::{number_bytes_2, number_bytes_3, number_bytes_8};
-use ct_tbs_cut::{key_of, tbs_of};
 use ct_tree::{NodeHash, Sha256Hash};
 use std::alloc::Global;
 

@@ -17,7 +17,6 @@ use Rattle.ct_lines.specs.Serving.{reply_if, IsCutOff, IsShort}
 use Rattle.ct_lines.specs.declared.request.FrozenRequest.{FrozenRequest}
 use Rattle.ct_lines.proofs.Asking.{asked_line}
 use Rattle.ct_lines.proofs.ByLines.{replies_by_lines}
-use Rattle.ct_lines.proofs.Pieces.{short_take}
 use Rattle.ct_tasks.specs.declared.plan.Shift.{Shift}
 use Rattle.ct_tasks.specs.declared.plan.Work.{Work}
 use Rattle.ct_tasks.specs.declared.plan.Plan.{Plan}
@@ -30,7 +29,7 @@ use Rattle.ct_tasks.specs.Plans.{IsPlanOf}
 use Rattle.ct_script.specs.Shifts.{PartiesServe}
 use Rattle.ct_tasks.specs.Tasks.{Step, does, ends_shift, for_front, for_frozen, for_operator}
 use Rattle.ct_tasks.specs.Steps.{frozen_line, frozen_lines, AreWhole, IsWholeLine}
-use Rattle.std.proofs.KnownBytes.{Appends-nil, Appends-trans, Appends-kept}
+use Rattle.std.proofs.KnownBytes.{Appends-trans, Appends-kept}
 
 -- what holds of the error, and in that case
 pub if_err_both : {T E : Type 0} (P : E → Type 0) (Q : Type 0) (R : E → Type 0) (r : Result T E) → ((e : E) → P e → Q → R e) → IfErr r P → OnErr r Q → IfErr r R
@@ -149,14 +148,6 @@ replies_cut log rs i r lines next old mid new inside is are before short after =
       ),
       Appends-trans old mid new (concat whole) next before after,
     )
-
--- no byte was written, and a beginning of a reply was
-pub none_sent : (text : List ℕ) (a : Option (List ℕ)) → (next : List ℕ) × IsShort next (text ∷ []) × Appends a a next
-none_sent text a = ([], tt, Appends-nil a)
-
-pub some_sent : (text : List ℕ) (a b : Option (List ℕ)) → (n : ℕ) × (n < length text) × Appends a b (take n text)
-    → (next : List ℕ) × IsShort next (text ∷ []) × Appends a b next
-some_sent text a b (n, less, sent) = (take n text, short_take n text less, sent)
 
 -- the lines of a plan's requests are those of its steps
 pub plan_lines : (n : ℕ) (p : Plan) (ss : List Step) → IsPlanOf n p ss → AreWhole ss → AreFrozenLines p.frozen.items (frozen_lines ss)

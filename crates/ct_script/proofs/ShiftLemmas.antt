@@ -79,15 +79,6 @@ going_all old new fronts now g i = (
   g.in_time i.some,
 )
 
--- a refusal when some fronts went on is one of the whole
-pub going_refused : (old mid : HouseState) (done : List FrontView) (now : ℕ) (e : Fault) → Going old mid done now
-    → IsEndRefused mid now e → IsEndRefused old now e
-going_refused old mid done now e g (inl memory) = inl memory
-going_refused old mid done now e g (inr clock) = elim (cases_lt 0 (length done)) [
-  | inl before ↦ (let time : clock_of mid.core ≤ now = g.time before in let late = clock.1 in absurd (omega arith))
-  | inr none ↦ inr (clock.0, subst (λ (s : HouseState). now < clock_of s.core) (g.first (omega arith)) clock.1)
-]
-
 -- the front behind those that went on has the next number
 pub next_number : (s : HouseState) (all done : List FrontParty) (p : FrontParty) (rest : List FrontParty) → AreFrontsOf s (fronts_of all)
     → all ≡ done ++ p ∷ rest → p.front.intake.number ≡ length (fronts_of done)

@@ -6,3 +6,4 @@ mod Fitting
 mod Made
 mod LinesAgree
 pub mod RollingOut
+pub mod Lengths

@@ -47,13 +47,13 @@ no_part n k r apart = elim (eqb_tells n k) [
 ]
 
 -- the element that was put there, and the others
-put_there : {A : Type 0} (xs : List A) (i : ℕ) (x y : A) → slice_get xs i ≡ Some x → slice_get (set xs i y) i ≡ Some y
+pub put_there : {A : Type 0} (xs : List A) (i : ℕ) (x y : A) → slice_get xs i ≡ Some x → slice_get (set xs i y) i ≡ Some y
 put_there {A = A} xs i x y at =
     let below = slice_get_within xs i x at in
     let inside : i < length (set xs i y) = subst (λ (n : ℕ). i < n) (sym (length-set xs i y)) below in
     slice_get-get_or (set xs i y) i y inside ∙ ap (λ (z : A). Some z) (get_or-set_same xs i y y below)
 
-put_elsewhere : {A : Type 0} (xs : List A) (i j : ℕ) (y : A) → j ≢ i → slice_get (set xs i y) j ≡ slice_get xs j
+pub put_elsewhere : {A : Type 0} (xs : List A) (i j : ℕ) (y : A) → j ≢ i → slice_get (set xs i y) j ≡ slice_get xs j
 put_elsewhere [] zero j y apart = refl
 put_elsewhere [] (suc i) j y apart = refl
 put_elsewhere (z ∷ zs) zero zero y apart = absurd (apart refl)

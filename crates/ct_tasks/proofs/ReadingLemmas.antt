@@ -33,10 +33,6 @@ pub asked_once : (fronts : ℕ) (line : List ℕ) (s : Step) → 0 < length line
 asked_once fronts [] s some asks = absurd (omega arith)
 asked_once fronts (b ∷ bs) s some asks = (asks, tt)
 
-pub asked_nothing : (fronts : ℕ) (line : List ℕ) → length line ≡ 0 → AllAskFor fronts (line ∷ []) []
-asked_nothing fronts [] none = tt
-asked_nothing fronts (b ∷ bs) none = absurd (omega arith)
-
 -- a line that is too long for a request asks what any other such line asks
 asks_long : (fronts : ℕ) (a b : List ℕ) (s : Step) → 1048576 < length a → 1048576 < length b → AsksFor fronts a s → AsksFor fronts b s
 asks_long fronts a b s long_a long_b (inl (r, is, e)) = absurd (omega (arith, long_a, request_fits a r is))

@@ -188,10 +188,6 @@ module _ {A : Type 0} (ts more : List NeededTile) (t : NeededTile) (e : ts ≡ t
 pub hash_none : (ts : List NeededTile) (bs : List (List ℕ)) (level index : ℕ) → length ts ≡ 0 → handed_hash ts bs level index ≡ replicate 32 0
 hash_none ts bs level index e = ap (λ x. handed_hash x bs level index) (none_of ts e) ∙ no_hash bs level index
 
-pub has_place : (tile : NeededTile) (content : List ℕ) (level index : ℕ) → has_hash tile content level index ≡ true
-    → (256 * tile.index ≤ index) × (index - 256 * tile.index < length content / 32)
-has_place tile content level index e = let parts = has_parts tile content level index e in (parts.1, parts.2)
-
 -- ---- faults
 -- tiles with their own bytes aren't refused
 pub own_not_refused : (H : List ℕ → List ℕ) (D : List (List ℕ)) (tiles : List NeededTile) (contents : List (List ℕ)) (fault : HandedFault)

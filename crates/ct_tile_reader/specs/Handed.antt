@@ -17,7 +17,7 @@ handed_fault (tile ∷ tiles) [] = Some (Missing tile)
 handed_fault (tile ∷ tiles) (content ∷ contents) =
     if nat_eq (length content) (32 * tile.width) then handed_fault tiles contents else Some (BadLength tile)
 
--- why there is no answer: the fault of the first tile without right bytes, and where each has right ones a growth was refused (Memory)
+-- why there is no answer: the fault of the first tile without right bytes; or a growth was refused (Memory): no clause can say where that is so
 abbrev pub IsHandedFault : HandedFault → List NeededTile → List (List ℕ) → Type 0
 IsHandedFault Memory tiles contents = ⊤
 IsHandedFault fault tiles contents = handed_fault tiles contents ≡ Some fault

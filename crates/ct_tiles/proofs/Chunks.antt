@@ -109,10 +109,6 @@ pub added-zero : (H : List ℕ → List ℕ) (D B : List (List ℕ)) → added H
 unfolding added
 added-zero H D B = refl
 
-pub added-more : (H : List ℕ → List ℕ) (level : ℕ) (D B : List (List ℕ)) → added H (suc level) D B ≡ up H 256 (row H 256 level D B).1
-unfolding added
-added-more H level D B = ap (up H 256) (sym (row-is H level D B))
-
 -- ---- the edge and the rows, level by level
 pub length-edge : (H : List ℕ → List ℕ) (levels : ℕ) (D : List (List ℕ)) → length (edge H 256 levels D) ≡ levels
 unfolding edge

@@ -6,6 +6,7 @@
 //! - [`Edge`] is all that a sequencer keeps of a log: how many leaves it has, and the partial tile of each level.
 //! - [`take_in`] takes in more leaf hashes, and answers the tiles that they write, a [`Row`] for each level, and the
 //! new edge.
+//! - [`joined`] and [`root_alone`] make a root of partial tiles, level by level, as [`Edge::root`] does.
 //! - [`laws`] shows what follows of the definitions of `specs/Tiles.antt`, which the contracts name.
 //!
 //! A log is a list of leaf hashes, the leftmost first. Levels and indexes begin at 0, and sizes count leaves.
@@ -16,4 +17,4 @@ pub mod laws;
 mod row;
 
 pub use edge::{Advance, Edge, take_in};
-pub use row::Row;
+pub use row::{Row, joined, root_alone};

@@ -34,8 +34,9 @@ impl Row {
     }
 }
 
-// The hashes of both, in order.
-pub(crate) fn joined(
+/// The hashes of both lists, in order: of a partial tile, say, and what is carried there from the level below. Takes
+/// memory for them all.
+pub fn joined(
     alloc: Global,
     front: &[[u8; 32]],
     back: &[[u8; 32]],
@@ -77,8 +78,9 @@ pub(crate) fn partial(alloc: Global, row: &[[u8; 32]]) -> Result<Vec<[u8; 32]>, 
     Ok(hashes)
 }
 
-// The root of some hashes, and nothing of none.
-pub(crate) fn root_alone<H: NodeHash>(
+/// What some hashes give to the level above: the root over them (MTH of RFC 6962, section 2.1), and nothing of none.
+/// Hashes one node less than there are hashes, and takes memory for one.
+pub fn root_alone<H: NodeHash>(
     alloc: Global,
     h: &H,
     hashes: &[[u8; 32]],

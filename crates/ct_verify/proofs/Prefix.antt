@@ -1,13 +1,13 @@
 -- What a consistency proof shows of two lists: the old one begins the new one, where no two strings
 -- that are compared on the way have one hash and differ. Each law is one step from the parts to the whole.
-use Rattle.std.proofs.Common.{refl, ◌≡◌, ℕ, ◌+◌, ◌-◌, ◌<◌, ◌≤◌, sym, ◌∙◌, ap, arith, Bool, false, List, [], ◌∷◌, ◌++◌, length, take, drop, Some, None}
+use Rattle.std.proofs.Common.{refl, ◌≡◌, ℕ, ◌+◌, ◌-◌, ◌<◌, ◌≤◌, sym, ◌∙◌, ap, arith, Bool, false, List, [], ◌∷◌, ◌++◌, length, take, drop, Some}
 use Rattle.std.proofs.Common.{length-drop}
 use Rattle.std.specs.Option.{option_map}
 use Rattle.std.proofs.lemmas.List.{length-take-le, take-append-drop, take-take, drop-take, take_all}
 use Rattle.ct_tree.proofs.Split.{split_lt}
 use Rattle.ct_tree.specs.Tree.{split, hash_leaf, hash_node, mth_of_leaves}
 use Rattle.ct_verify.proofs.RebuildLaws.{both_left, both_right}
-use Rattle.ct_verify.proofs.Options.{none_some, same_some}
+use Rattle.ct_verify.proofs.Options.{same_some}
 use Rattle.ct_verify.proofs.Shown.{leaves_split, leaves_one}
 use Rattle.ct_verify.specs.Climb.{pair_left, pair_right}
 use Rattle.ct_verify.specs.Rebuild.{both_roots}
@@ -18,9 +18,6 @@ parts_make k xs ys a b = sym (take-append-drop k xs) ∙ rw (a, b) (take-append-
 
 pair_parts : (u v : List ℕ × List ℕ) → u ≡ v → (u.0 ≡ v.0) × (u.1 ≡ v.1)
 pair_parts u v e = (ap (λ (z : List ℕ × List ℕ). z.0) e, ap (λ (z : List ℕ × List ℕ). z.1) e)
-
-some_none : {X : Type 0} (x : X) → Some x ≡ None → ⊥
-some_none x e = none_some x (sym e)
 
 module _ (H : List ℕ → List ℕ) where
   halves : (D : List (List ℕ)) (k : ℕ) → 1 < length D → split (length D) ≡ k

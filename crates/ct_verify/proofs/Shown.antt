@@ -1,10 +1,11 @@
 -- What going down an accepted path shows, and that nothing is found where the path is PATH.
 use Rattle.std.proofs.Common.{◌≡◌, ℕ, ◌+◌, ◌-◌, ◌<◌, ◌≤◌, refl, subst, sym, ◌∙◌, ap, arith, List, [], ◌∷◌, ◌++◌, reverse, length, take, drop, get_or, map}
-use Rattle.std.proofs.Common.{Option, Some, None, true, false, length-drop, ⊎_elim}
+use Rattle.std.proofs.Common.{Option, Some, None, true, false, length-drop, ◌⊎◌, inl, inr, ⊎_elim}
 use Rattle.std.specs.Str.{bytes_eq}
 use Rattle.std.proofs.lemmas.Bool.{cases_Bool, cond-true, cond-false, both_ways, lt-ltb, le-ltb, cases_lt}
 use Rattle.std.proofs.lemmas.Slice.Eq.{bytes_eq-Decides}
 use Rattle.std.proofs.lemmas.List.{length-append, length-map, take-map, drop-map, get_or-take, get_or-drop, length-take-le, get_or-map, reverse-reverse}
+use Rattle.std.proofs.lemmas.List.Elements.{All-nil, All-cons, All-head, All-tail}
 use Rattle.ct_tree.proofs.Split.{split_pos, split_lt, split_induct}
 use Rattle.ct_tree.proofs.Mth.{mth-one, mth-split_at}
 use Rattle.ct_tree.proofs.Path.{path-small, path-left, path-right}
@@ -14,6 +15,7 @@ use Rattle.ct_verify.proofs.Rebuild.{rebuild_left, rebuild_right, rebuild_past, 
 use Rattle.ct_verify.proofs.Equations.{path_rebuilds}
 use Rattle.ct_verify.specs.Rebuild.{rebuild, rebuild_down}
 use Rattle.ct_verify.specs.Evidence.{Collides, compared, evid_down, evid, IsAudited}
+use Rattle.ct_verify.specs.Laws.{AreHashes, SomeCollide}
 
 pub head_same : {X : Type 0} (x y : X) (xs ys : List X) → x ∷ xs ≡ y ∷ ys → x ≡ y
 head_same x y xs ys e = cc
@@ -26,8 +28,8 @@ abbrev pub Shows : (List ℕ → List ℕ) → Type 0 → Option (List ℕ × Li
 Shows H P None = P
 Shows H P (Some z) = Collides H z.0 z.1
 
--- two strings of two parts, the left ones equally long
-pub parts : (a b c d : List ℕ) → length a ≡ length b → a ++ c ≡ b ++ d → (a ≡ b) × (c ≡ d)
+-- two lists of two parts, the left ones equally long
+pub parts : {X : Type 0} (a b c d : List X) → length a ≡ length b → a ++ c ≡ b ++ d → (a ≡ b) × (c ≡ d)
 parts [] [] c d l e = (refl, e)
 parts [] (y ∷ b) c d l e = absurd (omega arith)
 parts (x ∷ a) [] c d l e = absurd (omega arith)
@@ -38,12 +40,53 @@ parts (x ∷ a) (y ∷ b) c d l e =
     (rw (h, z.0) refl, z.1)
 
 -- the right ones equally long
-pub parts_right : (a b c d : List ℕ) → length c ≡ length d → a ++ c ≡ b ++ d → (a ≡ b) × (c ≡ d)
+pub parts_right : {X : Type 0} (a b c d : List X) → length c ≡ length d → a ++ c ≡ b ++ d → (a ≡ b) × (c ≡ d)
 parts_right a b c d l e =
     let n : length (a ++ c) ≡ length (b ++ d) = ap length e in
     parts a b c d (omega (arith, length-append a c, length-append b d)) e
 
+-- the last of some hashes
+abbrev pub Lasts : List (List ℕ) → Type 0
+Lasts p = (q : List (List ℕ)) × (s : List ℕ) × (p ≡ q ++ s ∷ []) × (length s ≡ 32) × AreHashes q
+
+pub last_of : (p : List (List ℕ)) → 0 < length p → AreHashes p → Lasts p
+last_of [] some a = absurd (omega arith)
+last_of (s ∷ []) some a = ([], s, refl, All-head (λ x. length x ≡ 32) s [] a, All-nil (λ x. length x ≡ 32))
+last_of (t ∷ s ∷ p) some a =
+    let z = last_of (s ∷ p) (omega arith) (All-tail (λ x. length x ≡ 32) t (s ∷ p) a) in
+    (t ∷ z.0, z.1, ap (λ v. t ∷ v) z.2, z.3, All-cons (λ x. length x ≡ 32) t z.0 (All-head (λ x. length x ≡ 32) t (s ∷ p) a) z.4)
+
+same_or_not : (x y : List ℕ) → (x ≡ y) ⊎ (¬ (x ≡ y))
+same_or_not x y =
+    ⊎_elim
+    (λ (t : bytes_eq x y ≡ true). inl ((bytes_eq-Decides x y).0 t))
+    (λ (f : bytes_eq x y ≡ false). inr (λ s. both_ways (bytes_eq x y) f ((bytes_eq-Decides x y).1 s)))
+    (cases_Bool (bytes_eq x y))
+
 module _ (H : List ℕ → List ℕ) where
+  -- two strings with one hash
+  one_hash : (x y : List ℕ) → H x ≡ H y → (x ≡ y) ⊎ SomeCollide H
+  one_hash x y e =
+      ⊎_elim
+      (λ (same : x ≡ y). inl same)
+      (λ (other : ¬ (x ≡ y)). inr (x, y, (other, e)))
+      (same_or_not x y)
+
+  -- two nodes with one hash, whose left or right parts are equally long
+  pub left_nodes : (s y A B : List ℕ) → length s ≡ length A → hash_node H s y ≡ hash_node H A B → ((s ≡ A) × (y ≡ B)) ⊎ SomeCollide H
+  left_nodes s y A B l e =
+      ⊎_elim
+      (λ (u : 1 ∷ s ++ y ≡ 1 ∷ A ++ B). inl (parts s A y B l (tail_same 1 1 (s ++ y) (A ++ B) u)))
+      (λ (pair : SomeCollide H). inr pair)
+      (one_hash (1 ∷ s ++ y) (1 ∷ A ++ B) e)
+
+  pub right_nodes : (y s A B : List ℕ) → length s ≡ length B → hash_node H y s ≡ hash_node H A B → ((y ≡ A) × (s ≡ B)) ⊎ SomeCollide H
+  right_nodes y s A B l e =
+      ⊎_elim
+      (λ (u : 1 ∷ y ++ s ≡ 1 ∷ A ++ B). inl (parts_right y A s B l (tail_same 1 1 (y ++ s) (A ++ B) u)))
+      (λ (pair : SomeCollide H). inr pair)
+      (one_hash (1 ∷ y ++ s) (1 ∷ A ++ B) e)
+
   pub shows_map : (P Q : Type 0) (o : Option (List ℕ × List ℕ)) → (P → Q) → Shows H P o → Shows H Q o
   shows_map P Q None f s = f s
   shows_map P Q (Some z) f s = s

@@ -1,32 +1,20 @@
 -- An accepted proof, held against the lists: the old list begins the new one, or two different strings have one hash. So does an
 -- accepted path.
-use Rattle.std.proofs.Common.{refl, zero, suc, ◌⊎◌, inl, inr, ⊎_elim, ◌≡◌, ℕ, ◌-◌, ◌<◌, ◌≤◌, sym, ◌∙◌, ap, arith, Bool, true, false, List, [], ◌∷◌, ◌++◌}
+use Rattle.std.proofs.Common.{refl, zero, suc, ◌⊎◌, inl, inr, ⊎_elim, ◌≡◌, ℕ, ◌-◌, ◌<◌, ◌≤◌, sym, ◌∙◌, arith, Bool, true, false, List, [], ◌∷◌, ◌++◌}
 use Rattle.std.proofs.Common.{length, take, drop, Option, Some, None, length-drop}
 use Rattle.std.specs.Option.{option_or}
 use Rattle.std.proofs.lemmas.Bool.{cases_lt}
 use Rattle.std.proofs.lemmas.List.{length-take-le}
-use Rattle.std.proofs.lemmas.List.Elements.{All-nil, All-cons, All-head, All-tail}
 use Rattle.ct_tree.proofs.Split.{split_pos, split_lt}
 use Rattle.ct_tree.specs.Tree.{split, mth_of_leaves}
 use Rattle.ct_verify.proofs.Clashes.{lists_collide, lists_same, along_collides, along_begins}
-use Rattle.ct_verify.proofs.Shown.{Shows, evid_shows}
+use Rattle.ct_verify.proofs.Shown.{Shows, last_of, evid_shows}
 use Rattle.ct_verify.proofs.Walking.{short, inner_left, inner_right}
 use Rattle.ct_verify.specs.Clash.{clash, root_string, ClashOfLists, leaf, node, ClashAlong, whole, left, right}
 use Rattle.ct_verify.specs.ConsistencyEvidence.{IsBeginning}
 use Rattle.ct_verify.specs.Evidence.{IsAudited, evid}
 use Rattle.ct_verify.specs.Laws.{AreHashes, SomeCollide, PathTells, ProofTells, RootTells}
 use Rattle.ct_verify.specs.Rebuild.{both_roots}
-
--- the last of some hashes
-abbrev Lasts : List (List ℕ) → Type 0
-Lasts p = (q : List (List ℕ)) × (s : List ℕ) × (p ≡ q ++ s ∷ []) × (length s ≡ 32) × AreHashes q
-
-last_of : (p : List (List ℕ)) → 0 < length p → AreHashes p → Lasts p
-last_of [] some a = absurd (omega arith)
-last_of (s ∷ []) some a = ([], s, refl, All-head (λ x. length x ≡ 32) s [] a, All-nil (λ x. length x ≡ 32))
-last_of (t ∷ s ∷ p) some a =
-    let z = last_of (s ∷ p) (omega arith) (All-tail (λ x. length x ≡ 32) t (s ∷ p) a) in
-    (t ∷ z.0, z.1, ap (λ v. t ∷ v) z.2, z.3, All-cons (λ x. length x ≡ 32) t z.0 (All-head (λ x. length x ≡ 32) t (s ∷ p) a) z.4)
 
 -- a list of one
 only : (E : List (List ℕ)) → length E ≡ 1 → (e : List ℕ) × (E ≡ e ∷ [])

@@ -1,11 +1,10 @@
 -- Heads whose bytes were given, over many runs.
-use Rattle.std.proofs.Common.{◌≡◌, ◌∙◌, ◌==◌, ℕ, List, [], ◌∷◌, ◌++◌, length, map, Bool, true, false, if◌then◌else◌, Option, Some, None, All, sym, refl, subst, inl, inr, codes}
-use Rattle.std.proofs.lemmas.Bool.{eqb-true}
+use Rattle.std.proofs.Common.{◌≡◌, ◌∙◌, ℕ, List, [], ◌∷◌, ◌++◌, length, map, Bool, true, false, Option, Some, None, All, sym, subst, inl, inr, codes}
 use Rattle.std.proofs.lemmas.List.{append_assoc}
-use Rattle.std.proofs.lemmas.List.Elements.{All-nil, All-cons, All-head, All-tail}
+use Rattle.std.proofs.lemmas.List.Elements.{All-head, All-tail}
 use Rattle.std.specs.Prelude.{⊤, option_map, option_and_then, unwrap_or}
 use Rattle.std.specs.Io.BufRead.{first_piece, drop_through}
-use Rattle.serde_json.specs.Data.{Data, Items, no_items, item}
+use Rattle.serde_json.specs.Data.{Data}
 use Rattle.serde_json.specs.Find.{get, as_array}
 use Rattle.ct_guard.specs.Guarded.{PassesHead}
 use Rattle.ct_guard.specs.History.{Passed, ArePassed}
@@ -13,16 +12,19 @@ use Rattle.ct_guard.specs.NewestHead.{AreHeadSteps}
 use Rattle.ct_guard.specs.declared.refusal.ReceiptRefusal.TheVariants.{NoHead, NoLeaf, NotThere, LaterLeaf, OtherIndex}
 use Rattle.ct_guard.proofs.History.{passed_heads_agree}
 use Rattle.ct_guard.proofs.NewestHead.{heads_go_back}
-use Rattle.json_lines.specs.Fields.{hash_of, hash_in, bytes_in, each_item, hashes_of_items, hashes_at}
+use Rattle.json_lines.specs.Fields.{hashes_at}
 use Rattle.json_lines.specs.Values.{value_of_line}
 use Rattle.ct_monitor.specs.Heads.{IsHeadOfAll}
 use Rattle.ct_tree.specs.declared.head.Head.{Head}
 use Rattle.ct_verify.specs.Laws.{AreHashes}
-use Rattle.ctguard.specs.Asks.{Ask, for_head, for_receipt, for_promise, for_last, for_nothing, over_text, head_ask, head_bound_at, leaf_ask, ask_or_nothing, ask_or, no_state_or, own_ask, texts_at, is_text_alone, alone_or, text_or, ask_in, Requests}
+use Rattle.ctguard.specs.Asks.{Ask, for_head, for_receipt, for_promise, for_last, for_nothing, over_text, head_ask, head_bound_at, leaf_ask}
+use Rattle.ctguard.specs.Asks.{ask_or_nothing, ask_or, no_state_or, own_ask, texts_at, is_text_alone, alone_or, text_or, ask_in, Requests}
 use Rattle.ctguard.specs.Given.{AskComesBy}
 use Rattle.ctguard.specs.GuardSession.{GuardOptions, GuardStep, StepsLineBy, GuardsLinesBy, StartsAt, GuardRunBy, last_head}
 use Rattle.ctguard.specs.GuardHistory.{RunMade, TakeUp, given_head, given_heads, all_given, head_step, HeadsAgree, GoBackToEach, GivenHeadsAgree, GivenHeadsGoBack}
-use Rattle.ctguard.specs.GuardState.{guard_state_text, IsGuardState, IsLastValue, head_fields}
+use Rattle.ctguard.specs.GuardState.{guard_state_text, IsGuardState, IsLastValue}
+use Rattle.ct_fields.proofs.Hashes.{OfHashes, of_hashes}
+use Rattle.ct_fields.specs.Heads.{head_in}
 use Rattle.ctguard.specs.declared.guarding.Guarding.{Guarding}
 use Rattle.ctguard.specs.declared.replies.Outcome.{Outcome}
 use Rattle.ctguard.specs.declared.replies.Outcome.TheVariants.{LetThrough, TooFar, HeadRefused, ReceiptRefused, BadLine, BadState, SetBack, Holds}
@@ -31,36 +33,6 @@ use Rattle.ctguard.specs.declared.settings.Receipts.TheVariants.{InHead, Promise
 use Rattle.ctguard.proofs.ReadBack.{states_differ}
 
 -- ---- the proof that is handed in with a head has elements of 32 bytes
-
-abbrev OfHash : Option (List ℕ) → Type 0
-OfHash None = ⊤
-OfHash (Some h) = length h ≡ 32
-
-abbrev OfHashes : Option (List (List ℕ)) → Type 0
-OfHashes None = ⊤
-OfHashes (Some hs) = AreHashes hs
-
-if_hash : (b : Bool) (bytes : List ℕ) → b ≡ (length bytes == 32) → OfHash (if b then Some bytes else None)
-if_hash true bytes e = eqb-true (length bytes) 32 (sym e)
-if_hash false bytes e = tt
-
-of_hash : (o : Option (List ℕ)) → OfHash (option_and_then hash_of o)
-of_hash None = tt
-of_hash (Some bytes) = if_hash (length bytes == 32) bytes refl
-
-cons_hashes : (x : Option (List ℕ)) (y : Option (List (List ℕ))) → OfHash x → OfHashes y
-    → OfHashes (option_and_then (λ b. option_map (λ bs. b ∷ bs) y) x)
-cons_hashes None y h hs = tt
-cons_hashes (Some b) None h hs = tt
-cons_hashes (Some b) (Some bs) h hs = All-cons (λ s. length s ≡ 32) b bs h hs
-
-each_hash : (ds : Items) → OfHashes (each_item hash_in ds)
-each_hash no_items = All-nil (λ s. length s ≡ 32)
-each_hash (item d ds) = cons_hashes (hash_in d) (each_item hash_in ds) (of_hash (bytes_in d)) (each_hash ds)
-
-of_hashes : (o : Option Items) → OfHashes (option_and_then hashes_of_items o)
-of_hashes None = tt
-of_hashes (Some ds) = each_hash ds
 
 -- of a head's ask the proof is of hashes
 abbrev pub ProofHashes : Ask → Type 0
@@ -106,7 +78,7 @@ some_ask None None None x y = tt
 own_hashes : (r : Receipts) (d : Data) → ProofHashes (own_ask r d)
 own_hashes r d =
     some_ask (get (codes "guard") d) (head_ask d) (leaf_ask r d)
-    (head_hashes (head_fields d) (hashes_at (codes "consistency") d) (head_bound_at d) (of_hashes (option_and_then as_array (get (codes "consistency") d)))) (leaf_hashes r d)
+    (head_hashes (head_in d) (hashes_at (codes "consistency") d) (head_bound_at d) (of_hashes (option_and_then as_array (get (codes "consistency") d)))) (leaf_hashes r d)
 
 alone_hashes : (alone : Bool) (a : Ask) → ProofHashes a → ProofHashes (alone_or alone a)
 alone_hashes true a x = tt

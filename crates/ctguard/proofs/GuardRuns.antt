@@ -1,11 +1,10 @@
 -- What the replies to the lines of an input are, and how far a run came that a fault broke off.
 use Rattle.std.proofs.Common.{◌≡◌, ◌∙◌, ◌<◌, ◌++◌, ℕ, List, [], ◌∷◌, length, Bool, true, false, if◌then◌else◌, Option, Some, None, sym, refl, ap, subst, inl, inr}
-use Rattle.std.specs.Prelude.{◌⊎◌, IfSome, OnErr, Result, Ok, Err}
+use Rattle.std.specs.Prelude.{◌⊎◌, IfSome}
 use Rattle.std.specs.List.{concat}
 use Rattle.std.specs.Io.BufRead.{drop_through, first_piece}
 use Rattle.std.specs.Io.KnownBytes.{Appends}
-use Rattle.std.proofs.KnownBytes.{Appends-nil, Appends-trans, Consumes-nil}
-use Rattle.json_lines.proofs.KeptLines.{all_of_none}
+use Rattle.std.proofs.KnownBytes.{Appends-trans}
 use Rattle.json_lines.specs.Sends.{SendsSome}
 use Rattle.line_program.specs.Replied.{FirstReplies, is_next_first, NextBroken, BeginsEnd, IsRunReplied, IsBroken}
 use Rattle.ctguard.specs.BrokenOff.{GuardsFirstLines, line_gives, GuardBroken, BreaksFirst, IsGuardRunBroken}

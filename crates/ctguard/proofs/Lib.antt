@@ -6,5 +6,4 @@ pub mod Kept
 pub mod GuardRuns
 pub mod GivenRuns
 pub mod CutRuns
-pub mod TextAsks
 pub mod Register

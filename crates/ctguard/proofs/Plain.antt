@@ -10,7 +10,8 @@ use Rattle.serde_json.specs.Data.{Data, Members, no_members, member, object}
 use Rattle.serde_json.specs.Written.{compact_text, members_text, comma_if}
 use Rattle.json_lines.specs.Values.{base64_text, bytes_data, number_data}
 use Rattle.ct_tree.specs.declared.head.Head.{Head}
-use Rattle.ctguard.specs.GuardState.{IsLastValue, last_data, guard_state_text}
+use Rattle.ctguard.specs.GuardState.{IsLastValue, guard_state_text}
+use Rattle.ct_fields.specs.Heads.{head_data}
 
 comma_plain : (later : Bool) → IsUtf8 (comma_if later)
 comma_plain true = IsUtf8-are_ascii (44 ∷ []) refl
@@ -36,7 +37,7 @@ base_plain b = IsUtf8-quoted (base64_text b) (IsUtf8-from_ascii (base64_text b) 
 none_plain : IsUtf8 (members_text true no_members)
 none_plain = IsUtf8-are_ascii (125 ∷ []) refl
 
-last_plain : (last : Option Head) → IsLastValue last → IsUtf8 (compact_text (last_data last))
+last_plain : (last : Option Head) → IsLastValue last → IsUtf8 (compact_text (head_data last))
 last_plain None v = IsUtf8-are_ascii (110 ∷ 117 ∷ 108 ∷ 108 ∷ []) refl
 last_plain (Some head) v =
     let size_member = member (codes "tree_size") (number_data head.tree_size) no_members in
@@ -53,8 +54,8 @@ last_plain (Some head) v =
 pub state_plain : (last : Option Head) → IsLastValue last → IsUtf8 (guard_state_text last)
 unfolding guard_state_text
 state_plain last v =
-    let last_member = member (codes "last") (last_data last) no_members in
+    let last_member = member (codes "last") (head_data last) no_members in
     let one : 1 < 2 ^ 64 = omega arith in
-    let inner = member_plain true (codes "last") (last_data last) no_members (IsUtf8-are_ascii (codes "last") refl) (last_plain last v) none_plain in
+    let inner = member_plain true (codes "last") (head_data last) no_members (IsUtf8-are_ascii (codes "last") refl) (last_plain last v) none_plain in
     let outer = member_plain false (codes "guard") (number_data 1) last_member (IsUtf8-are_ascii (codes "guard") refl) (number_plain 1 one) inner in
     object_plain (member (codes "guard") (number_data 1) last_member) outer

@@ -12,7 +12,8 @@ use Rattle.serde_json.specs.Data.{Data, Members, no_members, member}
 use Rattle.serde_json.specs.Written.{compact_text, members_text, comma_if}
 use Rattle.json_lines.specs.Values.{base64_text, bytes_data, number_data}
 use Rattle.ct_tree.specs.declared.head.Head.{Head}
-use Rattle.ctguard.specs.GuardState.{IsLastValue, last_data, guard_state_text}
+use Rattle.ctguard.specs.GuardState.{IsLastValue, guard_state_text}
+use Rattle.ct_fields.specs.Heads.{head_data}
 
 either_short : (b : Bool) (x y : List ℕ) (n : ℕ) → length x ≤ n → length y ≤ n → length (cond b x y) ≤ n
 either_short true x y n a b = a
@@ -73,7 +74,7 @@ member_short later k d ms a b x y =
 number_short : (n : ℕ) → n < 2 ^ 64 → length (compact_text (number_data n)) ≤ 20
 number_short n h = length-decimal-le 20 n (omega arith) (omega arith) h
 
-last_short : (last : Option Head) → IsLastValue last → length (compact_text (last_data last)) ≤ 2000
+last_short : (last : Option Head) → IsLastValue last → length (compact_text (head_data last)) ≤ 2000
 last_short None v = omega arith
 last_short (Some head) v =
     let size_member = member (codes "tree_size") (number_data head.tree_size) no_members in
@@ -88,7 +89,7 @@ last_short (Some head) v =
 pub state_short : (last : Option Head) → IsLastValue last → length (guard_state_text last) ≤ 1048576
 unfolding guard_state_text
 state_short last v =
-    let last_member = member (codes "last") (last_data last) no_members in
+    let last_member = member (codes "last") (head_data last) no_members in
     let inner : length (members_text true last_member) ≤ 3000 =
-    omega (arith, member_short true (codes "last") (last_data last) no_members 2000 1 (last_short last v) (omega arith)) in
+    omega (arith, member_short true (codes "last") (head_data last) no_members 2000 1 (last_short last v) (omega arith)) in
     omega (arith, member_short false (codes "guard") (number_data 1) last_member 20 3000 (number_short 1 (omega arith)) inner)

@@ -5,7 +5,7 @@ use Rattle.serde_json.specs.Find.{get}
 use Rattle.ct_tree.specs.declared.head.Head.{Head}
 use Rattle.json_lines.specs.Fields.{text_at, number_at, bytes_at, hashes_at}
 use Rattle.json_lines.specs.Values.{value_of_line}
-use Rattle.ctguard.specs.GuardState.{head_fields}
+use Rattle.ct_fields.specs.Heads.{head_in}
 use Rattle.ctguard.specs.declared.request.Asked.{Asked}
 use Rattle.ctguard.specs.declared.request.Request.{Request}
 use Rattle.ctguard.specs.declared.request.Request.TheVariants as request
@@ -59,7 +59,7 @@ head_bound_at d = head_bound_or (get (codes "most_ahead") d) (number_at (codes "
 abbrev pub head_ask : Data → Option Ask
 head_ask d = option_and_then
     (λ head. option_and_then (λ proof. option_map (λ most. for_head head proof most)
-    (head_bound_at d)) (hashes_at (codes "consistency") d)) (head_fields d)
+    (head_bound_at d)) (hashes_at (codes "consistency") d)) (head_in d)
 
 -- a leaf, its leaf index and an audit path (RFC 6962, sections 4.5 and 4.6)
 abbrev pub receipt_ask : Data → Option Ask

@@ -7,8 +7,6 @@ use Rattle.sha2.specs.Sha256.{sha256}
 use Rattle.ct_checkpoint.specs.Checkpoint.{checkpoint_text}
 use Rattle.ct_codec.specs.Faults.{LeafFaulty}
 use Rattle.ct_codec.specs.Signed.{tree_head_text}
-use Rattle.ct_codec.specs.declared.fault.DecodeFault.{DecodeFault}
-use Rattle.ct_codec.specs.declared.fault.DecodeFault.TheVariants.{Truncated, BadVersion, BadLeafType, BadEntryType, EmptyVector, Trailing, Memory}
 use Rattle.ct_guard.specs.Guarded.{PassesHead, StopsHead, PassesReceipt, StopsReceipt, IsLeafBytes}
 use Rattle.ct_guard.specs.declared.refusal.HeadRefusal.{HeadRefusal}
 use Rattle.ct_guard.specs.declared.refusal.HeadRefusal.TheVariants.{SizeFalls, MomentNotLater, Fork, Inconsistent}
@@ -16,10 +14,10 @@ use Rattle.ct_guard.specs.declared.refusal.ReceiptRefusal.{ReceiptRefusal}
 use Rattle.ct_guard.specs.declared.refusal.ReceiptRefusal.TheVariants.{NoHead, NoLeaf, NotThere, LaterLeaf, OtherIndex}
 use Rattle.json_lines.specs.Values.{bytes_data}
 use Rattle.ct_tree.specs.declared.head.Head.{Head}
-use Rattle.ct_verify.specs.declared.fault.ProofFault.{ProofFault}
-use Rattle.ct_verify.specs.declared.fault.ProofFault.TheVariants as fault
+use Rattle.ct_fields.specs.Faults.{leaf_fault_name, proof_fault_name}
+use Rattle.ct_fields.specs.Heads.{head_data}
 use Rattle.ctguard.specs.Asks.{Ask, for_head, for_receipt, for_promise, for_last, for_nothing, over_text}
-use Rattle.ctguard.specs.GuardState.{guard_state_data, guard_state_text, last_data, IsGuardState, IsLastValue, IsNoState, IsNotBehind}
+use Rattle.ctguard.specs.GuardState.{guard_state_data, guard_state_text, IsGuardState, IsLastValue, IsNoState, IsNotBehind}
 use Rattle.ctguard.specs.declared.replies.Outcome.{Outcome}
 use Rattle.ctguard.specs.declared.replies.Outcome.TheVariants.{LetThrough, TooFar, HeadRefused, ReceiptRefused, BadLine, BadState, SetBack, Holds}
 
@@ -94,26 +92,6 @@ is_bad_line BadState = false
 is_bad_line SetBack = false
 is_bad_line (Holds last) = false
 
--- the name of why a proof is refused
-abbrev pub proof_refusal_name : ProofFault → List ℕ
-proof_refusal_name fault.IndexOutOfRange = codes "index-out-of-range"
-proof_refusal_name fault.PathTooLong = codes "path-too-long"
-proof_refusal_name fault.PathTooShort = codes "path-too-short"
-proof_refusal_name fault.RootMismatch = codes "root-mismatch"
-proof_refusal_name fault.EmptyPath = codes "empty-path"
-proof_refusal_name fault.FirstMismatch = codes "first-mismatch"
-proof_refusal_name fault.SizesOutOfRange = codes "sizes-out-of-range"
-
--- the name of why bytes are no leaf
-abbrev pub leaf_refusal_name : DecodeFault → List ℕ
-leaf_refusal_name Truncated = codes "truncated"
-leaf_refusal_name BadVersion = codes "bad-version"
-leaf_refusal_name BadLeafType = codes "bad-leaf-type"
-leaf_refusal_name BadEntryType = codes "bad-entry-type"
-leaf_refusal_name EmptyVector = codes "empty-vector"
-leaf_refusal_name Trailing = codes "trailing"
-leaf_refusal_name Memory = codes "memory"
-
 -- the object of a refusal that has a name alone; keys in byte order, here and below
 abbrev pub refused_data : List ℕ → Data
 refused_data name = object (member (codes "refused") (string name) no_members)
@@ -131,13 +109,13 @@ abbrev pub head_refused_data : HeadRefusal → Data
 head_refused_data SizeFalls = refused_data (codes "size-falls")
 head_refused_data MomentNotLater = refused_data (codes "moment-not-later")
 head_refused_data Fork = refused_data (codes "fork")
-head_refused_data (Inconsistent f) = refused_fault_data (codes "inconsistent") (proof_refusal_name f)
+head_refused_data (Inconsistent f) = refused_fault_data (codes "inconsistent") (proof_fault_name f)
 
 -- that of a receipt that is refused
 abbrev pub receipt_refused_data : ReceiptRefusal → Data
 receipt_refused_data NoHead = refused_data (codes "no-head")
-receipt_refused_data (NoLeaf f) = refused_fault_data (codes "no-leaf") (leaf_refusal_name f)
-receipt_refused_data (NotThere f) = refused_fault_data (codes "not-there") (proof_refusal_name f)
+receipt_refused_data (NoLeaf f) = refused_fault_data (codes "no-leaf") (leaf_fault_name f)
+receipt_refused_data (NotThere f) = refused_fault_data (codes "not-there") (proof_fault_name f)
 receipt_refused_data LaterLeaf = refused_data (codes "later-leaf")
 receipt_refused_data OtherIndex = refused_data (codes "other-index")
 
@@ -171,7 +149,7 @@ swap_data (Some origin) text head = object (member (codes "checkpoint") (string 
 
 -- that of which head a register's text has
 abbrev pub text_head_data : Option Head → Data
-text_head_data last = object (member (codes "last") (last_data last) no_members)
+text_head_data last = object (member (codes "last") (head_data last) no_members)
 
 -- the object of what is asked for over a register's text and let through
 abbrev pub over_given_data : Option (List ℕ) → List ℕ → Ask → Data

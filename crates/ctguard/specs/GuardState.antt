@@ -5,30 +5,17 @@ use Rattle.base64.specs.GeneralPurpose.{IsBytes}
 use Rattle.serde_json.specs.Data.{Data, null, boolean, number, string, array, object, member, no_members}
 use Rattle.serde_json.specs.Find.{get}
 use Rattle.serde_json.specs.Written.{compact_text}
-use Rattle.json_lines.specs.Fields.{number_at, hash_at}
-use Rattle.json_lines.specs.Values.{number_data, bytes_data}
-use Rattle.json_lines.specs.Values.{value_of_line}
+use Rattle.json_lines.specs.Values.{number_data, value_of_line}
+use Rattle.ct_fields.specs.Heads.{head_in, head_data}
 use Rattle.ct_tree.specs.declared.head.Head.{Head}
-
--- the object of the last head, or null
-abbrev pub last_data : Option Head → Data
-last_data None = null
-last_data (Some head) = object (member (codes "sha256_root_hash") (bytes_data head.root)
-    (member (codes "timestamp") (number_data head.timestamp) (member (codes "tree_size") (number_data head.tree_size) no_members)))
 
 -- the object of a guard's state
 abbrev pub guard_state_data : Option Head → Data
-guard_state_data last = object (member (codes "guard") (number_data 1) (member (codes "last") (last_data last) no_members))
+guard_state_data last = object (member (codes "guard") (number_data 1) (member (codes "last") (head_data last) no_members))
 
 -- the line of a guard's state, without its end
 unfoldable pub guard_state_text : Option Head → List ℕ
 guard_state_text last = compact_text (guard_state_data last)
-
--- the tree head that an object has, under the names of get-sth (RFC 6962, section 4.3)
-abbrev pub head_fields : Data → Option Head
-head_fields d = option_and_then
-    (λ root. option_and_then (λ size. option_map (λ moment. record { tree_size = size; timestamp = moment; root = root })
-    (number_at (codes "timestamp") d)) (number_at (codes "tree_size") d)) (hash_at (codes "sha256_root_hash") d)
 
 -- the last head that a value is: none where it is null
 abbrev pub last_in : Data → Option (Option Head)
@@ -37,7 +24,7 @@ last_in (boolean b) = None
 last_in (number n) = None
 last_in (string s) = None
 last_in (array ds) = None
-last_in (object ms) = option_map (λ head. Some head) (head_fields (object ms))
+last_in (object ms) = option_map (λ head. Some head) (head_in (object ms))
 
 -- the last head that a state's object has
 abbrev pub last_of_state : Data → Option (Option Head)

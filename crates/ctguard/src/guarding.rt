@@ -1,8 +1,9 @@
 //! Who takes the lines, one after the other.
 
-ghost use Rattle.std.specs.Prelude.{◌≡◌, ◌++◌, ◌∷◌, ◌||◌, [], IfOk, None, false, string_bytes};
+ghost use Rattle.std.specs.Prelude.{◌≡◌, ◌++◌, ◌∷◌, ◌||◌, [], IfOk, Option, None, false, string_bytes};
 ghost use Rattle.std.specs.Bool.{MatchBool};
 ghost use Rattle.sha2.specs.Sha256.{sha256};
+ghost use Rattle.ct_tree.specs.declared.head.Head.{Head};
 ghost use Rattle.ctguard.specs.Asks.{ask_of, ask_of_line, for_head};
 ghost use Rattle.ctguard.specs.Given.{AskComes, OwnComesBy, TextComesBy, IsNear, IsTooFar, is_bad_line};
 ghost use Rattle.ctguard.specs.GuardSession.{options_of, last_head, GuardsLine, GuardsFirst, guard_status};
@@ -49,10 +50,9 @@ fn take_head(guard: &mut Guard, head: &Head, proof: &[[u8; 32]], most: u64) -> O
     }
 }
 
-// What an ask comes to behind the head that a register's text has, and the last head then.
-fn come_over(last: Option<Head>, request: &Request) -> (Outcome, Option<Head>)
-    ensures comes { OwnComesBy sha256 last (ask_of request.now) result.0 result.1 }
-    ensures value { IsLastValue result.1 }
+// What an ask comes to behind the head that a register's text has, whichever head is the last then.
+fn come_over(last: Option<Head>, request: &Request) -> Outcome
+    ensures { (next : Option Head) × OwnComesBy sha256 last (ask_of request.now) result next × IsLastValue next }
 {
     let mut guarding = Guarding {
         guard: Guard { last },
@@ -60,7 +60,7 @@ fn come_over(last: Option<Head>, request: &Request) -> (Outcome, Option<Head>)
     };
     let outcome = guarding.take_own(request);
     last_has_value(guarding.guard.last);
-    (outcome, guarding.guard.last)
+    outcome
 }
 
 // What an ask over a register's text comes to.
@@ -76,8 +76,7 @@ fn take_over(alloc: Global, texts: &Texts, request: &Request) -> Result<Outcome,
     if is_set_back(seen, last) {
         return Ok(Outcome::SetBack);
     }
-    let (outcome, _next) = come_over(last, request);
-    Ok(outcome)
+    Ok(come_over(last, request))
 }
 
 impl Guarding {

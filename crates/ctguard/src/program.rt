@@ -25,9 +25,6 @@ Exit status:
   4  a line was no request
 ";
 
-// The version of the programs (include/wagtenib.pc.in).
-const VERSION: &str = "ctguard 0.1.0\n";
-
 // How many bytes of a line are kept, its end among them: two more than the longest has.
 const KEPT: usize = LONGEST_REQUEST + 2;
 
@@ -96,8 +93,6 @@ impl Program for Ctguard {
 
     ghost usage = { guard_usage };
 
-    ghost version = { codes "ctguard 0.1.0\n" };
-
     ghost runs = { IsGuarded };
 
     ghost breaks = { IsGuardRunBroken };
@@ -108,10 +103,6 @@ impl Program for Ctguard {
 
     fn usage() -> &'static str {
         USAGE
-    }
-
-    fn version() -> &'static str {
-        VERSION
     }
 
     fn asked(alloc: Global, words: &[String]) -> Result<Call<Settings>, AllocError> {

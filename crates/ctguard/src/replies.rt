@@ -1,23 +1,23 @@
 //! What is replied to a line.
 
-ghost use Rattle.std.specs.Prelude.{◌≡◌, false, IfOk, Some, option_map, string_bytes};
+ghost use Rattle.std.specs.Prelude.{◌≡◌, IfOk, Some, option_map, string_bytes};
 ghost use Rattle.serde_json.specs.Data.{string};
 ghost use Rattle.serde_json.specs.View.{view};
-ghost use Rattle.serde_json.specs.Written.{has_float};
 ghost use Rattle.ct_codec.specs.Signed.{tree_head_text};
 ghost use Rattle.json_lines.specs.Values.{bytes_data};
 ghost use Rattle.ctguard.specs.Asks.{ask_of, ask_of_line};
-ghost use Rattle.ctguard.specs.Given.{proof_refusal_name, leaf_refusal_name, refused_data, refused_fault_data, too_far_data, head_refused_data, receipt_refused_data, bad_line_data, receipt_given_data, head_given_data, swap_data, text_head_data, over_given_data, given_data, guard_reply_data, guard_line};
+ghost use Rattle.ctguard.specs.Given.{refused_data, refused_fault_data, too_far_data, head_refused_data, receipt_refused_data, bad_line_data, receipt_given_data};
+ghost use Rattle.ctguard.specs.Given.{head_given_data, swap_data, text_head_data, over_given_data, given_data, guard_reply_data, guard_line};
 ghost use Rattle.ctguard.specs.GuardState.{guard_state_text};
 
 use crate::fault::NotMade;
 use crate::request::{Asked, Request};
-use crate::state::{last_value, state_line, state_value};
+use crate::state::{state_line, state_value};
 use ct_checkpoint::write_checkpoint;
-use ct_codec::{DecodeFault, tree_head_signature_input};
+use ct_codec::tree_head_signature_input;
+use ct_fields::{head_value, leaf_fault, proof_fault};
 use ct_guard::{HeadRefusal, ReceiptRefusal};
 use ct_tree::Head;
-use ct_verify::ProofFault;
 use json_lines::bytes_value;
 use serde_json::{Value, json};
 use std::alloc::{AllocError, Global};
@@ -41,36 +41,6 @@ pub enum Outcome {
     SetBack,
     /// The text has this head.
     Holds(Option<Head>),
-}
-
-// The name of why a proof is refused.
-fn proof_fault(fault: ProofFault) -> &'static str
-    ensures { result.now ≡ proof_refusal_name fault }
-{
-    match fault {
-        ProofFault::IndexOutOfRange => "index-out-of-range",
-        ProofFault::PathTooLong => "path-too-long",
-        ProofFault::PathTooShort => "path-too-short",
-        ProofFault::RootMismatch => "root-mismatch",
-        ProofFault::EmptyPath => "empty-path",
-        ProofFault::FirstMismatch => "first-mismatch",
-        ProofFault::SizesOutOfRange => "sizes-out-of-range",
-    }
-}
-
-// The name of why bytes are no leaf.
-fn leaf_fault(fault: DecodeFault) -> &'static str
-    ensures { result.now ≡ leaf_refusal_name fault }
-{
-    match fault {
-        DecodeFault::Truncated => "truncated",
-        DecodeFault::BadVersion => "bad-version",
-        DecodeFault::BadLeafType => "bad-leaf-type",
-        DecodeFault::BadEntryType => "bad-entry-type",
-        DecodeFault::EmptyVector => "empty-vector",
-        DecodeFault::Trailing => "trailing",
-        DecodeFault::Memory => "memory",
-    }
 }
 
 fn refused_value(alloc: Global, name: &str) -> Result<Value, AllocError>
@@ -206,7 +176,7 @@ fn swap_value(
 fn held_value(alloc: Global, last: Option<Head>) -> Result<Value, AllocError>
     ensures { IfOk result (λ v. view v ≡ text_head_data last) }
 {
-    let last = last_value(alloc, last)?;
+    let last = head_value(alloc, last)?;
     json!(in alloc; {"last": last})
 }
 
@@ -223,8 +193,8 @@ fn over_given_value(
         Request::Head(head, _, _) => swap_value(alloc, origin, text, head),
         Request::Receipt(leaf, _, _) => receipt_given_value(alloc, leaf),
         Request::Promise(leaf) => receipt_given_value(alloc, leaf),
-        Request::Last => bad_line_value(alloc),
-        Request::Other => bad_line_value(alloc),
+        // (of what asks for no bytes nothing is let through)
+        Request::Last | Request::Other => bad_line_value(alloc),
     }
 }
 
@@ -240,8 +210,8 @@ fn own_given_value(
         Request::Head(head, _, _) => head_given_value(alloc, origin, head),
         Request::Receipt(leaf, _, _) => receipt_given_value(alloc, leaf),
         Request::Promise(leaf) => receipt_given_value(alloc, leaf),
-        Request::Last => bad_line_value(alloc),
-        Request::Other => bad_line_value(alloc),
+        // (of what asks for no bytes nothing is let through)
+        Request::Last | Request::Other => bad_line_value(alloc),
     }
 }
 

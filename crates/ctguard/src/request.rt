@@ -4,10 +4,11 @@ ghost use Rattle.std.specs.Prelude.{◌≡◌, IfOk, IfSome, option_map, None, S
 ghost use Rattle.serde_json.specs.Find.{get};
 ghost use Rattle.json_lines.specs.Fields.{text_at};
 ghost use Rattle.serde_json.specs.View.{view};
-ghost use Rattle.ctguard.specs.Asks.{ask_of, ask_of_line, head_bound_at, head_ask, receipt_ask, promise_ask, leaf_ask, own_ask, seen_or, texts_at, texts_read, is_text_alone, alone_or, for_nothing, over_text, ask_in, Requests};
+ghost use Rattle.ctguard.specs.Asks.{ask_of, ask_of_line, head_bound_at, head_ask, receipt_ask, promise_ask, leaf_ask, own_ask, seen_or};
+ghost use Rattle.ctguard.specs.Asks.{texts_at, texts_read, is_text_alone, alone_or, for_nothing, over_text, ask_in, Requests};
 
 use crate::settings::Receipts;
-use crate::state::head;
+use ct_fields::head_of;
 use ct_tree::Head;
 use json_lines::{LONGEST_REQUEST, fields, line_value};
 use serde_json::Value;
@@ -59,7 +60,7 @@ fn most_ahead(value: &Value) -> Option<u64>
 fn head_request(alloc: Global, value: &Value) -> Result<Option<Request>, AllocError>
     ensures { IfOk result (λ o. option_map ask_of o ≡ head_ask (view value.now)) }
 {
-    let Some(head) = head(alloc, value)? else {
+    let Some(head) = head_of(alloc, value)? else {
         return Ok(None);
     };
     let Some(proof) = fields::hashes(alloc, value, "consistency")? else {

@@ -4,31 +4,19 @@ ghost use Rattle.std.specs.Prelude.{◌≡◌, ◌<◌, ◌^◌, IfOk, IfSome, N
 ghost use Rattle.std.specs.Bool.{MatchBool};
 ghost use Rattle.base64.specs.GeneralPurpose.{IsBytes};
 ghost use Rattle.serde_json.specs.View.{view};
-ghost use Rattle.ctguard.specs.GuardState.{guard_state_data, guard_state_text, head_fields, last_data, last_in, last_of_line, last_of_state, IsGuardState, IsLastValue, IsNoState, IsNotBehind};
+ghost use Rattle.ctguard.specs.GuardState.{guard_state_data, guard_state_text, last_in, last_of_line, last_of_state, IsGuardState, IsLastValue, IsNoState, IsNotBehind};
 
+use ct_fields::{head_of, head_value};
 use ct_tree::Head;
-use json_lines::{LONGEST_REQUEST, bytes_value, fields, line_value};
+use json_lines::{LONGEST_REQUEST, line_value};
 use serde_json::{Value, json};
 use std::alloc::{AllocError, Global};
-
-// The last head as a log answers it, without a signature.
-pub(crate) fn last_value(alloc: Global, last: Option<Head>) -> Result<Value, AllocError>
-    ensures { IfOk result (λ v. view v ≡ last_data last) }
-{
-    match last {
-        Some(head) => {
-            let root = bytes_value(alloc, &head.root)?;
-            json!(in alloc; {"sha256_root_hash": root, "timestamp": head.timestamp, "tree_size": head.tree_size})
-        }
-        None => Ok(Value::Null),
-    }
-}
 
 // The state's object.
 pub(crate) fn state_value(alloc: Global, last: Option<Head>) -> Result<Value, AllocError>
     ensures { IfOk result (λ v. view v ≡ guard_state_data last) }
 {
-    let last = last_value(alloc, last)?;
+    let last = head_value(alloc, last)?;
     json!(in alloc; {"guard": 1u64, "last": last})
 }
 
@@ -40,33 +28,13 @@ pub(crate) fn state_line(alloc: Global, last: Option<Head>) -> Result<String, Al
     value.to_string(alloc)
 }
 
-// The tree head that an object has.
-pub(crate) fn head(alloc: Global, value: &Value) -> Result<Option<Head>, AllocError>
-    ensures { IfOk result (λ o. o ≡ head_fields (view value.now)) }
-{
-    let Some(root) = fields::hash(alloc, value, "sha256_root_hash")? else {
-        return Ok(None);
-    };
-    let Some(tree_size) = fields::number(value, "tree_size") else {
-        return Ok(None);
-    };
-    let Some(timestamp) = fields::number(value, "timestamp") else {
-        return Ok(None);
-    };
-    Ok(Some(Head {
-        tree_size,
-        timestamp,
-        root,
-    }))
-}
-
 // The last head that a value is: none where it is null.
 fn last_of(alloc: Global, value: &Value) -> Result<Option<Option<Head>>, AllocError>
     ensures { IfOk result (λ o. o ≡ last_in (view value.now)) }
 {
     match value {
         Value::Null => Ok(Some(None)),
-        Value::Object(_) => match head(alloc, value)? {
+        Value::Object(_) => match head_of(alloc, value)? {
             Some(head) => Ok(Some(Some(head))),
             None => Ok(None),
         },

@@ -417,10 +417,10 @@ const RUNS: [(&str, &str, &str, u8); 13] = [
     ("", "", NOTHING_TEXT, 0),
 ];
 
-// How many runs are right, before the first that isn't.
-fn right_runs(alloc: Global) -> Result<usize, AllocError> {
+// How many of these runs are right, before the first that isn't.
+fn right_runs(alloc: Global, runs: &[(&str, &str, &str, u8)]) -> Result<usize, AllocError> {
     let mut right = 0usize;
-    for (line, input, text, status) in &RUNS {
+    for (line, input, text, status) in runs {
         let words = words_of(alloc, line)?;
         if !answers(alloc, &words, input.as_bytes(), (text, ""), *status) {
             return Ok(right);
@@ -434,7 +434,7 @@ fn right_runs(alloc: Global) -> Result<usize, AllocError> {
 // wrong place.
 #[test]
 fn runs(rt: HostRuntime) {
-    assert!(rt; right_runs(rt.alloc()) == Ok(13));
+    assert!(rt; right_runs(rt.alloc(), &RUNS) == Ok(13));
 }
 
 // The same over a register's text, with a table of its own: the prover's steps over one are bounded.
@@ -454,23 +454,10 @@ const RUNS_OVER_TEXT: [(&str, &str, &str, u8); 3] = [
     ),
 ];
 
-// How many of these are right, before the first that isn't.
-fn right_runs_over_text(alloc: Global) -> Result<usize, AllocError> {
-    let mut right = 0usize;
-    for (line, input, text, status) in &RUNS_OVER_TEXT {
-        let words = words_of(alloc, line)?;
-        if !answers(alloc, &words, input.as_bytes(), (text, ""), *status) {
-            return Ok(right);
-        }
-        right = right.saturating_add(1);
-    }
-    Ok(right)
-}
-
 // Heads, receipts and which head a text has, texts that are none, and that were set back; what was let through over a text changes nothing.
 #[test]
 fn runs_over_text(rt: HostRuntime) {
-    assert!(rt; right_runs_over_text(rt.alloc()) == Ok(3));
+    assert!(rt; right_runs(rt.alloc(), &RUNS_OVER_TEXT) == Ok(3));
 }
 
 // Command lines, what is written for each, and among the faults, and the status.

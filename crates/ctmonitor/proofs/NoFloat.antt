@@ -8,7 +8,8 @@ use Rattle.json_lines.specs.Values.{bytes_data}
 use Rattle.ct_tree.specs.declared.head.Head.{Head}
 use Rattle.ct_monitor.specs.WatcherState.{WatcherState}
 use Rattle.ct_monitor.specs.declared.verdict.Verdict.TheVariants.{Accepted, Pending, Again, Stale, Shrunk, Fork, TimeNotLater, RootMismatch, Gap, Consistent, Inconsistent}
-use Rattle.ctmonitor.specs.StateText.{maybe_head_data, state_data, check_data}
+use Rattle.ct_fields.specs.Heads.{head_data}
+use Rattle.ctmonitor.specs.StateText.{state_data, check_data}
 use Rattle.ctmonitor.specs.VerdictText.{outcome_data}
 use Rattle.ctmonitor.specs.declared.verdicts.Outcome.{Outcome}
 use Rattle.ctmonitor.specs.declared.verdicts.Outcome.TheVariants.{Said, Known, BadLine, BadState, BadAnswer}
@@ -39,7 +40,7 @@ hashes_no_float : (hs : List (List ℕ)) → items_have_float (items_of (map byt
 hashes_no_float [] = refl
 hashes_no_float (h ∷ hs) = hashes_no_float hs
 
-head_no_float : (o : Option Head) → has_float (maybe_head_data o) ≡ false
+head_no_float : (o : Option Head) → has_float (head_data o) ≡ false
 head_no_float None = refl
 head_no_float (Some head) = refl
 

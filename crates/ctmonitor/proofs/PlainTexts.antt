@@ -19,7 +19,8 @@ use Rattle.serde_json.specs.Written.{number_text, comma_if, compact_text, items_
 use Rattle.json_lines.specs.Values.{base64_text, bytes_data}
 use Rattle.ct_tree.specs.declared.head.Head.{Head}
 use Rattle.ct_monitor.specs.WatcherState.{WatcherState}
-use Rattle.ctmonitor.specs.StateText.{maybe_head_data, peaks_data, state_data, check_data, state_text, IsNoneOrOfBytes, ArePeaksOfBytes, IsOfBytes}
+use Rattle.ct_fields.specs.Heads.{head_data}
+use Rattle.ctmonitor.specs.StateText.{peaks_data, state_data, check_data, state_text, IsNoneOrOfBytes, ArePeaksOfBytes, IsOfBytes}
 
 abbrev is_plain : List ℕ → Bool
 is_plain [] = true
@@ -116,7 +117,7 @@ plain_hashes : (hs : List (List ℕ)) → ArePlainItems (items_of (map bytes_dat
 plain_hashes [] = tt
 plain_hashes (h ∷ hs) = (plain_bytes h, plain_hashes hs)
 
-plain_head : (o : Option Head) → IsNoneOrOfBytes o → IsPlainData (maybe_head_data o)
+plain_head : (o : Option Head) → IsNoneOrOfBytes o → IsPlainData (head_data o)
 unfolding escape_byte
 plain_head None x = tt
 plain_head (Some h) x = (
@@ -131,8 +132,8 @@ plain_peaks p x = (refl, (plain_number p.0 x.0, (refl, (plain_hashes p.1, tt))))
 state_is_plain : (s : WatcherState) → IsOfBytes s → is_plain (state_text s) ≡ true
 unfolding state_text escape_byte
 state_is_plain s x =
-    let waiting : ArePlainMembers (member (codes "waiting") (maybe_head_data s.waiting) no_members) = (refl, (plain_head s.waiting x.waiting, tt)) in
-    let sure : ArePlainMembers (member (codes "sure") (peaks_data s.sure) (member (codes "waiting") (maybe_head_data s.waiting) no_members)) =
+    let waiting : ArePlainMembers (member (codes "waiting") (head_data s.waiting) no_members) = (refl, (plain_head s.waiting x.waiting, tt)) in
+    let sure : ArePlainMembers (member (codes "sure") (peaks_data s.sure) (member (codes "waiting") (head_data s.waiting) no_members)) =
     (refl, (plain_peaks s.sure x.sure, waiting)) in
     plain_text (state_data s (check_data s))
     (refl, (plain_head s.accepted x.accepted, (refl, (plain_peaks s.all x.all, (refl, (plain_bytes (sha256 (compact_text (state_data s null))), (refl, (plain_number 1 (omega arith), sure))))))))

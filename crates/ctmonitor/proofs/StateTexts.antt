@@ -19,8 +19,8 @@ use Rattle.json_lines.specs.Fields.{bytes_of, hash_of, hash_in, hashes_of_items}
 use Rattle.json_lines.specs.Values.{base64_text, number_data, bytes_data, hashes_data}
 use Rattle.ct_tree.specs.declared.head.Head.{Head}
 use Rattle.ct_monitor.specs.WatcherState.{WatcherState}
-use Rattle.ctmonitor.specs.Answers.{head_in, head_with}
-use Rattle.ctmonitor.specs.StateText.{maybe_head_data, peaks_data, state_data, check_data, state_text, IsRootHash, IsNoneOrOfBytes, ArePeaksOfBytes, IsOfBytes}
+use Rattle.ct_fields.specs.Heads.{head_in, head_with, head_data}
+use Rattle.ctmonitor.specs.StateText.{peaks_data, state_data, check_data, state_text, IsRootHash, IsNoneOrOfBytes, ArePeaksOfBytes, IsOfBytes}
 use Rattle.ctmonitor.specs.StateText.{fits_together, peaks_in, state_in, state_with, IsLineOfState, IsNoStateLine, LinesOfStatesDiffer, StatesReadBack}
 
 -- ---- a value's text reads as the value
@@ -48,7 +48,7 @@ head_first h = member (codes "sha256_root_hash") (bytes_data h.root) no_members
 abbrev head_two : Head → Members
 head_two h = member (codes "sha256_root_hash") (bytes_data h.root) (member (codes "timestamp") (number_data h.timestamp) no_members)
 
-head_back : (o : Option Head) → IsNoneOrOfBytes o → of_json (outline (maybe_head_data o)) ≡ Some (maybe_head_data o)
+head_back : (o : Option Head) → IsNoneOrOfBytes o → of_json (outline (head_data o)) ≡ Some (head_data o)
 head_back None x = refl
 head_back (Some h) x =
     let last = member_back (codes "tree_size") (number_data h.tree_size) json.no_members (head_two h) (head_members h) (number_back h.tree_size x.tree_size) refl in
@@ -100,7 +100,7 @@ hash_numbers : (hs : List (List ℕ)) → tree.ItemsHaveNumbers (items_outline (
 hash_numbers [] = tt
 hash_numbers (h ∷ hs) = (tt, hash_numbers hs)
 
-head_numbers : (o : Option Head) → IsNoneOrOfBytes o → tree.HasNumbers (outline (maybe_head_data o))
+head_numbers : (o : Option Head) → IsNoneOrOfBytes o → tree.HasNumbers (outline (head_data o))
 head_numbers None x = tt
 head_numbers (Some h) x = (tt, (IsNumber-decimal h.timestamp x.timestamp, (IsNumber-decimal h.tree_size x.tree_size, tt)))
 
@@ -129,7 +129,7 @@ hash_depth (h ∷ hs) = ap (max 0) (hash_depth hs)
 peaks_depth : (p : ℕ × List (List ℕ)) → tree.depth (outline (peaks_data p)) ≡ 2
 peaks_depth p = ap (λ n. suc (max 0 (max (suc n) 0))) (hash_depth p.1)
 
-head_depth : (o : Option Head) → tree.depth (outline (maybe_head_data o)) ≤ 1
+head_depth : (o : Option Head) → tree.depth (outline (head_data o)) ≤ 1
 head_depth None = omega arith
 head_depth (Some h) = omega arith
 
@@ -140,9 +140,9 @@ pub reads_back : (s : WatcherState) → IsOfBytes s → read (state_text s) ≡ 
 unfolding state_text
 reads_back s x =
     text_read (state_data s (check_data s)) (state_numbers s x)
-    (six_depths (tree.depth (outline (maybe_head_data s.accepted))) (tree.depth (outline (peaks_data s.all))) (tree.depth (outline (peaks_data s.sure)))
-    (tree.depth (outline (maybe_head_data s.waiting))) (head_depth s.accepted) (peaks_depth s.all) (peaks_depth s.sure) (head_depth s.waiting))
-    (six_back (maybe_head_data s.accepted) (peaks_data s.all) (check_data s) (number_data 1) (peaks_data s.sure) (maybe_head_data s.waiting)
+    (six_depths (tree.depth (outline (head_data s.accepted))) (tree.depth (outline (peaks_data s.all))) (tree.depth (outline (peaks_data s.sure)))
+    (tree.depth (outline (head_data s.waiting))) (head_depth s.accepted) (peaks_depth s.all) (peaks_depth s.sure) (head_depth s.waiting))
+    (six_back (head_data s.accepted) (peaks_data s.all) (check_data s) (number_data 1) (peaks_data s.sure) (head_data s.waiting)
     (head_back s.accepted x.accepted) (peaks_back s.all x.all) refl (number_back 1 (omega arith)) (peaks_back s.sure x.sure) (head_back s.waiting x.waiting))
 
 -- ---- and the value has the state's parts
@@ -161,7 +161,7 @@ digests_back (h ∷ hs) x =
     ap₂ (λ (a : Option (List ℕ)) (b : Option (List (List ℕ))). option_and_then (λ d. option_map (λ ds. d ∷ ds) b) a)
     (digest_back h (All-head IsRootHash h hs x)) (digests_back hs (All-tail IsRootHash h hs x))
 
-head_in_back : (o : Option Head) → IsNoneOrOfBytes o → head_in (maybe_head_data o) ≡ o
+head_in_back : (o : Option Head) → IsNoneOrOfBytes o → head_in (head_data o) ≡ o
 head_in_back None x = refl
 head_in_back (Some h) x =
     ap (λ (a : Option (List ℕ)). option_and_then (λ r. option_and_then (λ n. option_map (λ t. head_with r n t) (Some h.timestamp)) (Some h.tree_size)) a)
@@ -175,7 +175,7 @@ parts_back s check x =
     let accepted = head_in_back s.accepted x.accepted in
     let waiting = head_in_back s.waiting x.waiting in
     ap₂ (λ (o p : Option (ℕ × List (List ℕ))). option_and_then (λ sure. option_map (λ all.
-    state_with (head_in (maybe_head_data s.accepted)) (head_in (maybe_head_data s.waiting)) sure all) p) o)
+    state_with (head_in (head_data s.accepted)) (head_in (head_data s.waiting)) sure all) p) o)
     (peaks_in_back s.sure x.sure) (peaks_in_back s.all x.all)
     ∙ ap₂ (λ (a w : Option Head). Some (state_with a w s.sure s.all)) accepted waiting
 

@@ -1,5 +1,6 @@
 -- Runs that are chained by their texts are chained by their states.
-use Rattle.std.proofs.Common.{◌≡◌, ◌≢◌, ◌⊎◌, ◌∙◌, ◌+◌, ◌-◌, ◌≤◌, ℕ, Bool, true, false, ◌==◌, if◌then◌else◌, nat_lt, List, [], ◌∷◌, ◌++◌, length, take, get_or, All, sym, refl, ap, subst, inl, inr, arith}
+use Rattle.std.proofs.Common.{◌≡◌, ◌≢◌, ◌⊎◌, ◌∙◌, ◌+◌, ◌-◌, ◌≤◌, ℕ, Bool, true, false, ◌==◌, if◌then◌else◌, nat_lt, List}
+use Rattle.std.proofs.Common.{[], ◌∷◌, ◌++◌, length, take, get_or, All, sym, refl, ap, subst, inl, inr, arith}
 use Rattle.std.proofs.Common.{append_assoc, append-nil, length-append, ne_eqb, eq-eqb, lt-ltb}
 use Rattle.std.proofs.BufReadLemmas.{take_through-append}
 use Rattle.std.proofs.lemmas.Bool.{and_from}

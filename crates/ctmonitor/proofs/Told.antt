@@ -10,9 +10,6 @@ IsTold names moment first index all left old now older =
     (told : List ℕ) × (now ≡ old ++ told) × ((than_rest : Bool) (rest : List ℕ) → AreEntryTexts names moment index left than_rest rest
     → AreEntryTexts names moment first all (older || than_rest) (told ++ rest))
 
-pub told_first : (names : List (List ℕ)) (moment first : ℕ) (all : List (List ℕ)) (old : List ℕ) → IsTold names moment first first all all old old false
-told_first names moment first all old = ([], sym (append-nil old), λ b rest t. t)
-
 or_again : (a b c : Bool) → a || (b || c) ≡ (a || b) || c
 or_again true b c = refl
 or_again false b c = refl

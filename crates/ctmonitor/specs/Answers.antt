@@ -3,8 +3,9 @@ use Rattle.std.specs.Prelude.{◌≡◌, ℕ, List, map, Option, Some, None, opt
 use Rattle.serde_json.specs.Data.{Data, Items}
 use Rattle.serde_json.specs.Find.{get, as_number, as_u64, as_array}
 use Rattle.ct_tree.specs.declared.head.Head.{Head}
-use Rattle.json_lines.specs.Fields.{text_at, number_at, bytes_at, hash_at, hashes_at, each_item}
+use Rattle.json_lines.specs.Fields.{text_at, number_at, bytes_at, hashes_at, each_item}
 use Rattle.json_lines.specs.Values.{value_of_line}
+use Rattle.ct_fields.specs.Heads.{head_in}
 use Rattle.ctmonitor.specs.declared.answer.Answer.{Answer}
 use Rattle.ctmonitor.specs.declared.answer.Answer.TheVariants as answer_case
 
@@ -28,15 +29,6 @@ answer_read (answer_case.Checkpoint text timestamp) = a_checkpoint (string_bytes
 answer_read (answer_case.Tile name bytes) = a_tile name.items bytes.items
 answer_read answer_case.State = a_state
 answer_read answer_case.Other = no_answer
-
--- a head with these parts
-abbrev pub head_with : List ℕ → ℕ → ℕ → Head
-head_with root size timestamp = record { tree_size = size; timestamp = timestamp; root = root }
-
--- the tree head that an object is (RFC 6962, section 4.3)
-abbrev pub head_in : Data → Option Head
-head_in d = option_and_then (λ root. option_and_then (λ size. option_map (λ timestamp. head_with root size timestamp)
-    (number_at (codes "timestamp") d)) (number_at (codes "tree_size") d)) (hash_at (codes "sha256_root_hash") d)
 
 -- the leaf of each of the entries (RFC 6962, section 4.6)
 abbrev pub leaves_of_items : Items → Option (List (List ℕ))

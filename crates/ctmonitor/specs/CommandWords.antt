@@ -1,7 +1,8 @@
 -- What the words of ctmonitor's command line ask for, the program's name left out: `[--name NAME]..`, `--help` or `--version`.
-use Rattle.std.specs.Prelude.{◌||◌, ◌++◌, ℕ, List, [], ◌∷◌, map, Option, Some, if◌then◌else◌, codes, string_bytes, bytes_eq, Vec, String}
+use Rattle.std.specs.Prelude.{◌≡◌, ◌||◌, ◌++◌, ℕ, List, [], ◌∷◌, map, Option, Some, if◌then◌else◌, codes, string_bytes, bytes_eq, Vec, String}
 use Rattle.std.specs.Global.{Global}
 use Rattle.std.specs.Char.{to_ascii_lowercase}
+use Rattle.json_lines.specs.Sends.{SendsSome}
 use Rattle.line_program.specs.Calls.{AskedFor, asks_run, asks_help, asks_version, asks_nothing, asks_unfit}
 use Rattle.ctmonitor.specs.Session.{IsRun, IsRunStatus}
 
@@ -67,3 +68,7 @@ unreadable_text = codes "error: an argument isn't UTF-8\n\nUsage: ctmonitor [OPT
 -- a run that watches these names came to its end, with this exit status
 abbrev pub IsWatched : List (List ℕ) → Option (List ℕ) → Option (List ℕ) → Option (List ℕ) → ℕ → Type 0
 IsWatched names source sink sink_next status = IsRun names source (Some []) sink sink_next status × IsRunStatus status
+
+-- what was done where the words couldn't be read, and the exit status: a beginning of why was told among the faults
+abbrev pub IsUnreadable : Option (List ℕ) → Option (List ℕ) → Option (List ℕ) → Option (List ℕ) → ℕ → Type 0
+IsUnreadable sink sink_next faults faults_next status = (status ≡ 2) × (sink_next ≡ sink) × SendsSome faults faults_next unreadable_text

@@ -5,22 +5,12 @@ use Rattle.serde_json.specs.Data.{Data, string, object, member, no_members}
 use Rattle.ct_codec.specs.Leaf.{SignedEntry, certificate, precertificate, LeafText}
 use Rattle.ct_codec.specs.Faults.{LeafFaulty}
 use Rattle.ct_codec.specs.declared.fault.DecodeFault.{DecodeFault}
-use Rattle.ct_codec.specs.declared.fault.DecodeFault.TheVariants.{Truncated, BadVersion, BadLeafType, BadEntryType, EmptyVector, Trailing, Memory}
+use Rattle.ct_fields.specs.Faults.{leaf_fault_name}
 use Rattle.json_lines.specs.Values.{number_data}
 use Rattle.ct_monitor.specs.declared.verdict.Verdict.{Verdict}
 use Rattle.ct_monitor.specs.declared.verdict.Verdict.TheVariants.{Gap}
 use Rattle.ctmonitor.specs.WatchedText.{watched_lines}
 use Rattle.ctmonitor.specs.Texts.{line_of}
-
--- the name of why bytes are no leaf
-abbrev pub leaf_fault_name : DecodeFault → List ℕ
-leaf_fault_name Truncated = codes "truncated"
-leaf_fault_name BadVersion = codes "bad-version"
-leaf_fault_name BadLeafType = codes "bad-leaf-type"
-leaf_fault_name BadEntryType = codes "bad-entry-type"
-leaf_fault_name EmptyVector = codes "empty-vector"
-leaf_fault_name Trailing = codes "trailing"
-leaf_fault_name Memory = codes "memory"
 
 -- the object of an entry that is no leaf
 abbrev pub leaf_fault_data : ℕ → DecodeFault → Data

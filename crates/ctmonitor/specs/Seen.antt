@@ -6,7 +6,8 @@ use Rattle.ct_data_tiles.specs.TileAnswers.{IsTileAnswer}
 use Rattle.ct_data_tiles.specs.declared.answer.DataTileAnswer.{DataTileAnswer}
 use Rattle.ct_data_tiles.specs.declared.answer.DataTileAnswer.TheVariants.{Gap, Known, Damaged, Entries}
 use Rattle.ct_tree.specs.declared.head.Head.{Head}
-use Rattle.ctmonitor.specs.Answers.{Answered, a_head, leaves_from, a_proof, a_checkpoint, a_tile, a_state, no_answer, head_with}
+use Rattle.ctmonitor.specs.Answers.{Answered, a_head, leaves_from, a_proof, a_checkpoint, a_tile, a_state, no_answer}
+use Rattle.ct_fields.specs.Heads.{head_with}
 use Rattle.ctmonitor.specs.declared.refusal.AnswerRefusal.{AnswerRefusal}
 use Rattle.ctmonitor.specs.declared.refusal.AnswerRefusal.TheVariants.{NoCheckpoint, DamagedTile}
 use Rattle.ctmonitor.specs.declared.seen.Seen.{Seen}

@@ -11,13 +11,7 @@ use Rattle.json_lines.specs.Values.{number_data, bytes_data, hashes_data}
 use Rattle.ct_tree.specs.declared.head.Head.{Head}
 use Rattle.ct_monitor.specs.Watched.{Watched}
 use Rattle.ct_monitor.specs.WatcherState.{WatcherState, Keeps}
-use Rattle.ctmonitor.specs.Answers.{head_in}
-
--- a head, or null
-abbrev pub maybe_head_data : Option Head → Data
-maybe_head_data None = null
-maybe_head_data (Some head) = object (member (codes "sha256_root_hash") (bytes_data head.root)
-    (member (codes "timestamp") (number_data head.timestamp) (member (codes "tree_size") (number_data head.tree_size) no_members)))
+use Rattle.ct_fields.specs.Heads.{head_in, head_data}
 
 -- a number of leaves with the roots of their perfect subtrees
 abbrev pub peaks_data : ℕ × List (List ℕ) → Data
@@ -25,8 +19,8 @@ peaks_data p = object (member (codes "size") (number_data p.0) (member (codes "s
 
 -- the object of a state with this check
 abbrev pub state_data : WatcherState → Data → Data
-state_data s check = object (member (codes "accepted") (maybe_head_data s.accepted) (member (codes "all") (peaks_data s.all) (member (codes "check") check
-    (member (codes "state") (number_data 1) (member (codes "sure") (peaks_data s.sure) (member (codes "waiting") (maybe_head_data s.waiting) no_members))))))
+state_data s check = object (member (codes "accepted") (head_data s.accepted) (member (codes "all") (peaks_data s.all) (member (codes "check") check
+    (member (codes "state") (number_data 1) (member (codes "sure") (peaks_data s.sure) (member (codes "waiting") (head_data s.waiting) no_members))))))
 
 -- the check of a state: the SHA-256 of its line that has null in the check's place
 abbrev pub check_data : WatcherState → Data

@@ -1,5 +1,5 @@
 -- A run that isn't begun is one that a fault broke off.
-use Rattle.std.proofs.Common.{◌≡◌, ℕ, List, [], false, Option, None, refl}
+use Rattle.std.proofs.Common.{ℕ, List, [], false, Option, None, refl}
 use Rattle.sha2.specs.Sha256.{sha256}
 use Rattle.ct_tree.specs.Peaks.{peaks, peaks_within}
 use Rattle.ct_monitor.specs.Watched.{nothing_seen}

@@ -5,7 +5,6 @@ use Rattle.serde_json.specs.Data.{Data, string, object, member, no_members}
 use Rattle.json_lines.specs.Values.{number_data, bytes_data}
 use Rattle.ct_tree.specs.declared.head.Head.{Head}
 use Rattle.ct_verify.specs.declared.fault.ProofFault.{ProofFault}
-use Rattle.ct_verify.specs.declared.fault.ProofFault.TheVariants as fault
 use Rattle.ct_monitor.specs.WatcherState.{WatcherState}
 use Rattle.ct_monitor.specs.declared.verdict.Verdict.{Verdict}
 use Rattle.ct_monitor.specs.declared.verdict.Verdict.TheVariants.{Accepted, Pending, Again, Stale, Shrunk, Fork, TimeNotLater, RootMismatch, Gap, Consistent, Inconsistent}
@@ -13,21 +12,11 @@ use Rattle.ctmonitor.specs.declared.verdicts.Outcome.{Outcome}
 use Rattle.ctmonitor.specs.declared.verdicts.Outcome.TheVariants.{Said, Known, BadLine, BadState, BadAnswer}
 use Rattle.ctmonitor.specs.declared.refusal.AnswerRefusal.{AnswerRefusal}
 use Rattle.ctmonitor.specs.declared.refusal.AnswerRefusal.TheVariants.{NoCheckpoint, DamagedTile}
-use Rattle.ctmonitor.specs.EntryText.{leaf_fault_name}
+use Rattle.ct_fields.specs.Faults.{leaf_fault_name, proof_fault_name}
 use Rattle.ct_data_tiles.specs.declared.fault.TileFault.{TileFault}
 use Rattle.ct_data_tiles.specs.declared.fault.TileFault.TheVariants.{Field, PartialFingerprint}
 use Rattle.ct_data_tiles.specs.declared.answer.Damage.{Damage}
 use Rattle.ct_data_tiles.specs.declared.answer.Damage.TheVariants.{NoDataTile, AtLeaf, OtherCount}
-
--- the name of why a proof is refused
-abbrev pub proof_fault_name : ProofFault → List ℕ
-proof_fault_name fault.IndexOutOfRange = codes "index-out-of-range"
-proof_fault_name fault.PathTooLong = codes "path-too-long"
-proof_fault_name fault.PathTooShort = codes "path-too-short"
-proof_fault_name fault.RootMismatch = codes "root-mismatch"
-proof_fault_name fault.EmptyPath = codes "empty-path"
-proof_fault_name fault.FirstMismatch = codes "first-mismatch"
-proof_fault_name fault.SizesOutOfRange = codes "sizes-out-of-range"
 
 -- the object of a verdict and nothing more
 abbrev pub word_data : List ℕ → Data

@@ -2,11 +2,9 @@
 use Rattle.std.specs.Prelude.{ℕ, Bool, List, [], ◌∷◌, ◌++◌, length, codes, Option, Some, None, Result, Ok, Err, ◌==◌, if◌then◌else◌}
 use Rattle.serde_json.specs.Data.{Data, string, object, member, no_members}
 use Rattle.ct_codec.specs.Leaf.{SignedEntry, certificate, precertificate, signed_of}
-use Rattle.ct_der.specs.declared.fault.DerFault.{DerFault}
-use Rattle.ct_der.specs.declared.fault.DerFault.TheVariants as der
-use Rattle.ct_names.specs.declared.fault.Place.{Place}
-use Rattle.ct_names.specs.declared.fault.Place.TheVariants as at
-use Rattle.ct_names.specs.declared.fault.Unread.{Unread}
+use Rattle.ct_der.specs.FaultName.{der_fault_name}
+use Rattle.ct_promise.specs.FieldName.{field_name}
+use Rattle.ct_promise.specs.declared.field.Unread.{Unread}
 use Rattle.ct_names.specs.declared.watched.FoundIn.{FoundIn}
 use Rattle.ct_names.specs.declared.watched.FoundIn.TheVariants as found
 use Rattle.ct_names.specs.Covers.{behind_dot, plain_of}
@@ -23,34 +21,6 @@ use Rattle.ctmonitor.specs.declared.watching.Where.TheVariants.{AltNames, Common
 abbrev pub entry_names : SignedEntry → Result (List Named) Unread
 entry_names (certificate c) = certificate_names c
 entry_names (precertificate k c) = bare_names c
-
--- the name of a fault of DER
-abbrev pub der_fault_name : DerFault → List ℕ
-der_fault_name der.Truncated = codes "truncated"
-der_fault_name der.LongTag = codes "long-tag"
-der_fault_name der.IndefiniteLength = codes "indefinite-length"
-der_fault_name der.LongLength = codes "long-length"
-der_fault_name der.PaddedLength = codes "padded-length"
-der_fault_name der.OtherTag = codes "other-tag"
-der_fault_name der.Trailing = codes "trailing"
-
--- the name of a certificate's field
-abbrev pub field_name : Place → List ℕ
-field_name at.Certificate = codes "certificate"
-field_name at.Tbs = codes "tbs"
-field_name at.OuterAlgorithm = codes "outer-algorithm"
-field_name at.Signature = codes "signature"
-field_name at.Version = codes "version"
-field_name at.Serial = codes "serial"
-field_name at.Algorithm = codes "algorithm"
-field_name at.Issuer = codes "issuer"
-field_name at.Validity = codes "validity"
-field_name at.Subject = codes "subject"
-field_name at.Key = codes "key"
-field_name at.IssuerId = codes "issuer-id"
-field_name at.SubjectId = codes "subject-id"
-field_name at.Extensions = codes "extensions"
-field_name at.AltNames = codes "alt-names"
 
 -- the object of an entry whose names can't be read
 abbrev pub unread_data : ℕ → ℕ → List ℕ → Unread → Data

@@ -2,8 +2,9 @@
 
 ghost use Rattle.std.specs.Prelude.{◌≡◌, IfOk, map, option_map};
 ghost use Rattle.serde_json.specs.View.{view, items_view};
-ghost use Rattle.ctmonitor.specs.Answers.{answer_in, answer_read, checkpoint_in, entries_in, head_in, leaves_in, leaves_of_items, start_in, tile_in, tiled_in, Reads};
+ghost use Rattle.ctmonitor.specs.Answers.{answer_in, answer_read, checkpoint_in, entries_in, leaves_in, leaves_of_items, start_in, tile_in, tiled_in, Reads};
 
+use ct_fields::head_of;
 use ct_tree::Head;
 use json_lines::{fields, line_value};
 use serde_json::Value;
@@ -26,26 +27,6 @@ pub(crate) enum Answer {
     State,
     // None of these.
     Other,
-}
-
-// The tree head that an object is. Its signature isn't looked at.
-pub(crate) fn head(alloc: Global, value: &Value) -> Result<Option<Head>, AllocError>
-    ensures { IfOk result (λ o. o ≡ head_in (view value.now)) }
-{
-    let Some(root) = fields::hash(alloc, value, "sha256_root_hash")? else {
-        return Ok(None);
-    };
-    let Some(tree_size) = fields::number(value, "tree_size") else {
-        return Ok(None);
-    };
-    let Some(timestamp) = fields::number(value, "timestamp") else {
-        return Ok(None);
-    };
-    Ok(Some(Head {
-        tree_size,
-        timestamp,
-        root,
-    }))
 }
 
 // The leaf of each of the entries.
@@ -152,7 +133,7 @@ fn answer_of(alloc: Global, value: &Value) -> Result<Answer, AllocError>
     if value.get("state").is_some() {
         return Ok(Answer::State);
     }
-    match head(alloc, value)? {
+    match head_of(alloc, value)? {
         Some(head) => Ok(Answer::Head(head)),
         None => entries_or_proof(alloc, value),
     }

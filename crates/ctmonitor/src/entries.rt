@@ -2,35 +2,21 @@
 
 ghost use Rattle.std.specs.Prelude.{◌≡◌, ◌+◌, ◌<◌, ◌^◌, ◌++◌, ℕ, ◌||◌, List, IfOk, OnOk, is_some, length, map, nat_lt};
 ghost use Rattle.serde_json.specs.View.{view};
-ghost use Rattle.ctmonitor.specs.EntryText.{leaf_fault_name, leaf_fault_data, newer_data, newer_line, wrong_index_data, wrong_index_line, IsEntryText, AreEntryTexts, AreTileTexts, ReadTexts};
+ghost use Rattle.ctmonitor.specs.EntryText.{leaf_fault_data, newer_data, newer_line, wrong_index_data, wrong_index_line, IsEntryText, AreEntryTexts, AreTileTexts, ReadTexts};
 
 use crate::text::push_line;
 use crate::watching::push_watched;
 use ct_codec::{DecodeFault, lend_leaf};
+use ct_fields::leaf_fault;
 use ct_monitor::Verdict;
 use ct_names::WatchedNames;
 use serde_json::{Value, json};
 use std::alloc::{AllocError, Global};
 
-// The name of why bytes are no leaf.
-pub(crate) fn name_of(fault: DecodeFault) -> &'static str
-    ensures { result.now ≡ leaf_fault_name fault }
-{
-    match fault {
-        DecodeFault::Truncated => "truncated",
-        DecodeFault::BadVersion => "bad-version",
-        DecodeFault::BadLeafType => "bad-leaf-type",
-        DecodeFault::BadEntryType => "bad-entry-type",
-        DecodeFault::EmptyVector => "empty-vector",
-        DecodeFault::Trailing => "trailing",
-        DecodeFault::Memory => "memory",
-    }
-}
-
 fn fault_value(alloc: Global, index: u64, fault: DecodeFault) -> Result<Value, AllocError>
     ensures { IfOk result (λ v. view v ≡ leaf_fault_data index fault) }
 {
-    json!(in alloc; {"entry": index, "fault": name_of(fault)})
+    json!(in alloc; {"entry": index, "fault": leaf_fault(fault)})
 }
 
 fn newer_value(alloc: Global, index: u64, moment: u64, timestamp: u64) -> Result<Value, AllocError>

@@ -9,7 +9,7 @@
 //! - `session` takes one line after the other, and `watch` has it take those of a run.
 //! - `laws` says what holds of many runs.
 //! - `program` has `run`, over the loop of `line_program`, and what the program is of those by `line_program`: its name, how it is called, and what a run
-//!   is. `refuse_words` answers words that couldn't be read, by a text of its own: so `main` isn't `answer_process`.
+//!   is. `refuse_words` answers words that couldn't be read, by a text of its own: so `main` is an `answer_process` of its own.
 #![tactic(auto)]
 
 mod answer;
@@ -29,23 +29,13 @@ mod verdicts;
 mod watch;
 mod watching;
 
-use line_program::{answer_words, process_words};
-use program::{Ctmonitor, refuse_words};
+use program::answer_process;
 use std::io;
 use std::process::ExitCode;
 
 fn main(rt: HostRuntime) -> ExitCode {
     let mut output = io::writer(&rt);
     let mut faults = rt.stderr();
-    let status = match process_words(&rt) {
-        Ok(words) => answer_words::<Ctmonitor, _, _, _>(
-            rt.alloc(),
-            &words,
-            rt.reader(),
-            &mut output,
-            &mut faults,
-        ),
-        Err(fault) => refuse_words(fault, &mut faults),
-    };
+    let status = answer_process(&rt, &mut output, &mut faults);
     ExitCode::from(status)
 }

@@ -1,11 +1,13 @@
 //! The program over a reader of lines and a writer of verdicts, and what words ask for.
 
-ghost use Rattle.std.specs.Prelude.{◌≡◌, ◌⊎◌, ℕ, List, IfOk, OnErr, map, string_bytes, codes};
+ghost use Rattle.std.specs.Prelude.{◌≡◌, ◌≢◌, ◌⊎◌, ℕ, List, Option, IfOk, OnErr, map, string_bytes, codes};
 ghost use Rattle.json_lines.specs.Sends.{SendsSome};
+ghost use Rattle.line_program.specs.Calls.{version_line, IsAskedDone, IsAskedBroken};
 ghost use Rattle.ctmonitor.specs.BrokenOff.{IsRunBroken};
-ghost use Rattle.ctmonitor.specs.CommandWords.{monitor_call, names_told, help_text, unreadable_text, IsWatched};
+ghost use Rattle.ctmonitor.specs.CommandWords.{monitor_call, names_told, help_text, unreadable_text, IsWatched, IsUnreadable};
 ghost use Rattle.ctmonitor.specs.Unbegun.{no_run_begun};
 ghost use Rattle.json_lines.specs.Faults.{run_fault_line};
+ghost use Rattle.json_lines.specs.declared.fault.RunFault.{RunFault as FaultOf};
 ghost use Rattle.json_lines.specs.declared.fault.RunFault.TheVariants.{Read as ReadFault};
 ghost use Rattle.ctmonitor.specs.Session.{IsRun, IsRunStatus};
 
@@ -17,9 +19,10 @@ use ct_monitor::Watcher;
 use ct_names::WatchedNames;
 use ct_tree::Sha256Hash;
 use json_lines::{RunFault, tell};
-use line_program::{Call, Program, tell_fault};
-use std::alloc::{AllocError, Global};
-use std::io::{BufRead, Write};
+use line_program::{Call, Program, answer_words, process_words, tell_fault};
+use std::alloc::{Alloc, AllocError, Global};
+use std::env::Env;
+use std::io::{BufRead, Input, Write};
 
 // How the program is called, and what it does.
 const HELP: &str = "Usage: ctmonitor [OPTIONS] < lines > verdicts
@@ -41,9 +44,6 @@ Exit status:
   3  an alarm: a verdict speaks against the log
   4  a line was none of a log's or was refused, or the state wasn't taken up
 ";
-
-// The version of the programs and of the library for C (include/wagtenib.pc.in).
-const VERSION: &str = "ctmonitor 0.1.0\n";
 
 // Why words are refused of which one isn't UTF-8.
 const UNREADABLE: &str = "error: an argument isn't UTF-8
@@ -104,8 +104,6 @@ impl Program for Ctmonitor {
 
     ghost usage = { help_text };
 
-    ghost version = { codes "ctmonitor 0.1.0\n" };
-
     ghost runs = { IsWatched };
 
     ghost breaks = { IsRunBroken };
@@ -116,10 +114,6 @@ impl Program for Ctmonitor {
 
     fn usage() -> &'static str {
         HELP
-    }
-
-    fn version() -> &'static str {
-        VERSION
     }
 
     fn asked(alloc: Global, words: &[String]) -> Result<Call<Vec<String>>, AllocError> {
@@ -145,6 +139,7 @@ impl Program for Ctmonitor {
 pub fn refuse_words<E: Write>(fault: RunFault, faults: &mut E) -> u8
     ensures status { (result ≡ 1) ⊎ (result ≡ 2) }
     ensures fault { result ≡ 1 → SendsSome (E.contents faults.old) (E.contents faults.new) (run_fault_line (codes "ctmonitor") fault) }
+    ensures unread { (fault ≡ ReadFault) → result ≡ 2 }
     ensures refused { result ≡ 2 → (fault ≡ ReadFault) × SendsSome (E.contents faults.old) (E.contents faults.new) unreadable_text }
 {
     match fault {
@@ -156,5 +151,32 @@ pub fn refuse_words<E: Write>(fault: RunFault, faults: &mut E) -> u8
             tell_fault("ctmonitor", fault, faults);
             1
         }
+    }
+}
+
+/// Does what some words ask `ctmonitor` for, over an input, and answers the exit status, as `answer_words` does: they are those of the process's
+/// command line, and its standard input, of which std's contracts say nothing. Where a word can't be read, `refuse_words` answers, and nothing is
+/// written on the output.
+pub fn answer_process<H: Env + Alloc<A = Global> + Input, W: Write, E: Write>(
+    rt: &H,
+    output: &mut W,
+    faults: &mut E,
+) -> u8
+    ensures answered { result ≢ 1 → IsUnreadable (W.contents output.old) (W.contents output.new) (E.contents faults.old) (E.contents faults.new) result
+        ⊎ ((words : List (List ℕ)) × (source : Option (List ℕ)) × IsAskedDone help_text (version_line (codes "ctmonitor")) IsWatched
+        (monitor_call words) source (W.contents output.old) (W.contents output.new) (E.contents faults.old) (E.contents faults.new) result) }
+    ensures fault { result ≡ 1 → (f : FaultOf) × SendsSome (E.contents faults.old) (E.contents faults.new) (run_fault_line (codes "ctmonitor") f) }
+    ensures broken { result ≡ 1 → (W.contents output.new ≡ W.contents output.old) ⊎ ((words : List (List ℕ)) × (source : Option (List ℕ))
+        × IsAskedBroken help_text (version_line (codes "ctmonitor")) IsRunBroken (monitor_call words) source (W.contents output.old) (W.contents output.new)) }
+{
+    match process_words(rt) {
+        Ok(words) => answer_words::<Ctmonitor, H::Reader, W, E>(
+            rt.alloc(),
+            &words,
+            rt.reader(),
+            output,
+            faults,
+        ),
+        Err(fault) => refuse_words(fault, faults),
     }
 }

@@ -7,14 +7,15 @@ ghost use Rattle.serde_json.specs.Read.{read as read_text};
 ghost use Rattle.serde_json.specs.View.{view};
 ghost use Rattle.serde_json.specs.Written.{compact_text};
 ghost use Rattle.sha2.specs.Sha256.{sha256};
-ghost use Rattle.ctmonitor.specs.StateText.{maybe_head_data, peaks_data, state_data, check_data, state_text, IsRootHash, ArePeaksOfBytes, IsNoneOrOfBytes, IsOfBytes, has_peaks, fits_together, peaks_in, peaks_at, head_at, state_in, ReadsState};
+ghost use Rattle.ctmonitor.specs.StateText.{peaks_data, state_data, check_data, state_text, IsRootHash, ArePeaksOfBytes, IsNoneOrOfBytes, IsOfBytes};
+ghost use Rattle.ctmonitor.specs.StateText.{has_peaks, fits_together, peaks_in, peaks_at, head_at, state_in, ReadsState};
 
 use crate::answer::LONGEST;
+use ct_fields::{head_of, head_value};
 use ct_monitor::{Peaks, Watcher};
-use ct_tree::{Head, Sha256Hash};
+use ct_tree::{Head, NodeHash, Sha256Hash};
 use json_lines::{bytes_value, fields, hashes_value, line_value};
 use serde_json::{Value, json};
-use sha2::{Digest, Sha256};
 use std::alloc::{AllocError, Global};
 
 // A law, which does nothing: what the type says of a hash.
@@ -73,19 +74,6 @@ pub(crate) fn is_of_bytes(watcher: &Watcher<Sha256Hash>)
     are_peaks(watcher.all());
 }
 
-// A head as a log answers it, without a signature.
-fn head_value(alloc: Global, head: Option<Head>) -> Result<Value, AllocError>
-    ensures { IfOk result (λ v. view v ≡ maybe_head_data head) }
-{
-    match head {
-        Some(head) => {
-            let root = bytes_value(alloc, &head.root)?;
-            json!(in alloc; {"sha256_root_hash": root, "timestamp": head.timestamp, "tree_size": head.tree_size})
-        }
-        None => Ok(Value::Null),
-    }
-}
-
 fn peaks_value(alloc: Global, peaks: &Peaks) -> Result<Value, AllocError>
     ensures { IfOk result (λ v. view v ≡ peaks_data peaks.now) }
 {
@@ -126,10 +114,11 @@ fn unchecked_line(alloc: Global, watcher: &Watcher<Sha256Hash>) -> Result<String
 }
 
 // The SHA-256 of bytes.
+#[tactic(auto, using(std::proofs::lemmas::Grind::common_steps))]
 fn digest(bytes: &[u8]) -> [u8; 32]
     ensures { result ≡ sha256 bytes.now }
 {
-    Sha256::digest(bytes)
+    Sha256Hash.hash(&[bytes])
 }
 
 // The check: the SHA-256 of the line that has null in its place.
@@ -178,7 +167,7 @@ fn head(alloc: Global, value: &Value, key: &str) -> Result<Option<Head>, AllocEr
     ensures { IfOk result (λ o. o ≡ head_at key.now (view value.now)) }
 {
     match value.get(key) {
-        Some(field) => crate::answer::head(alloc, field),
+        Some(field) => head_of(alloc, field),
         None => Ok(None),
     }
 }

@@ -3,12 +3,13 @@
 ghost use Rattle.std.specs.Prelude.{◌≡◌, IfOk, OnOk, ◌++◌};
 ghost use Rattle.serde_json.specs.View.{view};
 ghost use Rattle.ctmonitor.specs.Texts.{line_of};
-ghost use Rattle.ctmonitor.specs.VerdictText.{proof_fault_name, wanted_size, word_data, accepted_data, pending_data, gap_data, fork_data, not_later_data, mismatch_data, inconsistent_data, known_data, error_data, tile_leaf_fault_name, bad_answer_data, bad_leaf_data, bad_count_data, damage_data, refusal_data, said_data, outcome_data};
+ghost use Rattle.ctmonitor.specs.VerdictText.{wanted_size, word_data, accepted_data, pending_data, gap_data, fork_data, not_later_data, mismatch_data, inconsistent_data, known_data};
+ghost use Rattle.ctmonitor.specs.VerdictText.{error_data, tile_leaf_fault_name, bad_answer_data, bad_leaf_data, bad_count_data, damage_data, refusal_data, said_data, outcome_data};
 
-use crate::entries::name_of as leaf_fault_of;
 use crate::refusal::AnswerRefusal;
 use crate::text::push_line;
 use ct_data_tiles::{Damage, TileFault};
+use ct_fields::{leaf_fault, proof_fault};
 use ct_monitor::{Verdict, Watcher};
 use ct_tree::{Head, Sha256Hash};
 use ct_verify::ProofFault;
@@ -29,21 +30,6 @@ pub enum Outcome {
     BadLine,
     /// It is a state, damaged or in the wrong place.
     BadState,
-}
-
-// The name of why a proof is refused.
-fn name_of(fault: ProofFault) -> &'static str
-    ensures { result.now ≡ proof_fault_name fault }
-{
-    match fault {
-        ProofFault::IndexOutOfRange => "index-out-of-range",
-        ProofFault::PathTooLong => "path-too-long",
-        ProofFault::PathTooShort => "path-too-short",
-        ProofFault::RootMismatch => "root-mismatch",
-        ProofFault::EmptyPath => "empty-path",
-        ProofFault::FirstMismatch => "first-mismatch",
-        ProofFault::SizesOutOfRange => "sizes-out-of-range",
-    }
 }
 
 // The verdict alone.
@@ -95,7 +81,7 @@ fn mismatch_value(alloc: Global, computed: &[u8; 32]) -> Result<Value, AllocErro
 fn inconsistent_value(alloc: Global, fault: ProofFault) -> Result<Value, AllocError>
     ensures { IfOk result (λ v. view v ≡ inconsistent_data fault) }
 {
-    json!(in alloc; {"fault": name_of(fault), "verdict": "inconsistent"})
+    json!(in alloc; {"fault": proof_fault(fault), "verdict": "inconsistent"})
 }
 
 fn error_value(alloc: Global, error: &str) -> Result<Value, AllocError>
@@ -115,7 +101,7 @@ fn tile_fault_of(fault: TileFault) -> &'static str
     ensures { result.now ≡ tile_leaf_fault_name fault }
 {
     match fault {
-        TileFault::Field(fault) => leaf_fault_of(fault),
+        TileFault::Field(fault) => leaf_fault(fault),
         TileFault::PartialFingerprint => "partial-fingerprint",
     }
 }

@@ -7,20 +7,20 @@ ghost use Rattle.ct_codec.specs.Leaf.{signed_of};
 ghost use Rattle.ct_names.specs.Covers.{behind_dot, plain_of};
 ghost use Rattle.ct_names.specs.Names.{named_all};
 ghost use Rattle.ct_names.specs.Reading.{GivesNames};
-ghost use Rattle.ct_names.specs.declared.fault.NamesError.TheVariants.{At, Memory};
+ghost use Rattle.ct_names.specs.declared.fault.NamesFault.TheVariants.{At, Memory};
 ghost use Rattle.ctmonitor.specs.EntryText.{kind_word};
 ghost use Rattle.ctmonitor.specs.Names.{lower};
 ghost use Rattle.ctmonitor.specs.Texts.{line_of};
-ghost use Rattle.ctmonitor.specs.WatchedText.{entry_names, der_fault_name, field_name, unread_data, found_data, where_found, where_word, line_at, found_lines, read_lines, watched_lines};
+ghost use Rattle.ctmonitor.specs.WatchedText.{entry_names, unread_data, found_data, where_found, where_word, line_at, found_lines, read_lines, watched_lines};
 
 use crate::names::{is_named, lowered};
 use crate::text::push_line;
 use ct_codec::LentEntry;
-use ct_der::DerFault;
 use ct_names::{
-    FoundIn, Name, NamesError, Place, Unread, WatchedNames, behind_dot, find_watched,
-    names_of_certificate, names_of_tbs, without_dot,
+    FoundIn, Name, NamesFault, WatchedNames, behind_dot, find_watched, names_of_certificate,
+    names_of_tbs, without_dot,
 };
+use ct_promise::Unread;
 use serde_json::{Value, json};
 use std::alloc::{AllocError, Global};
 
@@ -46,44 +46,6 @@ fn word_of(place: Where) -> &'static str
     }
 }
 
-// The name of a fault of DER.
-fn fault_name(fault: DerFault) -> &'static str
-    ensures { result.now ≡ der_fault_name fault }
-{
-    match fault {
-        DerFault::Truncated => "truncated",
-        DerFault::LongTag => "long-tag",
-        DerFault::IndefiniteLength => "indefinite-length",
-        DerFault::LongLength => "long-length",
-        DerFault::PaddedLength => "padded-length",
-        DerFault::OtherTag => "other-tag",
-        DerFault::Trailing => "trailing",
-    }
-}
-
-// The name of a certificate's field.
-fn name_of_field(place: Place) -> &'static str
-    ensures { result.now ≡ field_name place }
-{
-    match place {
-        Place::Certificate => "certificate",
-        Place::Tbs => "tbs",
-        Place::OuterAlgorithm => "outer-algorithm",
-        Place::Signature => "signature",
-        Place::Version => "version",
-        Place::Serial => "serial",
-        Place::Algorithm => "algorithm",
-        Place::Issuer => "issuer",
-        Place::Validity => "validity",
-        Place::Subject => "subject",
-        Place::Key => "key",
-        Place::IssuerId => "issuer-id",
-        Place::SubjectId => "subject-id",
-        Place::Extensions => "extensions",
-        Place::AltNames => "alt-names",
-    }
-}
-
 fn unread_value(
     alloc: Global,
     index: u64,
@@ -93,7 +55,7 @@ fn unread_value(
 ) -> Result<Value, AllocError>
     ensures { IfOk result (λ v. view v ≡ unread_data index timestamp kind.now unread) }
 {
-    json!(in alloc; {"entry": index, "field": name_of_field(unread.place), "timestamp": timestamp, "type": kind, "unread": fault_name(unread.fault)})
+    json!(in alloc; {"entry": index, "field": unread.place.name(), "timestamp": timestamp, "type": kind, "unread": unread.fault.name()})
 }
 
 fn found_value(
@@ -217,7 +179,7 @@ fn push_sought(
 }
 
 // The names of an entry's certificate or TBSCertificate.
-fn names_of_entry<'a>(alloc: Global, entry: &LentEntry<'a>) -> Result<Vec<Name<'a>>, NamesError>
+fn names_of_entry<'a>(alloc: Global, entry: &LentEntry<'a>) -> Result<Vec<Name<'a>>, NamesFault>
     ensures { GivesNames (λ v. named_all v.items) result (entry_names (entry_lent entry.now)) }
 {
     match entry {
@@ -243,13 +205,13 @@ struct Unreadable {
     unread: Result<Unread, AllocError>,
 }
 
-impl From<NamesError> for Unreadable {
+impl From<NamesFault> for Unreadable {
     ghost from_gives = { λ fault unreadable. MatchResult unreadable.unread (λ u. fault ≡ At u) (λ _. fault ≡ Memory) };
 
-    fn from(fault: NamesError) -> Unreadable {
+    fn from(fault: NamesFault) -> Unreadable {
         let unread = match fault {
-            NamesError::At(unread) => Ok(unread),
-            NamesError::Memory => Err(AllocError),
+            NamesFault::At(unread) => Ok(unread),
+            NamesFault::Memory => Err(AllocError),
         };
         Unreadable { unread }
     }

@@ -1,11 +1,9 @@
 -- What is replied to who starts is the machine's.
-use Rattle.std.proofs.Common.{◌≡◌, ◌∙◌, sym, ap, List, ℕ, Some, None, Option}
-use Rattle.ct_node.specs.declared.starting.Point.{Point}
-use Rattle.ct_node.specs.declared.starting.Found.{Found}
+use Rattle.std.proofs.Common.{◌≡◌, ◌∙◌, sym, ap, Some, None, Option}
 use Rattle.ct_node.specs.declared.starting.Beginning.{Beginning}
 use Rattle.ct_node.specs.declared.starting.Beginning.TheVariants.{Goes, Gone}
 use Rattle.ct_node.specs.Starts.{started, GoesBehindNone}
-use Rattle.ctnode.specs.NodeAsks.{LineSaid, SaysBegin, node_asked}
+use Rattle.ctnode.specs.NodeAsks.{node_asked}
 use Rattle.ctnode.specs.NodeWords.{NodeReply, RepliesNext, RepliesBegin, node_replied}
 use Rattle.ctnode.specs.NodeLaws.{LinesBeginBehindNone}
 

@@ -1,42 +1,21 @@
 -- What is written of numbers is read.
-use Rattle.std.proofs.Common.{◌≡◌, ◌∙◌, ℕ, zero, suc, ◌+◌, ◌-◌, ◌/◌, ◌%◌, ◌<◌, ◌≤◌, ◌^◌, List, [], ◌∷◌, ◌++◌, length, take, drop, All, Some, None, Option, sym, refl, ap, subst, arith, ⊎_elim, length-append, append_assoc, append-nil, eq-eqb, ltb-true}
-use Rattle.std.specs.Prelude.{codes, bytes_eq, slice_index, option_map, option_and_then, Err, Bool, true, false, ◌==◌, ◌&&◌, nat_lt, if◌then◌else◌}
-use Rattle.std.specs.Int.{w64, from_be_bytes, byte_at, bytes_high_first}
+use Rattle.std.proofs.Common.{◌≡◌, ◌∙◌, ℕ, zero, suc, ◌+◌, ◌-◌, ◌/◌, ◌%◌, ◌<◌, ◌≤◌, ◌^◌, List, [], ◌∷◌, ◌++◌, length, take, drop, Some, None, Option, sym, refl, ap, subst, arith, length-append, append_assoc, append-nil, eq-eqb, ltb-true}
+use Rattle.std.specs.Prelude.{codes, bytes_eq, option_map, option_and_then, Err, Bool, true, false, ◌==◌, ◌&&◌, nat_lt, if◌then◌else◌}
+use Rattle.std.specs.Int.{w64, from_be_bytes}
 use Rattle.std.proofs.lemmas.Nat.{from_be_bytes-to_be_bytes_8}
-use Rattle.std.proofs.lemmas.Bool.{cases_lt}
-use Rattle.std.proofs.lemmas.List.{get_or_past}
-use Rattle.std.proofs.lemmas.List.Elements.{All-nil, All-cons, All-get_or}
 use Rattle.hex.specs.Hex.{lower_digits, decode_of, decode_pairs, decode_sized, IsBytes}
 use Rattle.hex.specs.declared.error.FromHexError.TheVariants.{OddLength, InvalidStringLength}
 use Rattle.hex.proofs.HexLemmas.{length-encode_with, decode_of-encode_lower}
 use Rattle.ct_codec.specs.Bytes.{num}
 use Rattle.ct_codec.proofs.Refusals.{length-num}
+use Rattle.ct_log_state.proofs.Lines.{num_small, indexed}
 use Rattle.ctnode.specs.NodeTexts.{digits_number, decoded_number, number_digits, number_from, has_word, has_words, numbers_said, text_said, said_of, bundle_name, numbers_state}
 use Rattle.ctnode.specs.NodeLaws.{NamesSayTheirState, TextsSayTheirState}
 
 -- ---- a number's digits
 
-abbrev small : ℕ → Type 0
-small b = b < 256
-
-byte : (w n : ℕ) → byte_at w n < 256
-byte zero n = omega arith
-byte (suc w) n = omega arith
-
-bytes_small : (w n : ℕ) → All small (bytes_high_first w n)
-bytes_small zero n = All-nil small
-bytes_small (suc w) n = All-cons small (byte_at w n) (bytes_high_first w n) (byte w n) (bytes_small w n)
-
-indexed : (xs : List ℕ) → All small xs → IsBytes xs
-indexed xs a i =
-    ⊎_elim
-    (λ (inside : i < length xs). All-get_or small xs i 0 inside a)
-    (λ (past : length xs ≤ i). let e : slice_index xs i ≡ 0 = get_or_past xs i 0 past in omega (arith, e))
-    (cases_lt i (length xs))
-
 num_bytes : (n : ℕ) → IsBytes (num 8 n)
-unfolding num
-num_bytes n = indexed (num 8 n) (bytes_small 8 n)
+num_bytes n = indexed (num 8 n) (num_small 8 n)
 
 digits_long : (n : ℕ) → length (number_digits n) ≡ 16
 digits_long n = omega (arith, length-encode_with lower_digits (num 8 n), length-num 8 n)

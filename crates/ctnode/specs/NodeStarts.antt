@@ -1,5 +1,5 @@
 -- What a line says that a node finds where it starts, and what is replied.
-use Rattle.std.specs.Prelude.{ℕ, List, [], ◌∷◌, Bool, Option, Some, None, option_map, option_and_then, codes, length, ◌&&◌, ◌==◌, nat_le}
+use Rattle.std.specs.Prelude.{ℕ, List, [], Bool, Option, Some, None, option_map, option_and_then, codes, length, ◌&&◌, ◌==◌, nat_le}
 use Rattle.serde_json.specs.Data.{Data, string, object, member, no_members}
 use Rattle.serde_json.specs.Find.{get, as_str, as_bool}
 use Rattle.json_lines.specs.Fields.{text_at, number_at}

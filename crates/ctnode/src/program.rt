@@ -26,9 +26,6 @@ Exit status:
   4  a line was none
 ";
 
-// The version of the programs (include/wagtenib.pc.in).
-const VERSION: &str = "ctnode 0.1.0\n";
-
 // How many bytes of a line are kept, its end among them: two more than the longest has.
 const KEPT: usize = LONGEST + 2;
 
@@ -71,8 +68,6 @@ impl Program for Ctnode {
 
     ghost usage = { node_usage };
 
-    ghost version = { codes "ctnode 0.1.0\n" };
-
     ghost runs = { λ said. IsNodeRun };
 
     ghost breaks = { λ said. IsNodeRunBroken };
@@ -83,10 +78,6 @@ impl Program for Ctnode {
 
     fn usage() -> &'static str {
         USAGE
-    }
-
-    fn version() -> &'static str {
-        VERSION
     }
 
     fn asked(alloc: Global, words: &[String]) -> Result<Call<NoOptions>, AllocError> {

@@ -4,7 +4,7 @@ use Rattle.serde_json.specs.Data.{string}
 use Rattle.serde_json.specs.View.{items_of}
 use Rattle.serde_json.specs.Written.{has_float, items_have_float}
 use Rattle.json_lines.specs.Values.{bytes_data}
-use Rattle.ct_tbs_cut.specs.declared.fault.CutFault.TheVariants as cut
+use Rattle.ct_promise.specs.declared.fault.CutFault.TheVariants as cut
 use Rattle.ct_promise.specs.declared.fault.Unfit.TheVariants as unfit
 use Rattle.ctproof.specs.ReaderWords.{ReaderReply, shows_tiles, shows_root, shows_path, shows_proof, shows_entry, shows_leaf, shows_stands, refuses_line, hash_tile_name, reader_reply_data}
 use Rattle.ctproof.specs.declared.answering.Refusal.TheVariants.{BadLine, MissingTile, BadTile, Unfit, NotThere}

@@ -8,7 +8,8 @@ use Rattle.ct_tile_names.specs.Names.{IsTile, name_text}
 use Rattle.ct_tile_names.specs.declared.tile.Content.TheVariants.{Hashes}
 use Rattle.ct_tile_names.specs.declared.tile.Tile.{Tile}
 use Rattle.ct_tile_reader.specs.declared.needed.NeededTile.{NeededTile}
-use Rattle.ctproof.specs.PromiseWords.{path_fault_name, unfit_data}
+use Rattle.ct_fields.specs.Faults.{proof_fault_name}
+use Rattle.ctproof.specs.PromiseWords.{unfit_data}
 use Rattle.ctproof.specs.declared.answering.Refusal.{Refusal}
 use Rattle.ctproof.specs.declared.answering.Refusal.TheVariants.{BadLine, MissingTile, BadTile, Unfit, NotThere}
 use Rattle.ctproof.specs.declared.answering.Reply.{Reply}
@@ -87,7 +88,7 @@ reader_refused_data (MissingTile tile) = tile_refused_data (codes "missing-tile"
 reader_refused_data (BadTile tile) = tile_refused_data (codes "bad-tile") tile
 reader_refused_data (Unfit u) = unfit_data u
 reader_refused_data (NotThere f) =
-    object (member (codes "fault") (string (path_fault_name f)) (member (codes "refused") (string (codes "not-there")) no_members))
+    object (member (codes "fault") (string (proof_fault_name f)) (member (codes "refused") (string (codes "not-there")) no_members))
 
 -- the object of a reply, hashes as base64 with padding (RFC 4648, section 4)
 abbrev pub reader_reply_data : ReaderReply → Data

@@ -28,9 +28,6 @@ Exit status:
   4  a line was no request
 ";
 
-// The version of the programs (include/wagtenib.pc.in).
-const VERSION: &str = "ctproof 0.1.0\n";
-
 // How many bytes of a line are kept, its end among them: two more than the longest has.
 const KEPT: usize = LONGEST + 2;
 
@@ -73,8 +70,6 @@ impl Program for Ctproof {
 
     ghost usage = { reader_usage };
 
-    ghost version = { codes "ctproof 0.1.0\n" };
-
     ghost runs = { λ said. IsReaderRun };
 
     ghost breaks = { λ said. IsReaderRunBroken };
@@ -85,10 +80,6 @@ impl Program for Ctproof {
 
     fn usage() -> &'static str {
         USAGE
-    }
-
-    fn version() -> &'static str {
-        VERSION
     }
 
     fn asked(alloc: Global, words: &[String]) -> Result<Call<NoOptions>, AllocError> {

@@ -2,11 +2,13 @@
 
 ghost use Rattle.std.specs.Prelude.{◌≡◌, All, IfOk, string_bytes};
 ghost use Rattle.serde_json.specs.View.{view};
-ghost use Rattle.ctproof.specs.ReaderWords.{hash_tile, hash_tile_name, IsHashTile, RefusesHashTile, tile_names_data, one_value_data, tile_refused_data, reader_refused_data, reader_reply_of, reader_reply_data, reader_line, is_bad_reply, NamesHashTiles};
+ghost use Rattle.ctproof.specs.ReaderWords.{hash_tile, hash_tile_name, IsHashTile, RefusesHashTile, tile_names_data, one_value_data, tile_refused_data};
+ghost use Rattle.ctproof.specs.ReaderWords.{reader_refused_data, reader_reply_of, reader_reply_data, reader_line, is_bad_reply, NamesHashTiles};
 ghost use Rattle.json_lines.specs.Values.{bytes_data, hashes_data};
 
 use crate::answering::{Refusal, Reply};
-use crate::unfit::{path_fault_text, unfit_value};
+use crate::unfit::unfit_value;
+use ct_fields::proof_fault;
 use ct_tile_names::{Content, Tile};
 use ct_tile_reader::NeededTile;
 use json_lines::{bytes_value, hashes_value};
@@ -75,7 +77,7 @@ fn refused_value(alloc: Global, refusal: &Refusal) -> Result<Value, AllocError>
         Refusal::BadTile(tile) => tile_refused_value(alloc, "bad-tile", tile),
         Refusal::Unfit(unfit) => unfit_value(alloc, *unfit),
         Refusal::NotThere(fault) => {
-            let name = path_fault_text(*fault);
+            let name = proof_fault(*fault);
             json!(in alloc; {"fault": name, "refused": "not-there"})
         }
     }

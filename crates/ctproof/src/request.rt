@@ -2,7 +2,8 @@
 
 ghost use Rattle.std.specs.Prelude.{◌≡◌, IfOk, option_map};
 ghost use Rattle.serde_json.specs.View.{view};
-ghost use Rattle.ctproof.specs.ReaderAsks.{reader_ask_of, root_under, path_under, proof_under, hashes_ask, promise_of, standing_of, promise_under, standing_in, kept_ask, promise_asked_in, reader_asked_in, AsksReader};
+ghost use Rattle.ctproof.specs.ReaderAsks.{reader_ask_of, root_under, path_under, proof_under, hashes_ask, promise_of, standing_of};
+ghost use Rattle.ctproof.specs.ReaderAsks.{promise_under, standing_in, kept_ask, promise_asked_in, reader_asked_in, AsksReader};
 
 use json_lines::{fields, line_value};
 use serde_json::Value;

@@ -48,9 +48,6 @@ some-true : (ds : List Data) (d : Data) → true ≡ is_later false (ds ++ d ∷
 some-true [] d = refl
 some-true (e ∷ ds) d = refl
 
-pub joined-none : (before text : List ℕ) → text ≡ before ++ 91 ∷ [] → IsJoined before text false []
-joined-none before text e = record { written = e; some = refl }
-
 -- one more item behind a comma
 pub joined-more : (before text after end : List ℕ) (later : Bool) (ds : List Data) (d : Data) → IsJoined before text later ds
     → after ≡ text ++ comma_if later → end ≡ after ++ compact_text d → IsJoined before end true (ds ++ d ∷ [])

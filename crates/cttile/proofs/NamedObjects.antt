@@ -1,16 +1,18 @@
 -- The objects of a step stand under the names of tiles.
-use Rattle.std.proofs.Common.{◌≡◌, ◌∙◌, ◌⊎◌, inl, inr, ⊎_elim, ℕ, zero, suc, ◌+◌, ◌-◌, ◌*◌, ◌/◌, ◌<◌, ◌≤◌, List, [], ◌∷◌, ◌++◌, length, take, drop, All, Option, Some, None, refl, ap, subst, arith, ltb-true, ltb-false, length-append}
+use Rattle.std.proofs.Common.{◌≡◌, ◌∙◌, ◌⊎◌, inl, inr, ⊎_elim, ℕ, zero, suc, ◌+◌, ◌-◌, ◌*◌, ◌/◌, ◌<◌, ◌≤◌, List, [], ◌∷◌, ◌++◌, length, take, drop, All, Option, Some, None, refl, ap, subst, arith, length-append}
 use Rattle.std.specs.Prelude.{true, false, nat_lt, if◌then◌else◌, ◌^◌}
-use Rattle.std.proofs.lemmas.List.{length-drop, length-take-le, take_all}
+use Rattle.std.proofs.lemmas.List.{length-drop}
 use Rattle.std.proofs.lemmas.List.Elements.{All-nil, All-cons, All-append}
 use Rattle.ct_tile_names.specs.Names.{IsContent}
 use Rattle.ct_tile_names.specs.declared.tile.Content.{Content}
 use Rattle.ct_tile_names.specs.declared.tile.Content.TheVariants.{Hashes, Entries}
 use Rattle.ct_tile_names.specs.declared.tile.Tile.{Tile}
-use Rattle.ct_tiles.specs.Tiles.{chunk_roots, hashes}
+use Rattle.ct_tiles.specs.Tiles.{hashes}
+use Rattle.ct_tiles.proofs.Cuts.{cut_width, hashes_short}
 use Rattle.ct_data_tiles.specs.TileLeaf.{Tiled}
 use Rattle.ct_log_state.specs.declared.line.StateLine.{StateLine}
 use Rattle.ct_log_state.proofs.Lines.{state_lines_differ}
+use Rattle.ct_step.proofs.Lengths.{length_hashes, length_texts}
 use Rattle.ct_step.specs.Entries.{texts_of, hashes_of}
 use Rattle.ct_step.specs.Objects.{named, hash_object, entry_object, each_from, changed, level_objects, data_objects}
 use Rattle.ct_step.specs.Steps.{new_entries, step_objects, IsEdgeOf, IsLog, IsTiledStep, NamedEdgesTell}
@@ -42,17 +44,6 @@ all_changed object m n each =
       | false ↦ All-nil HasTileName
     ]
 
-cut_width : (xs : List (List ℕ)) → 0 < length xs → (1 ≤ length (take 256 xs)) × (length (take 256 xs) ≤ 256)
-cut_width xs b =
-    elim (nat_lt (length xs) 256) as (λ t. nat_lt (length xs) 256 ≡ t → (1 ≤ length (take 256 xs)) × (length (take 256 xs) ≤ 256)) [
-      | true ↦ λ q.
-          let l : length xs < 256 = ltb-true (length xs) 256 q in
-          let e : length (take 256 xs) ≡ length xs = ap (λ (v : List (List ℕ)). length v) (take_all 256 xs (omega (arith, l))) in
-          (omega (arith, e, b), omega (arith, e, l))
-      | false ↦ λ q.
-          let e : length (take 256 xs) ≡ 256 = length-take-le 256 xs (ltb-false (length xs) 256 q) in (omega (arith, e), omega (arith, e))
-    ] refl
-
 named_tile : (c : Content) (i : ℕ) (P : List (List ℕ)) → IsContent c → 256 * i < length P → length P < 2 ^ 64
     → HasTileName (named c i (take 256 (drop (256 * i) P)))
 named_tile c i P is b few =
@@ -62,18 +53,6 @@ named_tile c i P is b few =
     (t, record { content = is; some = w.0; most = w.1; index = omega (arith, b, few) }, refl)
 
 module _ (H : List ℕ → List ℕ) where
-  length_chunks : (count : ℕ) (E : List (List ℕ)) → length (chunk_roots H 256 count E) ≡ count
-  unfolding chunk_roots
-  length_chunks zero E = refl
-  length_chunks (suc count) E = ap suc (length_chunks count (drop 256 E))
-
-  hashes_short : (l : ℕ) (D : List (List ℕ)) → length (hashes H 256 l D) ≤ length D
-  unfolding hashes
-  hashes_short zero D = omega arith
-  hashes_short (suc l) D =
-      let E = hashes H 256 l D in
-      omega (arith, length_chunks (length E / 256) E, hashes_short l D)
-
   levels_named : (levels : ℕ) (D B : List (List ℕ)) → levels ≤ 64 → length (D ++ B) < 2 ^ 64 → All HasTileName (level_objects H levels D B)
   unfolding level_objects
   levels_named zero D B most few = All-nil HasTileName
@@ -82,15 +61,7 @@ module _ (H : List ℕ → List ℕ) where
       All-append HasTileName (level_objects H levels D B) (changed (hash_object H (D ++ B) levels) (length (hashes H 256 levels D)) (length P))
       (levels_named levels D B (omega (arith, most)) few)
       (all_changed (hash_object H (D ++ B) levels) (length (hashes H 256 levels D)) (length P)
-      (λ i b. named_tile (Hashes levels) i P (omega (arith, most)) b (omega (arith, hashes_short levels (D ++ B), few))))
-
-  length_hashes : (A : List Tiled) → length (hashes_of H A) ≡ length A
-  length_hashes [] = refl
-  length_hashes (x ∷ A) = ap suc (length_hashes A)
-
-  length_texts : (A : List Tiled) → length (texts_of A) ≡ length A
-  length_texts [] = refl
-  length_texts (x ∷ A) = ap suc (length_texts A)
+      (λ i b. named_tile (Hashes levels) i P (omega (arith, most)) b (omega (arith, hashes_short H levels (D ++ B), few))))
 
   objects_named : (A N : List Tiled) → length (A ++ N) < 2 ^ 64 → All HasTileName (step_objects H A N)
   objects_named A N few =
@@ -102,7 +73,7 @@ module _ (H : List ℕ → List ℕ) where
       let hashed : length (D ++ B) ≡ length D + length B = length-append D B in
       let written : length (L ++ T) ≡ length L + length T = length-append L T in
       All-append HasTileName (level_objects H 8 D B) (data_objects L T)
-      (levels_named 8 D B (omega arith) (omega (arith, few, sum, hashed, length_hashes A, length_hashes N)))
+      (levels_named 8 D B (omega arith) (omega (arith, few, sum, hashed, length_hashes H A, length_hashes H N)))
       (all_changed (entry_object (L ++ T)) (length L) (length (L ++ T))
       (λ i b. named_tile Entries i (L ++ T) tt b (omega (arith, few, sum, written, length_texts A, length_texts N))))
 

@@ -1,11 +1,9 @@
 -- What is rolled out of a register's line is what its maker would have put.
-use Rattle.std.proofs.Common.{◌≡◌, ◌∙◌, ◌≤◌, ℕ, List, [], ◌∷◌, ◌++◌, length, refl, sym, ap, subst, inl, inr, arith, length-append}
+use Rattle.std.proofs.Common.{◌≡◌, ◌∙◌, ℕ, List, [], ◌∷◌, ◌++◌, length, refl, sym, ap, subst, inl, inr, arith}
 use Rattle.std.proofs.lemmas.List.{append-nil}
 use Rattle.std.specs.Prelude.{◌≢◌}
-use Rattle.ct_log_state.specs.Bundle.{bundled_text, bundle_text, IsBundleOf}
-use Rattle.ct_log_state.proofs.Bundles.{begun, bundles_tell}
-use Rattle.ct_codec.specs.Bytes.{num, vec}
-use Rattle.ct_codec.proofs.Refusals.{length-num}
+use Rattle.ct_log_state.specs.Bundle.{bundle_text, IsBundleOf}
+use Rattle.ct_log_state.proofs.Bundles.{begun, bundles_tell, object_some}
 use Rattle.ct_log_state.specs.declared.line.StateLine.{StateLine}
 use Rattle.ct_log_state.proofs.Lines.{state_lines_differ}
 use Rattle.ct_step.specs.Steps.{new_entries, step_objects, IsTiledStep}
@@ -24,22 +22,9 @@ no_refusal line objects r e = cc
 same_reply : (a b : StateLine) (x y : List Reference) → rolls_out a x ≡ rolls_out b y → x ≡ y
 same_reply a b x y e = cc
 
--- an object isn't nothing
-some_object : (o : List ℕ × List ℕ) (r : List ℕ) → 6 ≤ length (bundled_text o ++ r)
-some_object (n, c) r =
-    omega (
-      arith,
-      length-append (vec 2 n ++ vec 4 c) r,
-      length-append (vec 2 n) (vec 4 c),
-      length-append (num 2 (length n)) n,
-      length-append (num 4 (length c)) c,
-      length-num 2 (length n),
-      length-num 4 (length c),
-    )
-
 none : (more : List (List ℕ × List ℕ)) → [] ≡ bundle_text more → more ≡ []
 none [] e = refl
-none (o ∷ more) e = absurd (omega (arith, ap length e, some_object o (bundle_text more)))
+none (o ∷ more) e = absurd (omega (arith, ap length e, object_some o (bundle_text more)))
 
 pub one_list : (a b : List (List ℕ × List ℕ)) (bytes : List ℕ) → IsBundleOf a bytes → IsBundleOf b bytes → a ≡ b
 one_list a b bytes p q =

@@ -3,7 +3,7 @@ use Rattle.std.proofs.Common.{◌≡◌, ◌∙◌, ℕ, ◌+◌, Bool, true, fa
 use Rattle.std.specs.List.{list_any, position_or_len, zip}
 use Rattle.std.specs.Str.{bytes_eq}
 use Rattle.std.proofs.lemmas.List.{map_push}
-use Rattle.std.proofs.lemmas.List.Elements.{All-nil, All-push}
+use Rattle.std.proofs.lemmas.List.Elements.{All-push}
 use Rattle.ct_codec.specs.Submitted.{Submitted, identity_of}
 use Rattle.ct_step.specs.Entries.{AreShort, IsBatchOf}
 use Rattle.cttile.specs.StepRepeats.{BatchEntry, is_known, with_identity, first_of_each, places_of_all}
@@ -73,9 +73,6 @@ pub record SplitSoFar (Y : List BatchEntry) (keys : List (Vec ℕ Global)) (S : 
   pub batch : IsBatchOf (length S) C
   pub firsts : zip S C ≡ first_of_each [] Y
   pub places : P ≡ places_of_all [] Y
-
-pub split_none : SplitSoFar [] [] [] [] []
-split_none = record { known = refl; batch = record { all = refl; short = All-nil AreShort }; firsts = refl; places = refl }
 
 split_step : (Y : List BatchEntry) (keys : List (Vec ℕ Global)) (S : List Submitted) (C : List (List (List ℕ))) (P : List ℕ) (e : BatchEntry) (v : Vec ℕ Global)
     (after : List (Vec ℕ Global)) (place : ℕ) (T : List Submitted) (D : List (List (List ℕ))) → SplitSoFar Y keys S C P → v.items ≡ identity_of e.0

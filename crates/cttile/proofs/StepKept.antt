@@ -2,8 +2,6 @@
 use Rattle.std.proofs.Common.{◌≡◌, ℕ, List, Option}
 use Rattle.std.specs.Prelude.{Result, Ok, Err, Vec, IfOk}
 use Rattle.std.specs.Global.{Global}
-use Rattle.cttile.specs.StepAnswers.{IsReplyTo}
-use Rattle.cttile.specs.StepAsks.{StepAsk}
 use Rattle.cttile.specs.StepWords.{StepReply, step_reply_data, step_line}
 use Rattle.cttile.specs.StepSession.{IsReplyText}
 

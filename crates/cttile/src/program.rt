@@ -27,9 +27,6 @@ Exit status:
   4  a line was no request
 ";
 
-// The version of the programs (include/wagtenib.pc.in).
-const VERSION: &str = "cttile 0.1.0\n";
-
 // How many bytes of a line are kept, its end among them: two more than the longest has.
 const KEPT: usize = LONGEST + 2;
 
@@ -78,8 +75,6 @@ impl Program for Cttile {
 
     ghost usage = { step_usage };
 
-    ghost version = { codes "cttile 0.1.0\n" };
-
     ghost runs = { IsStepRun };
 
     ghost breaks = { IsStepRunBroken };
@@ -90,10 +85,6 @@ impl Program for Cttile {
 
     fn usage() -> &'static str {
         USAGE
-    }
-
-    fn version() -> &'static str {
-        VERSION
     }
 
     fn asked(alloc: Global, words: &[String]) -> Result<Call<Settings>, AllocError> {

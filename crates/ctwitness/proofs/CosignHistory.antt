@@ -1,17 +1,17 @@
 -- What follows over many lines that were answered with a cosignature's bytes: they are requests that a witness granted.
-use Rattle.std.proofs.Common.{inl, inr, ⊎_elim, ◌≡◌, ◌∙◌, refl, sym, subst, ℕ, List, [], ◌∷◌, length, Bool, true, false, Option, Some, None, map}
-use Rattle.std.specs.Prelude.{All, ⊤, ◌==◌, if◌then◌else◌, option_map, option_and_then, codes}
-use Rattle.std.proofs.lemmas.Bool.{eqb-true}
+use Rattle.std.proofs.Common.{inl, inr, ⊎_elim, ◌≡◌, ◌∙◌, refl, sym, subst, ℕ, List, [], ◌∷◌, length, Option, Some, None, map}
+use Rattle.std.specs.Prelude.{All, ⊤, option_map, option_and_then, codes}
 use Rattle.std.proofs.lemmas.List.Elements.{All-nil, All-cons, All-head, All-tail}
 use Rattle.std.proofs.lemmas.Option.{same_Some, none-some}
-use Rattle.serde_json.specs.Data.{Data, Items, no_items, item}
+use Rattle.serde_json.specs.Data.{Data}
 use Rattle.serde_json.specs.Find.{get, as_array}
 use Rattle.sha2.specs.Sha256.{sha256}
 use Rattle.sha2.proofs.Facts256.{length-sha256}
-use Rattle.json_lines.specs.Fields.{text_at, number_at, hash_of, hash_in, bytes_in, each_item, hashes_of_items, hashes_at}
+use Rattle.json_lines.specs.Fields.{text_at, number_at, hashes_at}
 use Rattle.json_lines.specs.Values.{value_of_line}
 use Rattle.line_program.specs.ByLine.{LineGave, GivesAlone}
 use Rattle.ct_verify.specs.Laws.{AreHashes, SomeCollide}
+use Rattle.ct_fields.proofs.Hashes.{OfHashes, of_hashes}
 use Rattle.ct_witness.proofs.Runs.{cosigned_go_back}
 use Rattle.ct_witness.specs.declared.tree.Tree.{Tree}
 use Rattle.ct_witness.specs.Witnessed.{PassesTree}
@@ -58,36 +58,6 @@ asks_go_back H hash_length steps D a t =
     (cosigned_go_back H hash_length (map granted_of steps) D (are_granted H (no_tree H) steps a) u)
 
 -- ---- the proof that a request has is one of hashes
-
-abbrev OfHash : Option (List ℕ) → Type 0
-OfHash None = ⊤
-OfHash (Some h) = length h ≡ 32
-
-abbrev OfHashes : Option (List (List ℕ)) → Type 0
-OfHashes None = ⊤
-OfHashes (Some hs) = AreHashes hs
-
-if_hash : (b : Bool) (bytes : List ℕ) → b ≡ (length bytes == 32) → OfHash (if b then Some bytes else None)
-if_hash true bytes e = eqb-true (length bytes) 32 (sym e)
-if_hash false bytes e = tt
-
-of_hash : (o : Option (List ℕ)) → OfHash (option_and_then hash_of o)
-of_hash None = tt
-of_hash (Some bytes) = if_hash (length bytes == 32) bytes refl
-
-cons_hashes : (x : Option (List ℕ)) (y : Option (List (List ℕ))) → OfHash x → OfHashes y
-    → OfHashes (option_and_then (λ b. option_map (λ bs. b ∷ bs) y) x)
-cons_hashes None y h hs = tt
-cons_hashes (Some b) None h hs = tt
-cons_hashes (Some b) (Some bs) h hs = All-cons (λ s. length s ≡ 32) b bs h hs
-
-each_hash : (ds : Items) → OfHashes (each_item hash_in ds)
-each_hash no_items = All-nil (λ s. length s ≡ 32)
-each_hash (item d ds) = cons_hashes (hash_in d) (each_item hash_in ds) (of_hash (bytes_in d)) (each_hash ds)
-
-of_hashes : (o : Option Items) → OfHashes (option_and_then hashes_of_items o)
-of_hashes None = tt
-of_hashes (Some ds) = each_hash ds
 
 abbrev AskHashes : Option CosignAsk → Type 0
 AskHashes None = ⊤

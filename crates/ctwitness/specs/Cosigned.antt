@@ -6,8 +6,7 @@ use Rattle.sha2.specs.Sha256.{sha256}
 use Rattle.ct_checkpoint.specs.Checkpoint.{IsCheckpoint}
 use Rattle.ct_checkpoint.specs.Message.{cosignature_message}
 use Rattle.json_lines.specs.Values.{bytes_data, number_data}
-use Rattle.ct_verify.specs.declared.fault.ProofFault.{ProofFault}
-use Rattle.ct_verify.specs.declared.fault.ProofFault.TheVariants as fault
+use Rattle.ct_fields.specs.Faults.{proof_fault_name}
 use Rattle.ct_witness.specs.declared.tree.Tree.{Tree}
 use Rattle.ct_witness.specs.declared.refusal.WitnessRefusal.{WitnessRefusal}
 use Rattle.ct_witness.specs.declared.refusal.WitnessRefusal.TheVariants.{OldAbove, NotLast, Fork, ProofNotEmpty, Inconsistent}
@@ -44,16 +43,6 @@ abbrev pub is_no_cosign_request : CosignGave → Bool
 is_no_cosign_request gave_nothing = true
 is_no_cosign_request (gave_outcome a o) = false
 
--- the name of why a proof is refused
-abbrev pub cosign_fault_name : ProofFault → List ℕ
-cosign_fault_name fault.IndexOutOfRange = codes "index-out-of-range"
-cosign_fault_name fault.PathTooLong = codes "path-too-long"
-cosign_fault_name fault.PathTooShort = codes "path-too-short"
-cosign_fault_name fault.RootMismatch = codes "root-mismatch"
-cosign_fault_name fault.EmptyPath = codes "empty-path"
-cosign_fault_name fault.FirstMismatch = codes "first-mismatch"
-cosign_fault_name fault.SizesOutOfRange = codes "sizes-out-of-range"
-
 -- the object of a refusal: its name. Keys in byte order, here and below
 abbrev pub cosign_refused_data : List ℕ → Data
 cosign_refused_data name = object (member (codes "refused") (string name) no_members)
@@ -72,7 +61,7 @@ witness_refusal_data size OldAbove = cosign_refused_data (codes "old-above")
 witness_refusal_data size NotLast = cosign_refused_size_data (codes "not-last") size
 witness_refusal_data size Fork = cosign_refused_size_data (codes "fork") size
 witness_refusal_data size ProofNotEmpty = cosign_refused_data (codes "proof-not-empty")
-witness_refusal_data size (Inconsistent f) = cosign_refused_fault_data (codes "inconsistent") (cosign_fault_name f)
+witness_refusal_data size (Inconsistent f) = cosign_refused_fault_data (codes "inconsistent") (proof_fault_name f)
 
 -- the object of a tree that is let through: the tree, and the bytes under the cosignature
 abbrev pub cosigned_data : CosignAsk → Tree → Data

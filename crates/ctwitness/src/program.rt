@@ -26,9 +26,6 @@ Exit status:
   4  a line was no request
 ";
 
-// The version of the programs (include/wagtenib.pc.in).
-const VERSION: &str = "ctwitness 0.1.0\n";
-
 /// The program `ctwitness`, which replies to each line by itself.
 #[derive(Clone, Copy, Debug)]
 pub struct Ctwitness;
@@ -78,8 +75,6 @@ impl Program for Ctwitness {
 
     ghost usage = { cosign_usage };
 
-    ghost version = { codes "ctwitness 0.1.0\n" };
-
     ghost runs = { λ said. IsCosignRun };
 
     ghost breaks = { λ said. IsCosignRunBroken };
@@ -90,10 +85,6 @@ impl Program for Ctwitness {
 
     fn usage() -> &'static str {
         USAGE
-    }
-
-    fn version() -> &'static str {
-        VERSION
     }
 
     fn asked(alloc: Global, words: &[String]) -> Result<Call<NoOptions>, AllocError> {

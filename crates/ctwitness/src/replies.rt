@@ -5,31 +5,17 @@ ghost use Rattle.serde_json.specs.View.{view};
 ghost use Rattle.json_lines.specs.Values.{bytes_data};
 ghost use Rattle.ct_checkpoint.specs.Message.{cosignature_message as message_of};
 ghost use Rattle.ctwitness.specs.CosignAsks.{cosign_ask_of};
-ghost use Rattle.ctwitness.specs.Cosigned.{cosign_fault_name, cosign_refused_data, cosign_refused_size_data, cosign_refused_fault_data, witness_refusal_data, cosigned_data, cosign_reply_data, no_request_data, cosign_line};
+ghost use Rattle.ctwitness.specs.Cosigned.{cosign_refused_data, cosign_refused_size_data, cosign_refused_fault_data, witness_refusal_data};
+ghost use Rattle.ctwitness.specs.Cosigned.{cosigned_data, cosign_reply_data, no_request_data, cosign_line};
 
 use crate::deciding::Outcome;
 use crate::request::Request;
 use ct_checkpoint::cosignature_message;
-use ct_verify::ProofFault;
+use ct_fields::proof_fault;
 use ct_witness::{Tree, WitnessRefusal};
 use json_lines::bytes_value;
 use serde_json::{Value, json};
 use std::alloc::{AllocError, Global};
-
-// The name of why a proof is refused.
-fn proof_fault(fault: ProofFault) -> &'static str
-    ensures { result.now ≡ cosign_fault_name fault }
-{
-    match fault {
-        ProofFault::IndexOutOfRange => "index-out-of-range",
-        ProofFault::PathTooLong => "path-too-long",
-        ProofFault::PathTooShort => "path-too-short",
-        ProofFault::RootMismatch => "root-mismatch",
-        ProofFault::EmptyPath => "empty-path",
-        ProofFault::FirstMismatch => "first-mismatch",
-        ProofFault::SizesOutOfRange => "sizes-out-of-range",
-    }
-}
 
 fn refused_value(alloc: Global, name: &str) -> Result<Value, AllocError>
     ensures { IfOk result (λ v. view v ≡ cosign_refused_data name.now) }

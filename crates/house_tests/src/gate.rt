@@ -393,20 +393,23 @@ fn is_round(alloc: Global, intake: &mut Intake, outlet: &mut Outlet, ticket: u64
         && outlet.take().is_none()
 }
 
-// How many of a hundred rounds go so before the first that doesn't.
-fn hundred_rounds(alloc: Global, intake: &mut Intake, outlet: &mut Outlet) -> u64 {
-    for round in 0..100u64 {
+// More tickets than a bound of a hundred thousand, or of 2^16 or 2^17, has.
+const ROUNDS: u64 = 1 << 18;
+
+// How many of the rounds go so before the first that doesn't.
+fn count_rounds(alloc: Global, intake: &mut Intake, outlet: &mut Outlet) -> u64 {
+    for round in 0..ROUNDS {
         if !is_round(alloc, intake, outlet, round) {
             return round;
         }
     }
-    100
+    ROUNDS
 }
 
 #[test]
 fn a_full_ring_takes_again_after_a_take(rt: HostRuntime) -> Result<(), Fail> {
     let (_shutter, mut intake, mut outlet) = open_one(rt.alloc(), 1)?;
-    assert!(rt; hundred_rounds(rt.alloc(), &mut intake, &mut outlet) == 100);
+    assert!(rt; count_rounds(rt.alloc(), &mut intake, &mut outlet) == ROUNDS);
     Ok(())
 }
 

@@ -111,9 +111,6 @@ module _ {E : Type 0} (most : ℕ) (a b c : Option (List ℕ)) (line line_then :
         at None e d = tt
         at (Some xs) e d = (kept_then ∙ ap (take most) e, d)
 
-pub kept_at_last : (most : ℕ) (a b : Option (List ℕ)) (line : List ℕ) → TakenSoFar most a b line → IsKeptOf most a b line
-kept_at_last most a b line t = (t.bytes, t.taken, t.goes_on, t.kept)
-
 stripped : (l : List ℕ) → take (length (strip_last 10 l)) l ≡ strip_last 10 l
 stripped l = at (ends_with_byte 10 l)
   where
@@ -142,11 +139,6 @@ none_left most (Some xs) b line content room t none =
     let long = ap length t.0 ∙ length-take most (take_through 10 xs) in
     let nothing = take_through-nil 10 xs (omega (arith, long, none, room)) in
     (nothing, t.1 ∙ ap (λ l. Some (drop_through 10 l)) nothing)
-
--- the same of a reader that numbers its lines
-pub none_left_to_number : (most : ℕ) (a b : Option (List ℕ)) (line : List ℕ) → TakesNext most a b line false → IfSome a (λ xs. xs ≡ [])
-none_left_to_number most None b line t = tt
-none_left_to_number most (Some xs) b line t = t.0
 
 strip_one : (l : List ℕ) → length l ≤ length (strip_last 10 l) + 1
 strip_one l = at (ends_with_byte 10 l)

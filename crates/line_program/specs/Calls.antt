@@ -1,5 +1,5 @@
 -- What the words of a command line ask a program over lines for, the program's name left out, and what is done then.
-use Rattle.std.specs.Prelude.{◌≡◌, ⊤, ℕ, List, [], ◌∷◌, Option, Some, None, option_map, option_copied, unwrap_or, if◌then◌else◌, codes, bytes_eq}
+use Rattle.std.specs.Prelude.{◌≡◌, ⊤, ℕ, List, [], ◌∷◌, ◌++◌, Option, Some, None, option_map, option_copied, unwrap_or, if◌then◌else◌, codes, bytes_eq}
 use Rattle.std.specs.Io.KnownBytes.{Appends}
 use Rattle.json_lines.specs.Sends.{SendsSome}
 use Rattle.line_program.specs.declared.call.Call.{Call}
@@ -56,8 +56,12 @@ abbrev pub ReadsProgramWord : {S : Type 0} → (S → List ℕ → List ℕ → 
 ReadsProgramWord with_option awaited before word read after =
     (words : List (List ℕ)) → asked_by_words with_option awaited before (word ∷ words) ≡ asked_behind with_option read after words
 
+-- the line of the version of a program with this name
+abbrev pub version_line : List ℕ → List ℕ
+version_line name = name ++ codes " 0.1.0\n"
+
 -- What was done where the words ask for this, and the exit status: a run over the input was written, as `runs` says of it; or how the program
--- is called, or its version, was written on the output; or, where they ask for nothing, it was told among the faults, as far as it could be.
+-- is called, or its version, was written on the output; or, where they ask for nothing, a beginning of why was told among the faults.
 abbrev pub IsAskedDone : {S : Type 0} → List ℕ → List ℕ → (S → Option (List ℕ) → Option (List ℕ) → Option (List ℕ) → ℕ → Type 0) → AskedFor S
     → Option (List ℕ) → Option (List ℕ) → Option (List ℕ) → Option (List ℕ) → Option (List ℕ) → ℕ → Type 0
 IsAskedDone usage version runs (asks_run said) source sink sink_next faults faults_next status =

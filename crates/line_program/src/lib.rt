@@ -4,7 +4,7 @@
 //! - `run` is the loop: it reads lines from any reader and writes to any writer.
 //! - A `Replier` replies to each line by itself, and `reply_by_line` is the loop then: nothing is kept between lines but whether one was refused
 //!   as none.
-//! - A `Program` has a name, how it is called, a version, and what a run is; `answer_words` does what the words of a command line ask it for:
+//! - A `Program` has a name, how it is called, and what a run is; `answer_words` does what the words of a command line ask it for:
 //!   a run, help, the version, or nothing that there is; and it has the exit statuses. `answer_process` does so over the process's own words,
 //!   and is the `main` of a program.
 //! - `Options` says what the options of a command line say, and `read_words` reads them.

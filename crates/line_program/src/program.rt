@@ -3,7 +3,7 @@
 ghost use Rattle.std.specs.Prelude.{◌≡◌, ◌≢◌, ℕ, List, [], Option, Some, IfSome, IfOk, OnOk, OnErr, map, string_bytes};
 ghost use Rattle.json_lines.specs.Faults.{run_fault_line};
 ghost use Rattle.json_lines.specs.Sends.{SendsSome};
-ghost use Rattle.line_program.specs.Calls.{AskedFor, asked_by_call, IsAskedDone, IsAskedBroken};
+ghost use Rattle.line_program.specs.Calls.{AskedFor, asked_by_call, version_line, IsAskedDone, IsAskedBroken};
 ghost use Rattle.json_lines.specs.declared.fault.RunFault.{RunFault as FaultOf};
 
 use crate::call::Call;
@@ -25,12 +25,10 @@ pub trait Program {
     // What words ask for, the program's name left out.
     ghost asks: { List (List ℕ) → AskedFor Told };
 
-    // Its name, how it is called, and the line of its version.
+    // Its name, and how it is called.
     ghost name: { List ℕ };
 
     ghost usage: { List ℕ };
-
-    ghost version: { List ℕ };
 
     // A run came to its end: its input, the output before it and behind it, and the exit status.
     ghost runs: { Told → Option (List ℕ) → Option (List ℕ) → Option (List ℕ) → ℕ → Type 0 };
@@ -45,10 +43,6 @@ pub trait Program {
     /// How the program is called, what it does, and its exit statuses.
     fn usage() -> &'static str
         ensures { result.now ≡ usage };
-
-    /// The line of the program's version.
-    fn version() -> &'static str
-        ensures { result.now ≡ version };
 
     /// What words ask for, the program's name left out.
     ///
@@ -87,6 +81,16 @@ fn refuse<E: Write>(text: &[u8], faults: &mut E) -> u8
     2
 }
 
+// The line of the version of the program with this name: the version of all programs and of the library for C (include/wagtenib.pc.in).
+fn version_line(alloc: Global, name: &str) -> Result<Vec<u8>, AllocError>
+    ensures { IfOk result (λ t. t.items ≡ version_line name.now) }
+{
+    let mut text = Vec::new(alloc);
+    text.extend_from_slice(name.as_bytes())?;
+    text.extend_from_slice(b" 0.1.0\n")?;
+    Ok(text)
+}
+
 // Does what the words ask for, and answers the exit status.
 fn do_asked<P: Program, R: Read + Drop, W: Write, E: Write>(
     alloc: Global,
@@ -95,10 +99,10 @@ fn do_asked<P: Program, R: Read + Drop, W: Write, E: Write>(
     output: &mut W,
     faults: &mut E,
 ) -> Result<u8, RunFault>
-    ensures answered { IfOk result (λ status. IsAskedDone P.usage P.version P.runs (P.asks (map string_bytes words.now)) (R.remaining input)
+    ensures answered { IfOk result (λ status. IsAskedDone P.usage (version_line P.name) P.runs (P.asks (map string_bytes words.now)) (R.remaining input)
         (W.contents output.old) (W.contents output.new) (E.contents faults.old) (E.contents faults.new) status) }
     ensures status { IfOk result (λ status. status ≢ 1) }
-    ensures broken { OnErr result (IsAskedBroken P.usage P.version P.breaks (P.asks (map string_bytes words.now)) (R.remaining input)
+    ensures broken { OnErr result (IsAskedBroken P.usage (version_line P.name) P.breaks (P.asks (map string_bytes words.now)) (R.remaining input)
         (W.contents output.old) (W.contents output.new)) }
     ensures quiet { OnErr result (E.contents faults.new ≡ E.contents faults.old) }
 {
@@ -112,7 +116,8 @@ fn do_asked<P: Program, R: Read + Drop, W: Write, E: Write>(
             Ok(0)
         }
         Call::Version => {
-            send(output, P::version().as_bytes())?;
+            let line = version_line(alloc, P::name())?;
+            send(output, &line)?;
             Ok(0)
         }
         Call::Refused => Ok(refuse(P::usage().as_bytes(), faults)),
@@ -135,10 +140,10 @@ pub fn answer_words<P: Program, R: Read + Drop, W: Write, E: Write>(
     output: &mut W,
     faults: &mut E,
 ) -> u8
-    ensures answered { result ≢ 1 → IsAskedDone P.usage P.version P.runs (P.asks (map string_bytes words.now)) (R.remaining input)
+    ensures answered { result ≢ 1 → IsAskedDone P.usage (version_line P.name) P.runs (P.asks (map string_bytes words.now)) (R.remaining input)
         (W.contents output.old) (W.contents output.new) (E.contents faults.old) (E.contents faults.new) result }
     ensures fault { result ≡ 1 → (f : FaultOf) × SendsSome (E.contents faults.old) (E.contents faults.new) (run_fault_line P.name f) }
-    ensures broken { result ≡ 1 → IsAskedBroken P.usage P.version P.breaks (P.asks (map string_bytes words.now)) (R.remaining input)
+    ensures broken { result ≡ 1 → IsAskedBroken P.usage (version_line P.name) P.breaks (P.asks (map string_bytes words.now)) (R.remaining input)
         (W.contents output.old) (W.contents output.new) }
 {
     match do_asked::<P, R, W, E>(alloc, words, input, output, faults) {

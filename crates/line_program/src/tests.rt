@@ -1,12 +1,18 @@
-// The loop over lines, over readers and writers that fail, or that wait for one another. What is written was worked out by hand.
-ghost use Rattle.std.specs.Prelude.{⊤};
+// The loop over lines, over readers and writers that fail, or that wait for one another, and a program over a process of these words and this
+// input. What is written was worked out by hand.
+ghost use Rattle.std.specs.Prelude.{⊤, ℕ, Bool, List, codes};
+ghost use Rattle.line_program.specs.Calls.{asked_without_options};
 
-use crate::{Answerer, run};
+use crate::{
+    Answerer, Call, NoOptions, Program, Replier, Reply, answer_process, read_words, reply_by_line,
+    run,
+};
 use json_lines::RunFault;
-use std::alloc::{AllocError, Global};
+use std::alloc::{Alloc, AllocError, Allocator, Global};
 use std::cell::Cell;
+use std::env::{Env, FillError};
 use std::io;
-use std::io::{BufReader, ErrorKind, Read, Write};
+use std::io::{BufRead, BufReader, ErrorKind, Input, Lines, Read, Write};
 use std::test::Fail;
 
 // Replies to each line by what is kept of it, of 6 bytes with its end, behind '>' where it is the first and ':' else; writes '.' at the end, and
@@ -240,4 +246,169 @@ fn paced_lines(rt: HostRuntime) -> Result<(), Fail> {
         assert!(rt; replied == lines && end == Ok(()));
     }
     Ok(())
+}
+
+// A program that replies to a line by the line, behind '>'; one that begins with '?' is refused as none.
+#[derive(Clone, Copy, Debug)]
+struct Marking;
+
+impl Replier for Marking {
+    ghost longest = { 6 };
+
+    ghost Gave = { List ℕ × Bool };
+
+    ghost comes = { λ program value gave. ⊤ };
+
+    ghost text = { λ program gave. gave.0 };
+
+    ghost refused = { λ gave. gave.1 };
+
+    fn reply(&self, alloc: Global, line: &[u8]) -> Result<Reply, AllocError> {
+        let mut text = Vec::new(alloc);
+        text.push(b'>')?;
+        text.extend_from_slice(line)?;
+        text.push(b'\n')?;
+        Ok(Reply {
+            text,
+            is_refused: line.first() == Some(&b'?'),
+        })
+    }
+}
+
+impl Program for Marking {
+    type Options = NoOptions;
+
+    ghost Told = { ⊤ };
+
+    ghost told = { λ options. tt };
+
+    ghost asks = { asked_without_options };
+
+    ghost name = { codes "marking" };
+
+    ghost usage = { codes "usage: marking\n" };
+
+    ghost runs = { λ said source sink sink_next status. ⊤ };
+
+    ghost breaks = { λ said source source_next sink sink_next. ⊤ };
+
+    fn name() -> &'static str {
+        "marking"
+    }
+
+    fn usage() -> &'static str {
+        "usage: marking\n"
+    }
+
+    fn asked(alloc: Global, words: &[String]) -> Result<Call<NoOptions>, AllocError> {
+        read_words(alloc, words)
+    }
+
+    fn run<B: BufRead, W: Write>(
+        alloc: Global,
+        _options: NoOptions,
+        input: &mut B,
+        writer: &mut W,
+    ) -> Result<u8, RunFault> {
+        reply_by_line(alloc, 8, Marking, input, writer)
+    }
+
+    ghost not_begun = { λ said source sink. tt };
+}
+
+// A process with these words, the program's name among them, and this standard input.
+#[derive(Drop)]
+struct Process<'a> {
+    alloc: Global,
+    words: &'a [&'a [u8]],
+    input: &'a [u8],
+}
+
+impl Alloc for Process<'_> {
+    type A = Global;
+
+    fn alloc(&self) -> Global {
+        self.alloc
+    }
+}
+
+impl Env for Process<'_> {
+    fn arg(&self, i: usize, buf: &mut [u8]) -> Result<usize, FillError> {
+        let Some(word) = self.words.get(i) else {
+            return Err(FillError::NotPresent);
+        };
+        let n = word.len();
+        if n > buf.len() {
+            return Err(FillError::TooLong);
+        }
+        buf[..n].copy_from_slice(word);
+        Ok(n)
+    }
+
+    fn var(&self, _name: &str, _buf: &mut [u8]) -> Result<usize, FillError> {
+        Err(FillError::NotPresent)
+    }
+
+    fn var_at(&self, _i: usize, _buf: &mut [u8]) -> Result<usize, FillError> {
+        Err(FillError::NotPresent)
+    }
+}
+
+impl<'a> Input for Process<'a> {
+    type Reader = &'a [u8];
+
+    fn read_line<A: Allocator + Clone>(&self, buf: &mut String<A>) -> io::Result<usize> {
+        let mut reader = self.input;
+        reader.read_line(buf)
+    }
+
+    fn lines<A: Allocator>(&self, alloc: A) -> Lines<&'a [u8], A> {
+        self.input.lines(alloc)
+    }
+
+    fn reader(&self) -> &'a [u8] {
+        self.input
+    }
+}
+
+// Whether the program of a process with these words, behind its name, ends with the status, and writes these texts on the output and among the faults,
+// whose writer takes three bytes a call.
+fn answers(alloc: Global, words: &[&[u8]], (text, told): (&str, &str), status: u8) -> bool {
+    let process = Process {
+        alloc,
+        words,
+        input: b"ab\n?c\n",
+    };
+    let mut output = Vec::new(alloc);
+    let mut faults = Full {
+        room: 1_000,
+        kept: Vec::new(alloc),
+    };
+    let found = answer_process::<Marking, _, _, _>(&process, &mut output, &mut faults);
+    let is_told = faults.kept.as_slice() == told.as_bytes();
+    found == status && output.as_slice() == text.as_bytes() && is_told
+}
+
+// The words of a process, what is written on its output, and among its faults, and the status.
+const PROCESSES: [(&[&[u8]], (&str, &str), u8); 7] = [
+    (&[b"marking"], (">ab\n>?c\n", ""), 4),
+    (&[], (">ab\n>?c\n", ""), 4),
+    (&[b"marking", b"--help"], ("usage: marking\n", ""), 0),
+    (&[b"--help", b"-h", b"ab"], ("usage: marking\n", ""), 0),
+    (&[b"marking", b"--version"], ("marking 0.1.0\n", ""), 0),
+    (&[b"marking", b"lines"], ("", "usage: marking\n"), 2),
+    // (no text of UTF-8 has the byte FF)
+    (
+        &[b"marking", b"--help", b"\xff"],
+        ("", "marking: read\n"),
+        1,
+    ),
+];
+
+// A process's own words are what a program does, and its own input is what it replies to, though no clause can say which these are.
+#[test]
+fn processes(rt: HostRuntime) {
+    for (words, texts, status) in &PROCESSES {
+        assert!(rt; answers(rt.alloc(), words, *texts, *status));
+    }
 }

@@ -7,8 +7,11 @@
 //! - `behind` are many lines behind the one that closes the log, and a long reply that the writer takes byte by byte.
 //! - `open` has an input that stays open: a log that breaks off ends all the same, a read that ends so isn't its fault, and what is read ahead is
 //!   the input.
+//! - `ahead` has when such an input is read, and how far ahead.
 #![tactic(auto)]
 
+#[cfg(test)]
+mod ahead;
 #[cfg(test)]
 mod behind;
 #[cfg(test)]

@@ -147,15 +147,20 @@ fn a_read_that_ends_as_all_are_to_end(rt: HostRuntime) -> Result<(), Fail> {
     Ok(())
 }
 
-// An input that gives so many bytes a call at most, and can't be read behind its text.
+// An input that gives so many bytes a call at most, of which each third is interrupted, and can't be read behind its text.
 #[derive(Clone, Copy)]
 struct Cut {
     text: &'static [u8],
     step: usize,
+    calls: u64,
 }
 
 impl Read for Cut {
     fn read(&mut self, buf: &mut [u8]) -> io::Result<usize> {
+        self.calls = self.calls.wrapping_add(1);
+        if self.calls % 3 == 0 {
+            return Err(io::Error::from(ErrorKind::Interrupted));
+        }
         if self.text.is_empty() {
             return Err(io::Error::from(ErrorKind::BrokenPipe));
         }
@@ -175,6 +180,7 @@ fn is_read_ahead<H: Threads + Wait + Sync + Copy + Send + 'static>(
     let cut = Cut {
         text: LINES,
         step: 7,
+        calls: 0,
     };
     let mut until_error = read_ahead(*rt, alloc, new_breaker(alloc)?, cut)?;
     let mut until_end = read_ahead(*rt, alloc, new_breaker(alloc)?, LINES)?;

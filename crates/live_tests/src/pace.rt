@@ -212,6 +212,7 @@ pub(crate) struct Run {
     // How many lines the writer waits for in its first call.
     pub(crate) patience: u64,
     pub(crate) turns: u64,
+    pub(crate) options: Options,
     pub(crate) reads: Calls,
     pub(crate) writes: Calls,
 }
@@ -226,6 +227,7 @@ impl Run {
             width: 40,
             patience: 0,
             turns: TURNS,
+            options: OPTIONS,
             reads: Calls::all_succeed(),
             writes: Calls::all_succeed(),
         }
@@ -293,7 +295,13 @@ pub(crate) fn outcome_of<H: Threads + Wait + Sync>(
         }
     };
     let Served { output, result } = serve_live(
-        rt, alloc, OPTIONS, run.turns, breaker, source, sink,
+        rt,
+        alloc,
+        run.options,
+        run.turns,
+        breaker,
+        source,
+        sink,
     );
     let Sink {
         taken,

@@ -1,6 +1,6 @@
 // Lines that wait for others, and a writer for which the reader has to wait.
 use crate::pace::{Calls, Failure, Run, ends_with, outcome_of};
-use ct_tasks::Fault;
+use ct_tasks::{Fault, Options};
 use std::alloc::{AllocError, Global};
 use std::sync::Wait;
 use std::test::Fail;
@@ -133,4 +133,21 @@ fn ends_all<H: Threads + Wait + Sync>(rt: &H, alloc: Global) -> Result<bool, All
 fn a_slow_writer_that_fails_ends_all(rt: HostRuntime) -> Result<(), Fail> {
     assert!(rt; ends_all(&rt, rt.alloc())?);
     Ok(())
+}
+
+// A log that opens behind its closing replies to its lines, and the clock refuses the closing where they end.
+#[test]
+fn a_log_that_opens_behind_its_closing(rt: HostRuntime) {
+    let run = Run {
+        options: Options {
+            fronts: 2,
+            ring: 4,
+            open_at: 5,
+            close_at: 4,
+        },
+        ..Run::new()
+    };
+    let text = b"{\"who\":0,\"op\":\"add-chain\",\"chain\":[\"\"]}\n";
+    let replies = b"{\"line\":0,\"reply\":{\"error\":\"empty-certificate\"}}\n";
+    assert!(rt; ends_with(&rt, rt.alloc(), run, text, (Err(Fault::ClockBack), replies)));
 }

@@ -1,4 +1,3 @@
 pub mod Concatenated
-pub mod Chunks
-pub mod Blocks
+pub mod Sized
 mod InParts

@@ -3,6 +3,7 @@
 //! - The bytes of leaves were written by Python's `struct` and `hashlib` after the page of C2SP static-ct-api: the timestamp
 //!   1,700,000,000,123, the index 0x0102030405, and the fingerprints of the issuers 30 01 49 and 30 01 52.
 //! - What hostile bytes have to be read as, `hostile` has, which `tests/tiles/hostile.py` writes.
+//! - `fault_texts` has what is told of faults.
 //! - `sequencers` carries on one log by sixteen sequencers in threads of their own, over a register in memory.
 #![tactic(auto)]
 
@@ -10,6 +11,8 @@
 mod checkpoints;
 #[cfg(test)]
 mod expected;
+#[cfg(test)]
+mod fault_texts;
 #[cfg(test)]
 mod handed;
 #[cfg(test)]

@@ -1,4 +1,5 @@
-// What a reader of `Display` is told of each fault of a proof, of evidence and of a head.
+// What a reader of `Display` is told of each fault of a proof, of evidence and of a head, and of what a guard refuses.
+use ct_guard::{HeadRefusal, ReceiptRefusal};
 use ct_monitor::MonitorFault;
 use ct_verify::{EvidenceFault, ProofFault};
 use std::alloc::Global;
@@ -101,4 +102,47 @@ fn each_fault_of_a_head(rt: HostRuntime) {
         ),
     ];
     assert!(rt; are_told(rt.alloc(), &faults));
+}
+
+#[test]
+fn each_refusal_of_a_head(rt: HostRuntime) {
+    let refusals = [
+        (
+            HeadRefusal::SizeFalls,
+            "the head has fewer leaves than the last one",
+        ),
+        (
+            HeadRefusal::MomentNotLater,
+            "the head is not later than the last one",
+        ),
+        (
+            HeadRefusal::Fork,
+            "the head has the size of the last one, and another root",
+        ),
+        (
+            HeadRefusal::Inconsistent(ProofFault::EmptyPath),
+            "the consistency proof is refused: the consistency proof has no elements",
+        ),
+    ];
+    assert!(rt; are_told(rt.alloc(), &refusals));
+}
+
+#[test]
+fn each_refusal_of_a_receipt(rt: HostRuntime) {
+    let refusals = [
+        (ReceiptRefusal::NoHead, "no head was let through yet"),
+        (
+            ReceiptRefusal::NotThere(ProofFault::PathTooShort),
+            "the audit path is refused: the path has fewer elements than a proof at this place has",
+        ),
+        (
+            ReceiptRefusal::LaterLeaf,
+            "the leaf is later than the last head",
+        ),
+        (
+            ReceiptRefusal::OtherIndex,
+            "the leaf's extensions are not its index alone",
+        ),
+    ];
+    assert!(rt; are_told(rt.alloc(), &refusals));
 }

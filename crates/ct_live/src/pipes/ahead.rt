@@ -1,5 +1,9 @@
 //! An input that a thread of its own reads ahead.
 
+ghost use Rattle.std.specs.Prelude.{IfOk};
+ghost use Rattle.std.specs.Io.{ReadsAtMost};
+ghost use Rattle.ct_live.specs.ReadingAhead.{IsFromStart, left_to_read};
+
 use crate::pipes::breaker::Breaker;
 use rtrb::{Consumer, Producer, PushError, RingBuffer};
 use std::alloc::{AllocError, Global};
@@ -154,35 +158,68 @@ fn next_piece<R: Wait>(rt: &R, breaker: &Breaker, pieces: &mut Pieces) -> Piece 
     unreachable!()
 }
 
-// Reads a piece of the input where no thread reads ahead.
-fn read_here<I: Read>(alloc: Global, input: &mut I) -> Piece {
-    let mut buffer = vec![in alloc; 0u8; PIECE]?;
-    read_piece(alloc, input, &mut buffer)
+// What another thread reads.
+#[derive(Drop)]
+struct Ahead<R: Wait + Copy> {
+    rt: R,
+    alloc: Global,
+    breaker: Arc<Breaker>,
+    // None behind the end of the input, and where it couldn't be read.
+    pieces: Option<Pieces>,
+    piece: Vec<u8>,
+    taken: usize,
+}
+
+impl<R: Wait + Copy> Ahead<R> {
+    fn next(&mut self) -> Piece {
+        match &mut self.pieces {
+            Some(pieces) => next_piece(&self.rt, &self.breaker, pieces),
+            None => Ok(Vec::new(self.alloc)),
+        }
+    }
+
+    // Takes the next piece. Behind the end of the input, or where it couldn't be read, there is none.
+    fn refill(&mut self) -> io::Result<()> {
+        let piece = self.next();
+        if !goes_on(&piece) {
+            self.pieces = None;
+        }
+        self.piece = piece?;
+        self.taken = 0;
+        Ok(())
+    }
+
+    fn read(&mut self, buf: &mut [u8]) -> io::Result<usize>
+        ensures { ReadsAtMost result buf.new }
+    {
+        if self.taken >= self.piece.len() {
+            self.refill()?;
+        }
+        let (_, rest) = self.piece.split_at(self.taken.min(self.piece.len()));
+        let count = rest.len().min(buf.len());
+        buf[..count].copy_from_slice(&rest[..count]);
+        self.taken = self.taken.saturating_add(count);
+        Ok(count)
+    }
 }
 
 // How an input is read.
 #[derive(Drop)]
-enum Origin<I: Read + Copy> {
+enum Origin<R: Wait + Copy, I: Read + Copy> {
     // Another thread reads.
-    Ahead(Pieces),
+    Ahead(Ahead<R>),
     // No thread started.
     Here(I),
-    // It has ended, or couldn't be read.
-    Ended,
 }
 
 /// An input that a thread of its own reads ahead, four pieces of 64 KB at most, once the first bytes are asked for. So a read
 /// that waits for input ends where all are to end, by the `Breaker`: with an error then. The thread isn't joined, since nothing
 /// can end its own wait: it goes on until the input or the process ends. Where no thread starts, the input is read here, and a
-/// read that waits for it isn't ended. That the bytes are the input's, in their order, is tested: no contract names them.
+/// read that waits for it isn't ended: it gives the input's bytes. That another thread gives them, in their order, is tested: no
+/// contract names those.
 #[derive(Drop)]
 pub struct ReadAhead<R: Wait + Copy, I: Read + Copy> {
-    rt: R,
-    alloc: Global,
-    breaker: Arc<Breaker>,
-    origin: Origin<I>,
-    piece: Vec<u8>,
-    taken: usize,
+    origin: Origin<R, I>,
 }
 
 /// Starts the thread that reads an input ahead. The breaker is that of the run that reads it.
@@ -195,7 +232,9 @@ pub fn read_ahead<R: Threads + Wait + Copy + Send + 'static, I: Read + Copy + Se
     alloc: Global,
     breaker: Arc<Breaker>,
     input: I,
-) -> Result<ReadAhead<R, I>, AllocError> {
+) -> Result<ReadAhead<R, I>, AllocError>
+    ensures { IfOk result (λ r. IsFromStart input r.origin) }
+{
     let (producer, ring) = RingBuffer::new(alloc, PIECES)?;
     let demand = Arc::new(
         alloc,
@@ -208,50 +247,26 @@ pub fn read_ahead<R: Threads + Wait + Copy + Send + 'static, I: Read + Copy + Se
     let stop = Arc::try_clone(&breaker)?;
     let pumping = move || pump(&rt, alloc, &stop, &own, input, producer);
     let origin = match thread::spawn(&rt, pumping) {
-        Ok(_thread) => Origin::Ahead(Pieces { ring, demand }),
+        Ok(_thread) => Origin::Ahead(Ahead {
+            rt,
+            alloc,
+            breaker,
+            pieces: Some(Pieces { ring, demand }),
+            piece: Vec::new(alloc),
+            taken: 0,
+        }),
         Err(_refused) => Origin::Here(input),
     };
-    Ok(ReadAhead {
-        rt,
-        alloc,
-        breaker,
-        origin,
-        piece: Vec::new(alloc),
-        taken: 0,
-    })
-}
-
-impl<R: Wait + Copy, I: Read + Copy> ReadAhead<R, I> {
-    // The next piece, in whatever way the input is read.
-    fn next(&mut self) -> Piece {
-        match &mut self.origin {
-            Origin::Ahead(pieces) => next_piece(&self.rt, &self.breaker, pieces),
-            Origin::Here(input) => read_here(self.alloc, input),
-            Origin::Ended => Ok(Vec::new(self.alloc)),
-        }
-    }
-
-    // Takes the next piece. Behind the end of the input, or where it couldn't be read, there is none.
-    fn refill(&mut self) -> io::Result<()> {
-        let piece = self.next();
-        if !goes_on(&piece) {
-            self.origin = Origin::Ended;
-        }
-        self.piece = piece?;
-        self.taken = 0;
-        Ok(())
-    }
+    Ok(ReadAhead { origin })
 }
 
 impl<R: Wait + Copy, I: Read + Copy> Read for ReadAhead<R, I> {
+    ghost remaining = { λ r. left_to_read I.remaining r.origin };
+
     fn read(&mut self, buf: &mut [u8]) -> io::Result<usize> {
-        if self.taken >= self.piece.len() {
-            self.refill()?;
+        match &mut self.origin {
+            Origin::Ahead(ahead) => ahead.read(buf),
+            Origin::Here(input) => input.read(buf),
         }
-        let (_, rest) = self.piece.split_at(self.taken.min(self.piece.len()));
-        let count = rest.len().min(buf.len());
-        buf[..count].copy_from_slice(&rest[..count]);
-        self.taken = self.taken.saturating_add(count);
-        Ok(count)
     }
 }

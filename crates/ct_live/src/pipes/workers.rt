@@ -78,44 +78,18 @@ impl<P: Party<T> + Drop, T: Drop> Promise<Worked<P, T>> for WorkerPromise<P, T> 
 /// The thread of a party.
 pub type WorkerThread<P, T> = PromisedHandle<Worked<P, T>, WorkerPromise<P, T>>;
 
-// Keeps an item.
-fn keep<T: Drop>(items: &mut Vec<T>, item: T) -> Result<(), AllocError>
-    ensures { OnOk result (items.new.items ≡ items.old.items ++ item ∷ []) }
+// Keeps an item; where there is no room for it, all are to end.
+fn keep<T: Drop>(parkers: &Parkers, items: &mut Vec<T>, item: T) -> Result<(), Fault>
+    ensures kept { OnOk result (items.new.items ≡ items.old.items ++ item ∷ []) }
+    ensures faults { IfErr result (λ f. f ≡ Fault.Memory) }
 {
-    items.push(item)?;
-    Ok(())
-}
-
-// Starts a thread for each party.
-fn start_each<
-    'e: 's,
-    's,
-    T: Drop + Send + 's,
-    P: Party<T> + Drop + Send + 's,
-    R: Threads + Wait + Sync,
->(
-    rt: &'e R,
-    alloc: Global,
-    scope: &'s Scope<'s, &'e ()>,
-    parkers: &'e Parkers,
-    waiting: &'e Waiting,
-    workers: Vec<Worker<P, T>>,
-) -> Result<Vec<WorkerThread<P, T>>, Fault>
-    ensures started { IfOk result (λ v. map (λ t. t.promise.0.value) v.items ≡ workers.items) }
-    ensures faults { IfErr result (λ f. (f ≡ Fault.Memory) ⊎ (f ≡ Fault.Threads)) }
-{
-    let mut threads = Vec::new(alloc);
-    for worker in workers {
-        let promise = WorkerPromise(Snapshot::of(&worker));
-        let working = move || -> Worked<P, T>
-            ensures { OnOk result.result (Works P.does worker result.worker) × WorksSome P.does worker result.worker }
-        { work(rt, alloc, parkers, waiting, worker) };
-        let Ok(thread) = scope.spawn_with(promise, working) else {
-            return Err(Fault::Threads);
-        };
-        keep(&mut threads, thread)?;
+    match items.push(item) {
+        Ok(_place) => Ok(()),
+        Err(error) => {
+            parkers.stop();
+            Err(Fault::from(error))
+        }
     }
-    Ok(threads)
 }
 
 /// Starts a thread for each party.
@@ -140,13 +114,19 @@ pub fn start_workers<
     ensures started { IfOk result (λ v. map (λ t. t.promise.0.value) v.items ≡ workers.items) }
     ensures faults { IfErr result (λ f. (f ≡ Fault.Memory) ⊎ (f ≡ Fault.Threads)) }
 {
-    match start_each(rt, alloc, scope, parkers, waiting, workers) {
-        Ok(threads) => Ok(threads),
-        Err(fault) => {
+    let mut threads = Vec::new(alloc);
+    for worker in workers {
+        let promise = WorkerPromise(Snapshot::of(&worker));
+        let working = move || -> Worked<P, T>
+            ensures { OnOk result.result (Works P.does worker result.worker) × WorksSome P.does worker result.worker }
+        { work(rt, alloc, parkers, waiting, worker) };
+        let Ok(thread) = scope.spawn_with(promise, working) else {
             parkers.stop();
-            Err(fault)
-        }
+            return Err(Fault::Threads);
+        };
+        keep(parkers, &mut threads, thread)?;
     }
+    Ok(threads)
 }
 
 /// The parties and the ends of their rings, as their threads handed them back, and why one ended before its time.
@@ -178,9 +158,12 @@ impl<P: Drop, T: Drop> JoinedParties<P, T> {
     }
 }
 
-// Why a party ended before its time, once one more has ended: as the first that did; but that memory was refused goes before that
-// all were to end, so that a party that was only told to end doesn't hide it.
-fn fault_with(before: Option<ThreadFault>, ended: Result<(), ThreadFault>) -> Option<ThreadFault>
+/// Why a party ended before its time, once one more has ended: as the first that did; but that memory was refused goes before that
+/// all were to end, so that a party that was only told to end doesn't hide it.
+pub fn fault_with(
+    before: Option<ThreadFault>,
+    ended: Result<(), ThreadFault>,
+) -> Option<ThreadFault>
     ensures none { result ≡ None → (before ≡ None) × (ended ≡ Ok tt) }
     ensures refused { (before ≡ Some ThreadFault.Memory) ⊎ (ended ≡ Err ThreadFault.Memory) → result ≡ Some ThreadFault.Memory }
     ensures memory { result ≡ Some ThreadFault.Memory → (before ≡ Some ThreadFault.Memory) ⊎ (ended ≡ Err ThreadFault.Memory) }

@@ -11,7 +11,6 @@ pub loop-tile-preserved : goal.loop-tile-preserved
 loop-tile-preserved g c =
     let H = g.H.NodeHash.digest in
     let l = c.loop-tile in
-    let joined = c.with_carried.ensures in
     carried-step H l.tile-index c.args.tiles.now c.tile-item.result l.carried.items c.in_ok-hashes.hashes.items c.in_ok-carried.carried.items
     c.loop-tile-test.true c.tile-item.is
     (c.in_ok-hashes.ensures ∙ ap (λ (x : List (List ℕ)). x ++ c.deref-in-loop-tile.result.now) c.deref.ensures.value

@@ -2,7 +2,7 @@ use Rattle.std.proofs.Common.{◌≡◌, List, [], ◌∷◌, ◌++◌, length, 
 use Rattle.std.proofs.lemmas.Grind.{common_steps}
 use Rattle.shared.specs.Flat.{concatenated}
 use Rattle.shared.proofs.Concatenated.{same-moved}
-use Rattle.shared.proofs.Chunks.{AllOf-push}
+use Rattle.shared.proofs.Sized.{chunks, AllOf-push}
 use Rattle.shared.proofs.chunked.make_room.Goals as goal
 
 pub returns-clause-same : goal.returns-clause-same
@@ -17,4 +17,4 @@ pub returns-clause-each : goal.returns-clause-each
 returns-clause-each g c =
     let full : c.push.new.self ≡ c.args.full.now ++ c.args.last.now.items ∷ [] = grind (arith, common_steps) in
     let size : length c.args.last.now.items ≡ 128 = grind (arith, common_steps) in
-    rw full (AllOf-push c.args.full.now c.args.last.now.items c.requires.each size)
+    rw full (AllOf-push chunks c.args.full.now c.args.last.now.items c.requires.each size)

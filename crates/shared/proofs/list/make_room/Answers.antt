@@ -1,7 +1,7 @@
 use Rattle.std.proofs.Common.{◌≡◌, List, [], ◌∷◌, ◌++◌, length, ap, ◌∙◌, arith}
 use Rattle.shared.specs.Flat.{concatenated}
 use Rattle.shared.proofs.Concatenated.{same-moved}
-use Rattle.shared.proofs.Blocks.{AllOf-push}
+use Rattle.shared.proofs.Sized.{blocks, AllOf-push}
 use Rattle.shared.proofs.list.make_room.Goals as goal
 
 pub returns-clause-same : goal.returns-clause-same
@@ -18,4 +18,4 @@ returns-clause-each g c =
     let full : c.push.new.self ≡ c.args.blocks.now ++ c.args.row.now ∷ [] = c.in_ok-push.ensures.ok
     ∙ ap (λ (b : List _). c.args.blocks.now ++ b ∷ []) c.in_ok-block.ensures in
     let size : length c.args.row.now ≡ 16384 = omega arith in
-    rw full (AllOf-push c.args.blocks.now c.args.row.now c.requires.each size)
+    rw full (AllOf-push blocks c.args.blocks.now c.args.row.now c.requires.each size)

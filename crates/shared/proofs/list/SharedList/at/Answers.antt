@@ -1,7 +1,7 @@
 use Rattle.std.proofs.Common.{◌≡◌, ◌<◌, ◌≤◌, ◌/◌, ◌%◌, List, ◌++◌, length, get_or, ap, sym, ◌∙◌, arith}
 use Rattle.std.proofs.lemmas.Grind.{common_steps}
 use Rattle.shared.specs.Flat.{concatenated}
-use Rattle.shared.proofs.Blocks.{in_chunks, in_rest, in_rest-below, full_at}
+use Rattle.shared.proofs.Sized.{blocks, in_parts, in_rest, in_rest-below, full_at}
 use Rattle.shared.proofs.list.SharedList.at.Goals as goal
 
 pub at-requires : goal.at-requires
@@ -12,7 +12,7 @@ at-requires g c =
     let part = c.index-blocks-block.result in
     let there : part ≡ get_or cs k part =
     c.index-blocks-block.is ∙ ap (λ (l : List (List _)). get_or l k part) c.values-blocks.ensures in
-    let size : length (get_or cs k part) ≡ 16384 = full_at cs k part c.self.invariant.each below in
+    let size : length (get_or cs k part) ≡ 16384 = full_at blocks cs k part c.self.invariant.each below in
     let same : length part ≡ length (get_or cs k part) = ap length there in
     omega arith
 
@@ -22,7 +22,7 @@ at-requires-else-block-blocks g c =
     let past : length cs ≤ c.args.index / 16384 = grind (arith, common_steps) in
     let inside : c.args.index < length (concatenated cs ++ c.self.inside.row) = rw c.self.view_is c.requires in
     let at : c.args.index % 16384 < length c.self.inside.row =
-    in_rest-below cs c.self.inside.row c.args.index c.self.invariant.each c.self.invariant.short past inside in
+    in_rest-below blocks cs c.self.inside.row c.args.index c.self.invariant.each c.self.invariant.short past inside in
     at
 
 pub returns-then-block-blocks : goal.returns-then-block-blocks
@@ -37,7 +37,7 @@ returns-then-block-blocks g c =
     c.index-blocks-block.is ∙ ap (λ (l : List (List _)). get_or l k part) c.values-blocks.ensures in
     c.at.ensures
     ∙ ap (λ (l : List _). get_or l (i % 16384) d) there
-    ∙ sym (in_chunks cs c.self.inside.row i part d c.self.invariant.each below)
+    ∙ sym (in_parts blocks cs c.self.inside.row i part d c.self.invariant.each below)
     ∙ ap (λ (l : List _). get_or l i d) c.self.view_is
 
 pub returns-else-block-blocks : goal.returns-else-block-blocks
@@ -48,5 +48,5 @@ returns-else-block-blocks g c =
     let past : length cs ≤ i / 16384 = grind (arith, common_steps) in
     let inside : i < length (concatenated cs ++ c.self.inside.row) = rw c.self.view_is c.requires in
     c.at-else-block-blocks.ensures
-    ∙ sym (in_rest cs c.self.inside.row i d c.self.invariant.each c.self.invariant.short past inside)
+    ∙ sym (in_rest blocks cs c.self.inside.row i d c.self.invariant.each c.self.invariant.short past inside)
     ∙ ap (λ (l : List _). get_or l i d) c.self.view_is

@@ -1,6 +1,0 @@
-pub mod Loops
-pub mod Found
-pub mod Here
-pub mod Shorter
-pub mod Written
-pub mod Answered

@@ -1,5 +1,0 @@
-use Rattle.ct_tbs_cut.proofs.Written as lemmas
-use Rattle.ct_tbs_cut.proofs.laws.bytes_have_one_cut.Goals as goal
-
-pub returns : goal.returns
-returns c = lemmas.one_cut

@@ -1,8 +1,0 @@
-use Rattle.ct_tbs_cut.proofs.Written as lemmas
-use Rattle.ct_tbs_cut.proofs.laws.cuts_are_written.Goals as goal
-
-pub returns-clause-there : goal.returns-clause-there
-returns-clause-there c = lemmas.written_cuts_are_there
-
-pub returns-clause-written : goal.returns-clause-written
-returns-clause-written c = lemmas.cuts_are_written

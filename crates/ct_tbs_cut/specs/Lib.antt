@@ -1,4 +1,0 @@
-pub mod Tbs
-pub mod Reading
-pub mod Laws
-pub mod Cuts

@@ -1,0 +1,5 @@
+use Rattle.std.proofs.Common.{refl}
+use Rattle.line_program.proofs.tests.MarkingReplier.reply.Goals as goal
+
+pub returns : goal.returns
+returns c = ((c.push-2.new.self.items, c.eq.result), tt, refl, refl)
