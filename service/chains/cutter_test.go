@@ -9,9 +9,9 @@ import (
 	"errors"
 	"fmt"
 	"testing"
-	"time"
 
 	"wagtenib/service/step"
+	"wagtenib/service/trial"
 )
 
 // The one form of the poison extension: its OID, critical, and NULL in an OCTET STRING.
@@ -20,7 +20,7 @@ var poison = []byte{0x30, 0x13, 0x06, 0x0a, 0x2b, 0x06, 0x01, 0x04, 0x01, 0xd6, 
 // standIn is a cutter that asks tests/tiles/step.py, which answers the lines of ctproof.
 func standIn(t testing.TB) Cutter {
 	wantsPython(t)
-	program, err := step.NewClient([]string{"python3", "-B", "../../tests/tiles/step.py"}, 10*time.Minute)
+	program, err := step.NewClient([]string{"python3", "-B", "../../tests/tiles/step.py"}, trial.Longest)
 	if err != nil {
 		t.Fatal(err)
 	}

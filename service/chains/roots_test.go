@@ -10,7 +10,20 @@ import (
 	"reflect"
 	"strings"
 	"testing"
+
+	"wagtenib/service/trial"
 )
+
+// puts gives what writes files of a folder, and says where.
+func puts(t *testing.T, folder string) func(name string, text []byte) string {
+	return func(name string, text []byte) string {
+		t.Helper()
+		path := filepath.Join(folder, name)
+		trial.Must(t, os.MkdirAll(filepath.Dir(path), 0o700))
+		trial.Must(t, os.WriteFile(path, text, 0o600))
+		return path
+	}
+}
 
 // TestRootFiles: what the files have together are the roots; what isn't taken is named, and nothing else is lost.
 func TestRootFiles(t *testing.T) {
@@ -18,16 +31,7 @@ func TestRootFiles(t *testing.T) {
 	root, other := a.pem(t, "root"), a.pem(t, "other")
 	both := a.chain(t, "root", "other")
 	folder := t.TempDir()
-	put := func(name string, text []byte) string {
-		path := filepath.Join(folder, name)
-		if err := os.MkdirAll(filepath.Dir(path), 0o700); err != nil {
-			t.Fatal(err)
-		}
-		if err := os.WriteFile(path, text, 0o600); err != nil {
-			t.Fatal(err)
-		}
-		return path
-	}
+	put := puts(t, folder)
 	// As CCADB writes it: the PEM between apostrophes, in a column of that name.
 	var ccadb bytes.Buffer
 	rows := csv.NewWriter(&ccadb)

@@ -205,7 +205,7 @@ func (f *folder) note(text string) (head, error) {
 		return head{}, wrong("no size")
 	}
 	root, err := base64.StdEncoding.Strict().DecodeString(lines[2])
-	if err != nil || len(root) != 32 {
+	if err != nil || len(root) != 32 || base64.StdEncoding.EncodeToString(root) != lines[2] {
 		return head{}, wrong("no root")
 	}
 	words := strings.Split(signed[0], " ")
@@ -213,7 +213,7 @@ func (f *folder) note(text string) (head, error) {
 		return head{}, wrong("the signature isn't the origin's")
 	}
 	blob, err := base64.StdEncoding.Strict().DecodeString(words[2])
-	if err != nil || len(blob) < 13 {
+	if err != nil || len(blob) < 13 || base64.StdEncoding.EncodeToString(blob) != words[2] {
 		return head{}, wrong("no signature")
 	}
 	id := sha256.Sum256(append([]byte(lines[0]+"\n\x05"), f.logID[:]...))
@@ -433,7 +433,7 @@ func (f *folder) judgeTiles(size uint64) (count int, err error) {
 		}
 		level, defined := 0, []byte(nil)
 		if words[1] != "data" {
-			if level, err = strconv.Atoi(words[1]); err != nil || level > 7 {
+			if level, err = strconv.Atoi(words[1]); err != nil || level > 7 || strconv.Itoa(level) != words[1] {
 				return 0, wrong("%s: it has no level", name)
 			}
 		}

@@ -85,6 +85,9 @@ func run() error {
 	repeats := flag.Int("repeats", 5, "of 100 submissions so many are sent again")
 	tell := flag.Duration("tell", time.Minute, "how far two lines with figures are apart")
 	flag.Parse()
+	if flag.NArg() > 0 {
+		return fmt.Errorf("%q isn't expected: --help says which words it takes", flag.Arg(0))
+	}
 	ends := time.Now().AddDate(0, 6, 0)
 	if *notAfter != "" {
 		var err error

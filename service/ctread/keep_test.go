@@ -318,6 +318,22 @@ func TestMirrorOfAnother(t *testing.T) {
 	if left, _ := filepath.Glob(filepath.Join(r.mirror.folder, ".checkpoint-*")); len(left) != 0 {
 		t.Errorf("half of it is left: %v", left)
 	}
+	// As long as one isn't written the tiles of the one before stay.
+	g, r = newLog(t)
+	g.grow(5, 7)
+	must(t, r.resume(t.TempDir()))
+	must(t, r.follow(context.Background()))
+	must(t, os.Remove(filepath.Join(r.mirror.folder, "checkpoint")))
+	must(t, os.Mkdir(filepath.Join(r.mirror.folder, "checkpoint"), 0o700))
+	g.grow(300, 8)
+	if err := r.follow(context.Background()); err == nil {
+		t.Error("a checkpoint is written over a folder")
+	}
+	for _, name := range []string{"tile/data/000.p/5", "tile/0/000.p/5"} {
+		if _, err := os.Stat(filepath.Join(r.mirror.folder, name)); err != nil {
+			t.Errorf("no checkpoint is written yet, and %s went: %v", name, err)
+		}
+	}
 }
 
 // TestEntries: what is no list of entries isn't read as one.

@@ -21,6 +21,7 @@ import (
 	"time"
 
 	"wagtenib/service/sequencer"
+	"wagtenib/service/settingsfile"
 	"wagtenib/service/signer"
 	"wagtenib/service/stores"
 	"wagtenib/service/version"
@@ -55,13 +56,7 @@ func runCommand(name string, words []string, answers, faults io.Writer) int {
 
 // commandFlags are those of one command, whose page stands before them.
 func commandFlags(name, page string, faults io.Writer) *flag.FlagSet {
-	flags := flag.NewFlagSet("ctserve "+name, flag.ContinueOnError)
-	flags.SetOutput(faults)
-	flags.Usage = func() {
-		fmt.Fprintf(faults, "%s\n\n", page)
-		flags.PrintDefaults()
-	}
-	return flags
+	return settingsfile.Flags("ctserve "+name, page, faults)
 }
 
 // parseFlags reads words that are flags, and as many others as are given.

@@ -15,6 +15,7 @@ import (
 	"testing"
 	"time"
 
+	"wagtenib/service/trial"
 	"wagtenib/service/web/standin"
 )
 
@@ -244,7 +245,7 @@ func TestCommandLine(t *testing.T) {
 		command.Env = append(os.Environ(), childKey+"=1")
 		var out bytes.Buffer
 		command.Stdout = &out
-		timer := time.AfterFunc(time.Minute, func() { command.Process.Kill() })
+		timer := time.AfterFunc(trial.Longest, func() { command.Process.Kill() })
 		command.Run()
 		timer.Stop()
 		if status := command.ProcessState.ExitCode(); status != c.status || out.String() != c.out {

@@ -7,6 +7,7 @@ import (
 	"net/url"
 	"os"
 	"path/filepath"
+	"strconv"
 	"strings"
 	"syscall"
 	"testing"
@@ -14,6 +15,7 @@ import (
 
 	"wagtenib/service/check"
 	"wagtenib/service/signer"
+	"wagtenib/service/trial"
 	"wagtenib/service/web/standin"
 )
 
@@ -64,7 +66,7 @@ func TestFullDisk(t *testing.T) {
 	}
 	again := func() {
 		t.Helper()
-		for until := time.Now().Add(time.Minute); ; time.Sleep(50 * time.Millisecond) {
+		for until := time.Now().Add(trial.Longest); ; time.Sleep(50 * time.Millisecond) {
 			status, text := submit()
 			if status == 200 {
 				return
@@ -77,9 +79,14 @@ func TestFullDisk(t *testing.T) {
 	for i := 0; i < 5; i++ {
 		again()
 	}
+	const failures, puts = `ctserve_store_failures_total{call="put",store="objects"}`, `ctserve_store_seconds_count{call="put",store="objects"}`
+	if failed, all := figure(t, p, failures), figure(t, p, puts); failed != 0 || all < 5 {
+		t.Errorf("%v of %v puts are said to have failed, with room", failed, all)
+	}
 	for _, but := range []int64{0, 64 << 10} {
+		before := figure(t, p, failures)
 		room := fill(t, disk, but)
-		for until := time.Now().Add(time.Minute); ; {
+		for until := time.Now().Add(trial.Longest); ; {
 			status, text := submit()
 			if status == 503 && strings.Contains(text, `"store"`) {
 				break
@@ -94,6 +101,9 @@ func TestFullDisk(t *testing.T) {
 		}
 		if _, text := get(p.operator, "/metrics"); !strings.Contains(text, "ctserve_fault 1\n") {
 			t.Errorf("with %d bytes: ctserve_fault isn't 1", but)
+		}
+		if after := figure(t, p, failures); after <= before {
+			t.Errorf("with %d bytes: %v puts are said to have failed, and %v before", but, after, before)
 		}
 		room()
 		again()
@@ -117,6 +127,23 @@ func TestFullDisk(t *testing.T) {
 	if err != nil || report.Answers < 8 || report.Repeats != 0 {
 		t.Errorf("%+v, %v", report, err)
 	}
+}
+
+// figure is one that /metrics has of a log.
+func figure(t *testing.T, p *program, name string) float64 {
+	t.Helper()
+	_, text := get(p.operator, "/metrics")
+	for _, line := range strings.Split(text, "\n") {
+		if value := strings.TrimPrefix(line, name+" "); value != line {
+			found, err := strconv.ParseFloat(value, 64)
+			if err != nil {
+				t.Fatalf("%s: %v", line, err)
+			}
+			return found
+		}
+	}
+	t.Fatalf("there is no figure %s", name)
+	return 0
 }
 
 // mount mounts a small file system where the log is.
@@ -171,7 +198,12 @@ func readsAll(t *testing.T, p *program, when string, answers []check.Answer) {
 	hash := standin.LeafHash(leafOf(answers[2]))
 	proof := fmt.Sprintf("/ct/v1/get-proof-by-hash?tree_size=%d&hash=%s", head.Size, url.QueryEscape(base64.StdEncoding.EncodeToString(hash[:])))
 	for _, path := range []string{"/checkpoint", fmt.Sprintf("/tile/0/000.p/%d", head.Size), fmt.Sprintf("/tile/data/000.p/%d", head.Size), "/ct/v1/get-entries?start=0&end=4", fmt.Sprint("/ct/v1/get-sth-consistency?first=3&second=", head.Size), proof, "/healthz"} {
-		if status, text := get(p.clients, path); status != 200 {
+		status, text := get(p.clients, path)
+		// (a reading has some seconds alone, in which a busy machine doesn't start the program of proofs)
+		for until := time.Now().Add(trial.Longest); strings.Contains(text, `"late"`) && time.Now().Before(until); {
+			status, text = get(p.clients, path)
+		}
+		if status != 200 {
 			t.Errorf("%s: %s: %d %s", when, path, status, text)
 		}
 	}

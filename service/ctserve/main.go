@@ -13,7 +13,6 @@ import (
 	"crypto/tls"
 	"encoding/hex"
 	"errors"
-	"flag"
 	"fmt"
 	"io"
 	"net"
@@ -27,6 +26,7 @@ import (
 	"wagtenib/service/log"
 	"wagtenib/service/reader"
 	"wagtenib/service/sequencer"
+	"wagtenib/service/settingsfile"
 	"wagtenib/service/signer"
 	"wagtenib/service/stores"
 	"wagtenib/service/version"
@@ -34,13 +34,14 @@ import (
 )
 
 // opened is a log that was opened, what makes proofs of its tiles, what makes a precertificate's entry, the handler of what other nodes ask
-// it, its public key, and what closes what it stands on.
+// it, its public key, what its stores were asked, and what closes what it stands on.
 type opened struct {
 	log    log.Log
 	proofs *reader.Reader
 	cutter chains.Cutter
 	nodes  http.Handler
 	key    []byte
+	calls  *stores.Calls
 	close  func()
 }
 
@@ -66,12 +67,8 @@ func run(words []string, to io.Writer, open opener) int {
 		return runCommand(words[0], words[1:], os.Stdout, to)
 	}
 	s, err := parse(words, to)
-	if errors.Is(err, flag.ErrHelp) {
-		return 0
-	}
-	if err != nil {
-		fmt.Fprintln(to, err)
-		return 2
+	if status, ends := settingsfile.Ends(err, to); ends {
+		return status
 	}
 	signals := make(chan os.Signal, 4)
 	signal.Notify(signals, syscall.SIGHUP, syscall.SIGTERM, syscall.SIGINT)
@@ -124,7 +121,7 @@ func serve(s *settings, lines *web.Lines, signals <-chan os.Signal, open opener)
 	if err != nil {
 		return err
 	}
-	front := web.New(of.log, of.proofs, checker, web.Options{Limits: s.limits, Proxies: s.proxies, Lines: lines, LogRequests: s.logRequests, ReadOnly: s.readOnly, About: about})
+	front := web.New(of.log, of.proofs, checker, web.Options{Limits: s.limits, Proxies: s.proxies, Lines: lines, LogRequests: s.logRequests, ReadOnly: s.readOnly, About: about, Stores: of.calls})
 
 	servers := []*served{{of: "clients", address: s.listen, over: over, handler: front}}
 	if s.listenNodes != "" {

@@ -17,6 +17,7 @@ import (
 	"testing"
 	"time"
 
+	"wagtenib/service/trial"
 	"wagtenib/service/web"
 	"wagtenib/service/web/standin"
 )
@@ -59,26 +60,21 @@ func settingsAt(t *testing.T, folder, name string, lines ...string) string {
 	return file
 }
 
-// freeAddress is one of loopback at which nobody listens.
-func freeAddress(t *testing.T) string {
-	t.Helper()
-	listener, err := net.Listen("tcp", "127.0.0.1:0")
-	if err != nil {
-		t.Fatal(err)
-	}
-	defer listener.Close()
-	return listener.Addr().String()
-}
-
 // nginxWith starts nginx with a site, and waits until it answers at an address, whatever it does.
 func nginxWith(t *testing.T, site, address string) {
+	t.Helper()
+	nginxHaving(t, site, address, "events {}")
+}
+
+// nginxHaving starts nginx with a site, and with these lines of its own beside that.
+func nginxHaving(t *testing.T, site, address, main string) {
 	t.Helper()
 	nginx, folder := nginxFound(t), t.TempDir()
 	paths := ""
 	for _, kind := range []string{"client_body", "proxy", "fastcgi", "uwsgi", "scgi"} {
 		paths += fmt.Sprintf("%s_temp_path %s/%s;\n", kind, folder, kind)
 	}
-	whole := fmt.Sprintf("daemon off; pid %s/pid; error_log stderr; events {}\nhttp { access_log off;\n%s%s}\n", folder, paths, site)
+	whole := fmt.Sprintf("daemon off; pid %s/pid; error_log stderr; %s\nhttp { access_log off;\n%s%s}\n", folder, main, paths, site)
 	conf := filepath.Join(folder, "nginx.conf")
 	if err := os.WriteFile(conf, []byte(whole), 0o600); err != nil {
 		t.Fatal(err)
@@ -102,7 +98,7 @@ func nginxWith(t *testing.T, site, address string) {
 		command.Process.Signal(syscall.SIGTERM)
 		command.Wait()
 	})
-	for until := time.Now().Add(time.Minute); ; time.Sleep(20 * time.Millisecond) {
+	for until := time.Now().Add(trial.Longest); ; time.Sleep(20 * time.Millisecond) {
 		if connection, err := net.Dial("tcp", address); err == nil {
 			connection.Close()
 			return
@@ -117,7 +113,7 @@ func nginxWith(t *testing.T, site, address string) {
 func nginxBefore(t *testing.T, clients string, lines ...string) string {
 	t.Helper()
 	nginxFound(t)
-	address, folder := freeAddress(t), t.TempDir()
+	address, folder := trial.Free(t), t.TempDir()
 	settings := settingsAt(t, folder, "one", append([]string{"origin log.example", "proxies 127.0.0.1", "listen " + clients}, lines...)...)
 	nginxWith(t, siteOf(t, true, "--listen", address, "--cache", filepath.Join(folder, "cache"), settings), address)
 	return address
@@ -176,6 +172,7 @@ func TestSite(t *testing.T) {
 		"another proxy":               {of("origin log.example", "proxies 10.0.0.1")},
 		"no proxy of another machine": {of("origin log.example", "listen 10.0.0.2:9003")},
 		"TLS":                         {of("origin log.example", "proxies 127.0.0.1", "tls-certificate /a", "tls-key /b")},
+		"an address without a port":   {of("origin log.example", "proxies 127.0.0.1", "listen 127.0.0.1")},
 		"an origin that is no name":   {of("origin log_example", "proxies 127.0.0.1")},
 		"an origin with a port":       {of("origin log.example:8443", "proxies 127.0.0.1")},
 		"the same twice":              {a, a},
@@ -208,7 +205,7 @@ func TestSite(t *testing.T) {
 // doesn't answer keeps no other from taking.
 func TestRoutedSubmissions(t *testing.T) {
 	nginxFound(t)
-	at, folder, address := newPlace(t), t.TempDir(), freeAddress(t)
+	at, folder, address := newPlace(t), t.TempDir(), trial.Free(t)
 	years, files, shards := []int{2027, 2028, 2029}, []string{}, map[int]*program{}
 	for _, year := range years {
 		window := []string{"--not-after-from", fmt.Sprintf("%d-01-01", year), "--not-after-to", fmt.Sprintf("%d-01-01", year+1)}
@@ -363,6 +360,15 @@ func TestBehindNginx(t *testing.T) {
 			t.Errorf("to who takes %q: %d %v", takes, answer.StatusCode, answer.Header)
 		}
 	}
+	// .. and so are its parts.
+	_, whole := get(address, "/tile/data/000.p/2")
+	request, _ = http.NewRequest("GET", "http://"+address+"/tile/data/000.p/2", nil)
+	request.Header.Set("Range", "bytes=7-20")
+	if answer, err := plain.Do(request); err != nil {
+		t.Error(err)
+	} else if part, _ := io.ReadAll(answer.Body); answer.StatusCode != 206 || string(part) != whole[7:21] {
+		t.Errorf("a part: %d %q of %q", answer.StatusCode, part, whole)
+	}
 	if count := tiles(); count != 1 {
 		t.Errorf("the log was asked for the tile %d times", count)
 	}
@@ -404,7 +410,7 @@ func TestBentTileBehindNginx(t *testing.T) {
 	for _, body := range bodies {
 		go func(body []byte) {
 			status, text := 503, ""
-			for until := time.Now().Add(2 * time.Minute); status == 503 && time.Now().Before(until); time.Sleep(100 * time.Millisecond) {
+			for until := time.Now().Add(trial.Longest); status == 503 && time.Now().Before(until); time.Sleep(100 * time.Millisecond) {
 				status, text = post(p.clients, body)
 			}
 			if status != 200 {

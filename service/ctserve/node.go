@@ -25,6 +25,7 @@ func openNode(ctx context.Context, n node) (of *opened, err error) {
 			closeAll()
 		}
 	}()
+	calls := &stores.Calls{}
 	config := sequencer.Config{
 		Origin: n.origin, Create: n.create, Interval: n.interval, Refresh: n.refresh, MostQueue: n.mostQueue, MostBatch: n.mostBatch, MostWritten: n.mostWritten,
 		SweepAfter: n.sweepAfter, SweepTilesAfter: n.sweepTilesAfter, TendEvery: n.readEvery, ReadAllWithin: n.readAllWithin, BehindSwap: n.behindSwap, Address: n.address, Secret: n.secret,
@@ -48,14 +49,17 @@ func openNode(ctx context.Context, n node) (of *opened, err error) {
 		return nil, err
 	}
 	closers = append(closers, config.Objects.Close)
+	config.Objects = calls.Objects(config.Objects)
 	if config.Register, err = stores.RegisterAt(ctx, n.register); err != nil {
 		return nil, err
 	}
 	closers = append(closers, config.Register.Close)
+	config.Register = calls.Register(config.Register)
 	if config.Places, err = stores.PlacesAt(ctx, n.places); err != nil {
 		return nil, err
 	}
 	closers = append(closers, config.Places.Close)
+	config.Places = calls.Places(config.Places)
 	if config.Step, err = step.NewClient(n.step, n.stepWithin); err != nil {
 		return nil, err
 	}
@@ -88,5 +92,5 @@ func openNode(ctx context.Context, n node) (of *opened, err error) {
 	if err != nil {
 		return nil, err
 	}
-	return &opened{log: s, proofs: reader.New(reading, s.Object, n.mostProofs), cutter: cutting, nodes: s.Handler(), key: asked.Key(), close: closeAll}, nil
+	return &opened{log: s, proofs: reader.New(reading, s.Object, n.mostProofs), cutter: cutting, nodes: s.Handler(), key: asked.Key(), calls: calls, close: closeAll}, nil
 }

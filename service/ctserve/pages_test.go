@@ -45,7 +45,7 @@ func TestPagesNameSettings(t *testing.T) {
 		}
 	}
 	// What has a hyphen and is no setting.
-	others := map[string]bool{"list-entry": true, "made-again": true, "root-left-out": true, "read-only": true, "statement_timeout": true, "pre-vote": true, "auto-compaction-mode=periodic": true}
+	others := map[string]bool{"list-entry": true, "made-again": true, "root-left-out": true, "read-only": true, "too-often": true, "statement_timeout": true, "pre-vote": true, "auto-compaction-mode=periodic": true}
 	whole := ""
 	for _, page := range []string{"../../docs/OPERATING.md", "../INCIDENTS.md"} {
 		text := trial.Page(t, page)
@@ -72,7 +72,7 @@ func TestPagesNameSettings(t *testing.T) {
 		{"latest-head", "`latest-head`, by default `FOLDER.latest-head`", "default FOLDER.latest-head"},
 		{"guard-state", "`guard-state`, by default `FOLDER.guard`", "FOLDER.guard"},
 		{"refresh", "each `refresh` (an hour)", "default 1h0m0s)"},
-		{"interval", "where twenty heads a second come", "default 50ms)"},
+		{"interval", "twenty heads a second", "50ms are twenty a second at most"},
 	} {
 		if !strings.Contains(whole, said.onPage) {
 			t.Errorf("the pages don't say %q", said.onPage)
@@ -90,6 +90,9 @@ func TestPageSaysBounds(t *testing.T) {
 	})
 	s, err := parse([]string{"--roots", "r", "--origin", "o.example", "--signing-key", "k"}, &bytes.Buffer{})
 	trial.Must(t, err)
+	trial.Says(t, trial.Page(t, "../README.md"), map[string]bool{
+		"more than `most-written` lets through in a second (16 MiB)": s.node.mostWritten == 16<<20,
+	})
 	if s.node.mostProofs != 64 || s.limits.ProofsByAddress != 16 {
 		t.Errorf("%d proofs at once, of one address %d", s.node.mostProofs, s.limits.ProofsByAddress)
 	}

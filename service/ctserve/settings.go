@@ -2,7 +2,6 @@ package main
 
 import (
 	"errors"
-	"flag"
 	"fmt"
 	"io"
 	"net/netip"
@@ -69,12 +68,7 @@ var errUsage = errors.New("ctserve")
 // parse reads the command line, and the file that it names. What stands on the command line counts.
 func parse(words []string, help io.Writer) (*settings, error) {
 	s := &settings{limits: web.DefaultLimits()}
-	flags := flag.NewFlagSet("ctserve", flag.ContinueOnError)
-	flags.SetOutput(help)
-	flags.Usage = func() {
-		fmt.Fprint(help, "ctserve serves a Certificate Transparency log over HTTP. Each word may also stand as a line 'name value' in the file of --config.\n'ctserve signer --help' says what its signer takes; 'ctserve key FILE' makes a key, 'ctserve check FILE' looks at settings without starting, 'ctserve list-entry' writes a log list's entry, 'ctserve shards' a year's settings, 'ctserve nginx' a site of nginx, 'ctserve places FILE' builds the places anew, 'ctserve clock FILE DAY' names the day where nothing but the machine's clock does, each with --help.\n\n")
-		flags.PrintDefaults()
-	}
+	flags := settingsfile.Flags("ctserve", "ctserve serves a Certificate Transparency log over HTTP. Each word may also stand as a line 'name value' in the file of --config.\n'ctserve signer --help' says what its signer takes; 'ctserve key FILE' makes a key, 'ctserve check FILE' looks at settings without starting, 'ctserve list-entry' writes a log list's entry, 'ctserve shards' a year's settings, 'ctserve nginx' a site of nginx, 'ctserve places FILE' builds the places anew, 'ctserve clock FILE DAY' names the day where nothing but the machine's clock does, each with --help.", help)
 	flags.String("config", "", "`file` with a line 'name value' for each of these, and comments behind #")
 	flags.StringVar(&s.listen, "listen", "127.0.0.1:8618", "`address` for clients")
 	flags.StringVar(&s.operator, "operator-listen", "127.0.0.1:8619", "`address` for /metrics, /healthz and /readyz; none where it is empty")
@@ -102,6 +96,8 @@ func parse(words []string, help io.Writer) (*settings, error) {
 		s.limits.Submitters, err = submitters(text)
 		return err
 	})
+	flags.IntVar(&s.limits.SubmissionRate, "submission-rate-by-address", 0, "submissions a second of one address, or one /64, that are taken, and of ten seconds at once; 0 for as many as come, and submitters have none")
+	flags.IntVar(&s.limits.ReadRate, "read-rate-by-address", 0, "proofs and get-entries a second of one address, in the same way")
 	flags.IntVar(&s.limits.Checks, "most-checks", s.limits.Checks, "chains that are checked at once")
 	flags.Int64Var(&s.limits.WaitingBytes, "most-waiting-bytes", s.limits.WaitingBytes, "bytes of all submissions that are read or wait; of one address an eighth, at least 1 MiB")
 	flags.Int64Var(&s.limits.AnswerBytes, "most-answer-bytes", s.limits.AnswerBytes, "bytes of all objects that are read for answers or sent; of one address an eighth, at least 65 MiB")
@@ -128,7 +124,7 @@ func parse(words []string, help io.Writer) (*settings, error) {
 	flags.Func("reader", "the `command` of the program that makes proofs for readers out of the tiles, with its words (default \"ctproof\")", command(&n.reader))
 	flags.Func("decider", "the `command` of the program that says what a node does next, with its words (default \"ctnode\")", command(&n.decider))
 	flags.DurationVar(&n.stepWithin, "step-within", 30*time.Second, "how long a step may take, until its program is killed")
-	flags.DurationVar(&n.interval, "interval", 50*time.Millisecond, "how far two heads are apart at least: 50ms are twenty a second; over stores that aren't folders and files twice as long as a step takes there, up to 500ms")
+	flags.Func("interval", "how far two heads are apart at least, as a `duration`: 50ms are twenty a second at most; where none is set a folder's heads follow what a step takes and writes, and over other stores and with witnesses they are 50ms apart; over other stores twice as long as a step takes there, up to 500ms", above0(&n.interval))
 	flags.DurationVar(&n.refresh, "refresh", time.Hour, "how old a head gets before one without new entries is made")
 	flags.DurationVar(&n.sweepAfter, "sweep-after", time.Hour, "how long a head stands before older ones are deleted")
 	flags.DurationVar(&n.sweepTilesAfter, "sweep-tiles-after", 5*time.Minute, "how long a full tile stands before its partial ones are deleted, and a head before of those before it one is left each half second; at most as long as the one above")
@@ -167,7 +163,7 @@ func parse(words []string, help io.Writer) (*settings, error) {
 
 // settle looks at what has to go together, and fills in what follows from the rest.
 func (s *settings) settle() error {
-	n, l := &s.node, s.limits
+	n, l := &s.node, &s.limits
 	for _, needed := range []struct{ name, value string }{{"roots", strings.Join(s.roots.Paths, "")}, {"origin", n.origin}, {"signing-key or --signer-at", n.signingKey + n.signerAt}} {
 		if needed.value == "" {
 			return fmt.Errorf("--%s is needed", needed.name)
@@ -185,7 +181,7 @@ func (s *settings) settle() error {
 	if !s.window.From.IsZero() && !s.window.To.IsZero() && !s.window.From.Before(s.window.To) {
 		return errors.New("--not-after-from isn't before --not-after-to")
 	}
-	for _, time := range []time.Duration{s.endWithin, l.Headers, l.Request, l.Submission, l.Answer, l.Idle, n.stepWithin, n.interval, n.refresh, n.openWithin, n.sweepAfter, n.sweepTilesAfter, n.readEvery, n.readAllWithin, n.mostSkew} {
+	for _, time := range []time.Duration{s.endWithin, l.Headers, l.Request, l.Submission, l.Answer, l.Idle, n.stepWithin, n.refresh, n.openWithin, n.sweepAfter, n.sweepTilesAfter, n.readEvery, n.readAllWithin, n.mostSkew} {
 		if time <= 0 {
 			return errors.New("a time is above 0")
 		}
@@ -196,6 +192,9 @@ func (s *settings) settle() error {
 	}
 	if l.Connections < 1 || l.ConnectionsByAddress < 1 || l.Checks < 1 || l.WaitingBytes < web.MostBody || l.AnswerBytes < stores.MostObject || n.mostQueue < 1 || n.mostBatch < 1 || n.mostWritten < 1 || n.mostProofs < 1 {
 		return fmt.Errorf("a bound is above 0, --most-waiting-bytes at least %d, and --most-answer-bytes at least %d", web.MostBody, stores.MostObject)
+	}
+	if l.SubmissionRate < 0 || l.ReadRate < 0 {
+		return errors.New("a rate is 0, for none, or above")
 	}
 	if len(n.step) == 0 {
 		n.step = []string{"cttile"}
@@ -363,6 +362,18 @@ func command(into *[]string) func(string) error {
 	return func(text string) error {
 		*into = strings.Fields(text)
 		return nil
+	}
+}
+
+// above0 reads a time that isn't 0 where it is set.
+func above0(into *time.Duration) func(string) error {
+	return func(text string) error {
+		set, err := time.ParseDuration(text)
+		if err == nil && set <= 0 {
+			err = errors.New("a time is above 0")
+		}
+		*into = set
+		return err
 	}
 }
 

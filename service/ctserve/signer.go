@@ -57,12 +57,7 @@ func askSigner(ctx context.Context, n node) (*signer.Client, error) {
 // runSigner answers a node's lines, until there are no more, or those of all who come to a socket. It gives the status: 0 at the lines'
 // end, 1 at another, 2 where the words aren't ones.
 func runSigner(given []string, from io.Reader, answers, to io.Writer) int {
-	flags := flag.NewFlagSet("ctserve signer", flag.ContinueOnError)
-	flags.SetOutput(to)
-	flags.Usage = func() {
-		fmt.Fprint(to, "ctserve signer has a log's key, and signs what the guard lets through. It is asked by nodes of ctserve, over two pipes or at a socket.\n\n")
-		flags.PrintDefaults()
-	}
+	flags := commandFlags("signer", "ctserve signer has a log's key, and signs what the guard lets through. It is asked by nodes of ctserve, over two pipes or at a socket.", to)
 	key := flags.String("signing-key", "", "`file` with the log's key in PEM, of P-256, that none but its owner may read; or a URI of PKCS#11, pkcs11:token=LABEL;object=LABEL?module-path=PATH&pin-source=file:PATH")
 	guard := []string{"ctguard"}
 	flags.Func("guard", "the `command` of the guard, with its words (default \"ctguard\"); none signs without one", command(&guard))

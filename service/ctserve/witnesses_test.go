@@ -21,6 +21,7 @@ import (
 	"wagtenib/service/signer"
 	"wagtenib/service/stores"
 	"wagtenib/service/trial"
+	"wagtenib/service/trial/ready"
 	"wagtenib/service/witness"
 )
 
@@ -34,9 +35,11 @@ func (p *place) aWitness(name string, with ...func(log *witness.Log)) (one strin
 	if !isThere(program[0]) {
 		program = []string{"python3", "../../tests/witness/model.py"}
 	}
-	s, err := witness.New(witness.Options{Name: name, Key: private, Program: program})
+	s, err := witness.New(witness.Options{Name: name, Key: private, Program: program, Within: trial.Longest})
 	must(err)
 	p.t.Cleanup(func() { s.Close() })
+	// (a log waits for some seconds alone)
+	ready.Witness(p.t, s)
 	state, err := stores.OpenFile(p.path(name))
 	must(err)
 	p.t.Cleanup(func() { state.Close() })
@@ -53,6 +56,22 @@ func (p *place) aWitness(name string, with ...func(log *witness.Log)) (one strin
 	return over.URL + "," + s.VerifierKey(), witness.OfCosigner(name, public)
 }
 
+// comesIn submits a certificate until it is answered. (A witness that is late on a slow machine is a 503, and the entry may stand; sent again, it is answered
+// once its head is cosigned.)
+func (p *place) comesIn(at *program) {
+	p.t.Helper()
+	submission := p.submission()
+	for until := trial.Limited(p.t, trial.Longest); ; time.Sleep(50 * time.Millisecond) {
+		status, answer := post(at.clients, submission)
+		if status == 200 {
+			return
+		}
+		if status != 503 || until.Err() != nil {
+			p.t.Fatalf("%d %s", status, answer)
+		}
+	}
+}
+
 // TestWitnessedLog: the log's checkpoint has cosignatures, its figures tell of its witnesses, and where all that it has is put back together the
 // start is refused.
 func TestWitnessedLog(t *testing.T) {
@@ -63,12 +82,7 @@ func TestWitnessedLog(t *testing.T) {
 	words := append(at.realWords("--signing-key", at.path("log.pem")), "--guard", at.guard)
 	words = append(words, "--witnesses", first+" "+second, "--witness-faults", "1")
 	p := started(t, "", append(words, "--create")...)
-	submitted := func() {
-		t.Helper()
-		if status, answer := post(p.clients, at.submission()); status != 200 {
-			t.Fatalf("%d %s", status, answer)
-		}
-	}
+	submitted := func() { t.Helper(); at.comesIn(p) }
 	submitted()
 	_, checkpoint := get(p.clients, "/checkpoint")
 	if opened, err := note.Open([]byte(checkpoint), note.VerifierList(firstKey, secondKey)); err != nil || len(opened.Sigs) != 2 || len(opened.UnverifiedSigs) != 1 {
@@ -144,18 +158,7 @@ func TestWatchedWitness(t *testing.T) {
 		}
 	}
 	for entries := 1; entries < 4; entries++ {
-		// (a witness that is late on a slow machine is a 503, and the entry may stand; sent again, it is answered once its head is cosigned)
-		submission := at.submission()
-		for {
-			status, answer := post(p.clients, submission)
-			if status == 200 {
-				break
-			}
-			if status != 503 {
-				t.Fatalf("%d %s", status, answer)
-			}
-			time.Sleep(50 * time.Millisecond)
-		}
+		at.comesIn(p)
 		watches(one+"\n"+two+"\n", "2", fmt.Sprintf("%d leaves are cosigned by x.example", entries), 0)
 		kept, err := os.ReadFile(filepath.Join(log, "cosigned"))
 		if err != nil {

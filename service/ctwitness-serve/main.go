@@ -7,7 +7,6 @@ package main
 import (
 	"context"
 	"errors"
-	"flag"
 	"fmt"
 	"io"
 	"net"
@@ -17,6 +16,7 @@ import (
 	"syscall"
 	"time"
 
+	"wagtenib/service/settingsfile"
 	"wagtenib/service/stores"
 	"wagtenib/service/version"
 	"wagtenib/service/web"
@@ -46,12 +46,8 @@ func run(words []string, out, to io.Writer, signals <-chan os.Signal) int {
 		return 0
 	}
 	s, err := parse(words, to)
-	if errors.Is(err, flag.ErrHelp) {
-		return 0
-	}
-	if err != nil {
-		fmt.Fprintln(to, err)
-		return 2
+	if status, ends := settingsfile.Ends(err, to); ends {
+		return status
 	}
 	lines := web.NewLines(to)
 	w, err := open(s, lines)
@@ -191,7 +187,13 @@ func (w *running) serve(s *settings, lines *web.Lines, signals <-chan os.Signal)
 	ctx, cancel := context.WithTimeout(context.Background(), s.endWithin)
 	defer cancel()
 	for _, server := range servers {
-		if late := server.Shutdown(ctx); err == nil && late != nil {
+		late := server.Shutdown(ctx)
+		if late == nil {
+			continue
+		}
+		// (so that what is asked for them ends, too, which the registers' and the program's end wait for)
+		_ = server.Close()
+		if err == nil {
 			err = fmt.Errorf("ctwitness-serve: who waits isn't answered: %w", late)
 		}
 	}

@@ -90,7 +90,13 @@ type process struct {
 	at      map[string]string
 }
 
-func (p place) started(words ...string) *process {
+func (p place) started(more ...string) *process {
+	var words []string
+	for _, name := range []string{"open-within", "program-within", "end-within"} {
+		// (what stands later counts)
+		words = append(words, "--"+name, trial.Longest.String())
+	}
+	words = append(words, more...)
 	from, to := io.Pipe()
 	one := &process{p.t, make(chan os.Signal, 4), bufio.NewScanner(from), make(chan int, 1), map[string]string{}}
 	go func() {

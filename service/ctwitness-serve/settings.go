@@ -3,7 +3,6 @@ package main
 import (
 	"crypto/ed25519"
 	"errors"
-	"flag"
 	"fmt"
 	"io"
 	"os"
@@ -48,12 +47,7 @@ const mostKey = 64 << 10
 // parse reads the command line, and the file that it names. What stands on the command line counts, and its logs are added.
 func parse(words []string, help io.Writer) (*settings, error) {
 	s := &settings{words: words, program: []string{"ctwitness"}, accepted: map[string]string{}}
-	flags := flag.NewFlagSet("ctwitness-serve", flag.ContinueOnError)
-	flags.SetOutput(help)
-	flags.Usage = func() {
-		fmt.Fprint(help, "ctwitness-serve is a witness: it cosigns heads of logs, each where ctwitness decides that it follows the one before. Each word but --create and --verifier-key may also stand as a line 'name value' in the file of --config.\n\n")
-		flags.PrintDefaults()
-	}
+	flags := settingsfile.Flags("ctwitness-serve", "ctwitness-serve is a witness: it cosigns heads of logs, each where ctwitness decides that it follows the one before. Each word but --create and --verifier-key may also stand as a line 'name value' in the file of --config.", help)
 	flags.String("config", "", "`file` with a line 'name value' for each of these, and comments behind #; its logs are read anew at SIGHUP")
 	flags.StringVar(&s.name, "name", "", "the witness's `name`, as witness.example")
 	flags.StringVar(&s.key, "key", "", "`file` with its private key of Ed25519 in PEM (openssl genpkey -algorithm ed25519), that none but its owner may read")

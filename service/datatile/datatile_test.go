@@ -64,7 +64,7 @@ func TestRead(t *testing.T) {
 		}
 	}
 	// (what is put behind an entry goes not into the tile)
-	_ = append(leaves[0].Entry, 1, 2)
+	_ = append(leaves[0].Entry, make([]byte, 40)...)
 	if !bytes.Equal(leaves[0].Chain, unhex(t, issuer)) {
 		t.Error("a leaf's chain was overwritten")
 	}

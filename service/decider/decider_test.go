@@ -9,19 +9,16 @@ import (
 	"strings"
 	"testing"
 	"time"
+
+	"wagtenib/service/trial"
 )
 
 // program is a second program beside the proved one, with the same lines.
 var program = []string{"python3", "../../tests/node/ctnode.py"}
 
-const longest = 4 * time.Minute
+const longest = trial.Longest
 
-func must(t *testing.T, err error) {
-	t.Helper()
-	if err != nil {
-		t.Fatal(err)
-	}
-}
+var must = trial.Must
 
 func client(t *testing.T, limit time.Duration, command ...string) *Client {
 	t.Helper()
@@ -31,11 +28,7 @@ func client(t *testing.T, limit time.Duration, command ...string) *Client {
 	return c
 }
 
-func within(t *testing.T) context.Context {
-	ctx, cancel := context.WithTimeout(context.Background(), longest)
-	t.Cleanup(cancel)
-	return ctx
-}
+func within(t *testing.T) context.Context { return trial.Limited(t, longest) }
 
 // line is a state's, of so many entries at a moment.
 func line(size, moment uint64) string {
@@ -217,12 +210,18 @@ func TestWrongPrograms(t *testing.T) {
 		`{"node":{"do":"swap","new":` + text + `,"seen":` + text + `}}`, `{"node":{"do":"stage","seen":` + text + `,"objects":[]}}`,
 		`{"node":{"do":"put","new":` + text + `}}`, `{"node":{"do":"put","objects":[]}}`, `{"node":{"do":"promise","seen":` + text + `,"objects":[]}}`,
 		`{"node":{"do":"head","seen":` + text + `}}`, `{"node":{"do":"place"}}`, `{"node":{"do":"answer","new":{}}}`, `{"node":{"do":"delete","seen":` + text + `}}`,
+		`{"node":{"do":"place","new":{"text":"a"}}}`, `{"node":{"do":"place","new":{"bundle":"staging/1"}}}`, `{"node":{"do":"put","new":{"text":"a"},"objects":[]}}`,
 		`{"node":{"do":"delete","bundle":"staging/1"}}`, `{"node":{"do":"read","objects":7}}`,
 	} {
 		c := client(t, longest, script(t, "read x; echo '"+reply+"'; exec cat >/dev/null\n")...)
 		if command, err := c.Next(ctx, Begin(), Lost()); !errors.Is(err, ErrReply) {
 			t.Errorf("%s: %+v, %v", reply, command, err)
 		}
+	}
+	// (of a command that reads nothing more has to be known, and more may be)
+	more := client(t, longest, script(t, `read x; echo '{"node":{"do":"read","objects":[],"seen":`+text+`}}'; exec cat >/dev/null`+"\n")...)
+	if command, err := more.Next(ctx, Begin(), Lost()); err != nil || command.Do != Read {
+		t.Errorf("%+v, %v", command, err)
 	}
 	for what, lines := range map[string]string{"is silent": "exec sleep 600", "ends": "exit 1", "isn't there": "exec /nowhere"} {
 		c := client(t, 300*time.Millisecond, script(t, lines)...)

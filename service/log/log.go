@@ -60,6 +60,10 @@ type Figures struct {
 	// Entries is the size of the newest published head, and HeadAge its age by the machine's clock.
 	Entries uint64
 	HeadAge time.Duration
+	// Unpublished is how many entries more the newest decided state has that is known, and SinceRound how long ago it is that a round went well, behind which no fault
+	// stands: a node without submissions makes one each second.
+	Unpublished uint64
+	SinceRound  time.Duration
 	// Steps counts swaps that were won, LostSwaps those that another node was faster with, Unknown those whose outcome had to be
 	// settled by reading the register.
 	Steps, LostSwaps, Unknown uint64

@@ -25,6 +25,8 @@ type End struct {
 	out   *bufio.Reader
 	most  int
 	close func() string
+	// before is how many bytes the reply before had: the next one may have as many.
+	before int
 }
 
 // last keeps the last bytes that were written: what a process said on standard error.
@@ -126,23 +128,30 @@ func (e *End) exchange(lines []byte, count int) (replies [][]byte, err error) {
 		written <- err
 	}()
 	for len(replies) < count {
-		reply, err := ReadLine(e.out, e.most)
+		reply, err := readLine(e.out, e.most, e.before)
 		if err != nil {
 			// The writer ends once the end is closed, which the caller does.
 			return nil, err
 		}
+		e.before = len(reply)
 		replies = append(replies, reply)
 	}
 	return replies, <-written
 }
 
 // ReadLine reads a line of at most so many bytes, and gives it without its end.
-func ReadLine(from *bufio.Reader, most int) ([]byte, error) {
+func ReadLine(from *bufio.Reader, most int) ([]byte, error) { return readLine(from, most, 0) }
+
+// readLine is ReadLine of a line that is likely to have so many bytes: where it comes in parts, there is room for as many and an eighth more.
+func readLine(from *bufio.Reader, most, likely int) ([]byte, error) {
 	var line []byte
 	for {
 		part, err := from.ReadSlice('\n')
 		if len(line)+len(part) > most {
 			return nil, fmt.Errorf("a line of more than %d bytes", most)
+		}
+		if line == nil && err == bufio.ErrBufferFull {
+			line = make([]byte, 0, likely+likely/8)
 		}
 		line = append(line, part...)
 		if err == nil {
@@ -227,7 +236,8 @@ func NewProgram(command []string, mostLine, mostReply int, limit time.Duration) 
 	if len(command) == 0 {
 		return nil, fmt.Errorf("%w: there is no command", ErrGone)
 	}
-	return &Program{NewClient(func(context.Context) (*End, error) { return Start(command, mostReply) }, limit), mostLine}, nil
+	// (where a line is read, its end counts)
+	return &Program{NewClient(func(context.Context) (*End, error) { return Start(command, mostReply+1) }, limit), mostLine}, nil
 }
 
 // Starts is how often the process was started.
@@ -242,10 +252,15 @@ func (p *Program) Ask(ctx context.Context, request any) ([]byte, error) {
 	if err != nil {
 		return nil, fmt.Errorf("pipe: request: %w", err)
 	}
-	if len(line) > p.mostLine {
-		return nil, fmt.Errorf("%w: %d bytes", ErrTooLong, len(line))
+	return p.AskLine(ctx, append(line, '\n'))
+}
+
+// AskLine sends a request's line, with its end, and gives the line that is replied. Behind an error the line's bytes may still be read.
+func (p *Program) AskLine(ctx context.Context, line []byte) ([]byte, error) {
+	if length := len(line) - 1; length > p.mostLine {
+		return nil, fmt.Errorf("%w: %d bytes", ErrTooLong, length)
 	}
-	replies, err := p.asked.Exchange(ctx, append(line, '\n'), 1)
+	replies, err := p.asked.Exchange(ctx, line, 1)
 	if err != nil {
 		return nil, err
 	}

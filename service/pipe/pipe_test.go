@@ -14,13 +14,15 @@ import (
 	"syscall"
 	"testing"
 	"time"
+
+	"wagtenib/service/trial"
 )
 
 func cat(context.Context) (*End, error) { return Start([]string{"cat"}, 1<<20) }
 
 // TestRestart kills the process between two exchanges: the first one behind that fails, and the next is answered.
 func TestRestart(t *testing.T) {
-	ctx, c := context.Background(), NewClient(cat, 20*time.Second)
+	ctx, c := context.Background(), NewClient(cat, trial.Longest)
 	defer c.Close()
 	if replies, err := c.Exchange(ctx, []byte("one\ntwo\n"), 2); err != nil || string(bytes.Join(replies, []byte("+"))) != "one+two" {
 		t.Fatalf("%q, %v", replies, err)
@@ -41,7 +43,7 @@ func TestRestart(t *testing.T) {
 
 // TestWhoIsGoneAsksNothing: who asks with a context that has ended gets nothing, and no end is killed for that, nor opened.
 func TestWhoIsGoneAsksNothing(t *testing.T) {
-	c := NewClient(cat, 20*time.Second)
+	c := NewClient(cat, trial.Longest)
 	defer c.Close()
 	gone, cancel := context.WithCancel(context.Background())
 	cancel()
@@ -67,7 +69,7 @@ func TestWhoIsGoneAsksNothing(t *testing.T) {
 // TestProgram: a program's replies come a line each; a request that is longer than it takes isn't sent, and no command is none.
 func TestProgram(t *testing.T) {
 	ctx := context.Background()
-	p, err := NewProgram([]string{"cat"}, 20, 1<<20, 20*time.Second)
+	p, err := NewProgram([]string{"cat"}, 20, 1<<20, trial.Longest)
 	if err != nil {
 		t.Fatal(err)
 	}
@@ -90,6 +92,17 @@ func TestProgram(t *testing.T) {
 	if p.Starts() != 1 {
 		t.Errorf("started %d times", p.Starts())
 	}
+	short, err := NewProgram([]string{"cat"}, 100, 20, trial.Longest)
+	if err != nil {
+		t.Fatal(err)
+	}
+	defer short.Close()
+	if reply, err := short.Ask(ctx, strings.Repeat("x", 18)); err != nil || len(reply) != 20 {
+		t.Errorf("a reply at the bound: %q, %v", reply, err)
+	}
+	if reply, err := short.Ask(ctx, strings.Repeat("x", 19)); !errors.Is(err, ErrGone) {
+		t.Errorf("a reply beyond the bound: %q, %v", reply, err)
+	}
 	if _, err := NewProgram(nil, 20, 20, time.Second); !errors.Is(err, ErrGone) {
 		t.Errorf("without a command: %v", err)
 	}
@@ -97,7 +110,7 @@ func TestProgram(t *testing.T) {
 
 // TestManyLines sends more than pipes hold, to a program that replies meanwhile.
 func TestManyLines(t *testing.T) {
-	c := NewClient(cat, 20*time.Second)
+	c := NewClient(cat, trial.Longest)
 	defer c.Close()
 	line := strings.Repeat("x", 1000) + "\n"
 	if replies, err := c.Exchange(context.Background(), []byte(strings.Repeat(line, 5000)), 5000); err != nil || len(replies) != 5000 {
@@ -108,7 +121,7 @@ func TestManyLines(t *testing.T) {
 // TestSocket asks at a socket, which is closed and opened again.
 func TestSocket(t *testing.T) {
 	path, ctx := filepath.Join(t.TempDir(), "socket"), context.Background()
-	c := NewClient(func(ctx context.Context) (*End, error) { return Dial(ctx, path, 1<<20) }, 5*time.Second)
+	c := NewClient(func(ctx context.Context) (*End, error) { return Dial(ctx, path, 1<<20) }, trial.Longest)
 	defer c.Close()
 	if _, err := c.Exchange(ctx, []byte("one\n"), 1); !errors.Is(err, ErrGone) {
 		t.Fatal(err)
@@ -148,7 +161,7 @@ func TestEndIsClosed(t *testing.T) {
 		t.Fatal(err)
 	}
 	// (one line it gives: by then it runs, and has written its number)
-	if _, err := e.Exchange(context.Background(), time.Minute, []byte("x\n"), 1); err != nil {
+	if _, err := e.Exchange(context.Background(), trial.Longest, []byte("x\n"), 1); err != nil {
 		t.Fatal(err)
 	}
 	if _, err := e.Exchange(context.Background(), 10*time.Millisecond, []byte("x\n"), 1); !errors.Is(err, ErrGone) {

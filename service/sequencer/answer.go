@@ -29,6 +29,9 @@ func (s *Sequencer) answer(ctx context.Context, batch []*waiting, receipts []ste
 	if err != nil {
 		return err
 	}
+	if len(still) > 0 {
+		s.back = len(still) + s.queue.waiting()
+	}
 	for i, w := range still {
 		s.queue.answer(w, answer{place: places[of[i]]})
 	}

@@ -10,14 +10,18 @@ import (
 	"wagtenib/service/check"
 )
 
+// endedLog is a log of two steps, whose node has ended.
+func endedLog(t *testing.T) (place, *answers) {
+	p, ctx, got, s := begun(t, 100, 100)
+	must(t, got.submitAll(ctx, s, 100, 300, 200))
+	must(t, s.End(ctx))
+	return p, got
+}
+
 // TestCheckerSees makes a log that is right, and bends what it published in one place at a time: the checker says what is wrong.
 func TestCheckerSees(t *testing.T) {
 	t.Parallel()
-	p, got := newPlace(t), &answers{}
-	s := started(t, p.config(t), hooks{})
-	must(t, got.submitAll(limited(t), s, 0, 100, 100))
-	must(t, got.submitAll(limited(t), s, 100, 300, 200))
-	must(t, s.End(limited(t)))
+	p, got := endedLog(t)
 	p.right(t, got)
 	at := func(name string) string {
 		found, err := filepath.Glob(filepath.Join(p.objects(), name))
@@ -107,11 +111,7 @@ func TestCheckerSees(t *testing.T) {
 // TestSecondJudgeSees bends what a log published in one place at a time: the judge in Python finds that, too, where it is of the tree or of a head's name.
 func TestSecondJudgeSees(t *testing.T) {
 	t.Parallel()
-	p, got := newPlace(t), &answers{}
-	s := started(t, p.config(t), hooks{})
-	must(t, got.submitAll(limited(t), s, 0, 100, 100))
-	must(t, got.submitAll(limited(t), s, 100, 300, 200))
-	must(t, s.End(limited(t)))
+	p, got := endedLog(t)
 	p.rightTwice(t, got)
 	for name, bend := range map[string]func(path string, content []byte) error{
 		"tile/data/000":     func(path string, content []byte) error { content[16] ^= 1; return os.WriteFile(path, content, 0o600) },

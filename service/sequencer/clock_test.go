@@ -77,6 +77,9 @@ func eachSkew(t *testing.T, test func(t *testing.T, on ground, skew skew)) {
 	})
 }
 
+// about is how far a clock's being off may be said to be another one: while a test goes on, heads get older.
+const about = 20 * time.Minute
+
 // isSaid sees that a refusal says which way a clock is off, beside what, and by about how much.
 func isSaid(t *testing.T, err error, by time.Duration, beside string) {
 	t.Helper()
@@ -88,7 +91,7 @@ func isSaid(t *testing.T, err error, by time.Duration, beside string) {
 	text := err.Error()
 	at := strings.LastIndex(text, " by ")
 	said, unread := time.ParseDuration(text[at+4:])
-	if !strings.Contains(text, way+beside) || unread != nil || said < by-longest || said > by+longest {
+	if !strings.Contains(text, way+beside) || unread != nil || said < by-about || said > by+about {
 		t.Errorf("%v doesn't say %s%s by %v", err, way, beside, by)
 	}
 }
@@ -209,6 +212,45 @@ func TestClockPutRight(t *testing.T) {
 	config.Objects, config.Clock = timed{config.Objects, 0}, newAhead(24*time.Hour)
 	_, err = New(ctx, config)
 	isSaid(t, err, 24*time.Hour, "the objects' store")
+}
+
+// toldWhen is a store of objects on another machine, and says when it was asked for the time.
+type toldWhen struct {
+	timed
+	asked chan time.Time
+}
+
+func (o toldWhen) Time(ctx context.Context) (time.Time, time.Duration, error) {
+	select {
+	case o.asked <- time.Now():
+	default:
+	}
+	return o.timed.Time(ctx)
+}
+
+// TestClockIsAskedAboutSoon: as long as the clock is off others are asked what time it is more often than else, so that one that is set right is seen.
+func TestClockIsAskedAboutSoon(t *testing.T) {
+	t.Parallel()
+	p, ctx, got := newPlace(t), limited(t), &answers{}
+	config, clock, asked := p.config(t), newAhead(0), make(chan time.Time)
+	config.Objects, config.Clock, config.TendEvery = toldWhen{timed{config.Objects, 0}, asked}, clock, time.Hour
+	s := started(t, config, hooks{})
+	must(t, got.submitAll(ctx, s, 0, 5, 5))
+	clock.set(24*time.Hour, false)
+	_, err := s.Submit(ctx, entryOf(7))
+	wants(t, err, log.ErrClock)
+	const times = 4
+	eventually(t, "it is asked more often than else", func() bool {
+		first := <-asked
+		var last time.Time
+		for left := times; left > 0; left-- {
+			last = <-asked
+		}
+		return last.Sub(first) < times*asksEvery
+	})
+	clock.set(0, false)
+	comesBack(t, s, got, 8)
+	p.right(t, got)
 }
 
 // stood is a log of five entries that stood for so long.
@@ -378,9 +420,7 @@ func TestMomentTooFar(t *testing.T) {
 	strict := func(edit string, command ...string) []string {
 		return append([]string{"sh", "-c", `sed -u "$0" | exec "$@"`, edit}, command...)
 	}
-	p, ctx, got := newPlace(t), limited(t), &answers{}
-	s := started(t, p.config(t), hooks{})
-	must(t, got.submitAll(ctx, s, 0, 5, 5))
+	p, ctx, got, s := begun(t, 5, 5)
 	must(t, s.End(ctx))
 	refuses := func(config Config, beside string) {
 		t.Helper()
@@ -393,7 +433,7 @@ func TestMomentTooFar(t *testing.T) {
 		must(t, s.End(ctx))
 	}
 	config := p.config(t)
-	steps, err := step.NewClient(strict(`s/"most_ahead":[0-9]*/"most_ahead":0/`, "python3", stepsFile, "--origin", origin), 20*time.Second)
+	steps, err := step.NewClient(strict(`s/"most_ahead":[0-9]*/"most_ahead":0/`, "python3", stepsFile, "--origin", origin), longest)
 	must(t, err)
 	t.Cleanup(func() { steps.Close() })
 	closeAll(Config{Step: config.Step})
@@ -406,14 +446,12 @@ func TestMomentTooFar(t *testing.T) {
 	state, err := stores.OpenFile(p.guardState())
 	must(t, err)
 	guard := strict(`s/"most_ahead":[0-9]*/"most_ahead":0/`, "python3", guardFile)
-	config.Signer, err = signer.Behind(ctx, key, signer.Guard{Command: guard, State: state, Receipts: signer.InHead})
+	config.Signer, err = signer.Behind(ctx, key, signer.Guard{Command: guard, State: state, Receipts: signer.InHead, Within: longest})
 	must(t, err)
 	t.Cleanup(func() { closeAll(Config{Signer: config.Signer}) })
 	refuses(config, "the signer's last head")
 	// The step was decided, and its head is signed once the guard lets it through.
-	s = started(t, p.config(t), hooks{})
-	must(t, got.submitAll(ctx, s, 5, 10, 5))
-	p.right(t, got)
+	p.goesOn(t, got, 5, 10)
 }
 
 // TestRanAhead has a log that ran ahead, since nothing knew the time: with the clock right it says so without being asked, and signs nothing more
@@ -461,6 +499,13 @@ func TestClockOfOneNode(t *testing.T) {
 				must(t, got.submitAll(ctx, nodes[0], 0, 5, 5))
 			}
 		}
+		// (it asks at its start, for some seconds, and else by and by)
+		eventually(t, "the first one has said what time it is", func() bool {
+			nodes[1].askNode(ctx)
+			nodes[1].clock.mu.Lock()
+			defer nodes[1].clock.mu.Unlock()
+			return len(nodes[1].clock.node) > 0
+		})
 		_, err := nodes[1].Submit(ctx, entryOf(10))
 		if skew.within {
 			must(t, err)

@@ -21,7 +21,7 @@
 //
 //   - Starting (New). The newest head that this machine knows of is no newer than the register's state, which is taken up, or made where that was
 //     asked for; the places and the witnesses know that state. What must not be taken up ends the start by its name: ErrSetBack, ErrDamaged, ErrPlaces.
-//   - Waiting: for a submission, for the interval between two steps, and behind a round that failed for longer each time.
+//   - Waiting: for a submission, for the interval or the pause between two steps, and behind a round that failed for longer each time.
 //   - In a round, from the newest state that the register has: handing over, where another node has the turn; rolling out, where that state isn't
 //     published yet, whoever set it; stepping from it; staged, with the step's bundle put and nothing decided; decided, by the swap; rolled out;
 //     answered. A node that dies in any of these leaves it to the next round, its own or another node's.
@@ -35,7 +35,7 @@
 //     which knows a log that was set back.
 //  3. To roll out: rollout.go, objects.go, issuers.go, places.go, and before a head is published witnesses.go.
 //  4. To answer: answer.go, signing.go, and of what stands in the log already repeats.go, over fetcher.go and entries.go; readers by readings.go.
-//  5. To tend: tend.go.
+//  5. To tend: tend.go, and swept.go, which knows up to where.
 //  6. Between nodes: peers.go and sealed.go.
 //
 // What wrong_order.go and phases_hooked.go have is built into tests alone.

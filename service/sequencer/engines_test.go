@@ -146,7 +146,5 @@ func TestNodesOnEtcd(t *testing.T) {
 	for _, s := range nodes {
 		t.Logf("%+v", s.Figures())
 	}
-	if report := p.right(t, got); report.Leaves != 500 {
-		t.Fatalf("%+v", report)
-	}
+	isOf(t, p.right(t, got), 500)
 }

@@ -44,7 +44,7 @@ func TestFaultStandsUntilAWrite(t *testing.T) {
 			p, ctx, got := newPlace(t), limited(t), &answers{}
 			config := p.config(t)
 			objects := &refusing{Objects: config.Objects, prefix: prefix}
-			config.Objects = objects
+			config.Objects, config.Patience = objects, time.Second
 			s := started(t, config, hooks{})
 			must(t, got.submitAll(ctx, s, 0, 5, 5))
 			objects.on.Store(true)
@@ -63,6 +63,49 @@ func TestFaultStandsUntilAWrite(t *testing.T) {
 			must(t, got.submitAll(ctx, s, 10, 15, 5))
 		})
 	}
+}
+
+// silentReads is a register that isn't read while that is on, and says when it was tried.
+type silentReads struct {
+	stores.Register
+	on    atomic.Bool
+	tried chan time.Time
+}
+
+func (r *silentReads) Read(ctx context.Context) (string, error) {
+	if r.on.Load() {
+		select {
+		case r.tried <- time.Now():
+		default:
+		}
+		return "", errTried
+	}
+	return r.Register.Read(ctx)
+}
+
+// TestRoundsThatFailInARow: behind each of them the next one waits at least twice as long as behind the one before.
+func TestRoundsThatFailInARow(t *testing.T) {
+	t.Parallel()
+	p, ctx, got := newPlace(t), limited(t), &answers{}
+	config := p.config(t)
+	register := &silentReads{Register: config.Register, tried: make(chan time.Time, 6)}
+	config.Register, config.TendEvery, config.Patience = register, time.Hour, longest
+	s := started(t, config, hooks{})
+	must(t, got.submitAll(ctx, s, 0, 5, 5))
+	register.on.Store(true)
+	told := make(chan error, 1)
+	go func() { told <- got.submitAll(ctx, s, 5, 6, 1) }()
+	before := <-register.tried
+	for least := quick; least < 32*quick; least *= 2 {
+		at := <-register.tried
+		if waited := at.Sub(before); waited < least {
+			t.Errorf("it waits for %v, and not for %v", waited, least)
+		}
+		before = at
+	}
+	register.on.Store(false)
+	must(t, <-told)
+	p.right(t, got)
 }
 
 // TestFaultBehindARoundThatWroteNothing: it stands behind a round that hands over, or waits for another node, and goes behind one in which a step

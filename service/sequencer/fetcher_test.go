@@ -42,31 +42,38 @@ func (h *heldTiles) Get(ctx context.Context, name string, most int64) ([]byte, e
 	return h.Objects.Get(ctx, name, most)
 }
 
+// holdRepeats submits an entry once more of each of four tiles, and waits until all four tiles are asked for. What it gives lets them be read, and waits until
+// the entries are answered.
+func (h *heldTiles) holdRepeats(ctx context.Context, t *testing.T, got *answers, s *Sequencer) (let func()) {
+	t.Helper()
+	held, answered := make(chan struct{}), make(chan error, 4)
+	h.hold(held)
+	for tile := uint64(0); tile < 4; tile++ {
+		number := got.numberAt(t, tile*tileWidth)
+		go func() { answered <- got.submitAll(ctx, s, number, number+1, 1) }()
+	}
+	eventually(t, "tiles are asked for at once", func() bool { return h.waits.Load() >= 4 })
+	return func() {
+		t.Helper()
+		close(held)
+		for tile := 0; tile < 4; tile++ {
+			must(t, <-answered)
+		}
+	}
+}
+
 // TestRepeatsReadTilesAtOnce has repeats out of four tiles come while no tile is read: they are all asked for before one is there, and each repeat
 // is answered with its place.
 func TestRepeatsReadTilesAtOnce(t *testing.T) {
 	t.Parallel()
-	p, ctx, got := newPlace(t), limited(t), &answers{}
-	s := started(t, p.config(t), hooks{})
-	must(t, got.submitAll(ctx, s, 0, 1100, 550))
+	p, ctx, got, s := begun(t, 1100, 550)
 	must(t, s.End(ctx))
 	config := p.config(t)
 	objects := &heldTiles{Objects: config.Objects}
 	config.Objects, config.Patience, config.TendEvery, config.Interval = objects, longest, time.Hour, time.Second
 	s = started(t, config, hooks{})
 	must(t, got.submitAll(ctx, s, 1500, 1501, 1))
-	let := make(chan struct{})
-	objects.hold(let)
-	answered := make(chan error, 4)
-	for tile := uint64(0); tile < 4; tile++ {
-		number := got.numberAt(t, tile*tileWidth)
-		go func() { answered <- got.submitAll(ctx, s, number, number+1, 1) }()
-	}
-	eventually(t, "tiles are asked for at once", func() bool { return objects.waits.Load() >= 4 })
-	close(let)
-	for tile := 0; tile < 4; tile++ {
-		must(t, <-answered)
-	}
+	objects.holdRepeats(ctx, t, got, s)()
 	if report := p.right(t, got); report.Leaves != 1101 || s.Figures().Repeats != 4 {
 		t.Errorf("%+v, %+v", report, s.Figures())
 	}
@@ -76,33 +83,21 @@ func TestRepeatsReadTilesAtOnce(t *testing.T) {
 // these are answered, too, out of tiles each of which is read once.
 func TestRepeatsHoldNobodyUp(t *testing.T) {
 	t.Parallel()
-	p, ctx, got := newPlace(t), limited(t), &answers{}
-	s := started(t, p.config(t), hooks{})
-	must(t, got.submitAll(ctx, s, 0, 1100, 550))
+	p, ctx, got, s := begun(t, 1100, 550)
 	must(t, s.End(ctx))
 	config := p.config(t)
 	objects := &heldTiles{Objects: config.Objects}
 	config.Objects, config.Patience, config.TendEvery = objects, time.Hour, time.Hour
 	s = started(t, config, hooks{})
 	must(t, got.submitAll(ctx, s, 1500, 1501, 1))
-	let := make(chan struct{})
-	objects.hold(let)
-	answered := make(chan error, 4)
-	for tile := uint64(0); tile < 4; tile++ {
-		number := got.numberAt(t, tile*tileWidth)
-		go func() { answered <- got.submitAll(ctx, s, number, number+1, 1) }()
-	}
-	eventually(t, "tiles are read", func() bool { return objects.waits.Load() >= 4 })
+	let := objects.holdRepeats(ctx, t, got, s)
 	for number := 2000; number < 2003; number++ {
 		must(t, got.submitAll(ctx, s, number, number+1, 1))
 	}
 	if repeats := s.Figures().Repeats; repeats != 0 {
 		t.Errorf("%d repeats were answered without their tiles", repeats)
 	}
-	close(let)
-	for tile := 0; tile < 4; tile++ {
-		must(t, <-answered)
-	}
+	let()
 	if report := p.right(t, got); report.Leaves != 1104 || s.Figures().Repeats != 4 {
 		t.Errorf("%+v, %+v", report, s.Figures())
 	}

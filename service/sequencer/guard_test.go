@@ -32,9 +32,7 @@ func (p place) copied(t testing.TB, parts ...string) place {
 // neither a head nor a timestamp.
 func TestTwoHistories(t *testing.T) {
 	t.Parallel()
-	p, ctx, got := newPlace(t), limited(t), &answers{}
-	s := started(t, p.config(t), hooks{})
-	must(t, got.submitAll(ctx, s, 0, 30, 8))
+	p, ctx, got, s := begun(t, 30, 8)
 	must(t, s.End(ctx))
 	other := p.copied(t, "objects", "register", "places.db")
 	must(t, os.Symlink(p.guardState(), other.guardState()))
@@ -52,9 +50,7 @@ func TestTwoHistories(t *testing.T) {
 		t.Errorf("%+v, %v", head, err)
 	}
 	must(t, got.submitAll(ctx, here, 40, 60, 8))
-	if report := p.right(t, got); report.Leaves != 60 {
-		t.Fatalf("%+v", report)
-	}
+	isOf(t, p.right(t, got), 60)
 	heads, err := filepath.Glob(filepath.Join(other.objects(), headsPrefix, "*"))
 	must(t, err)
 	for _, name := range heads {
@@ -67,9 +63,7 @@ func TestTwoHistories(t *testing.T) {
 // TestSetBack puts the whole log back to an older copy, or the signer's state alone: no node takes it up.
 func TestSetBack(t *testing.T) {
 	t.Parallel()
-	p, ctx, got := newPlace(t), limited(t), &answers{}
-	s := started(t, p.config(t), hooks{})
-	must(t, got.submitAll(ctx, s, 0, 30, 8))
+	p, ctx, got, s := begun(t, 30, 8)
 	must(t, s.End(ctx))
 	whole, state := p.copied(t, "objects", "register", "places.db"), p.copied(t, "guard")
 	s = started(t, p.config(t), hooks{})
@@ -93,11 +87,7 @@ func TestSetBack(t *testing.T) {
 	_, err = New(ctx, p.config(t))
 	wants(t, err, signer.ErrState)
 	swapState(kept)
-	s = started(t, p.config(t), hooks{})
-	must(t, got.submitAll(ctx, s, 50, 70, 8))
-	if report := p.right(t, got); report.Leaves != 70 {
-		t.Fatalf("%+v", report)
-	}
+	isOf(t, p.goesOn(t, got, 50, 70), 70)
 }
 
 // TestUnreadGuardState has one call in four of the register with the guard's state fail, for less than Patience: who waits is told nothing
@@ -106,7 +96,6 @@ func TestUnreadGuardState(t *testing.T) {
 	t.Parallel()
 	p, ctx, got, faults := newPlace(t), limited(t), &answers{}, &faulty{}
 	config := p.config(t)
-	config.Patience = longest
 	key, err := signer.OpenKey(filepath.Join(string(p), "key.pem"))
 	must(t, err)
 	state, err := stores.OpenFile(p.guardState())
@@ -128,9 +117,7 @@ func TestUnreadGuardState(t *testing.T) {
 // TestSignerGone ends the guard under a node that goes on, and has its state not be there for a while.
 func TestSignerGone(t *testing.T) {
 	t.Parallel()
-	p, ctx, got := newPlace(t), limited(t), &answers{}
-	s := started(t, p.config(t), hooks{})
-	must(t, got.submitAll(ctx, s, 0, 10, 8))
+	p, ctx, got, s := begun(t, 10, 8)
 	must(t, s.config.Signer.(*signer.Guarded).Close())
 	must(t, got.submitAll(ctx, s, 10, 20, 8))
 	away := p.guardState() + ".away"
@@ -147,7 +134,5 @@ func TestSignerGone(t *testing.T) {
 			t.Fatal(err)
 		}
 	}
-	if report := p.right(t, got); report.Leaves != 21 {
-		t.Fatalf("%+v", report)
-	}
+	isOf(t, p.right(t, got), 21)
 }

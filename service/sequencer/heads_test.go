@@ -153,9 +153,7 @@ func TestOlderHeadInItsPlace(t *testing.T) {
 // TestHeadWithoutARegister has the register not be read, refuse, or be away: the newest head that is known is given.
 func TestHeadWithoutARegister(t *testing.T) {
 	t.Parallel()
-	p, ctx, got := newPlace(t), limited(t), &answers{}
-	s := started(t, p.config(t), hooks{})
-	must(t, got.submitAll(ctx, s, 0, 10, 10))
+	_, ctx, _, s := begun(t, 10, 10)
 	newest, err := s.Checkpoint(ctx)
 	must(t, err)
 	for what, fails := range map[string]func(context.Context) error{
@@ -210,9 +208,7 @@ func (r unreadRegister) Published(ctx context.Context) (stores.Published, error)
 // TestHeadOfAVersionBefore starts a node over a register that has the published size alone.
 func TestHeadOfAVersionBefore(t *testing.T) {
 	t.Parallel()
-	p, ctx, got := newPlace(t), limited(t), &answers{}
-	s := started(t, p.config(t), hooks{})
-	must(t, got.submitAll(ctx, s, 0, 10, 10))
+	p, ctx, got, s := begun(t, 10, 10)
 	newest, err := s.Checkpoint(ctx)
 	must(t, err)
 	must(t, s.End(ctx))
@@ -234,9 +230,7 @@ func TestHeadOfAVersionBefore(t *testing.T) {
 // of it is damaged or made again.
 func TestPastState(t *testing.T) {
 	t.Parallel()
-	p, ctx, got := newPlace(t), limited(t), &answers{}
-	s := started(t, p.config(t), hooks{})
-	must(t, got.submitAll(ctx, s, 0, 5, 5))
+	p, ctx, got, s := begun(t, 5, 5)
 	past := s.newestKnown()
 	must(t, got.submitAll(ctx, s, 5, 9, 4))
 	must(t, os.Remove(filepath.Join(p.objects(), headName(past.state))))
@@ -258,9 +252,7 @@ func TestPastState(t *testing.T) {
 // TestFurtherLines reads a head's note with lines of further signatures: the first is the log's, and what is no line of one isn't taken.
 func TestFurtherLines(t *testing.T) {
 	t.Parallel()
-	p, ctx, got := newPlace(t), limited(t), &answers{}
-	s := started(t, p.config(t), hooks{})
-	must(t, got.submitAll(ctx, s, 0, 5, 5))
+	p, ctx, got, s := begun(t, 5, 5)
 	head, err := s.Checkpoint(ctx)
 	must(t, err)
 	const one, two = "— w.example AAAAAAA=\n", "— v.example BBBBBBBB\n"

@@ -12,7 +12,6 @@ import (
 	"strings"
 	"sync"
 	"testing"
-	"time"
 
 	"golang.org/x/mod/sumdb/tlog"
 
@@ -553,7 +552,7 @@ func TestHistories(t *testing.T) {
 	var all sync.WaitGroup
 	var mu sync.Mutex
 	answered, did := 0, map[string]int{}
-	ctx, cancel := context.WithTimeout(context.Background(), 20*time.Minute)
+	ctx, cancel := context.WithTimeout(context.Background(), 4*longest)
 	defer cancel()
 	for worker := 0; worker < workers; worker++ {
 		config := Config{Origin: origin, Create: true, Interval: quick, Patience: longest, Signer: key, Address: "http://node.example/", Secret: "the secret of these nodes"}

@@ -9,10 +9,12 @@ import (
 	"time"
 
 	"wagtenib/service/log"
+	"wagtenib/service/signer"
 )
 
 // TestInterval: where a node rests, a step has half of the time, as long as the next one begins within mostRest; never does it wait for longer than
-// that behind the beginning of one, but by its interval and by what the step put: 1000 KiB a second.
+// that behind the beginning of one, but by its interval and by what the step put: 1000 KiB a second. Where no interval is set the next one begins
+// half as long behind a step's end as it took.
 func TestInterval(t *testing.T) {
 	const ms = time.Millisecond
 	for _, c := range []struct {
@@ -35,12 +37,230 @@ func TestInterval(t *testing.T) {
 		{100 * ms, false, 30 * ms, 60 * time.Second, false, 60_000 << 10},
 		{100 * ms, true, 100 * ms, 200 * ms, true, 150 << 10},
 		{100 * ms, true, 100 * ms, 250 * ms, true, 250 << 10},
+		// (where none is set: half as long again as it took, 8 ms at most, and no round within 5 ms)
+		{0, false, 0, 5 * ms, false, 0},
+		{0, false, 3 * ms, 5 * ms, true, 0},
+		{0, false, 4 * ms, 6 * ms, true, 0},
+		{0, false, 4 * ms, 6 * ms, false, 0},
+		{0, false, 16 * ms, 24 * ms, true, 0},
+		{0, false, 18 * ms, 26 * ms, true, 0},
+		{0, false, 3 * time.Second, 3008 * ms, true, 0},
+		{0, false, 10 * ms, 15 * ms, true, 15 << 10},
+		{0, false, 10 * ms, 16 * ms, true, 16 << 10},
+		{ms, false, 40 * ms, ms, true, 0},
 	} {
 		config := Config{Interval: c.interval, Rests: c.rests, MostWritten: 1000 << 10}
-		if got := config.interval(c.took, c.wrote, c.written); got != c.want {
+		if _, got := config.interval(c.took, c.wrote, c.written); got != c.want {
 			t.Errorf("%+v: %v", c, got)
 		}
 	}
+}
+
+// TestLeastInterval: where no interval is set those who were answered may be back within it, but for 5 ms and for what the step put; where one is set, or the
+// stores rest, nobody is waited for.
+func TestLeastInterval(t *testing.T) {
+	const ms = time.Millisecond
+	for _, c := range []struct {
+		interval    time.Duration
+		rests       bool
+		took        time.Duration
+		written     int
+		least, most time.Duration
+	}{
+		{0, false, 20 * ms, 0, 5 * ms, 28 * ms},
+		{0, false, 3 * ms, 0, 5 * ms, 5 * ms},
+		{0, false, 20 * ms, 26 << 10, 26 * ms, 28 * ms},
+		{0, false, 20 * ms, 30 << 10, 30 * ms, 30 * ms},
+		{50 * ms, false, 20 * ms, 0, 50 * ms, 50 * ms},
+		{50 * ms, true, 40 * ms, 0, 80 * ms, 80 * ms},
+		{50 * ms, true, 40 * ms, 90 << 10, 90 * ms, 90 * ms},
+	} {
+		config := Config{Interval: c.interval, Rests: c.rests, MostWritten: 1000 << 10}
+		if least, most := config.interval(c.took, true, c.written); least != c.least || most != c.most {
+			t.Errorf("%+v: %v, %v", c, least, most)
+		}
+	}
+}
+
+// waiter is one who waits.
+func waiter() *waiting { return &waiting{ctx: context.Background(), done: make(chan answer, 1)} }
+
+// TestWaitForBack: the pause ends once as many wait as are to be back, and not before; behind its least alone; and for nobody it isn't cut short.
+func TestWaitForBack(t *testing.T) {
+	t.Parallel()
+	ctx := limited(t)
+	const never = time.Hour
+	begins := func(back int) (*Sequencer, chan int) {
+		s, ended := &Sequencer{queue: newQueue(100, 1<<20), back: back}, make(chan int, 1)
+		go func() {
+			s.waitForBack(ctx, 0, never)
+			ended <- s.queue.waiting()
+		}()
+		return s, ended
+	}
+	adds := func(s *Sequencer) {
+		w := waiter()
+		must(t, s.queue.seat(w))
+		must(t, s.queue.add(w))
+	}
+	looked := func(s *Sequencer) {
+		// (it takes the wake, and looks)
+		eventually(t, "who comes is seen", func() bool { return len(s.queue.changed) == 0 })
+	}
+	s, ended := begins(3)
+	for i := 0; i < 2; i++ {
+		adds(s)
+		looked(s)
+	}
+	adds(s)
+	if many := <-ended; many != 3 {
+		t.Errorf("it ends where %d wait", many)
+	}
+	s, ended = begins(5)
+	adds(s)
+	looked(s)
+	s.queue.end()
+	if many := <-ended; many != 1 {
+		t.Errorf("at the end %d wait", many)
+	}
+	for what, of := range map[string]struct {
+		back        int
+		least, most time.Duration
+		wants       time.Duration
+	}{
+		"its least":           {1, 30 * time.Millisecond, never, 30 * time.Millisecond},
+		"nobody is waited on": {0, 0, 30 * time.Millisecond, 30 * time.Millisecond},
+		"not all are back":    {2, 0, 30 * time.Millisecond, 30 * time.Millisecond},
+	} {
+		s, began := &Sequencer{queue: newQueue(100, 1<<20), back: of.back}, time.Now()
+		adds(s)
+		s.waitForBack(ctx, of.least, of.most)
+		if took := time.Since(began); took < of.wants {
+			t.Errorf("%s: it ends behind %v", what, took)
+		}
+	}
+	gone, cancel := context.WithCancel(ctx)
+	cancel()
+	for _, least := range []time.Duration{0, never} {
+		(&Sequencer{queue: newQueue(100, 1<<20), back: 1}).waitForBack(gone, least, never)
+	}
+}
+
+// TestStepOnceAllAreBack: the next step begins once all wait who were answered, or waited beside them, whatever the pause; and takes all of them in.
+func TestStepOnceAllAreBack(t *testing.T) {
+	t.Parallel()
+	for _, behindSwap := range []bool{false, true} {
+		p, ctx, got := newPlace(t), limited(t), &answers{}
+		config := p.config(t)
+		config.Interval, config.TendEvery, config.BehindSwap = 0, time.Hour, behindSwap
+		if behindSwap {
+			p.signedBy(t, &config, signer.Promised)
+		}
+		let, holds := make(chan struct{}), atomic.Bool{}
+		// (a pause that nobody lives to see the end of)
+		s := started(t, config, hooks{pause: time.Hour, phase: func(name string) {
+			if name == "stepped" && holds.Swap(false) {
+				<-let
+			}
+		}})
+		must(t, got.submitAll(ctx, s, 0, 1, 1))
+		before := s.Figures().Steps
+		holds.Store(true)
+		answered := make(chan error, 3)
+		submits := func(from, to int) { go func() { answered <- got.submitAll(ctx, s, from, to, to-from) }() }
+		submits(1, 2)
+		eventually(t, "a step is made", func() bool { return !holds.Load() })
+		submits(2, 4)
+		eventually(t, "two wait behind it", func() bool { return s.Figures().Queue == 3 })
+		close(let)
+		must(t, <-answered)
+		submits(4, 5)
+		must(t, <-answered)
+		must(t, <-answered)
+		if steps := s.Figures().Steps - before; steps != 2 {
+			t.Errorf("%d steps took them in", steps)
+		}
+		eventually(t, "the head is out", func() bool { head, err := s.Checkpoint(ctx); return err == nil && head.TreeSize == 5 })
+		if report := p.right(t, got); report.Leaves != 5 {
+			t.Fatalf("%+v", report)
+		}
+	}
+}
+
+// TestIntervalThatNobodySet: it is 50 ms over stores that rest and where witnesses are asked for each head, and none elsewhere.
+func TestIntervalThatNobodySet(t *testing.T) {
+	t.Parallel()
+	p := newPlace(t)
+	for _, c := range []struct {
+		set       time.Duration
+		rests     bool
+		witnesses Witnesses
+		want      time.Duration
+	}{
+		{0, false, nil, 0}, {0, true, nil, 50 * time.Millisecond}, {0, false, struct{ Witnesses }{}, 50 * time.Millisecond},
+		{time.Millisecond, false, nil, time.Millisecond}, {time.Second, true, struct{ Witnesses }{}, time.Second},
+	} {
+		config := p.config(t)
+		config.Interval, config.Rests, config.Witnesses = c.set, c.rests, c.witnesses
+		must(t, config.settle())
+		if config.Interval != c.want {
+			t.Errorf("%+v: %v", c, config.Interval)
+		}
+	}
+}
+
+// TestPauseBehindAStep: where no interval is set the loop waits for the next round no longer than the rule says of the one before: not for the 50 ms
+// of other stores.
+func TestPauseBehindAStep(t *testing.T) {
+	t.Parallel()
+	p, ctx, got := newPlace(t), limited(t), &answers{}
+	config := p.config(t)
+	config.Interval, config.TendEvery = 0, time.Hour
+	var most, many atomic.Int64
+	s := started(t, config, hooks{rests: func(until time.Duration) {
+		many.Add(1)
+		for before := most.Load(); int64(until) > before && !most.CompareAndSwap(before, int64(until)); before = most.Load() {
+		}
+	}})
+	must(t, got.submitAll(ctx, s, 0, 40, 4))
+	if longest := time.Duration(most.Load()); many.Load() == 0 || longest > mostPause {
+		t.Errorf("of %d pauses the longest is %v", many.Load(), longest)
+	}
+	if report := p.right(t, got); report.Leaves != 40 {
+		t.Fatalf("%+v", report)
+	}
+}
+
+// TestIntervalOfBeginnings: an interval that is set is from a step's beginning, and not from its end.
+func TestIntervalOfBeginnings(t *testing.T) {
+	t.Parallel()
+	const interval, stands = 2 * time.Second, 300 * time.Millisecond
+	p, ctx, got := newPlace(t), limited(t), &answers{}
+	config := p.config(t)
+	config.Interval, config.TendEvery = interval, time.Hour
+	var node atomic.Pointer[Sequencer]
+	rests := make(chan time.Duration, 1)
+	s := started(t, config, hooks{phase: func(name string) {
+		if name == "stepped" {
+			time.Sleep(stands)
+		}
+	}, rests: func(until time.Duration) {
+		// (behind a round with a step; where one took longer than the interval, it doesn't rest)
+		if loop := node.Load(); loop != nil && loop.wrote {
+			select {
+			case rests <- until:
+			default:
+			}
+		}
+	}})
+	node.Store(s)
+	for number := 0; len(rests) == 0; number++ {
+		must(t, got.submitAll(ctx, s, number, number+1, 1))
+	}
+	if waited := <-rests; waited > interval-stands {
+		t.Errorf("behind a step of %v and more it waits for %v more, of %v", stands, waited, interval)
+	}
+	p.right(t, got)
 }
 
 // TestBatchBehindAStep: who comes while a step is made is in the next one, and in one; that one begins by itself.
@@ -62,7 +282,7 @@ func TestBatchBehindAStep(t *testing.T) {
 	go func() { answered <- got.submitAll(ctx, s, 0, 1, 1) }()
 	eventually(t, "a step is made", func() bool { return held.Load() })
 	go func() { answered <- got.submitAll(ctx, s, 1, 65, 64) }()
-	eventually(t, "64 wait behind it", func() bool { return s.Figures().Queue == 65 })
+	eventually(t, "64 wait behind it", func() bool { return inQueue(s) == 64 })
 	before := s.Figures().Steps
 	close(let)
 	must(t, <-answered)
@@ -119,6 +339,8 @@ func TestLargeEdge(t *testing.T) {
 			t.Fatalf("the next step is made at once: %v", err)
 		}
 	}
+	// (it may rest so before the submission has come)
+	eventually(t, "the submission waits", func() bool { return inQueue(s2) == 1 })
 	ending, cancel := context.WithCancel(ctx)
 	cancel()
 	if s2.End(ending) == nil {

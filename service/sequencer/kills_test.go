@@ -33,9 +33,7 @@ func killsAtEachPhase(t *testing.T, on ground) {
 			}
 			s := started(t, p.config(t), hooks{})
 			must(t, got.submitAll(limited(t), s, 0, 300, 32))
-			if report := p.right(t, got); report.Leaves != 300 {
-				t.Fatalf("%+v", report)
-			}
+			isOf(t, p.right(t, got), 300)
 			leavesAreKnown(t, s, 300)
 		})
 	}
@@ -138,9 +136,7 @@ func pausesAtEachPhase(t *testing.T, on ground) {
 					t.Errorf("%+v, %v", head, err)
 				}
 			}
-			if report := p.right(t, got); report.Leaves != 70 {
-				t.Fatalf("%+v", report)
-			}
+			isOf(t, p.right(t, got), 70)
 		})
 	}
 }

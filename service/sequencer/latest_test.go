@@ -32,6 +32,25 @@ func (p *parted) Read(ctx context.Context) (string, error) {
 	return p.Register.Read(ctx)
 }
 
+// part has a node not reach its register, until it says so.
+func (p *parted) part(t testing.TB, s *Sequencer) {
+	t.Helper()
+	p.on.Store(true)
+	eventually(t, "the register isn't read", func() bool { return strings.Contains(s.Figures().Fault, errTried.Error()) })
+}
+
+// partedNodes has two nodes carry a log on to 20 entries, of which one can be parted from the register.
+func (p place) partedNodes(ctx context.Context, t *testing.T, got *answers) (here, there *Sequencer, register *parted) {
+	t.Helper()
+	here, config := started(t, p.notHere(t), hooks{}), p.notHere(t)
+	register = &parted{Register: config.Register}
+	config.Register, config.Patience = register, time.Second
+	there = started(t, config, hooks{})
+	must(t, got.submitAll(ctx, here, 0, 10, 4))
+	must(t, got.submitAll(ctx, there, 10, 20, 4))
+	return here, there, register
+}
+
 // putBack puts the texts of a place's register and of its guard's state back to those of another one, as one that restores them does.
 func (p place) putBack(t testing.TB, from place, folders ...string) {
 	t.Helper()
@@ -112,12 +131,7 @@ func TestPartedNode(t *testing.T) {
 	t.Parallel()
 	onEach(t, func(t *testing.T, on ground) {
 		p, ctx, got := newPlaceOn(t, on), limited(t), &answers{}
-		here, config := started(t, p.notHere(t), hooks{}), p.notHere(t)
-		register := &parted{Register: config.Register}
-		config.Register, config.Patience = register, time.Second
-		there := started(t, config, hooks{})
-		must(t, got.submitAll(ctx, here, 0, 10, 4))
-		must(t, got.submitAll(ctx, there, 10, 20, 4))
+		here, there, register := p.partedNodes(ctx, t, got)
 		register.on.Store(true)
 		old := p.holds(t, on, register.Register)
 		must(t, got.submitAll(ctx, here, 20, 40, 4))
@@ -136,14 +150,10 @@ func TestPartedNode(t *testing.T) {
 		if p.holds(t, on, register.Register).text != old.text {
 			t.Error("the register was swapped")
 		}
-		if report := p.rightTwice(t, got); report.Leaves != 40 {
-			t.Fatalf("%+v", report)
-		}
+		isOf(t, p.rightTwice(t, got), 40)
 		p.goesBack(t, on, register.Register, newest)
 		comesBack(t, there, got, 41)
-		if report := p.rightTwice(t, got); report.Leaves != 41 {
-			t.Fatalf("%+v", report)
-		}
+		isOf(t, p.rightTwice(t, got), 41)
 	})
 }
 
@@ -186,9 +196,7 @@ func TestPausedNode(t *testing.T) {
 		}
 		p.goesBack(t, on, config.Register, newest)
 		comesBack(t, there, got, 41)
-		if report := p.rightTwice(t, got); report.Leaves != 41 {
-			t.Fatalf("%+v", report)
-		}
+		isOf(t, p.rightTwice(t, got), 41)
 	})
 }
 
@@ -252,7 +260,7 @@ func TestLatestHead(t *testing.T) {
 	_, err = New(ctx, p.config(t))
 	wants(t, err, ErrDamaged)
 	config := p.config(t)
-	config.LatestHead = filepath.Join(string(p), "nowhere", "latest-head")
+	config.LatestHead, config.Patience = filepath.Join(string(p), "nowhere", "latest-head"), time.Second
 	s := started(t, config, hooks{})
 	_, err = s.Submit(ctx, entryOf(7))
 	wants(t, err, log.ErrStore)
@@ -343,34 +351,16 @@ func (p place) becomes(t *testing.T, earlier *answers) string {
 	return notSeen
 }
 
-// TestPutBack starts a log all of whose stores are as they were last, or as an older copy has them, or gone, in each of the 27 ways, with the
-// file of the newest head there, and not.
-func TestPutBack(t *testing.T) {
-	t.Parallel()
-	p, ctx, got := newPlace(t), limited(t), &answers{}
-	s := started(t, p.config(t), hooks{})
-	must(t, got.submitAll(ctx, s, 0, 20, 8))
-	must(t, s.End(ctx))
-	parts := [3]string{"register", "objects", "guard"}
-	before := p.copied(t, append(parts[:], "places.db")...)
-	s = started(t, p.config(t), hooks{})
-	must(t, got.submitAll(ctx, s, 20, 40, 8))
-	must(t, s.End(ctx))
+// isPutBack starts a copy of a log in each of the ways, into which put has put the register, the objects and the guard's state; its file of the newest head
+// is there, and not.
+func (p place) isPutBack(t *testing.T, got *answers, put func(t *testing.T, states [3]string, to place)) {
 	for states, expected := range atStart {
 		for i, isThere := range []bool{true, false} {
 			states, expected, isThere := states, expected[i], isThere
 			t.Run(fmt.Sprintf("%v, file there %v", states, isThere), func(t *testing.T) {
 				t.Parallel()
 				to := p.copied(t, "places.db", "latest-head")
-				for at, part := range parts {
-					from := map[string]place{now: p, old: before}[states[at]]
-					if states[at] == gone {
-						continue
-					}
-					if said, err := exec.Command("cp", "-a", filepath.Join(string(from), part), string(to)).CombinedOutput(); err != nil {
-						t.Fatalf("%v: %s", err, said)
-					}
-				}
+				put(t, states, to)
 				if !isThere {
 					must(t, os.Remove(to.latestHead()))
 				}
@@ -380,6 +370,30 @@ func TestPutBack(t *testing.T) {
 			})
 		}
 	}
+}
+
+// TestPutBack starts a log all of whose stores are as they were last, or as an older copy has them, or gone, in each of the 27 ways, with the
+// file of the newest head there, and not.
+func TestPutBack(t *testing.T) {
+	t.Parallel()
+	p, ctx, got, s := begun(t, 20, 8)
+	must(t, s.End(ctx))
+	parts := [3]string{"register", "objects", "guard"}
+	before := p.copied(t, append(parts[:], "places.db")...)
+	s = started(t, p.config(t), hooks{})
+	must(t, got.submitAll(ctx, s, 20, 40, 8))
+	must(t, s.End(ctx))
+	p.isPutBack(t, got, func(t *testing.T, states [3]string, to place) {
+		for at, part := range parts {
+			from := map[string]place{now: p, old: before}[states[at]]
+			if states[at] == gone {
+				continue
+			}
+			if said, err := exec.Command("cp", "-a", filepath.Join(string(from), part), string(to)).CombinedOutput(); err != nil {
+				t.Fatalf("%v: %s", err, said)
+			}
+		}
+	})
 	if len(atStart) != 27 {
 		t.Errorf("%d ways", len(atStart))
 	}
@@ -424,29 +438,48 @@ func (p place) puts(t *testing.T, register, objects *kept) {
 		to, err := stores.ObjectsAt(ctx, at.Objects)
 		must(t, err)
 		defer to.Close()
-		must(t, filepath.WalkDir(objects.objects, func(path string, entry fs.DirEntry, err error) error {
-			if err != nil || entry.IsDir() {
-				return err
-			}
-			name, err := filepath.Rel(objects.objects, path)
-			must(t, err)
-			content, err := os.ReadFile(path)
-			must(t, err)
-			return to.Put(ctx, filepath.ToSlash(name), content)
-		}))
+		objects.eachObject(t, func(name string, content []byte) { must(t, to.Put(ctx, name, content)) })
 	}
+}
+
+// eachObject gives what was kept of the objects, one by one.
+func (k *kept) eachObject(t *testing.T, give func(name string, content []byte)) {
+	t.Helper()
+	must(t, filepath.WalkDir(k.objects, func(path string, entry fs.DirEntry, err error) error {
+		if err != nil || entry.IsDir() {
+			return err
+		}
+		name, err := filepath.Rel(k.objects, path)
+		must(t, err)
+		content, err := os.ReadFile(path)
+		must(t, err)
+		give(filepath.ToSlash(name), content)
+		return nil
+	}))
+}
+
+// standsWithPlaces has a place's objects and register be on an engine, and its places in its own folder.
+func (p place) standsWithPlaces(t *testing.T, on ground) {
+	t.Helper()
+	p.stands(t, on, "sqlite:"+filepath.Join(string(p), "places.db"))
+}
+
+// onEachEngine tries on each engine that is there what another test has over a folder.
+func onEachEngine(t *testing.T, other string, try func(t *testing.T, on ground)) {
+	onEach(t, func(t *testing.T, on ground) {
+		if on.register == nil {
+			t.Skip(other + " has it")
+		}
+		try(t, on)
+	})
 }
 
 // TestPutBackOnEach is TestPutBack on each engine that is there: what comes of each of the 27 ways is the same.
 func TestPutBackOnEach(t *testing.T) {
 	t.Parallel()
-	onEach(t, func(t *testing.T, on ground) {
-		if on.register == nil {
-			t.Skip("TestPutBack has it")
-		}
-		inFile := func(p place) string { return "sqlite:" + filepath.Join(string(p), "places.db") }
+	onEachEngine(t, "TestPutBack", func(t *testing.T, on ground) {
 		p, ctx, got := newPlace(t), limited(t), &answers{}
-		p.stands(t, on, inFile(p))
+		p.standsWithPlaces(t, on)
 		copies := map[string]*kept{}
 		guards := map[string]place{}
 		for i, of := range []string{old, now} {
@@ -456,28 +489,15 @@ func TestPutBackOnEach(t *testing.T) {
 			k := p.keeps(t)
 			copies[of], guards[of] = &k, p.copied(t, "guard")
 		}
-		for states, expected := range atStart {
-			for i, isThere := range []bool{true, false} {
-				states, expected, isThere := states, expected[i], isThere
-				t.Run(fmt.Sprintf("%v, file there %v", states, isThere), func(t *testing.T) {
-					t.Parallel()
-					to := p.copied(t, "places.db", "latest-head")
-					to.stands(t, on, inFile(to))
-					to.puts(t, copies[states[0]], copies[states[1]])
-					if from, isKept := guards[states[2]]; isKept {
-						if said, err := exec.Command("cp", "-a", from.guardState(), string(to)).CombinedOutput(); err != nil {
-							t.Fatalf("%v: %s", err, said)
-						}
-					}
-					if !isThere {
-						must(t, os.Remove(to.latestHead()))
-					}
-					if became := to.becomes(t, got); became != expected {
-						t.Errorf("%s, and expected was: %s", became, expected)
-					}
-				})
+		p.isPutBack(t, got, func(t *testing.T, states [3]string, to place) {
+			to.standsWithPlaces(t, on)
+			to.puts(t, copies[states[0]], copies[states[1]])
+			if from, isKept := guards[states[2]]; isKept {
+				if said, err := exec.Command("cp", "-a", from.guardState(), string(to)).CombinedOutput(); err != nil {
+					t.Fatalf("%v: %s", err, said)
+				}
 			}
-		}
+		})
 	})
 }
 
@@ -493,13 +513,9 @@ func headsIn(t *testing.T, p place) string {
 // they have comes over it.
 func TestOutgrownOnEach(t *testing.T) {
 	t.Parallel()
-	onEach(t, func(t *testing.T, on ground) {
-		if on.register == nil {
-			t.Skip("TestOutgrown has it")
-		}
-		inFile := func(p place) string { return "sqlite:" + filepath.Join(string(p), "places.db") }
+	onEachEngine(t, "TestOutgrown", func(t *testing.T, on ground) {
 		p, ctx, got := newPlace(t), limited(t), &answers{}
-		p.stands(t, on, inFile(p))
+		p.standsWithPlaces(t, on)
 		config := p.config(t)
 		register := &parted{Register: config.Register}
 		config.Register, config.Patience = register, time.Second
@@ -508,26 +524,18 @@ func TestOutgrownOnEach(t *testing.T) {
 		old, other := p.keeps(t), p.copied(t, "places.db", "guard")
 		must(t, got.submitAll(ctx, here, 20, 40, 4))
 		register.on.Store(true)
-		other.stands(t, on, inFile(other))
+		other.standsWithPlaces(t, on)
 		other.puts(t, &old, &old)
 		second := started(t, other.config(t), hooks{})
 		must(t, (&answers{}).submitAll(ctx, second, 200, 260, 4))
 		must(t, second.End(ctx))
 		grown, heads := other.keeps(t), headsIn(t, p)
-		must(t, filepath.WalkDir(grown.objects, func(path string, entry fs.DirEntry, err error) error {
-			if err != nil || entry.IsDir() {
-				return err
-			}
-			name, err := filepath.Rel(grown.objects, path)
-			must(t, err)
-			content, err := os.ReadFile(path)
-			must(t, err)
+		grown.eachObject(t, func(name string, content []byte) {
 			// (where the first one's stands, it stays)
-			if err := config.Objects.Put(ctx, filepath.ToSlash(name), content); !errors.Is(err, stores.ErrOther) {
-				return err
+			if err := config.Objects.Put(ctx, name, content); !errors.Is(err, stores.ErrOther) {
+				must(t, err)
 			}
-			return nil
-		}))
+		})
 		whole := headsIn(t, p)
 		text, err := register.Register.Read(ctx)
 		must(t, err)

@@ -12,6 +12,8 @@ import (
 	"sync"
 	"testing"
 	"time"
+
+	"wagtenib/service/log"
 )
 
 // faultsWords says how many faults TestFaults makes, in JSON; without it the test is left out. service/faults.sh sets it.
@@ -170,27 +172,14 @@ func (r *faultRun) whole() {
 
 // rest submits what is left.
 func (r *faultRun) rest(ctx context.Context, s *Sequencer) {
-	numbers := make(chan int)
-	var all sync.WaitGroup
-	for i := 0; i < 128; i++ {
-		all.Add(1)
-		go func() {
-			defer all.Done()
-			for n := range numbers {
-				place, err := s.Submit(ctx, entryOf(n))
-				if err != nil {
-					r.t.Errorf("%d: %v", n, err)
-					continue
-				}
-				r.got.add(answerOf(entryOf(n), place))
-			}
-		}()
-	}
-	for _, n := range r.left {
-		numbers <- n
-	}
-	close(numbers)
-	all.Wait()
+	submitEach(ctx, s, r.left, 128, func(n int, place log.Place, err error) {
+		if err != nil {
+			r.t.Errorf("%d: %v", n, err)
+			return
+		}
+		r.got.add(answerOf(entryOf(n), place))
+	})
+	must(r.t, ctx.Err())
 }
 
 // slot runs one node after the other.

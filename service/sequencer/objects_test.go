@@ -49,9 +49,7 @@ func keeps(t *testing.T, path string) (content []byte, putBack func()) {
 // right, counts as damaged, and keeps no other one from being given.
 func TestDamagedTilesAreNotGiven(t *testing.T) {
 	t.Parallel()
-	p, ctx, got := newPlace(t), limited(t), &answers{}
-	s := started(t, p.config(t), hooks{})
-	must(t, got.submitAll(ctx, s, 0, 600, 600))
+	p, ctx, _, s := begun(t, 600, 600)
 	must(t, s.End(ctx))
 	config := p.config(t)
 	config.TendEvery = time.Hour
@@ -92,9 +90,7 @@ func TestDamagedTilesAreNotGiven(t *testing.T) {
 // TestTileBelowADamagedOne: where the tile above isn't the tree's, nothing can be compared with it, and nothing is given.
 func TestTileBelowADamagedOne(t *testing.T) {
 	t.Parallel()
-	p, ctx, got := newPlace(t), limited(t), &answers{}
-	s := started(t, p.config(t), hooks{})
-	must(t, got.submitAll(ctx, s, 0, 300, 300))
+	p, ctx, _, s := begun(t, 300, 300)
 	must(t, s.End(ctx))
 	above := filepath.Join(p.objects(), "tile/1/000.p/1")
 	_, putBack := keeps(t, above)
@@ -115,7 +111,7 @@ func TestTileBelowADamagedOne(t *testing.T) {
 	}
 }
 
-// newestBundle gives the names of the objects in the newest state's bundle.
+// newestBundle gives the names of the objects in the newest state's bundle, which has to be there.
 func newestBundle(t *testing.T, p place) (names []string) {
 	t.Helper()
 	config := p.config(t)
@@ -174,9 +170,7 @@ func TestNewestStateIsMadeAgain(t *testing.T) {
 // submission.
 func TestNewestHeadIsMadeAgain(t *testing.T) {
 	t.Parallel()
-	p, ctx, got := newPlace(t), limited(t), &answers{}
-	s := started(t, p.config(t), hooks{})
-	must(t, got.submitAll(ctx, s, 0, 5, 5))
+	p, ctx, got, s := begun(t, 5, 5)
 	must(t, got.submitAll(ctx, s, 5, 9, 4))
 	newest, err := s.Checkpoint(ctx)
 	must(t, err)
@@ -193,36 +187,93 @@ func TestNewestHeadIsMadeAgain(t *testing.T) {
 	p.right(t, got)
 }
 
-// TestIssuersAreMadeAgain damages an issuer while no node runs: the next submission with it is taken, and puts it right.
-func TestIssuersAreMadeAgain(t *testing.T) {
+// TestHeadOfAnOldBundle: a head that was lost is made again also out of a bundle of the name that versions before gave it.
+func TestHeadOfAnOldBundle(t *testing.T) {
 	t.Parallel()
 	p, ctx, got := newPlace(t), limited(t), &answers{}
 	s := started(t, p.config(t), hooks{})
-	must(t, got.submitAll(ctx, s, 0, 300, 300))
+	must(t, got.submitAll(ctx, s, 0, 5, 5))
+	newest, err := s.Checkpoint(ctx)
+	must(t, err)
 	must(t, s.End(ctx))
-	number := 1000
-	for how, damage := range damages {
-		issuer := entryOf(number).Issuers[0]
-		name := issuerName(sha256.Sum256(issuer))
-		must(t, damage(filepath.Join(p.objects(), name)))
-		config := p.config(t)
-		config.TendEvery = 5 * time.Millisecond
-		s = started(t, config, hooks{})
+	k := s.newestKnown()
+	must(t, os.Rename(filepath.Join(p.objects(), k.look.Seen.Bundle), filepath.Join(p.objects(), oldBundleName(step.Digest(k.line)))))
+	must(t, os.Remove(filepath.Join(p.objects(), nameOf(&newest))))
+	s = started(t, p.config(t), hooks{})
+	eventually(t, "the newest head is given", func() bool {
+		head, err := readingNode(s).Checkpoint(ctx)
+		return err == nil && head.TreeSize == newest.TreeSize && head.Timestamp == newest.Timestamp
+	})
+	must(t, s.End(ctx))
+	p.right(t, got)
+}
+
+// TestIssuersAreMadeAgain damages an issuer while no node runs: the next submission with it is taken, and puts it right.
+func TestIssuersAreMadeAgain(t *testing.T) {
+	t.Parallel()
+	p, ctx, got, s := begun(t, 300, 300)
+	must(t, s.End(ctx))
+	issuersDamaged(t, p, got, 5*time.Millisecond, func(how, name string, _ bool, s *Sequencer) {
 		eventually(t, how+": it is seen", func() bool {
 			f := s.Figures()
 			return f.DamagedIssuers == 1 && strings.Contains(f.Damage, name)
 		})
+	}, func(how, name string, _ bool, s *Sequencer) {
+		// (who read it before may say so behind that)
+		eventually(t, how+": it isn't seen any more", func() bool { return s.Figures().DamagedIssuers == 0 })
+		if f := s.Figures(); f.Mended != 1 || f.LastMended != name {
+			t.Errorf("%s: %+v", how, f)
+		}
+	})
+}
+
+// issuersDamaged damages an issuer in each way while no node runs, and starts one, which tends so often. Once that was looked at the issuer comes with a
+// submission, stands as it was, is given, and what the node says is looked at again. Each look is told whether something was left of the issuer.
+func issuersDamaged(t *testing.T, p place, got *answers, tendEvery time.Duration, before, behind func(how, name string, isLeft bool, s *Sequencer)) {
+	t.Helper()
+	ctx, number := limited(t), 1000
+	for how, damage := range damages {
+		issuer := entryOf(number).Issuers[0]
+		name := issuerName(sha256.Sum256(issuer))
+		path := filepath.Join(p.objects(), name)
+		must(t, damage(path))
+		_, err := os.Stat(path)
+		isLeft := err == nil
+		config := p.config(t)
+		config.TendEvery = tendEvery
+		s := started(t, config, hooks{})
+		before(how, name, isLeft, s)
 		must(t, got.submitAll(ctx, s, number, number+1, 1))
+		if content, err := os.ReadFile(path); err != nil || !bytes.Equal(content, issuer) {
+			t.Errorf("%s: %q stands, %v", how, content, err)
+		}
+		behind(how, name, isLeft, s)
 		if content, err := s.Object(ctx, name, stores.MostObject); err != nil || !bytes.Equal(content, issuer) {
 			t.Errorf("%s: %v", how, err)
-		}
-		if f := s.Figures(); f.DamagedIssuers != 0 || f.Mended != 1 || f.LastMended != name {
-			t.Errorf("%s: %+v", how, f)
 		}
 		must(t, s.End(ctx))
 		number += 5
 	}
 	p.right(t, got)
+}
+
+// TestIssuersAreMadeAgainUnseen damages an issuer while no node runs, and nothing reads it before the next submission with it, which is taken and puts
+// it right: where another content stands the store says so, and where none does it is put.
+func TestIssuersAreMadeAgainUnseen(t *testing.T) {
+	t.Parallel()
+	p, ctx, got := newPlace(t), limited(t), &answers{}
+	s := started(t, p.config(t), hooks{})
+	must(t, got.submitAll(ctx, s, 0, 10, 10))
+	must(t, s.End(ctx))
+	issuersDamaged(t, p, got, time.Hour, func(string, string, bool, *Sequencer) {}, func(how, _ string, isLeft bool, s *Sequencer) {
+		f, mended := s.Figures(), uint64(0)
+		if isLeft {
+			mended = 1
+		}
+		if f.DamagedIssuers != 0 || f.Mended != mended {
+			t.Errorf("%s: %+v", how, f)
+		}
+	})
 }
 
 // TestIssuerIsPutAgain damages an issuer below the node that put it: it is put again without a submission.
@@ -359,16 +410,14 @@ func (r olderPublished) Published(context.Context) (stores.Published, error) { r
 // TestAnotherLogsSettings starts a node by another key, and by another origin: it says so, and touches nothing.
 func TestAnotherLogsSettings(t *testing.T) {
 	t.Parallel()
-	p, ctx, got := newPlace(t), limited(t), &answers{}
-	s := started(t, p.config(t), hooks{})
-	must(t, got.submitAll(ctx, s, 0, 5, 5))
+	p, ctx, got, s := begun(t, 5, 5)
 	must(t, s.End(ctx))
 	other := newPlace(t)
 	start := func(p place, origin string) error {
 		config := p.config(t)
 		config.Origin = origin
 		config.Step.Close()
-		made, err := step.NewClient([]string{"python3", stepsFile, "--origin", origin}, 20*time.Second)
+		made, err := step.NewClient([]string{"python3", stepsFile, "--origin", origin}, longest)
 		must(t, err)
 		config.Step = made
 		_, err = New(ctx, config)
@@ -399,9 +448,7 @@ func inHex(hash [32]byte) string { return hex.EncodeToString(hash[:]) }
 // TestBentRegister changes the root in the register's text: it is said of the text, and not of tiles.
 func TestBentRegister(t *testing.T) {
 	t.Parallel()
-	p, ctx, got := newPlace(t), limited(t), &answers{}
-	s := started(t, p.config(t), hooks{})
-	must(t, got.submitAll(ctx, s, 0, 5, 5))
+	p, ctx, _, s := begun(t, 5, 5)
 	must(t, s.End(ctx))
 	k := s.newest
 	other := strings.Replace(k.text, inHex(k.state.Root), inHex(sha256.Sum256(nil)), 1)

@@ -14,4 +14,6 @@ type hooks struct{}
 func (s *Sequencer) phase(string) {}
 
 // rest waits for the next round.
-func (s *Sequencer) rest(ctx context.Context, until time.Duration) { _ = wait(ctx, until) }
+func (s *Sequencer) rest(ctx context.Context, least, most time.Duration) {
+	s.waitForBack(ctx, least, most)
+}

@@ -11,13 +11,18 @@ import (
 type hooks struct {
 	phase func(string)
 	rests func(time.Duration)
+	// pause is for how long those who were answered are waited for at most, in place of the interval.
+	pause time.Duration
 }
 
-func (s *Sequencer) rest(ctx context.Context, until time.Duration) {
+func (s *Sequencer) rest(ctx context.Context, least, most time.Duration) {
 	if s.test.rests != nil {
-		s.test.rests(until)
+		s.test.rests(most)
 	}
-	_ = wait(ctx, until)
+	if s.test.pause > 0 && s.back > 0 {
+		most = s.test.pause
+	}
+	s.waitForBack(ctx, least, most)
 }
 
 func (s *Sequencer) phase(name string) {

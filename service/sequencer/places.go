@@ -2,8 +2,12 @@ package sequencer
 
 import (
 	"context"
+	"crypto/rand"
+	"crypto/sha256"
+	"encoding/binary"
 	"errors"
 	"fmt"
+	"strings"
 	"time"
 
 	"golang.org/x/mod/sumdb/tlog"
@@ -54,12 +58,140 @@ func (s *Sequencer) bears(k known) error {
 	return fmt.Errorf("%w: the log has %d entries, and where they are (places) the places of %d are borne: they go to another store, as PostgreSQL, which ctserve places fills", ErrPlaces, k.state.Size, bounded.Most())
 }
 
-// startsWithPlaces is knowsPlaces at a start, where the newest state is published.
+// Which places are the log's says an id of chance that stands in both: in the places as if it were an identity's place, and in the store as the name of an
+// object, places/ID. So a node with places of its own, or another log's, doesn't start, whatever entry these know.
+
+// placesIdentity is the identity under which places have their id: no submission's, which is a hash over its entry's type and what follows.
+var placesIdentity = stores.Identity(sha256.Sum256([]byte("the id of a log's places")))
+
+// placesName is the object's name of an id.
+func placesName(id stores.Place) string {
+	return fmt.Sprintf("%s%016x%016x", placesPrefix, id.Index, id.Timestamp)
+}
+
+// placesID reads the id that places have.
+func placesID(ctx context.Context, in stores.Places) (id stores.Place, has bool, err error) {
+	found, err := in.Find(ctx, []stores.Identity{placesIdentity})
+	if err != nil {
+		return id, false, fmt.Errorf("sequencer: %w", err)
+	}
+	id, has = found[placesIdentity]
+	return id, has, nil
+}
+
+// newPlacesID gives places that have none an id, and reads it: another node may have been first.
+func newPlacesID(ctx context.Context, in stores.Places) (id stores.Place, err error) {
+	var chance [16]byte
+	if _, err := rand.Read(chance[:]); err != nil {
+		return id, fmt.Errorf("sequencer: %w", err)
+	}
+	id.Index, id.Timestamp = binary.BigEndian.Uint64(chance[:8])&stores.MostNumber, binary.BigEndian.Uint64(chance[8:])&stores.MostNumber
+	if err := in.Add(ctx, []stores.Placed{{Identity: placesIdentity, Place: id}}); err != nil {
+		return id, fmt.Errorf("sequencer: %w", err)
+	}
+	id, has, err := placesID(ctx, in)
+	if err == nil && !has {
+		err = fmt.Errorf("%w: they don't keep what is added", ErrPlaces)
+	}
+	return id, err
+}
+
+// namedPlaces are the ids that the store has; it is one, but before the first start.
+func namedPlaces(ctx context.Context, in stores.Objects) ([]string, error) {
+	names, err := in.List(ctx, placesPrefix, "", stores.MostListed)
+	return names, wrapped(err)
+}
+
+// hasItsPlaces sees at a start that the places have the id that the store has. Where neither has one they get it.
+func (s *Sequencer) hasItsPlaces(ctx context.Context) error {
+	names, err := namedPlaces(ctx, s.config.Objects)
+	if err != nil {
+		return err
+	}
+	id, has, err := placesID(ctx, s.config.Places)
+	if err == nil && !has && len(names) == 0 {
+		id, err = newPlacesID(ctx, s.config.Places)
+		has = true
+	}
+	if err != nil {
+		return err
+	}
+	if len(names) == 0 {
+		if err := s.config.Objects.Put(ctx, placesName(id), []byte(s.config.Origin+"\n")); err != nil {
+			// A store that takes nothing now says so elsewhere, and what it has can be read.
+			s.failed("the places' id isn't kept", err)
+			return nil
+		}
+		if names, err = namedPlaces(ctx, s.config.Objects); err != nil {
+			return err
+		}
+	}
+	own := "none"
+	if has {
+		own = placesName(id)
+	}
+	if len(names) > 1 {
+		return s.severalIDs(ctx, own, names)
+	}
+	if names[0] != own {
+		return fmt.Errorf("%w: by their id they are %s, and the store has %s: all nodes of a log have the same ones, and lost ones are built anew by ctserve places", ErrPlaces, own, names[0])
+	}
+	return nil
+}
+
+// severalIDs is the refusal where the store has several ids: nodes with places of each's own made a log's first start at once, and of these one went on
+// at most. It says which ids are to go, where an entry says whose places are the log's.
+func (s *Sequencer) severalIDs(ctx context.Context, own string, names []string) error {
+	k := s.newestKnown()
+	lacks := s.knowsPublished(ctx, k)
+	if lacks != nil && !errors.Is(lacks, ErrPlaces) {
+		return lacks
+	}
+	var others []string
+	for _, name := range names {
+		if name != own {
+			others = append(others, name)
+		}
+	}
+	which := "all but the one of those with which it goes on"
+	if isOne := len(others) < len(names); isOne && lacks != nil {
+		which = own + ", since these don't know the log's newest entry"
+	} else if isOne && s.placed == k.line {
+		which = strings.Join(others, " and ") + ", since these know the log's newest entry"
+	}
+	return fmt.Errorf("%w: by their id they are %s, and the store has %s: nodes with places of each's own started at once, and all are to have the same ones; delete %s", ErrPlaces, own, strings.Join(names, " and "), which)
+}
+
+// takesID gives places the id that the store has, if any.
+func takesID(ctx context.Context, config Config) error {
+	names, err := namedPlaces(ctx, config.Objects)
+	if err != nil || len(names) == 0 {
+		return err
+	}
+	if len(names) > 1 {
+		return fmt.Errorf("%w: the store has %s: delete all but one, which these get", ErrPlaces, strings.Join(names, " and "))
+	}
+	var id stores.Place
+	if _, err := fmt.Sscanf(names[0], placesPrefix+"%16x%16x", &id.Index, &id.Timestamp); err != nil || placesName(id) != names[0] {
+		return fmt.Errorf("%w: the store has %s, which is no id of places", ErrPlaces, names[0])
+	}
+	return wrapped(config.Places.Replace(ctx, []stores.Placed{{Identity: placesIdentity, Place: id}}))
+}
+
+// startsWithPlaces sees at a start that the places are the log's, and bear more.
 func (s *Sequencer) startsWithPlaces(ctx context.Context) error {
 	k := s.newestKnown()
 	if err := s.bears(k); err != nil {
 		return err
 	}
+	if err := s.hasItsPlaces(ctx); err != nil {
+		return err
+	}
+	return s.knowsPublished(ctx, k)
+}
+
+// knowsPublished is knowsPlaces where the state is published.
+func (s *Sequencer) knowsPublished(ctx context.Context, k known) error {
 	published, err := s.config.Register.Published(ctx)
 	if err != nil {
 		return fmt.Errorf("sequencer: %w", err)
@@ -88,6 +220,9 @@ func RebuildPlaces(ctx context.Context, config Config, told func(left uint64)) e
 	}
 	if published.Before(publishedAt(k.state)) {
 		return fmt.Errorf("%w: the newest state isn't published: start a node, which does that, and then this again", ErrPlaces)
+	}
+	if err := takesID(ctx, config); err != nil {
+		return err
 	}
 	orElse(&config.Patience, time.Minute)
 	s := &Sequencer{config: config}

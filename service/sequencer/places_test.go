@@ -1,10 +1,15 @@
 package sequencer
 
 import (
+	"context"
+	"errors"
+	"fmt"
 	"os"
 	"path/filepath"
+	"regexp"
 	"strings"
 	"testing"
+	"time"
 
 	"wagtenib/service/log"
 	"wagtenib/service/stores"
@@ -20,8 +25,8 @@ func ownPlaces(t *testing.T, config *Config) {
 	config.Places = own
 }
 
-// TestPlacesApart has nodes of one log with places of each's own: who doesn't know another one's entries takes nothing, whether it began beside
-// it or starts now.
+// TestPlacesApart has nodes of one log with places of each's own, which have one id, as copies have: who doesn't know another one's entries takes nothing,
+// whether it began beside it or starts now.
 func TestPlacesApart(t *testing.T) {
 	t.Parallel()
 	p, ctx, got := newPlace(t), limited(t), &answers{}
@@ -29,19 +34,311 @@ func TestPlacesApart(t *testing.T) {
 	for i := range nodes {
 		config := p.notHere(t)
 		ownPlaces(t, &config)
+		must(t, takesID(ctx, config))
 		nodes[i] = started(t, config, hooks{})
 	}
-	must(t, got.submitAll(ctx, nodes[0], 0, 20, 20))
-	_, err := nodes[1].Submit(ctx, entryOf(0))
+	var err error
+	from := 0
+	for ; err == nil; from += 20 {
+		helped := nodes[1].Figures().Helped
+		must(t, got.submitAll(ctx, nodes[0], from, from+20, 20))
+		// (one that helped to roll a step out knows its entries)
+		if _, err = nodes[1].Submit(ctx, entryOf(from)); err == nil && nodes[1].Figures().Helped == helped {
+			t.Fatal("who doesn't know the entry takes it")
+		}
+	}
 	wants(t, err, log.ErrStore, ErrPlaces)
 	config := p.notHere(t)
 	ownPlaces(t, &config)
+	must(t, takesID(ctx, config))
 	_, err = New(ctx, config)
 	wants(t, err, ErrPlaces)
-	must(t, got.submitAll(ctx, nodes[0], 20, 30, 10))
-	if report := p.right(t, got); report.Leaves != 30 {
-		t.Errorf("%+v", report)
+	if !strings.Contains(err.Error(), fmt.Sprintf("they don't know its newest entry, %d", from-1)) {
+		t.Error(err)
 	}
+	must(t, got.submitAll(ctx, nodes[0], from, from+10, 10))
+	isOf(t, p.right(t, got), from+10)
+}
+
+// idNames are the names of ids of places that a store has.
+func idNames(t *testing.T, p place) []string {
+	t.Helper()
+	names, err := filepath.Glob(filepath.Join(p.objects(), placesPrefix, "*"))
+	must(t, err)
+	for i := range names {
+		names[i] = placesPrefix + filepath.Base(names[i])
+	}
+	return names
+}
+
+// TestPlacesByTheirID: a node whose places aren't those whose id the store has doesn't start, be there no entry yet, or be the newest one known to them; and
+// the id stays the same over starts, and is put again where the store lost it.
+func TestPlacesByTheirID(t *testing.T) {
+	t.Parallel()
+	p, ctx, got := newPlace(t), limited(t), &answers{}
+	must(t, started(t, p.config(t), hooks{}).End(ctx))
+	ids := idNames(t, p)
+	if len(ids) != 1 || !regexp.MustCompile(`^places/[0-7][0-9a-f]{15}[0-7][0-9a-f]{15}$`).MatchString(ids[0]) {
+		t.Fatalf("the store has %q", ids)
+	}
+	other := p.config(t)
+	ownPlaces(t, &other)
+	_, err := New(ctx, other)
+	wants(t, err, ErrPlaces)
+	if !strings.Contains(err.Error(), "by their id they are none, and the store has "+ids[0]) {
+		t.Error(err)
+	}
+	s := started(t, p.config(t), hooks{})
+	must(t, got.submitAll(ctx, s, 0, 5, 5))
+	must(t, s.End(ctx))
+	newest, err := s.treeOf(ctx, s.newestKnown().state).leafAt(4)
+	must(t, err)
+	at := stores.Place{Index: 4, Timestamp: newest.Timestamp}
+	must(t, other.Places.Add(ctx, []stores.Placed{{Identity: newest.identity, Place: at}}))
+	must(t, other.Places.Leaves().Add(ctx, []stores.Placed{{Identity: stores.Identity(newest.hash()), Place: at}}))
+	own, err := newPlacesID(ctx, other.Places)
+	must(t, err)
+	// (who comes second at once takes the first one's)
+	if again, err := newPlacesID(ctx, other.Places); err != nil || again != own {
+		t.Errorf("%v is the id, and then %v, %v", own, again, err)
+	}
+	_, err = New(ctx, other)
+	wants(t, err, ErrPlaces)
+	if !strings.Contains(err.Error(), "by their id they are "+placesName(own)+", and the store has "+ids[0]) {
+		t.Error(err)
+	}
+	must(t, os.Remove(filepath.Join(p.objects(), ids[0])))
+	must(t, started(t, p.config(t), hooks{}).End(ctx))
+	if again := idNames(t, p); len(again) != 1 || again[0] != ids[0] {
+		t.Errorf("the store has %q, and had %q", again, ids)
+	}
+	must(t, os.WriteFile(filepath.Join(p.objects(), placesName(own)), nil, 0o644))
+	for _, config := range []Config{p.config(t), other} {
+		_, err = New(ctx, config)
+		wants(t, err, ErrPlaces)
+		if !strings.Contains(err.Error(), ids[0]) || !strings.Contains(err.Error(), placesName(own)) || !strings.Contains(err.Error(), " and ") {
+			t.Error(err)
+		}
+	}
+	p.right(t, got)
+}
+
+// waitsToName is a store that takes no id of places until it is let to, and tells that one is to be put.
+type waitsToName struct {
+	stores.Objects
+	comes, let chan struct{}
+}
+
+func (w waitsToName) Put(ctx context.Context, name string, content []byte) error {
+	if strings.HasPrefix(name, placesPrefix) {
+		w.comes <- struct{}{}
+		<-w.let
+	}
+	return w.Objects.Put(ctx, name, content)
+}
+
+// refusedAs sees that a node doesn't start, by the id of its places and the two that the store has, and gives what it says to delete.
+func refusedAs(t *testing.T, what, own string, ids []string, err error) (which string) {
+	t.Helper()
+	wants(t, err, ErrPlaces)
+	said := "by their id they are " + own + ", and the store has " + strings.Join(ids, " and ") +
+		": nodes with places of each's own started at once, and all are to have the same ones; delete "
+	_, which, found := strings.Cut(err.Error(), said)
+	if !found {
+		t.Errorf("%s: %v, which isn't: %s", what, err, said)
+	}
+	return which
+}
+
+// TestPlacesOfTwoFirstStarts: of two nodes with places of each's own that make a log's first start at once one goes on at most. The other one, and then each start,
+// says which ids the store has, and which of them to delete; once that was done the node starts whose places have the one that is left, and the other one with
+// these.
+func TestPlacesOfTwoFirstStarts(t *testing.T) {
+	t.Parallel()
+	const either = "all but the one of those with which it goes on"
+	for _, oneIsFirst := range []bool{true, false} {
+		p, ctx, got := newPlace(t), limited(t), &answers{}
+		var configs [2]Config
+		comes, let, ended := make(chan struct{}), make(chan struct{}), make(chan error, 2)
+		for i := range configs {
+			configs[i] = p.config(t)
+			ownPlaces(t, &configs[i])
+		}
+		start := func(i int) {
+			waiting := configs[i]
+			waiting.Objects = waitsToName{waiting.Objects, comes, let}
+			s, err := New(ctx, waiting)
+			if err == nil {
+				ended <- s.End(ctx)
+				return
+			}
+			ended <- err
+		}
+		name := func(i int) string {
+			id, has, err := placesID(ctx, configs[i].Places)
+			if err != nil || !has {
+				t.Fatal(has, err)
+			}
+			return placesName(id)
+		}
+		go start(1)
+		<-comes
+		var first *Sequencer
+		if oneIsFirst {
+			first = started(t, configs[0], hooks{})
+			must(t, got.submitAll(ctx, first, 0, 5, 5))
+		} else {
+			go start(0)
+			<-comes
+		}
+		close(let)
+		own := [2]string{name(0), name(1)}
+		if oneIsFirst {
+			err := <-ended
+			if which := refusedAs(t, "the second one", own[1], idNames(t, p), err); which != either {
+				t.Errorf("the second one: delete %s", which)
+			}
+			must(t, got.submitAll(ctx, first, 5, 8, 3))
+			must(t, first.End(ctx))
+		} else {
+			// (one may have listed before the other one put its name, and gone on)
+			for range configs {
+				if err := <-ended; err != nil && !errors.Is(err, ErrPlaces) {
+					t.Error(err)
+				}
+			}
+		}
+		ids := idNames(t, p)
+		if len(ids) != 2 {
+			t.Fatalf("the store has %q", ids)
+		}
+		for i := range configs {
+			_, err := New(ctx, configs[i])
+			which := refusedAs(t, "started again", own[i], ids, err)
+			if expected := [2]string{own[1] + ", since these know the log's newest entry", own[1] + ", since these don't know the log's newest entry"}[i]; oneIsFirst && which != expected || !oneIsFirst && which != either {
+				t.Errorf("node %d started again: delete %s", i, which)
+			}
+		}
+		if !oneIsFirst {
+			must(t, os.Remove(filepath.Join(p.objects(), own[1])))
+			must(t, got.submitAll(ctx, started(t, configs[0], hooks{}), 20, 25, 5))
+			p.right(t, got)
+			continue
+		}
+		// Others say the ids, and leave it open; so do places that are to be built anew.
+		third := p.config(t)
+		ownPlaces(t, &third)
+		_, err := New(ctx, third)
+		if which := refusedAs(t, "a third one", "none", ids, err); which != either {
+			t.Errorf("a third one: delete %s", which)
+		}
+		err = RebuildPlaces(ctx, third, func(uint64) { t.Error("it went on") })
+		wants(t, err, ErrPlaces)
+		if !strings.Contains(err.Error(), "the store has "+strings.Join(ids, " and ")+": delete all but one, which these get") {
+			t.Error(err)
+		}
+		must(t, os.Remove(filepath.Join(p.objects(), own[1])))
+		s := started(t, configs[0], hooks{})
+		must(t, got.submitAll(ctx, s, 20, 25, 5))
+		must(t, s.End(ctx))
+		_, err = New(ctx, configs[1])
+		wants(t, err, ErrPlaces)
+		if !strings.Contains(err.Error(), "by their id they are "+own[1]+", and the store has "+own[0]+": all nodes") {
+			t.Error(err)
+		}
+		configs[1].Places = configs[0].Places
+		s = started(t, configs[1], hooks{})
+		must(t, got.submitAll(ctx, s, 20, 30, 5))
+		must(t, s.End(ctx))
+		must(t, RebuildPlaces(ctx, third, func(uint64) {}))
+		if id, has, err := placesID(ctx, third.Places); err != nil || !has || placesName(id) != own[0] {
+			t.Errorf("places that were built anew have %s, %v, %v", placesName(id), has, err)
+		}
+		p.right(t, got)
+	}
+}
+
+// TestPlacesTakeTheirID: places that are built anew have the log's id, whatever they had; and none is taken from a name that isn't one.
+func TestPlacesTakeTheirID(t *testing.T) {
+	t.Parallel()
+	p, ctx, got := newPlace(t), limited(t), &answers{}
+	s := started(t, p.config(t), hooks{})
+	must(t, got.submitAll(ctx, s, 0, 5, 5))
+	must(t, s.End(ctx))
+	ids := idNames(t, p)
+	for _, had := range []bool{false, true} {
+		other := p.config(t)
+		ownPlaces(t, &other)
+		if had {
+			_, err := newPlacesID(ctx, other.Places)
+			must(t, err)
+		}
+		must(t, RebuildPlaces(ctx, other, func(uint64) {}))
+		must(t, started(t, other, hooks{}).End(ctx))
+		if id, has, err := placesID(ctx, other.Places); err != nil || !has || placesName(id) != ids[0] {
+			t.Errorf("they have %s, %v, and the store %s", placesName(id), err, ids)
+		}
+	}
+	path := filepath.Join(p.objects(), ids[0])
+	for _, name := range []string{"x", "0123456789abcdef", filepath.Base(ids[0]) + "0", strings.ToUpper(filepath.Base(ids[0])[:8]) + "G"} {
+		bent := filepath.Join(filepath.Dir(path), name)
+		must(t, os.Rename(path, bent))
+		other := p.config(t)
+		ownPlaces(t, &other)
+		wants(t, RebuildPlaces(ctx, other, func(uint64) { t.Error("it went on") }), ErrPlaces)
+		must(t, os.Rename(bent, path))
+	}
+	p.right(t, got)
+}
+
+// forgetful are places that keep nothing that is added.
+type forgetful struct{ stores.Places }
+
+func (forgetful) Add(context.Context, []stores.Placed) error { return nil }
+
+// unnamed is a store that takes no id of places.
+type unnamed struct{ stores.Objects }
+
+func (u unnamed) Put(ctx context.Context, name string, content []byte) error {
+	if strings.HasPrefix(name, placesPrefix) {
+		return errTried
+	}
+	return u.Objects.Put(ctx, name, content)
+}
+
+// TestPlacesThatKeepNoID: places that forget are refused; where the store takes no id that is told, and the next start gives it.
+func TestPlacesThatKeepNoID(t *testing.T) {
+	t.Parallel()
+	p, ctx, got := newPlace(t), limited(t), &answers{}
+	config := p.config(t)
+	config.Places = forgetful{config.Places}
+	_, err := New(ctx, config)
+	wants(t, err, ErrPlaces)
+	config = p.config(t)
+	config.Objects, config.TendEvery = unnamed{config.Objects}, time.Hour
+	s := started(t, config, hooks{})
+	must(t, got.submitAll(ctx, s, 0, 5, 5))
+	if f := s.Figures(); f.TendFailures != 1 || f.TendFailure != "the places' id isn't kept: "+errTried.Error() {
+		t.Errorf("%+v", f)
+	}
+	must(t, s.End(ctx))
+	kept, has, err := placesID(ctx, config.Places)
+	must(t, err)
+	must(t, started(t, p.config(t), hooks{}).End(ctx))
+	if ids := idNames(t, p); !has || len(ids) != 1 || ids[0] != placesName(kept) {
+		t.Errorf("the store has %q, and the places %s", ids, placesName(kept))
+	}
+	for what, unwell := range map[string]func(*Config){
+		"the store's names aren't listed": func(c *Config) { c.Objects = unwellObjects{c.Objects, placesPrefix} },
+		"the places aren't asked":         func(c *Config) { c.Places = unwellPlaces{Places: c.Places, finds: true} },
+	} {
+		config := p.config(t)
+		unwell(&config)
+		if _, err := New(ctx, config); !errors.Is(err, errUnwell) {
+			t.Errorf("%s: %v", what, err)
+		}
+	}
+	p.right(t, got)
 }
 
 // TestPlacesAreRebuilt takes a log's places away, or gives its entries wrong ones: out of the tiles they are made anew, each entry is found by its
@@ -88,9 +385,7 @@ func TestPlacesAreRebuilt(t *testing.T) {
 // TestPlacesOfDamagedTiles: no place is set out of a tile that isn't the tree's, nor of a state that isn't published.
 func TestPlacesOfDamagedTiles(t *testing.T) {
 	t.Parallel()
-	p, ctx, got := newPlace(t), limited(t), &answers{}
-	s := started(t, p.config(t), hooks{})
-	must(t, got.submitAll(ctx, s, 0, 20, 20))
+	p, ctx, got, s := begun(t, 20, 20)
 	must(t, s.End(ctx))
 	tile := filepath.Join(p.objects(), "tile/data/000.p/20")
 	content, putBack := keeps(t, tile)

@@ -231,6 +231,20 @@ func (q *queue) state() (some, ending bool) {
 	return q.waits.Len() > 0, q.ending
 }
 
+// waiting is how many wait and are in no step.
+func (q *queue) waiting() int {
+	q.mu.Lock()
+	defer q.mu.Unlock()
+	return q.waits.Len()
+}
+
+// has says whether so many wait, or no more come.
+func (q *queue) has(many int) bool {
+	q.mu.Lock()
+	defer q.mu.Unlock()
+	return q.ending || q.waits.Len() >= many
+}
+
 func (q *queue) length() int {
 	q.mu.Lock()
 	defer q.mu.Unlock()

@@ -34,17 +34,16 @@ func (r *heldRegister) Published(ctx context.Context) (stores.Published, error) 
 // readings; and who doesn't wait for one is told so.
 func TestSharedReadings(t *testing.T) {
 	t.Parallel()
-	p, ctx, got := newPlace(t), limited(t), &answers{}
-	s := started(t, p.config(t), hooks{})
-	must(t, got.submitAll(ctx, s, 0, 10, 8))
+	_, ctx, got, s := begun(t, 10, 8)
 	register := &heldRegister{Register: s.config.Register, let: make(chan struct{})}
 	reader := &Sequencer{config: s.config, logID: s.logID}
 	reader.config.Register = register
 
 	const many = 64
 	sizes, failed := make(chan uint64, many), make(chan error, many+1)
+	var waiting atomic.Int64
 	ask := func(sizes chan<- uint64) {
-		head, err := reader.Checkpoint(ctx)
+		head, err := reader.Checkpoint(asks{ctx, &waiting})
 		if err != nil {
 			failed <- err
 		}
@@ -61,18 +60,15 @@ func TestSharedReadings(t *testing.T) {
 	if errors.Is(err, log.ErrStore) {
 		t.Errorf("the store's fault: %v", err)
 	}
-	var all, asking sync.WaitGroup
+	var all sync.WaitGroup
 	for i := 0; i < many; i++ {
 		all.Add(1)
-		asking.Add(1)
 		go func() {
 			defer all.Done()
-			asking.Done()
 			ask(sizes)
 		}()
 	}
-	asking.Wait()
-	time.Sleep(100 * time.Millisecond)
+	eventually(t, "all wait for a reading", func() bool { return waiting.Load() >= many+1 })
 	close(register.let)
 	all.Wait()
 	close(sizes)
@@ -87,7 +83,8 @@ func TestSharedReadings(t *testing.T) {
 	for len(failed) > 0 {
 		t.Error(<-failed)
 	}
-	if began := register.began.Load(); began < 2 || began > many/4 {
+	// (behind one that takes long another one begins, a second later)
+	if began := register.began.Load(); began < 2 || began > many/2 {
 		t.Errorf("%d readings of the register for %d", began, many+2)
 	}
 	// Where none goes on, the next one begins at once.
@@ -97,16 +94,28 @@ func TestSharedReadings(t *testing.T) {
 	}
 }
 
-// hungRegister is a register that never gives the published size to whom it is asked by first.
+// asks is a context that counts how often somebody begins to wait for its end.
+type asks struct {
+	context.Context
+	times *atomic.Int64
+}
+
+func (a asks) Done() <-chan struct{} {
+	a.times.Add(1)
+	return a.Context.Done()
+}
+
+// hungRegister is a register that doesn't give the published size to whom it is asked by first, as long as that is let hang.
 type hungRegister struct {
 	stores.Register
 	asked atomic.Int64
+	let   chan struct{}
 }
 
 func (r *hungRegister) Published(ctx context.Context) (stores.Published, error) {
 	if r.asked.Add(1) == 1 {
-		<-ctx.Done()
-		return stores.Published{}, ctx.Err()
+		<-r.let
+		return stores.Published{}, errTried
 	}
 	return r.Register.Published(ctx)
 }
@@ -114,10 +123,9 @@ func (r *hungRegister) Published(ctx context.Context) (stores.Published, error) 
 // TestHungReading has one reading of the newest head never come: those who ask behind it are answered by others.
 func TestHungReading(t *testing.T) {
 	t.Parallel()
-	p, ctx, got := newPlace(t), limited(t), &answers{}
-	s := started(t, p.config(t), hooks{})
-	must(t, got.submitAll(ctx, s, 0, 10, 8))
-	register := &hungRegister{Register: s.config.Register}
+	_, ctx, _, s := begun(t, 10, 8)
+	register := &hungRegister{Register: s.config.Register, let: make(chan struct{})}
+	defer close(register.let)
 	reader := &Sequencer{config: s.config, logID: s.logID}
 	reader.config.Register = register
 	hung, cancel := context.WithCancel(ctx)
@@ -128,11 +136,9 @@ func TestHungReading(t *testing.T) {
 	}()
 	eventually(t, "the first reading hangs", func() bool { return register.asked.Load() == 1 })
 	for i := 0; i < 3; i++ {
-		brief, cancel := context.WithTimeout(ctx, mostReading/2)
-		if head, err := reader.Checkpoint(brief); err != nil || head.TreeSize != 10 {
+		if head, err := reader.Checkpoint(ctx); err != nil || head.TreeSize != 10 {
 			t.Errorf("%+v, %v", head, err)
 		}
-		cancel()
 	}
 	cancel()
 	if err := <-first; !errors.Is(err, context.Canceled) || errors.Is(err, log.ErrStore) {

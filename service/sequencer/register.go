@@ -20,6 +20,8 @@ const (
 	stagingPrefix = "staging/"
 	tilesPrefix   = "tile/"
 	issuersPrefix = "issuer/"
+	sweptPrefix   = "swept/"
+	placesPrefix  = "places/"
 )
 
 // known is what stood in the register. Its text is three lines: the state's line, the node that set it, and the moment of the state before with a

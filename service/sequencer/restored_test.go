@@ -4,7 +4,6 @@ import (
 	"context"
 	"encoding/json"
 	"errors"
-	"fmt"
 	"net"
 	"os"
 	"os/exec"
@@ -17,6 +16,7 @@ import (
 
 	"wagtenib/service/log"
 	"wagtenib/service/signer"
+	"wagtenib/service/trial"
 )
 
 // engine is an engine of a test's own, which has an older copy of what it keeps: it may be put back to that, as an operator does it, and brought back.
@@ -58,7 +58,7 @@ func (p *process) starts(ready []string, name string, words ...string) {
 	p.command = exec.Command(name, words...)
 	p.command.Stdout, p.command.Stderr, p.command.Dir = said, said, p.folder
 	must(p.t, p.command.Start())
-	for until := time.Now().Add(5 * time.Minute); ; time.Sleep(100 * time.Millisecond) {
+	for until := time.Now().Add(longest); ; time.Sleep(100 * time.Millisecond) {
 		asks := exec.Command(ready[0], ready[1:]...)
 		asks.Env = append(os.Environ(), "ETCDCTL_API=3")
 		if asks.Run() == nil {
@@ -87,13 +87,6 @@ func (p *process) ends() {
 	}
 }
 
-func freePort(t testing.TB) string {
-	l, err := net.Listen("tcp", "127.0.0.1:0")
-	must(t, err)
-	defer l.Close()
-	return fmt.Sprint(l.Addr().(*net.TCPAddr).Port)
-}
-
 // etcdOfOne is one member, which is restored from a snapshot.
 type etcdOfOne struct {
 	process
@@ -106,7 +99,7 @@ func newEtcdOfOne(t testing.TB) engine {
 			t.Skipf("%s isn't installed", tool)
 		}
 	}
-	e := &etcdOfOne{process{t: t, folder: t.TempDir()}, "127.0.0.1:" + freePort(t), "http://127.0.0.1:" + freePort(t)}
+	e := &etcdOfOne{process{t: t, folder: t.TempDir()}, trial.Free(t), "http://" + trial.Free(t)}
 	t.Cleanup(e.ends)
 	e.serves("first")
 	return e
@@ -135,8 +128,8 @@ func (e *etcdOfOne) forth() { e.serves("first") }
 // postgresWithStandby is a server with a standby that falls behind, and is promoted then.
 type postgresWithStandby struct {
 	process
-	programs, port string
-	asUser         []string
+	programs, host, port string
+	asUser               []string
 }
 
 func newPostgresWithStandby(t testing.TB) engine {
@@ -147,7 +140,9 @@ func newPostgresWithStandby(t testing.TB) engine {
 	sort.Strings(found)
 	folder, err := os.MkdirTemp("", "standby")
 	must(t, err)
-	p := &postgresWithStandby{process{t: t, folder: folder}, filepath.Dir(found[len(found)-1]), freePort(t), []string{"env"}}
+	host, port, err := net.SplitHostPort(trial.Free(t))
+	must(t, err)
+	p := &postgresWithStandby{process{t: t, folder: folder}, filepath.Dir(found[len(found)-1]), host, port, []string{"env"}}
 	t.Cleanup(func() {
 		p.ends()
 		os.RemoveAll(folder)
@@ -169,18 +164,18 @@ func (p *postgresWithStandby) does(program string, words ...string) {
 }
 
 func (p *postgresWithStandby) register(name string) string {
-	return "postgres://log@127.0.0.1:" + p.port + "/postgres?sslmode=disable&log=" + name
+	return "postgres://log@" + p.host + ":" + p.port + "/postgres?sslmode=disable&log=" + name
 }
 
 func (p *postgresWithStandby) serves(data string) {
 	words := append(append([]string{}, p.asUser[1:]...), filepath.Join(p.programs, "postgres"), "-D", filepath.Join(p.folder, data), "-p", p.port,
-		"-c", "listen_addresses=127.0.0.1", "-c", "unix_socket_directories="+filepath.Join(p.folder, data), "-c", "max_wal_senders=4")
-	p.starts([]string{filepath.Join(p.programs, "pg_isready"), "-q", "-h", "127.0.0.1", "-p", p.port, "-U", "log", "-d", "postgres"}, p.asUser[0], words...)
+		"-c", "listen_addresses="+p.host, "-c", "unix_socket_directories="+filepath.Join(p.folder, data), "-c", "max_wal_senders=4")
+	p.starts([]string{filepath.Join(p.programs, "pg_isready"), "-q", "-h", p.host, "-p", p.port, "-U", "log", "-d", "postgres"}, p.asUser[0], words...)
 }
 
 // (a standby that was up to here, and has no connection from now on)
 func (p *postgresWithStandby) copies() {
-	p.does("pg_basebackup", "-h", "127.0.0.1", "-p", p.port, "-U", "log", "-D", "second", "-R", "-X", "stream", "-c", "fast")
+	p.does("pg_basebackup", "-h", p.host, "-p", p.port, "-U", "log", "-D", "second", "-R", "-X", "stream", "-c", "fast")
 }
 
 func (p *postgresWithStandby) back() {
@@ -206,17 +201,12 @@ func TestRestoredEngines(t *testing.T) {
 
 func restoredEngine(t *testing.T, of engine) {
 	p, got := newPlace(t), &answers{}
-	ctx, cancel := context.WithTimeout(context.Background(), 5*time.Minute)
+	ctx, cancel := context.WithTimeout(context.Background(), longest)
 	t.Cleanup(cancel)
 	text, err := json.Marshal(addresses{"folder:" + p.objects(), of.register("restored"), "sqlite:" + filepath.Join(string(p), "places.db")})
 	must(t, err)
 	must(t, os.WriteFile(p.addressFile(), text, 0o600))
-	here, config := started(t, p.notHere(t), hooks{}), p.notHere(t)
-	register := &parted{Register: config.Register}
-	config.Register, config.Patience = register, time.Second
-	there := started(t, config, hooks{})
-	must(t, got.submitAll(ctx, here, 0, 10, 4))
-	must(t, got.submitAll(ctx, there, 10, 20, 4))
+	here, there, register := p.partedNodes(ctx, t, got)
 	register.on.Store(true)
 	of.copies()
 	old := p.copied(t, "guard")
@@ -247,7 +237,5 @@ func restoredEngine(t *testing.T, of engine) {
 	of.forth()
 	p.putBack(t, newest, "guard")
 	comesBack(t, there, got, 41)
-	if report := p.rightTwice(t, got); report.Leaves != 41 {
-		t.Fatalf("%+v", report)
-	}
+	isOf(t, p.rightTwice(t, got), 41)
 }

@@ -49,7 +49,8 @@ func (s *Sequencer) achieved() achieved {
 // the one before; but not one that got something done: a store that gives some calls up isn't gone.
 func (s *Sequencer) loop(ctx context.Context) {
 	defer close(s.ended)
-	backoff, next, owes := s.config.Interval, time.Time{}, s.config.BehindSwap
+	backoff, owes := longer(s.config.Interval, leastApart), s.config.BehindSwap
+	var least, next time.Time
 	for ctx.Err() == nil {
 		some, ending := s.queue.state()
 		if !some && len(s.deletes) > 0 {
@@ -62,13 +63,14 @@ func (s *Sequencer) loop(ctx context.Context) {
 			s.idle(ctx)
 		}
 		if until := time.Until(next); until > 0 && (!ending || s.later) {
-			s.rest(ctx, until)
+			s.rest(ctx, time.Until(least), until)
 		}
 		began, before := time.Now(), s.achieved()
 		round, cancel := context.WithTimeout(ctx, mostRound)
 		err := s.round(round)
 		cancel()
-		next = began.Add(s.config.interval(time.Since(began), s.wrote, s.written))
+		atLeast, atMost := s.config.interval(time.Since(began), s.wrote, s.written)
+		least, next = began.Add(atLeast), began.Add(atMost)
 		if errors.Is(err, errMoves) {
 			err = nil
 		}
@@ -76,7 +78,7 @@ func (s *Sequencer) loop(ctx context.Context) {
 		// What was answered behind a swap is published before the end, unless that can't be: by this node, or by another one that goes on.
 		owes = s.config.BehindSwap && !isNamed(err) && (err != nil || !s.isOut())
 		if err == nil || s.achieved() != before {
-			backoff = s.config.Interval
+			backoff = longer(s.config.Interval, leastApart)
 		}
 		if err == nil {
 			continue
@@ -88,26 +90,59 @@ func (s *Sequencer) loop(ctx context.Context) {
 	}
 }
 
-// mostRest is how far two steps are apart at most for the sake of a rest.
-const mostRest = 500 * time.Millisecond
+const (
+	// mostRest is how far two steps are apart at most for the sake of a rest.
+	mostRest = 500 * time.Millisecond
+	// leastApart is how far two rounds are apart at least, and mostPause how long one waits at most behind the last one's end, where no interval is set.
+	leastApart, mostPause = 5 * time.Millisecond, 8 * time.Millisecond
+)
 
-// interval is how far a round and the next one are apart at least, where the first took so long, had a step decided or not, and put so many bytes.
-func (c *Config) interval(took time.Duration, wrote bool, written int) time.Duration {
-	far := c.Interval
-	if rested := 2 * took; c.Rests && wrote {
-		if rested > mostRest {
-			rested = mostRest
-		}
-		far = longer(far, rested)
+// interval is how far a round and the next one are apart, at least and at most, where the first took so long, had a step decided or not, and put so many
+// bytes. In between the next one begins once those are back who were answered.
+func (c *Config) interval(took time.Duration, wrote bool, written int) (least, most time.Duration) {
+	least, most = c.Interval, c.Interval
+	if c.Interval == 0 {
+		// Who was answered submits again meanwhile: with no pause at all two halves of them would wait for each other's steps.
+		least, most = leastApart, longer(took+shorter(took/2, mostPause), leastApart)
+	}
+	var rested, paced time.Duration
+	if c.Rests && wrote {
+		rested = shorter(2*took, mostRest)
 	}
 	if c.MostWritten > 0 {
-		far = longer(far, time.Duration(float64(written)/float64(c.MostWritten)*float64(time.Second)))
+		paced = time.Duration(float64(written) / float64(c.MostWritten) * float64(time.Second))
 	}
-	return far
+	far := longer(rested, paced)
+	return longer(least, far), longer(most, far)
+}
+
+// waitForBack waits for a time, and no longer than until as many wait, behind the least of it, as were answered last and waited beside those.
+func (s *Sequencer) waitForBack(ctx context.Context, least, most time.Duration) {
+	timer := time.NewTimer(most)
+	defer timer.Stop()
+	if least > 0 && wait(ctx, least) != nil {
+		return
+	}
+	for s.back == 0 || !s.queue.has(s.back) {
+		select {
+		case <-s.queue.changed:
+		case <-timer.C:
+			return
+		case <-ctx.Done():
+			return
+		}
+	}
 }
 
 func longer(one, other time.Duration) time.Duration {
 	if one > other {
+		return one
+	}
+	return other
+}
+
+func shorter(one, other time.Duration) time.Duration {
+	if one < other {
 		return one
 	}
 	return other
@@ -139,6 +174,9 @@ func (s *Sequencer) settle(err error) {
 	if err == nil {
 		if s.wrote {
 			s.fault = nil
+		}
+		if s.fault == nil {
+			s.wentWell = time.Now()
 		}
 		s.mu.Unlock()
 		return

@@ -30,13 +30,18 @@ func TestSeal(t *testing.T) {
 	}
 }
 
+// sealing is a node that others may hand over to.
+func sealing(t *testing.T) *Sequencer {
+	t.Helper()
+	config := newPlace(t).config(t)
+	config.Address, config.Secret = "http://127.0.0.1:1/sequence", secretOfNodes
+	return started(t, config, hooks{})
+}
+
 // TestUnsealedRequests: a node takes what was sealed by its secret for its log, just so, and nothing else; of what isn't sealed it reads no body.
 func TestUnsealedRequests(t *testing.T) {
 	t.Parallel()
-	p := newPlace(t)
-	config := p.config(t)
-	config.Address, config.Secret = "http://127.0.0.1:1/sequence", secretOfNodes
-	s := started(t, config, hooks{})
+	s := sealing(t)
 	this, long := hex.EncodeToString(s.logID[:]), `{"submissions":[`+strings.Repeat("{},", MostBatch)+"{}]}"
 	type asking struct {
 		method, secret, log, body string
@@ -103,10 +108,7 @@ func (u unread) Read([]byte) (int, error) {
 // TestUnsealedReplies: a node believes neither the places nor the clock of a reply that isn't the sealed one to its own request.
 func TestUnsealedReplies(t *testing.T) {
 	t.Parallel()
-	p := newPlace(t)
-	config := p.config(t)
-	config.Address, config.Secret = "http://127.0.0.1:1/sequence", secretOfNodes
-	s := started(t, config, hooks{})
+	s := sealing(t)
 	const text = `{"places":[{"leaf_index":7,"timestamp":5,"signature":"BAM="}]}`
 	date := time.Date(2030, 1, 2, 3, 4, 5, 0, time.UTC).Format(http.TimeFormat)
 	right := func(secret string, w http.ResponseWriter, r *http.Request) {

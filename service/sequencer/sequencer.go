@@ -55,8 +55,9 @@ type Config struct {
 	Origin string
 	// Create says that a register that was never created is to be. It isn't over a store that has anything of a log.
 	Create bool
-	// Interval is how far the beginnings of two steps are apart at least; 50 ms where it is 0. Rests says that a node rests behind a step as
-	// long as it took, where the next one doesn't begin later than mostRest behind it anyway: steps have half of the stores' time.
+	// Interval is how far the beginnings of two steps are apart at least. Where it is 0, that is 50 ms over stores that rest and with witnesses, and
+	// elsewhere until those who were answered are back, or what the last step took and half as long again, at most mostPause more. Rests says that a node rests
+	// behind a step as long as it took, where the next one doesn't begin later than mostRest behind it anyway: steps have half of the stores' time.
 	Interval time.Duration
 	Rests    bool
 	// MostWritten is how many bytes a second the steps put at most, over a while: behind a step that put more, the next one comes later. 16 MiB
@@ -115,7 +116,9 @@ func (c *Config) settle() error {
 	if c.BehindSwap && c.Signer.Receipts() == signer.InHead {
 		return fmt.Errorf("%w: answers behind the swap want a signer of %s receipts", ErrConfig, signer.Promised)
 	}
-	orElse(&c.Interval, 50*time.Millisecond)
+	if c.Rests || c.Witnesses != nil {
+		orElse(&c.Interval, 50*time.Millisecond)
+	}
 	orElse(&c.MostWritten, 16<<20)
 	orElse(&c.Refresh, time.Hour)
 	orElse(&c.Patience, 5*time.Second)
@@ -168,6 +171,8 @@ type Sequencer struct {
 	wrote bool
 	// written is how many bytes this round's step put, in its bundle and as objects.
 	written int
+	// back is how many were answered by the last step that answered any, and waited then beside them; 0 before the first.
+	back int
 	// saw is the newest state that this node saw and went on from; its line and text are empty where only the file has it. heard is when the
 	// register was read last, and lookedBack when a node that hands over looked at the newest state last.
 	saw               known
@@ -201,6 +206,8 @@ type Sequencer struct {
 	tendFailure  string
 	// alone is until when nothing is handed over, since a node didn't answer.
 	alone time.Time
+	// wentWell is when a round ended behind which no fault stands.
+	wentWell time.Time
 
 	readings readings
 	compared compared
@@ -238,6 +245,8 @@ func start(ctx context.Context, config Config, test hooks) (*Sequencer, error) {
 		damage:  map[uint64]error{},
 		handing: make(chan struct{}, mostHanding),
 		test:    test,
+
+		wentWell: time.Now(),
 	}
 	s.issuers = newIssuers(s)
 	s.fetcher = newFetcher(s.readBriefly, mostKeptBytes, config.Patience)
@@ -361,6 +370,9 @@ func (s *Sequencer) Figures() log.Figures {
 	}
 	if s.config.Witnesses != nil {
 		f.Witnesses = s.config.Witnesses.Standings()
+	}
+	if f.SinceRound = time.Since(s.wentWell); s.newest.state.Size > f.Entries {
+		f.Unpublished = s.newest.state.Size - f.Entries
 	}
 	f.Mended, f.LastMended = s.mended, s.lastMended
 	f.Written, f.Phases = s.putBytes.Load(), s.phasesTook()

@@ -15,9 +15,7 @@ import (
 // TestOneNode takes 700 entries in, over the edge of two full tiles, stops and goes on, and has the folder judged.
 func TestOneNode(t *testing.T) {
 	t.Parallel()
-	p, ctx, got := newPlace(t), limited(t), &answers{}
-	s := started(t, p.config(t), hooks{})
-	must(t, got.submitAll(ctx, s, 0, 400, 64))
+	p, ctx, got, s := begun(t, 400, 64)
 	must(t, s.End(ctx))
 	_, err := s.Submit(ctx, entryOf(0))
 	wants(t, err, log.ErrEnded)
@@ -60,7 +58,7 @@ func TestRepeatsInABatch(t *testing.T) {
 	for n := 0; n < 30; n++ {
 		submit(1 + n%10)
 	}
-	eventually(t, "all wait", func() bool { return s.Figures().Queue == 31 })
+	eventually(t, "all wait", func() bool { return inQueue(s) == 30 })
 	close(release)
 	for range make([]int, 31) {
 		must(t, <-done)
@@ -106,7 +104,8 @@ func TestBehindSwap(t *testing.T) {
 		}})
 		// (the head of no entries, with which a log begins, waits too)
 		release <- struct{}{}
-		long := 20 * time.Second
+		eventually(t, "it is out", func() bool { head, err := s.Checkpoint(ctx); return err == nil && head.TreeSize == 0 })
+		long := longest
 		if !behind {
 			long = time.Second
 		}
@@ -122,9 +121,7 @@ func TestBehindSwap(t *testing.T) {
 		close(release)
 		must(t, got.submitAll(ctx, s, 0, 2, 2))
 		must(t, s.End(ctx))
-		if report := p.right(t, got); report.Leaves != 2 {
-			t.Fatalf("%+v", report)
-		}
+		isOf(t, p.right(t, got), 2)
 	}
 }
 
@@ -135,7 +132,8 @@ type halting struct {
 }
 
 func (h *halting) Add(ctx context.Context, placed []stores.Placed) error {
-	if h.reached != nil {
+	// (at a start the places get their id)
+	if h.reached != nil && placed[0].Identity != placesIdentity {
 		close(h.reached)
 		h.reached = nil
 		<-h.release
@@ -166,7 +164,5 @@ func TestEndOwesAHead(t *testing.T) {
 	if head, err := s.Checkpoint(ctx); err != nil || head.TreeSize != 1 {
 		t.Errorf("it ended with the head %+v, %v", head, err)
 	}
-	if report := p.right(t, got); report.Leaves != 1 {
-		t.Fatalf("%+v", report)
-	}
+	isOf(t, p.right(t, got), 1)
 }

@@ -25,7 +25,7 @@ func TestNoSwapWithoutItsBundle(t *testing.T) {
 	p, ctx, got := newPlace(t), limited(t), &answers{}
 	config := p.config(t)
 	objects := &refusing{Objects: config.Objects, prefix: stagingPrefix}
-	config.Objects = objects
+	config.Objects, config.Patience = objects, time.Second
 	s := started(t, config, hooks{})
 	must(t, got.submitAll(ctx, s, 0, 5, 5))
 	before, err := config.Register.Read(ctx)
@@ -270,7 +270,7 @@ func TestTwins(t *testing.T) {
 			indexes <- place.LeafIndex
 		}()
 	}
-	eventually(t, "both wait", func() bool { s.queue.mu.Lock(); defer s.queue.mu.Unlock(); return s.queue.waits.Len() == 2 })
+	eventually(t, "both wait", func() bool { return inQueue(s) == 2 })
 	close(goes)
 	if one, other := <-indexes, <-indexes; one != other {
 		t.Errorf("they are answered with %d and %d", one, other)

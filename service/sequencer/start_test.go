@@ -82,9 +82,7 @@ func (s *unwellSigner) Last(ctx context.Context) (*signer.Head, error) {
 // TestStartRefusals: what is ahead of the register at the start is named, and the log isn't taken up.
 func TestStartRefusals(t *testing.T) {
 	t.Parallel()
-	p, ctx, got := newPlace(t), limited(t), &answers{}
-	s := started(t, p.config(t), hooks{})
-	must(t, got.submitAll(ctx, s, 0, 5, 5))
+	p, ctx, _, s := begun(t, 5, 5)
 	must(t, s.End(ctx))
 	state := s.newest.state
 	for what, it := range map[string]struct {
@@ -139,9 +137,7 @@ func TestStartRefusals(t *testing.T) {
 // TestNotCreated: where anything is known of a log, no register is created, and the one that is missing stays so.
 func TestNotCreated(t *testing.T) {
 	t.Parallel()
-	p, ctx, got := newPlace(t), limited(t), &answers{}
-	s := started(t, p.config(t), hooks{})
-	must(t, got.submitAll(ctx, s, 0, 5, 5))
+	p, ctx, _, s := begun(t, 5, 5)
 	must(t, s.End(ctx))
 	for what, says := range map[string]string{"guard": "the signer let a head", "latest-head": "this node saw", "objects": "the store has heads/", "register": "its text is gone"} {
 		left := p.copied(t, what)
@@ -168,9 +164,7 @@ func TestNotCreated(t *testing.T) {
 // TestStartOverWhatMoves: where another node goes on between two readings, all is read again; and what can't be read is said.
 func TestStartOverWhatMoves(t *testing.T) {
 	t.Parallel()
-	p, ctx, got := newPlace(t), limited(t), &answers{}
-	s := started(t, p.config(t), hooks{})
-	must(t, got.submitAll(ctx, s, 0, 5, 5))
+	p, ctx, got, s := begun(t, 5, 5)
 	earlier := s.newestKnown()
 	must(t, got.submitAll(ctx, s, 5, 10, 5))
 	must(t, s.End(ctx))

@@ -68,23 +68,27 @@ func TestSweptBundles(t *testing.T) {
 		t.Errorf("%d bundles were swept", f.SweptBundles)
 	}
 	must(t, s.End(ctx))
-	if names := newestBundle(t, p); len(names) == 0 {
-		t.Error("the newest state has no bundle")
-	}
+	newestBundle(t, p)
 	p.right(t, got)
+}
+
+// oneBundle is a log of five entries, and its node that sweeps by hand alone what is older than that; the newest state's bundle is the only one.
+func oneBundle(t *testing.T, sweepAfter time.Duration) (p place, ctx context.Context, got *answers, s *Sequencer, newest string) {
+	t.Helper()
+	p, ctx, got = newPlace(t), limited(t), &answers{}
+	config := p.config(t)
+	config.TendEvery, config.SweepAfter = time.Hour, sweepAfter
+	s = started(t, config, hooks{})
+	must(t, got.submitAll(ctx, s, 0, 5, 5))
+	eventually(t, "the newest state's bundle is the only one", func() bool { return len(staged(t, p)) == 1 })
+	return p, ctx, got, s, staged(t, p)[0]
 }
 
 // TestBundleThatMayBeDecided: as long as the text stands that a step was made from, its bundle stays, however old it is; and the newest state's
 // stays always. What was made from an earlier text goes. So it is of the names that versions before gave, as far as they say anything.
 func TestBundleThatMayBeDecided(t *testing.T) {
 	t.Parallel()
-	p, ctx, got := newPlace(t), limited(t), &answers{}
-	config := p.config(t)
-	config.TendEvery, config.SweepAfter = time.Hour, time.Nanosecond
-	s := started(t, config, hooks{})
-	must(t, got.submitAll(ctx, s, 0, 5, 5))
-	var newest []string
-	eventually(t, "the newest state's bundle is the only one", func() bool { newest = staged(t, p); return len(newest) == 1 })
+	p, ctx, got, s, newest := oneBundle(t, time.Nanosecond)
 	moment := s.newestKnown().state.Moment
 	named := func(moment, before uint64) string {
 		return fmt.Sprintf("%s%016x%016x%016x", stagingPrefix, moment, before, 7)
@@ -101,7 +105,7 @@ func TestBundleThatMayBeDecided(t *testing.T) {
 		}
 	}
 	sweep()
-	if left := strings.Join(staged(t, p), " "); !strings.Contains(left, waits) || !strings.Contains(left, old) || !strings.Contains(left, newest[0]) || strings.Contains(left, past) {
+	if left := strings.Join(staged(t, p), " "); !strings.Contains(left, waits) || !strings.Contains(left, old) || !strings.Contains(left, newest) || strings.Contains(left, past) {
 		t.Errorf("%s are left", left)
 	}
 	must(t, got.submitAll(ctx, s, 5, 6, 1))
@@ -110,19 +114,62 @@ func TestBundleThatMayBeDecided(t *testing.T) {
 	if left := staged(t, p); len(left) != 1 || left[0] == waits || left[0] == old {
 		t.Errorf("%v are left", left)
 	}
-	if names := newestBundle(t, p); len(names) == 0 {
-		t.Error("the newest state has no bundle")
+	newestBundle(t, p)
+}
+
+// TestManyBundles: of more bundles than a turn deletes that nobody needs, each turn deletes so many, until none is left; then staging/ is listed again
+// behind SweepAfter, and where one isn't deleted in the next turn already.
+func TestManyBundles(t *testing.T) {
+	t.Parallel()
+	p, ctx, got, s, newest := oneBundle(t, time.Hour)
+	moment := s.newestKnown().state.Moment
+	add := func(number uint64) {
+		name := fmt.Sprintf("%s%016x%016x%016x", stagingPrefix, moment-1, moment-2, number)
+		must(t, os.WriteFile(filepath.Join(p.objects(), name), []byte("bundle"), 0o644))
 	}
+	const many = 150
+	for number := uint64(0); number < many; number++ {
+		add(number)
+	}
+	tender, objects := &tender{s: s}, s.config.Objects
+	s.config.Objects = undeleted{objects}
+	wants(t, tender.sweepBundles(ctx), errTried)
+	s.config.Objects = objects
+	for turn, left := range []int{many - 64, many - 128, 0, 0} {
+		must(t, tender.sweepBundles(ctx))
+		names := staged(t, p)
+		if f := s.Figures(); len(names) != left+1 || names[len(names)-1] != newest || f.SweptBundles != uint64(many-left) || f.Staged != uint64(left+1) {
+			t.Errorf("behind turn %d %d are left, the last %s; %d were swept, and %d are said to be there", turn, len(names), names[len(names)-1], f.SweptBundles, f.Staged)
+		}
+	}
+	add(many)
+	must(t, tender.sweepBundles(ctx))
+	if left := len(staged(t, p)); left != 2 {
+		t.Errorf("%d are left, so they were listed again at once", left)
+	}
+	tender.listed = tender.listed.Add(-time.Hour)
+	must(t, tender.sweepBundles(ctx))
+	if left := len(staged(t, p)); left != 1 {
+		t.Errorf("behind an hour %d are left", left)
+	}
+	p.right(t, got)
+}
+
+// untended is a log of four full tiles and a partial one, and its node, which tends it an hour later.
+func untended(t *testing.T) (p place, ctx context.Context, got *answers, s *Sequencer) {
+	t.Helper()
+	p, ctx, got = newPlace(t), limited(t), &answers{}
+	config := p.config(t)
+	config.TendEvery = time.Hour
+	s = started(t, config, hooks{})
+	must(t, got.submitAll(ctx, s, 0, 1100, 550))
+	return p, ctx, got, s
 }
 
 // TestReadingBeginsByChance: a node that is started again and again, and reads one old tile each time, reads more than one.
 func TestReadingBeginsByChance(t *testing.T) {
 	t.Parallel()
-	p, ctx, got := newPlace(t), limited(t), &answers{}
-	config := p.config(t)
-	config.TendEvery = time.Hour
-	s := started(t, config, hooks{})
-	must(t, got.submitAll(ctx, s, 0, 1100, 550))
+	_, ctx, _, s := untended(t)
 	read := map[uint64]bool{}
 	for start := 0; start < 64; start++ {
 		tender := &tender{s: s}
@@ -174,17 +221,14 @@ func (l *listed) List(ctx context.Context, prefix, after string, most int) ([]st
 // TestSweepingBeginsAtTheEdge: what is newest is swept first, and behind many tiles without partial ones a turn looks at one of a level.
 func TestSweepingBeginsAtTheEdge(t *testing.T) {
 	t.Parallel()
-	p, ctx, got := newPlace(t), limited(t), &answers{}
-	config := p.config(t)
-	config.TendEvery = time.Hour
-	s := started(t, config, hooks{})
-	must(t, got.submitAll(ctx, s, 0, 1100, 550))
+	p, ctx, got, s := untended(t)
 	oldest := filepath.Join(p.objects(), "tile", "data", "000.p", "7")
 	must(t, os.MkdirAll(filepath.Dir(oldest), 0o755))
 	must(t, os.WriteFile(oldest, []byte("partial"), 0o644))
-	objects := &listed{Objects: s.config.Objects}
-	s.config.Objects = objects
-	tender := settledAt(s)
+	// (of what the node itself lists nothing is noted)
+	node, objects := readingNode(s), &listed{Objects: s.config.Objects}
+	node.head, node.config.Objects = s.seen(), objects
+	tender := settledAt(node)
 	must(t, tender.sweep(ctx))
 	want := "tile/data/003.p/ tile/data/002.p/ tile/data/001.p/ tile/data/000.p/ tile/0/003.p/ tile/0/002.p/ tile/0/001.p/ tile/0/000.p/"
 	if told := strings.Join(objects.prefixes, " "); told != want {
@@ -194,12 +238,13 @@ func TestSweepingBeginsAtTheEdge(t *testing.T) {
 		t.Error("a partial tile of the oldest one is left")
 	}
 	must(t, got.submitAll(ctx, s, 1100, 1300, 200))
-	tender.full.settled, objects.prefixes = s.seen(), nil
+	node.head, objects.prefixes = s.seen(), nil
+	tender.full.settled = node.head
 	must(t, tender.sweep(ctx))
 	if told := strings.Join(objects.prefixes, " "); told != "tile/data/004.p/ tile/0/004.p/" {
 		t.Errorf("behind a full tile more %s are listed", told)
 	}
-	tender = settledAt(s)
+	tender = settledAt(node)
 	tender.clean[0], objects.prefixes = mostClean, nil
 	must(t, tender.sweep(ctx))
 	if told := strings.Join(objects.prefixes, " "); !strings.HasPrefix(told, "tile/data/004.p/ tile/0/004.p/ tile/0/003.p/") {

@@ -60,6 +60,10 @@ type tender struct {
 	ahead, behind [6]uint64
 	clean         [6]int
 	sweeping      bool
+	// sweptTo is up to how many entries it was swept, by this node or another one, asks says that the store may know more of it, and forgot that a tile
+	// wasn't swept that isn't looked at again.
+	sweptTo      uint64
+	asks, forgot bool
 	// read is the next tile to be read again.
 	read uint64
 	// passed are full tiles, at most mostDamage, that weren't whole when they were looked at: their partial ones stay until they are.
@@ -113,7 +117,9 @@ func (s *Sequencer) tend(ctx context.Context) {
 	for wait(ctx, s.config.TendEvery) == nil {
 		t.settle()
 		// What fails is tried again in the next turn: the log doesn't wait for it.
+		s.failed("up to where it was swept isn't known", t.readSwept(ctx))
 		s.failed("partial tiles aren't swept", t.sweep(ctx))
+		s.failed("up to where it was swept isn't kept", t.keepSwept(ctx))
 		s.failed("old heads aren't swept", t.sweepHeads(ctx))
 		s.failed("heads aren't thinned", t.thinHeads(ctx))
 		s.failed("bundles aren't swept", t.sweepBundles(ctx))
@@ -295,7 +301,9 @@ func (s *Sequencer) damagedBehind(from uint64) (first uint64, ok bool) {
 // settle takes up which head has stood for SweepAfter, and which for SweepTilesAfter, with its full tiles: one that was seen so long ago.
 func (t *tender) settle() {
 	head := t.s.seen()
-	t.full.look(head, t.s.config.SweepTilesAfter)
+	if t.full.look(head, t.s.config.SweepTilesAfter) {
+		t.asks = true
+	}
 	if t.old.look(head, t.s.config.SweepAfter) {
 		t.headsGone = false
 	}
@@ -343,6 +351,8 @@ func (t *tender) sweep(ctx context.Context) (first error) {
 		}
 		if len(t.passed) < mostDamage {
 			t.passed = append(t.passed, tile)
+		} else {
+			t.forgot = true
 		}
 	}
 	if len(t.passed) > 0 {
@@ -361,13 +371,20 @@ func (t *tender) sweep(ctx context.Context) (first error) {
 		t.behind = t.ahead
 	}
 	for at := range t.ahead {
-		for ; left > 0 && t.ahead[at] < fullTiles(at-1, size); left-- {
+		full := fullTiles(at-1, size)
+		if swept := fullTiles(at-1, t.sweptTo); t.ahead[at] < swept {
+			// (by another node, which may have seen more)
+			if t.ahead[at] = swept; swept > full {
+				t.ahead[at] = full
+			}
+		}
+		for ; left > 0 && t.ahead[at] < full; left-- {
 			if err := t.sweepNext(ctx, at, t.ahead[at], pass); err != nil {
 				return err
 			}
 			t.ahead[at]++
 		}
-		for ; left > 0 && t.behind[at] > 0; left-- {
+		for ; left > 0 && t.behind[at] > t.leastBehind(at); left-- {
 			if err := t.sweepNext(ctx, at, t.behind[at]-1, pass); err != nil {
 				return err
 			}

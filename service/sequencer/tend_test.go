@@ -66,9 +66,7 @@ func TestSweptTiles(t *testing.T) {
 	}
 	must(t, got.submitAll(limited(t), s, 250, 350, 50))
 	must(t, s.End(limited(t)))
-	if report := p.right(t, got); report.Leaves != 350 {
-		t.Fatalf("%+v", report)
-	}
+	isOf(t, p.right(t, got), 350)
 }
 
 // headsOf are the names of the heads in a place, in order.
@@ -138,11 +136,7 @@ func TestSweptHeads(t *testing.T) {
 	must(t, os.Rename(filepath.Join(string(older), "register"), filepath.Join(string(back), "register")))
 	_, err := New(ctx, back.unguarded(t))
 	wants(t, err, ErrSetBack)
-	s = started(t, p.config(t), hooks{})
-	must(t, got.submitAll(ctx, s, 300, 320, 8))
-	if report := p.right(t, got); report.Leaves != 320 {
-		t.Fatalf("%+v", report)
-	}
+	isOf(t, p.goesOn(t, got, 300, 320), 320)
 }
 
 // TestHeadSweptMeanwhile has a node stand still before it signs a head, until another one has put that head, gone on, and swept it: the signer
@@ -175,9 +169,7 @@ func TestHeadSweptMeanwhile(t *testing.T) {
 	close(goes)
 	must(t, <-done)
 	eventually(t, "its figures say no fault", func() bool { return here.Figures().Fault == "" })
-	if report := p.right(t, got); report.Leaves != 16 {
-		t.Fatalf("%+v", report)
-	}
+	isOf(t, p.right(t, got), 16)
 }
 
 // TestUnsweptTiles has a full tile be gone, cut or bent: its partial ones stay until it is put right.
@@ -489,11 +481,7 @@ func TestThinnedHeads(t *testing.T) {
 		}
 	}
 	must(t, s.End(ctx))
-	s = started(t, p.config(t), hooks{})
-	must(t, got.submitAll(ctx, s, 20, 40, 8))
-	if report := p.right(t, got); report.Leaves != 40 {
-		t.Fatalf("%+v", report)
-	}
+	isOf(t, p.goesOn(t, got, 20, 40), 40)
 }
 
 // TestPartialTilesGoBeforeOldHeads: partial tiles go once the full one has stood for its own time, while no head is old yet.
@@ -512,7 +500,5 @@ func TestPartialTilesGoBeforeOldHeads(t *testing.T) {
 	if heads := headsOf(t, p); heads[0] != first {
 		t.Errorf("%s is gone, and %s is there", first, heads[0])
 	}
-	if report := p.right(t, got); report.Leaves != 300 {
-		t.Fatalf("%+v", report)
-	}
+	isOf(t, p.right(t, got), 300)
 }

@@ -104,6 +104,8 @@ func (b *barrier) arrive(ctx context.Context, name string) error {
 	case <-b.whole:
 		return nil
 	case <-ctx.Done():
+		// (one that is given up isn't there any more)
+		b.here.Add(-1)
 		return ctx.Err()
 	}
 }
@@ -207,6 +209,8 @@ func TestSideBySide(t *testing.T) {
 			}
 			config := p.config(t)
 			config.Objects, config.TendEvery = &barrier{Objects: config.Objects, prefix: of.prefix, many: of.many, whole: make(chan struct{})}, time.Hour
+			// (whether the places know the newest entry is looked at by one tile alone, which is given up)
+			config.Patience = time.Second
 			s := started(t, config, hooks{})
 			must(t, got.submitAll(ctx, s, 10, 11, 1))
 			must(t, s.End(ctx))

@@ -39,7 +39,7 @@ import (
 const (
 	origin    = "log.example/tried"
 	quick     = 20 * time.Millisecond
-	longest   = 4 * time.Minute
+	longest   = trial.Longest
 	stepsFile = "../../tests/tiles/step.py"
 )
 
@@ -97,10 +97,7 @@ func (p place) open(ctx context.Context) (config Config, err error) {
 }
 
 func (p place) openOnce(ctx context.Context) (config Config, err error) {
-	config = Config{Origin: origin, Create: true, Interval: quick, Patience: time.Second, LatestHead: p.latestHead()}
-	if p.onEngines() {
-		config.Patience = longest
-	}
+	config = Config{Origin: origin, Create: true, Interval: quick, Patience: longest, LatestHead: p.latestHead()}
 	defer func() {
 		if err != nil {
 			closeAll(config)
@@ -122,7 +119,7 @@ func (p place) openOnce(ctx context.Context) (config Config, err error) {
 	if config.Signer, err = p.guarded(ctx, signer.InHead); err != nil {
 		return config, err
 	}
-	steps, err := step.NewClient([]string{"python3", stepsFile, "--origin", origin}, 20*time.Second)
+	steps, err := step.NewClient([]string{"python3", stepsFile, "--origin", origin}, longest)
 	if err != nil {
 		return config, err
 	}
@@ -173,7 +170,7 @@ func guardedOver(ctx context.Context, key *signer.Key, state stores.Register, re
 	if _, err := os.Stat(guardBuilt); err != nil {
 		guard = []string{"python3", guardFile}
 	}
-	guarded, err := signer.Behind(ctx, key, signer.Guard{Command: guard, State: state, Create: true, Receipts: receipts})
+	guarded, err := signer.Behind(ctx, key, signer.Guard{Command: guard, State: state, Create: true, Receipts: receipts, Within: longest})
 	if err != nil {
 		return nil, err
 	}
@@ -235,6 +232,22 @@ func started(t testing.TB, config Config, test hooks) *Sequencer {
 	return s
 }
 
+// begun is a new log, with a node that runs over it and was handed so many entries, so many of them at once.
+func begun(t testing.TB, entries, atOnce int) (place, context.Context, *answers, *Sequencer) {
+	t.Helper()
+	p, ctx, got := newPlace(t), limited(t), &answers{}
+	s := started(t, p.config(t), hooks{})
+	must(t, got.submitAll(ctx, s, 0, entries, atOnce))
+	return p, ctx, got, s
+}
+
+// goesOn has a node go on, which takes numbers from one to another, and all be judged.
+func (p place) goesOn(t testing.TB, got *answers, from, to int) check.Report {
+	t.Helper()
+	must(t, got.submitAll(limited(t), started(t, p.config(t), hooks{}), from, to, 8))
+	return p.right(t, got)
+}
+
 func ended(t testing.TB, s *Sequencer) {
 	ctx, cancel := context.WithTimeout(context.Background(), 10*time.Second)
 	defer cancel()
@@ -259,6 +272,13 @@ func answerOf(entry log.Entry, place log.Place) check.Answer {
 		a.IssuerKeyHash, a.TBSCertificate = entry.IssuerKeyHash[:], entry.TBSCertificate
 	}
 	return a
+}
+
+// inQueue is how many stand in a node's queue. (Who has its issuers put, or is in a step, has a seat alone.)
+func inQueue(s *Sequencer) int {
+	s.queue.mu.Lock()
+	defer s.queue.mu.Unlock()
+	return s.queue.waits.Len()
 }
 
 // answers collects what was answered, and to children, which numbers.
@@ -300,35 +320,54 @@ func (a *answers) numberAt(t testing.TB, index uint64) int {
 	return 0
 }
 
-// submitAll submits numbers from one to another, some at once, and gives the first error.
-func (a *answers) submitAll(ctx context.Context, s log.Log, from, to, atOnce int) error {
-	numbers, failed := make(chan int), make(chan error, atOnce)
-	ctx, cancel := context.WithCancel(ctx)
-	defer cancel()
-	var all sync.WaitGroup
+// submitEach submits numbers, some at once, until the context ends, and says of each how it was answered.
+func submitEach(ctx context.Context, s log.Log, numbers []int, atOnce int, answered func(n int, place log.Place, err error)) {
+	next, all := make(chan int), sync.WaitGroup{}
 	for i := 0; i < atOnce; i++ {
 		all.Add(1)
 		go func() {
 			defer all.Done()
-			for n := range numbers {
+			for n := range next {
 				place, err := s.Submit(ctx, entryOf(n))
-				if err != nil {
-					failed <- fmt.Errorf("%d: %w", n, err)
-					cancel()
-					return
-				}
-				a.add(answerOf(entryOf(n), place))
+				answered(n, place, err)
 			}
 		}()
 	}
-	for n := from; n < to && ctx.Err() == nil; n++ {
+	for _, n := range numbers {
+		if ctx.Err() != nil {
+			break
+		}
 		select {
-		case numbers <- n:
+		case next <- n:
 		case <-ctx.Done():
 		}
 	}
-	close(numbers)
+	close(next)
 	all.Wait()
+}
+
+// numbersFrom are the numbers from one up to another.
+func numbersFrom(from, to int) (numbers []int) {
+	for n := from; n < to; n++ {
+		numbers = append(numbers, n)
+	}
+	return numbers
+}
+
+// submitAll submits numbers from one to another, some at once, and gives the first error.
+func (a *answers) submitAll(ctx context.Context, s log.Log, from, to, atOnce int) error {
+	numbers := numbersFrom(from, to)
+	failed := make(chan error, len(numbers))
+	ctx, cancel := context.WithCancel(ctx)
+	defer cancel()
+	submitEach(ctx, s, numbers, atOnce, func(n int, place log.Place, err error) {
+		if err != nil {
+			failed <- fmt.Errorf("%d: %w", n, err)
+			cancel()
+			return
+		}
+		a.add(answerOf(entryOf(n), place))
+	})
 	if len(failed) > 0 {
 		return <-failed
 	}
@@ -393,6 +432,14 @@ func (p place) rightTwice(t testing.TB, a *answers) check.Report {
 		t.Fatalf("heads.py: %v: %s", err, said)
 	}
 	return report
+}
+
+// isOf sees that a log that was judged has so many leaves.
+func isOf(t testing.TB, report check.Report, leaves int) {
+	t.Helper()
+	if report.Leaves != leaves {
+		t.Fatalf("%d leaves, and not %d: %+v", report.Leaves, leaves, report)
+	}
 }
 
 // leavesAreKnown sees that each leaf of a log is found by its hash, and no other.
@@ -500,38 +547,21 @@ func beNode(words string) error {
 	handler.Store(s)
 	faults.failEvery(c.FailEvery)
 	var writing sync.Mutex
-	var all sync.WaitGroup
-	numbers := make(chan int)
-	for i := 0; i < c.AtOnce; i++ {
-		all.Add(1)
-		go func() {
-			defer all.Done()
-			for n := range numbers {
-				place, err := s.Submit(ctx, entryOf(n))
-				if err != nil {
-					if c.FailEvery == 0 {
-						fmt.Fprintln(os.Stderr, n, err)
-					}
-					continue
-				}
-				line, err := json.Marshal(told{n, answerOf(entryOf(n), place)})
-				if err != nil {
-					panic(err)
-				}
-				writing.Lock()
-				fmt.Printf("%s\n", line)
-				writing.Unlock()
+	submitEach(ctx, s, append(numbersFrom(c.From, c.To), c.Numbers...), c.AtOnce, func(n int, place log.Place, err error) {
+		if err != nil {
+			if c.FailEvery == 0 {
+				fmt.Fprintln(os.Stderr, n, err)
 			}
-		}()
-	}
-	for n := c.From; n < c.To; n++ {
-		numbers <- n
-	}
-	for _, n := range c.Numbers {
-		numbers <- n
-	}
-	close(numbers)
-	all.Wait()
+			return
+		}
+		line, err := json.Marshal(told{n, answerOf(entryOf(n), place)})
+		if err != nil {
+			panic(err)
+		}
+		writing.Lock()
+		fmt.Printf("%s\n", line)
+		writing.Unlock()
+	})
 	faults.failEvery(0)
 	return s.End(ctx)
 }

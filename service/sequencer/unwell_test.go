@@ -58,9 +58,7 @@ func (unraised) Raise(context.Context, stores.Published) error { return errUnwel
 // TestLooksThatFail: where the store fails at what a node looks at before it goes on, that is what the node says; it takes nothing for as it has to be.
 func TestLooksThatFail(t *testing.T) {
 	t.Parallel()
-	p, ctx, got := newPlace(t), limited(t), &answers{}
-	s := started(t, p.config(t), hooks{})
-	must(t, got.submitAll(ctx, s, 0, 5, 5))
+	_, ctx, _, s := begun(t, 5, 5)
 	k, head := s.newestKnown(), *s.seen()
 	for what, of := range map[string]struct {
 		unwell func(*Config)
@@ -80,6 +78,8 @@ func TestLooksThatFail(t *testing.T) {
 			func(s *Sequencer) error { return s.knowsPlaces(ctx, k) }, nil},
 		"how far it is published isn't read": {func(c *Config) { c.Register = &unwellRegister{Register: c.Register, asks: true} },
 			func(s *Sequencer) error { s.newest = k; return s.startsWithPlaces(ctx) }, nil},
+		"nor where the store has several ids of places": {func(c *Config) { c.Register = &unwellRegister{Register: c.Register, asks: true} },
+			func(s *Sequencer) error { s.newest = k; return s.severalIDs(ctx, "one", []string{"one", "another"}) }, ErrPlaces},
 		"a head isn't published": {func(c *Config) { c.Register = unraised{c.Register} },
 			func(s *Sequencer) error {
 				err := s.raise(ctx, stores.Published{}, head)
@@ -111,9 +111,16 @@ func TestPlacesThatLackHalf(t *testing.T) {
 	empty, err := stores.OpenSQLite(ctx, filepath.Join(t.TempDir(), "places"))
 	must(t, err)
 	t.Cleanup(func() { empty.Close() })
+	elsewhere, err := stores.OpenSQLite(ctx, filepath.Join(t.TempDir(), "places"))
+	must(t, err)
+	t.Cleanup(func() { elsewhere.Close() })
+	newest, err := s.treeOf(ctx, s.newestKnown().state).leafAt(4)
+	must(t, err)
+	must(t, elsewhere.Leaves().Add(ctx, []stores.Placed{{Identity: stores.Identity(newest.hash()), Place: stores.Place{Index: 3, Timestamp: newest.Timestamp}}}))
 	for what, places := range map[string]stores.Places{
-		"identities": unwellPlaces{Places: empty, leaves: config.Places.Leaves()},
-		"leaves":     unwellPlaces{Places: config.Places, leaves: empty.Leaves()},
+		"identities":              unwellPlaces{Places: empty, leaves: config.Places.Leaves()},
+		"leaves":                  unwellPlaces{Places: config.Places, leaves: empty.Leaves()},
+		"leaves where they stand": unwellPlaces{Places: config.Places, leaves: elsewhere.Leaves()},
 	} {
 		node := readingNode(s)
 		node.config.Places = places
@@ -137,9 +144,7 @@ func TestPlacesThatLackHalf(t *testing.T) {
 // TestWrongCheckpoint: what the step's program gives as a head's text has to be the text of the state's tree: no other is put.
 func TestWrongCheckpoint(t *testing.T) {
 	t.Parallel()
-	p, ctx, got := newPlace(t), limited(t), &answers{}
-	s := started(t, p.config(t), hooks{})
-	must(t, got.submitAll(ctx, s, 0, 5, 5))
+	_, ctx, _, s := begun(t, 5, 5)
 	head, state := *s.seen(), s.newestKnown().state
 	right := string(head.Note[:bytes.Index(head.Note, []byte("\n\n"))+1])
 	for what, text := range map[string]string{
@@ -183,9 +188,7 @@ func (o instead) Get(ctx context.Context, name string, most int64) ([]byte, erro
 // TestRefusedHeadThatStands: where the signer refuses a head which another node put, that is the head; not so what isn't of the state.
 func TestRefusedHeadThatStands(t *testing.T) {
 	t.Parallel()
-	p, ctx, got := newPlace(t), limited(t), &answers{}
-	s := started(t, p.config(t), hooks{})
-	must(t, got.submitAll(ctx, s, 0, 5, 5))
+	_, ctx, got, s := begun(t, 5, 5)
 	earlier := *s.seen()
 	must(t, got.submitAll(ctx, s, 5, 9, 4))
 	k := s.newestKnown()
@@ -258,9 +261,7 @@ func refusesPuts(config *Config, prefix string) {
 // TestCommandsThatFail: where a store or the signer fails below a command, the program isn't told that it is done, and the round ends by why.
 func TestCommandsThatFail(t *testing.T) {
 	t.Parallel()
-	p, ctx, got := newPlace(t), limited(t), &answers{}
-	s := started(t, p.config(t), hooks{})
-	must(t, got.submitAll(ctx, s, 0, 5, 5))
+	_, ctx, _, s := begun(t, 5, 5)
 	k, head := s.newestKnown(), *s.seen()
 	const tile = "tile/0/000.p/5"
 	content, err := s.config.Objects.Get(ctx, tile, stores.MostObject)
@@ -325,9 +326,7 @@ func (unswapped) Swap(context.Context, string, string) error { return errUnwell 
 // TestHeadOfAnotherRoot: at a start the store's newest head isn't given where it has another root than the register's text; the loop says so then.
 func TestHeadOfAnotherRoot(t *testing.T) {
 	t.Parallel()
-	p, ctx, got := newPlace(t), limited(t), &answers{}
-	s := started(t, p.config(t), hooks{})
-	must(t, got.submitAll(ctx, s, 0, 5, 5))
+	_, ctx, _, s := begun(t, 5, 5)
 	k := s.newestKnown()
 	node := readingNode(s)
 	must(t, node.takeUpHead(ctx, stores.Published{}, k))
@@ -345,9 +344,7 @@ func TestHeadOfAnotherRoot(t *testing.T) {
 // TestHeadsThatAreGiven: the newest head that a node saw never goes back; and where the published head is missing, an earlier one of its size isn't given in its place.
 func TestHeadsThatAreGiven(t *testing.T) {
 	t.Parallel()
-	p, ctx, got := newPlace(t), limited(t), &answers{}
-	s := started(t, p.config(t), hooks{})
-	must(t, got.submitAll(ctx, s, 0, 5, 5))
+	_, ctx, got, s := begun(t, 5, 5)
 	earlier := *s.seen()
 	must(t, got.submitAll(ctx, s, 5, 9, 4))
 	newest := *s.seen()
@@ -371,9 +368,7 @@ func TestHeadsThatAreGiven(t *testing.T) {
 // TestWhatIsntDeletedIsntPutRight: where what stands in the way can't be deleted, nothing counts as made again.
 func TestWhatIsntDeletedIsntPutRight(t *testing.T) {
 	t.Parallel()
-	p, ctx, got := newPlace(t), limited(t), &answers{}
-	s := started(t, p.config(t), hooks{})
-	must(t, got.submitAll(ctx, s, 0, 5, 5))
+	_, ctx, _, s := begun(t, 5, 5)
 	node := readingNode(s)
 	node.config.Objects = undeleted{node.config.Objects}
 	wants(t, node.putRight(ctx, "tile/0/000.p/5", []byte("another content")), errTried)
@@ -386,9 +381,7 @@ func TestWhatIsntDeletedIsntPutRight(t *testing.T) {
 // TestTilesByWhoIsBehind: a node that saw an older head gives the tiles of a newer one; and while something at its edge is damaged it gives no partial tile that isn't the tree's.
 func TestTilesByWhoIsBehind(t *testing.T) {
 	t.Parallel()
-	p, ctx, got := newPlace(t), limited(t), &answers{}
-	s := started(t, p.config(t), hooks{})
-	must(t, got.submitAll(ctx, s, 0, 5, 5))
+	_, ctx, got, s := begun(t, 5, 5)
 	node := readingNode(s)
 	_, err := node.Checkpoint(ctx)
 	must(t, err)
@@ -414,9 +407,7 @@ func TestTilesByWhoIsBehind(t *testing.T) {
 // TestAnotherRootOfOneSize: a state doesn't go on from a head of its size with another root, however late it is; and does from its own.
 func TestAnotherRootOfOneSize(t *testing.T) {
 	t.Parallel()
-	p, ctx, got := newPlace(t), limited(t), &answers{}
-	s := started(t, p.config(t), hooks{})
-	must(t, got.submitAll(ctx, s, 0, 5, 5))
+	_, ctx, _, s := begun(t, 5, 5)
 	k := s.newestKnown()
 	head := headOf(k.state)
 	head.Moment--

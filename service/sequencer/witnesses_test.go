@@ -22,6 +22,7 @@ import (
 	"wagtenib/service/log"
 	"wagtenib/service/signer"
 	"wagtenib/service/stores"
+	"wagtenib/service/trial/ready"
 	"wagtenib/service/witness"
 )
 
@@ -64,9 +65,11 @@ func (w *witnessed) answers(t testing.TB, i int) {
 	if _, err := os.Stat(program[0]); err != nil {
 		program = []string{"python3", "../../tests/witness/model.py"}
 	}
-	s, err := witness.New(witness.Options{Name: w.ones[i].Name, Key: w.keys[i], Program: program})
+	s, err := witness.New(witness.Options{Name: w.ones[i].Name, Key: w.keys[i], Program: program, Within: longest})
 	must(t, err)
 	t.Cleanup(func() { s.Close() })
+	// (a circle waits for some seconds alone)
+	ready.Witness(t, s)
 	state, err := stores.OpenFile(w.state(i))
 	must(t, err)
 	t.Cleanup(func() { state.Close() })
@@ -115,14 +118,21 @@ func copyOf(t testing.TB, folder string) string {
 	return to
 }
 
-// ran carries a log of a place for a while.
-func (p place) ran(t testing.TB, witnesses Witnesses, does func(s *Sequencer)) {
+// startsWith opens a place's stores, which closes closes, and starts a node with witnesses over them.
+func (p place) startsWith(t testing.TB, witnesses Witnesses, patience time.Duration) (s *Sequencer, closes func(), err error) {
 	t.Helper()
 	config, err := p.open(limited(t))
 	must(t, err)
-	defer closeAll(config)
-	config.Witnesses = witnesses
-	s, err := start(limited(t), config, hooks{})
+	config.Witnesses, config.Patience = witnesses, patience
+	s, err = start(limited(t), config, hooks{})
+	return s, func() { closeAll(config) }, err
+}
+
+// ran carries a log of a place for a while.
+func (p place) ran(t testing.TB, witnesses Witnesses, does func(s *Sequencer)) {
+	t.Helper()
+	s, closes, err := p.startsWith(t, witnesses, time.Second)
+	defer closes()
 	must(t, err)
 	does(s)
 	must(t, s.End(limited(t)))
@@ -131,11 +141,8 @@ func (p place) ran(t testing.TB, witnesses Witnesses, does func(s *Sequencer)) {
 // refuses sees that a place's log doesn't start.
 func (p place) refuses(t testing.TB, witnesses Witnesses, kinds ...error) {
 	t.Helper()
-	config, err := p.open(limited(t))
-	must(t, err)
-	defer closeAll(config)
-	config.Witnesses = witnesses
-	s, err := start(limited(t), config, hooks{})
+	s, closes, err := p.startsWith(t, witnesses, longest)
+	defer closes()
 	if err == nil {
 		ended(t, s)
 	}
@@ -187,9 +194,7 @@ func TestWitnesses(t *testing.T) {
 		must(t, got.submitAll(ctx, s, 31, 40, 4))
 		head(s)
 	})
-	if report := p.right(t, got); report.Leaves != 40 {
-		t.Errorf("%+v", report)
-	}
+	isOf(t, p.right(t, got), 40)
 	// Where too few answer at a start, reading goes on, and nothing is taken until they do.
 	w.isAway(1)
 	p.ran(t, w.circle(t), func(s *Sequencer) {
@@ -333,23 +338,28 @@ func (c *counting) Start(ctx context.Context, signed []byte, size uint64, proof 
 	return c.Witnesses.Start(ctx, signed, size, proof)
 }
 
+// vouched is a log of three entries, with a node that its register can be parted from, and three witnesses.
+func vouched(t *testing.T) (place, context.Context, *answers, *Sequencer, *parted, *counting) {
+	t.Helper()
+	p, ctx, got := newPlace(t), limited(t), &answers{}
+	config := p.config(t)
+	register, witnesses := &parted{Register: config.Register}, &counting{Witnesses: newWitnessed(t, p, 3).circle(t)}
+	config.Register, config.Witnesses, config.Patience = register, witnesses, time.Second
+	s := started(t, config, hooks{})
+	must(t, got.submitAll(ctx, s, 0, 3, 1))
+	return p, ctx, got, s, register, witnesses
+}
+
 // TestVouchedAnew: behind a time in which the register couldn't be read nothing is taken until the newest head is cosigned afresh.
 func TestVouchedAnew(t *testing.T) {
 	t.Parallel()
-	p, ctx, got := newPlace(t), limited(t), &answers{}
-	w := newWitnessed(t, p, 3)
-	config := p.config(t)
-	register, witnesses := &parted{Register: config.Register}, &counting{Witnesses: w.circle(t)}
-	config.Register, config.Witnesses = register, witnesses
-	s := started(t, config, hooks{})
-	must(t, got.submitAll(ctx, s, 0, 3, 1))
+	p, ctx, got, s, register, witnesses := vouched(t)
 	must(t, got.submitAll(ctx, s, 3, 6, 1))
 	if n := witnesses.starts.Load(); n != 1 {
 		t.Errorf("it is vouched for %d times", n)
 	}
 	witnesses.fails.Store(true)
-	register.on.Store(true)
-	eventually(t, "the register isn't read", func() bool { return strings.Contains(s.Figures().Fault, errTried.Error()) })
+	register.part(t, s)
 	register.on.Store(false)
 	eventually(t, "it isn't vouched for", func() bool { return strings.Contains(s.Figures().Fault, "tried") && witnesses.starts.Load() > 1 })
 	_, err := s.Submit(ctx, entryOf(6))
@@ -359,21 +369,13 @@ func TestVouchedAnew(t *testing.T) {
 	}
 	witnesses.fails.Store(false)
 	comesBack(t, s, got, 6)
-	if report := p.right(t, got); report.Leaves != 7 {
-		t.Errorf("%+v", report)
-	}
+	isOf(t, p.right(t, got), 7)
 }
 
 // TestVouchedOverABentHead: where the newest head's object is gone, or another's, by the time that witnesses are to cosign it afresh, it is made again first.
 func TestVouchedOverABentHead(t *testing.T) {
 	t.Parallel()
-	p, ctx, got := newPlace(t), limited(t), &answers{}
-	w := newWitnessed(t, p, 3)
-	config := p.config(t)
-	register, witnesses := &parted{Register: config.Register}, &counting{Witnesses: w.circle(t)}
-	config.Register, config.Witnesses = register, witnesses
-	s := started(t, config, hooks{})
-	must(t, got.submitAll(ctx, s, 0, 3, 1))
+	p, _, got, s, register, witnesses := vouched(t)
 	for n, bend := range []func(newest, older string) error{
 		func(newest, _ string) error { return os.Remove(newest) },
 		func(newest, older string) error {
@@ -385,8 +387,7 @@ func TestVouchedOverABentHead(t *testing.T) {
 	} {
 		number := 3 + n
 		comesBack(t, s, got, number)
-		register.on.Store(true)
-		eventually(t, "the register isn't read", func() bool { return strings.Contains(s.Figures().Fault, errTried.Error()) })
+		register.part(t, s)
 		before := witnesses.starts.Load()
 		heads := headsOf(t, p)
 		at := func(name string) string { return filepath.Join(p.objects(), name) }
@@ -402,9 +403,7 @@ func TestVouchedOverABentHead(t *testing.T) {
 			t.Errorf("the head isn't made again: %s, %v", made, err)
 		}
 	}
-	if report := p.right(t, got); report.Leaves != 7 {
-		t.Errorf("%+v", report)
-	}
+	isOf(t, p.right(t, got), 7)
 }
 
 // TestWitnessedNodes has two nodes carry a log at once: what one of them is late with is no fault.
@@ -425,9 +424,7 @@ func TestWitnessedNodes(t *testing.T) {
 	for range nodes {
 		must(t, <-failed)
 	}
-	if report := p.right(t, got); report.Leaves != 80 {
-		t.Errorf("%+v", report)
-	}
+	isOf(t, p.right(t, got), 80)
 	head, err := nodes[0].Checkpoint(ctx)
 	must(t, err)
 	if n := w.cosignatures(t, head.Note); n < 2 {
@@ -456,20 +453,26 @@ func (c *counted) Get(ctx context.Context, name string, most int64) ([]byte, err
 	return c.Objects.Get(ctx, name, most)
 }
 
-// TestProofs: the proofs that witnesses ask for are those of the tree, each made once, of what a round has in hand, the edge, and the store.
-func TestProofs(t *testing.T) {
-	t.Parallel()
+// countedReadings is a node that has ended, with a log of 300 entries, whose readings of objects are counted.
+func countedReadings(t *testing.T) (place, context.Context, *Sequencer, *counted) {
+	t.Helper()
 	p, ctx, got := newPlace(t), limited(t), &answers{}
 	config := p.config(t)
 	objects := &counted{Objects: config.Objects}
 	config.Objects = objects
 	s := started(t, config, hooks{})
 	must(t, got.submitAll(ctx, s, 0, 300, 300))
-	head, err := s.Checkpoint(ctx)
-	must(t, err)
 	must(t, s.End(ctx))
+	return p, ctx, s, objects
+}
+
+// TestProofs: the proofs that witnesses ask for are those of the tree, each made once, of what a round has in hand, the edge, and the store.
+func TestProofs(t *testing.T) {
+	t.Parallel()
+	p, ctx, s, objects := countedReadings(t)
 	state := s.newestKnown().state
-	heads := map[uint64]log.Head{head.TreeSize: head}
+	whole, err := tlog.TreeHash(300, readerOf(t, p, 300))
+	must(t, err)
 	for _, from := range []uint64{1, 44, 256, 299} {
 		proof := s.proofsTo(state, nil)
 		before := objects.gets.Load()
@@ -488,7 +491,7 @@ func TestProofs(t *testing.T) {
 		}
 		root, err := tlog.TreeHash(int64(from), readerOf(t, p, 300))
 		must(t, err)
-		if err := tlog.CheckTree(path, 300, tlog.Hash(heads[300].RootHash), int64(from), root); err != nil {
+		if err := tlog.CheckTree(path, 300, whole, int64(from), root); err != nil {
 			t.Errorf("from %d: %v", from, err)
 		}
 	}
@@ -497,13 +500,7 @@ func TestProofs(t *testing.T) {
 // TestProofsOfARound: what a round has in hand isn't read.
 func TestProofsOfARound(t *testing.T) {
 	t.Parallel()
-	p, ctx, got := newPlace(t), limited(t), &answers{}
-	config := p.config(t)
-	objects := &counted{Objects: config.Objects}
-	config.Objects = objects
-	s := started(t, config, hooks{})
-	must(t, got.submitAll(ctx, s, 0, 300, 300))
-	must(t, s.End(ctx))
+	p, ctx, s, objects := countedReadings(t)
 	tile, err := os.ReadFile(filepath.Join(p.objects(), "tile/0/000"))
 	must(t, err)
 	before := objects.gets.Load()

@@ -6,6 +6,7 @@ import (
 	"errors"
 	"flag"
 	"fmt"
+	"io"
 	"os"
 	"strings"
 )
@@ -16,6 +17,31 @@ type Rules struct {
 	Only []string
 	// Several are those that may stand in several lines, and beside the command line's.
 	Several []string
+}
+
+// Flags are those of a program, or of one of its commands, by its name. What is wrong with its words is told to one writer, and so is, where help
+// is asked for, this page with each flag behind it.
+func Flags(name, page string, to io.Writer) *flag.FlagSet {
+	flags := flag.NewFlagSet(name, flag.ContinueOnError)
+	flags.SetOutput(to)
+	flags.Usage = func() {
+		fmt.Fprintf(to, "%s\n\n", page)
+		flags.PrintDefaults()
+	}
+	return flags
+}
+
+// Ends says whether a program ends by what came of its words, and with which status: with 0 where help was asked for, and with 2 at a fault, which
+// is told.
+func Ends(err error, to io.Writer) (status int, ends bool) {
+	switch {
+	case err == nil:
+		return 0, false
+	case errors.Is(err, flag.ErrHelp):
+		return 0, true
+	}
+	fmt.Fprintln(to, err)
+	return 2, true
 }
 
 // Parse sets flags by the words of a command line, of which none may be left over, and what these don't set by the file that the flag config

@@ -81,10 +81,48 @@ func TestSettle(t *testing.T) {
 	}
 }
 
+// TestFlags: help is a program's page with each flag behind it, and a wrong word is told with it.
+func TestFlags(t *testing.T) {
+	for _, c := range []struct{ words, told string }{
+		{"--size 3", ""},
+		{"--help", "100% of it\n\n  -size int\n"},
+		{"--size three", "invalid value \"three\" for flag -size: parse error\n100% of it\n\n  -size int\n"},
+	} {
+		var told strings.Builder
+		flags := Flags("program", "100% of it", &told)
+		flags.Int("size", 0, "")
+		if err := flags.Parse(strings.Fields(c.words)); (err == nil) != (c.told == "") {
+			t.Errorf("%s: %v", c.words, err)
+		}
+		if strings.TrimSpace(told.String()) != strings.TrimSpace(c.told) || flags.Name() != "program" {
+			t.Errorf("%s: %s tells %q", c.words, flags.Name(), told.String())
+		}
+	}
+}
+
+// TestEnds: words that were taken end nothing; who asks for help is told no fault.
+func TestEnds(t *testing.T) {
+	for _, c := range []struct {
+		err    error
+		told   string
+		status int
+		ends   bool
+	}{
+		{nil, "", 0, false},
+		{flag.ErrHelp, "", 0, true},
+		{fmt.Errorf("program: %w", flag.ErrHelp), "", 0, true},
+		{errors.New("program: 4 is too much"), "program: 4 is too much\n", 2, true},
+	} {
+		var told strings.Builder
+		if status, ends := Ends(c.err, &told); status != c.status || ends != c.ends || told.String() != c.told {
+			t.Errorf("%v: %d, %v, and %q is told", c.err, status, ends, told.String())
+		}
+	}
+}
+
 // made are flags, with what they set.
 func made() (flags *flag.FlagSet, size *int, logs *[]string) {
-	flags, logs = flag.NewFlagSet("", flag.ContinueOnError), &[]string{}
-	flags.SetOutput(io.Discard)
+	flags, logs = Flags("", "", io.Discard), &[]string{}
 	size = flags.Int("size", 0, "")
 	flags.String("config", "", "")
 	flags.Func("log", "", func(text string) error { *logs = append(*logs, text); return nil })

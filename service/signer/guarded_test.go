@@ -67,7 +67,7 @@ func stateOf(last *Head) string {
 	return string(line)
 }
 
-func limited(t testing.TB) context.Context { return trial.Limited(t, time.Minute) }
+func limited(t testing.TB) context.Context { return trial.Limited(t, trial.Longest) }
 
 func newKey(t testing.TB) *Key {
 	private, err := ecdsa.GenerateKey(elliptic.P256(), rand.Reader)
@@ -168,7 +168,7 @@ func (l *list) receipt(t testing.TB, index, size int) Receipt {
 // behind puts a guard before a key, with a state in a folder.
 func behind(t testing.TB, key *Key, folder string, guard []string, receipts Receipts) *Guarded {
 	t.Helper()
-	g, err := Behind(limited(t), key, Guard{Command: guard, State: register(t, folder), Create: true, Receipts: receipts})
+	g, err := Behind(limited(t), key, Guard{Command: guard, State: register(t, folder), Create: true, Receipts: receipts, Within: trial.Longest})
 	must(t, err)
 	t.Cleanup(func() { g.Close() })
 	return g
@@ -196,12 +196,26 @@ func through(t *testing.T, receipts Receipts, test func(t *testing.T, s Signer, 
 				}
 				time.Sleep(time.Millisecond)
 			}
-			c, err := Ask(ctx, func(ctx context.Context) (*pipe.End, error) { return pipe.Dial(ctx, path, MostLine) }, 20*time.Second)
+			c, err := Ask(ctx, func(ctx context.Context) (*pipe.End, error) { return pipe.Dial(ctx, path, MostLine) }, trial.Longest)
 			must(t, err)
 			t.Cleanup(func() { c.Close() })
 			test(t, c, key)
 		})
 	}
+}
+
+// askedAtASocket asks a signer as a node asks one of another process, at a socket.
+func askedAtASocket(ctx context.Context, t *testing.T, of Signer) *Client {
+	t.Helper()
+	path := filepath.Join(t.TempDir(), "socket")
+	listener, err := listenAt(path)
+	must(t, err)
+	t.Cleanup(func() { listener.Close() })
+	go func() { _ = newClients().serve(ctx, of, listener) }()
+	c, err := Ask(ctx, func(ctx context.Context) (*pipe.End, error) { return pipe.Dial(ctx, path, MostLine) }, trial.Longest)
+	must(t, err)
+	t.Cleanup(func() { c.Close() })
+	return c
 }
 
 // wrongly is a signer whose signatures are changed.
@@ -248,14 +262,7 @@ func TestWrongSigner(t *testing.T) {
 		"one less":         {func(signed [][]byte) [][]byte { return signed[:1] }, true, false},
 		"one more":         {func(signed [][]byte) [][]byte { return append(signed, signed[0]) }, true, false},
 	} {
-		path := filepath.Join(t.TempDir(), "socket")
-		listener, err := listenAt(path)
-		must(t, err)
-		t.Cleanup(func() { listener.Close() })
-		go func(s Signer) { _ = newClients().serve(ctx, s, listener) }(wrongly{key, wrong.change})
-		c, err := Ask(ctx, func(ctx context.Context) (*pipe.End, error) { return pipe.Dial(ctx, path, MostLine) }, 20*time.Second)
-		must(t, err)
-		t.Cleanup(func() { c.Close() })
+		c := askedAtASocket(ctx, t, wrongly{key, wrong.change})
 		signed, err := c.SignHead(ctx, head, nil)
 		if (err == nil) != wrong.heads || err != nil && !errors.Is(err, ErrReply) || err == nil && CheckHead(key.Key(), head, signed) != nil {
 			t.Errorf("%s: a head: %v", what, err)
@@ -426,6 +433,10 @@ func TestPromised(t *testing.T) {
 		must(t, Check(key.Key(), right.leaves[2], signatures[0]))
 		_, err = s.SignTimestamps(ctx, []Receipt{{Leaf: right.head(t, 3, 7).message()}})
 		refused(t, "no-leaf", err)
+		// (a place isn't looked at: the guard isn't told one)
+		signatures, err = s.SignTimestamps(ctx, []Receipt{right.receipt(t, 1, 3)})
+		must(t, err)
+		must(t, Check(key.Key(), right.leaves[1], signatures[0]))
 	})
 }
 
@@ -435,19 +446,19 @@ func TestStates(t *testing.T) {
 	ctx, key, right := limited(t), newKey(t), listOf(t, 9, 9)
 	first := right.head(t, 5, 100)
 	for name, guard := range guards() {
-		of := Guard{Command: guard, State: register(t, t.TempDir()), Receipts: InHead}
+		of := Guard{Command: guard, State: register(t, t.TempDir()), Receipts: InHead, Within: trial.Longest}
 		_, err := Behind(ctx, key, of)
 		wants(t, err, ErrState)
 		for _, text := range []string{"x", `{"guard":2,"last":null}`, `{"guard":1,"last":{}}`, `{"last":null,"guard":1}`, `{"guard": 1, "last": null}`, stateOf(&first)[1:],
 			strings.Replace(stateOf(&first), `"tree_size":5`, `"tree_size":05`, 1), strings.Replace(stateOf(&first), `"timestamp"`, `"x":1,"timestamp"`, 1)} {
-			of := Guard{Command: guard, State: register(t, t.TempDir()), Receipts: InHead}
+			of := Guard{Command: guard, State: register(t, t.TempDir()), Receipts: InHead, Within: trial.Longest}
 			must(t, of.State.Create(ctx, text))
 			if _, err := Behind(ctx, key, of); !errors.Is(err, ErrState) {
 				t.Errorf("%s: %s: %v", name, text, err)
 			}
 		}
 		// With a line's end, as an operator writes it, and what is no state stays as it stands.
-		of = Guard{Command: guard, State: register(t, t.TempDir()), Receipts: InHead}
+		of = Guard{Command: guard, State: register(t, t.TempDir()), Receipts: InHead, Within: trial.Longest}
 		must(t, of.State.Create(ctx, "x\n"))
 		_, err = Behind(ctx, key, of)
 		wants(t, err, ErrState)
@@ -462,17 +473,17 @@ func TestStates(t *testing.T) {
 		_, err = g.SignHead(ctx, right.head(t, 9, 101), right.proof(t, 5, 9))
 		must(t, err)
 	}
-	_, err := Behind(ctx, key, Guard{Command: []string{"nowhere-is-it"}, State: register(t, t.TempDir()), Create: true, Receipts: InHead})
+	_, err := Behind(ctx, key, Guard{Command: []string{"nowhere-is-it"}, State: register(t, t.TempDir()), Create: true, Receipts: InHead, Within: trial.Longest})
 	wants(t, err, exec.ErrNotFound)
-	_, err = Behind(ctx, key, Guard{State: register(t, t.TempDir()), Create: true, Receipts: InHead})
+	_, err = Behind(ctx, key, Guard{State: register(t, t.TempDir()), Create: true, Receipts: InHead, Within: trial.Longest})
 	wants(t, err, ErrState)
-	_, err = Behind(ctx, key, Guard{Command: model, State: register(t, t.TempDir()), Create: true, Receipts: "none"})
+	_, err = Behind(ctx, key, Guard{Command: model, State: register(t, t.TempDir()), Create: true, Receipts: "none", Within: trial.Longest})
 	wants(t, err, ErrState)
 	full := &unsure.Register{Register: register(t, t.TempDir()), Every: 3, Fails: errors.New("a disk is full")}
-	_, err = Behind(ctx, key, Guard{Command: model, State: full, Create: true, Receipts: InHead})
+	_, err = Behind(ctx, key, Guard{Command: model, State: full, Create: true, Receipts: InHead, Within: trial.Longest})
 	wants(t, err, full.Fails)
 	must(t, full.Register.Create(ctx, stateOf(&first)+"\n"))
-	_, err = Behind(ctx, key, Guard{Command: model, State: full, Receipts: InHead})
+	_, err = Behind(ctx, key, Guard{Command: model, State: full, Receipts: InHead, Within: trial.Longest})
 	wants(t, err, full.Fails)
 }
 
@@ -482,7 +493,7 @@ func TestStateSetBack(t *testing.T) {
 	for name, command := range guards() {
 		folder, l, ctx := t.TempDir(), listOf(t, 8, 8), limited(t)
 		text := filepath.Join(folder, "guard", "text")
-		g, err := Behind(ctx, newKey(t), Guard{Command: command, State: register(t, folder), Create: true, Receipts: InHead})
+		g, err := Behind(ctx, newKey(t), Guard{Command: command, State: register(t, folder), Create: true, Receipts: InHead, Within: trial.Longest})
 		must(t, err)
 		defer g.Close()
 		_, err = g.SignHead(ctx, l.head(t, 3, 30), nil)
@@ -504,7 +515,7 @@ func TestStateSetBack(t *testing.T) {
 		}
 		must(t, stores.KeepFile(text, newest))
 		// One that has only looked at the newest knows it too.
-		other, err := Behind(ctx, newKey(t), Guard{Command: command, State: register(t, folder), Receipts: InHead})
+		other, err := Behind(ctx, newKey(t), Guard{Command: command, State: register(t, folder), Receipts: InHead, Within: trial.Longest})
 		must(t, err)
 		defer other.Close()
 		must(t, stores.KeepFile(text, old))
@@ -578,7 +589,7 @@ func TestUnkept(t *testing.T) {
 	t.Parallel()
 	ctx, key, right, fork := limited(t), newKey(t), listOf(t, 20, 20), listOf(t, 20, 3)
 	state := &unsure.Register{Register: register(t, t.TempDir()), Every: 3}
-	g, err := Behind(ctx, key, Guard{Command: model, State: state, Create: true, Receipts: InHead})
+	g, err := Behind(ctx, key, Guard{Command: model, State: state, Create: true, Receipts: InHead, Within: trial.Longest})
 	must(t, err)
 	defer g.Close()
 	_, err = g.SignHead(ctx, right.head(t, 4, 100), nil)
@@ -623,7 +634,7 @@ func TestLyingRegister(t *testing.T) {
 		older, other, later := right.head(t, 5, 100), fork.head(t, 9, 101), right.head(t, 12, 103)
 		for _, reads := range []string{none, stateOf(&older), stateOf(&other), stateOf(&later)} {
 			state := &lying{Register: register(t, t.TempDir())}
-			g, err := Behind(ctx, key, Guard{Command: guard, State: state, Create: true, Receipts: InHead})
+			g, err := Behind(ctx, key, Guard{Command: guard, State: state, Create: true, Receipts: InHead, Within: trial.Longest})
 			must(t, err)
 			_, err = g.SignHead(ctx, older, nil)
 			must(t, err)
@@ -633,7 +644,7 @@ func TestLyingRegister(t *testing.T) {
 			stood, err := state.Read(ctx)
 			must(t, err)
 			state.reads = reads
-			g, err = Behind(ctx, key, Guard{Command: guard, State: state, Receipts: InHead})
+			g, err = Behind(ctx, key, Guard{Command: guard, State: state, Receipts: InHead, Within: trial.Longest})
 			must(t, err)
 			last, err := g.Last(ctx)
 			must(t, err)
@@ -690,14 +701,14 @@ func TestUnreadStates(t *testing.T) {
 	t.Parallel()
 	ctx, key, right := limited(t), newKey(t), listOf(t, 20, 20)
 	state := &failing{Register: register(t, t.TempDir())}
-	g, err := Behind(ctx, key, Guard{Command: model, State: state, Create: true, Receipts: InHead})
+	g, err := Behind(ctx, key, Guard{Command: model, State: state, Create: true, Receipts: InHead, Within: trial.Longest})
 	must(t, err)
 	defer g.Close()
 	path := filepath.Join(t.TempDir(), "socket")
 	go func() { _ = Listen(ctx, g, path) }()
 	var c *Client
 	for c == nil {
-		if c, err = Ask(ctx, func(ctx context.Context) (*pipe.End, error) { return pipe.Dial(ctx, path, MostLine) }, 20*time.Second); err != nil {
+		if c, err = Ask(ctx, func(ctx context.Context) (*pipe.End, error) { return pipe.Dial(ctx, path, MostLine) }, trial.Longest); err != nil {
 			wants(t, err, pipe.ErrGone)
 			time.Sleep(time.Millisecond)
 		}
@@ -795,7 +806,7 @@ func TestWrongLast(t *testing.T) {
 		path, state := filepath.Join(t.TempDir(), "guard"), register(t, t.TempDir())
 		must(t, os.WriteFile(path, []byte("read x; echo '"+says+"'; exec sleep 60"), 0o700))
 		must(t, state.Create(ctx, stateOf(&head)))
-		_, err := Behind(ctx, key, Guard{Command: []string{"sh", path}, State: state, Receipts: InHead})
+		_, err := Behind(ctx, key, Guard{Command: []string{"sh", path}, State: state, Receipts: InHead, Within: trial.Longest})
 		wants(t, err, ErrReply)
 	}
 }
@@ -903,7 +914,7 @@ func beChild(words string) error {
 	if _, err := os.Stat(built); err == nil {
 		guard = []string{built}
 	}
-	g, err := Behind(ctx, key, Guard{Command: guard, State: state, Create: true, Receipts: InHead})
+	g, err := Behind(ctx, key, Guard{Command: guard, State: state, Create: true, Receipts: InHead, Within: trial.Longest})
 	if err != nil {
 		return err
 	}
@@ -1025,7 +1036,7 @@ func TestOtherKey(t *testing.T) {
 				}
 				time.Sleep(time.Millisecond)
 			}
-		}, 10*time.Second)
+		}, trial.Longest)
 		must(t, err)
 		must(t, c.Close())
 		if _, err = c.Last(ctx); !errors.Is(err, ErrKey) {
@@ -1104,24 +1115,39 @@ func (m *moody) Accept() (net.Conn, error) {
 	return m.Listener.Accept()
 }
 
+// served has clients be served at a socket, by a listener that fails so often before the first comes. Its end is looked at.
+func served(t *testing.T, all *clients, fails int) (path string, end func()) {
+	t.Helper()
+	path = filepath.Join(t.TempDir(), "socket")
+	ctx, cancel := context.WithCancel(limited(t))
+	listener, err := net.Listen("unix", path)
+	must(t, err)
+	done := make(chan error, 1)
+	go func() { done <- all.serve(ctx, newKey(t), &moody{listener, fails}) }()
+	return path, func() {
+		t.Helper()
+		cancel()
+		listener.Close()
+		wants(t, <-done, net.ErrClosed)
+	}
+}
+
+// asks is a client at a socket.
+func asks(t *testing.T, path string) *Client {
+	t.Helper()
+	c, err := Ask(limited(t), func(ctx context.Context) (*pipe.End, error) { return pipe.Dial(ctx, path, MostLine) }, trial.Longest)
+	must(t, err)
+	t.Cleanup(func() { c.Close() })
+	return c
+}
+
 // TestClients has more connect to a signer than it serves, at a listener that fails now and then: who asks is answered, and of those who say
 // nothing the first has to go.
 func TestClients(t *testing.T) {
 	t.Parallel()
-	key, path := newKey(t), filepath.Join(t.TempDir(), "socket")
-	ctx, cancel := context.WithCancel(limited(t))
-	listener, err := net.Listen("unix", path)
-	must(t, err)
-	all, done := newClients(), make(chan error, 1)
-	go func() { done <- all.serve(ctx, key, &moody{listener, 3}) }()
-	ask := func() *Client {
-		t.Helper()
-		c, err := Ask(ctx, func(ctx context.Context) (*pipe.End, error) { return pipe.Dial(ctx, path, MostLine) }, 5*time.Second)
-		must(t, err)
-		t.Cleanup(func() { c.Close() })
-		return c
-	}
-	first := ask()
+	ctx, all := limited(t), newClients()
+	path, end := served(t, all, 3)
+	first := asks(t, path)
 	var silent []net.Conn
 	for len(silent) < mostClients-1 {
 		connection, err := net.Dial("unix", path)
@@ -1135,37 +1161,31 @@ func TestClients(t *testing.T) {
 		all.mu.Unlock()
 	}
 	// (so that it isn't the one that asked nothing for the longest)
-	_, err = first.Last(ctx)
+	_, err := first.Last(ctx)
 	must(t, err)
-	second := ask()
+	second := asks(t, path)
 	for _, c := range []*Client{first, second} {
 		if _, err := c.Last(ctx); err != nil || c.Starts() != 1 {
 			t.Errorf("%v, opened %d times", err, c.Starts())
 		}
 	}
-	for i, gone := range map[int]bool{0: true, len(silent) - 1: false} {
-		must(t, silent[i].SetReadDeadline(time.Now().Add(time.Second)))
+	for i, waits := range map[int]time.Duration{0: trial.Longest, len(silent) - 1: 300 * time.Millisecond} {
+		must(t, silent[i].SetReadDeadline(time.Now().Add(waits)))
 		_, err := silent[i].Read(make([]byte, 1))
 		var late net.Error
-		if waits := errors.As(err, &late) && late.Timeout(); waits == gone {
+		if stays := errors.As(err, &late) && late.Timeout(); stays == (i == 0) {
 			t.Errorf("the silent one %d: %v", i, err)
 		}
 	}
-	cancel()
-	listener.Close()
-	wants(t, <-done, net.ErrClosed)
+	end()
 }
 
 // TestHalfLines has as many as are served at once begin a line and never end it: each has its time, and who comes behind them is answered.
 func TestHalfLines(t *testing.T) {
 	t.Parallel()
-	key, path := newKey(t), filepath.Join(t.TempDir(), "socket")
-	ctx, cancel := context.WithCancel(limited(t))
-	listener, err := net.Listen("unix", path)
-	must(t, err)
-	all, done := newClients(), make(chan error, 1)
+	all := newClients()
 	all.within = 50 * time.Millisecond
-	go func() { done <- all.serve(ctx, key, listener) }()
+	path, end := served(t, all, 0)
 	for i := 0; i < mostClients; i++ {
 		connection, err := net.Dial("unix", path)
 		must(t, err)
@@ -1173,14 +1193,17 @@ func TestHalfLines(t *testing.T) {
 		_, err = connection.Write([]byte(`{"last":`))
 		must(t, err)
 	}
-	c, err := Ask(ctx, func(ctx context.Context) (*pipe.End, error) { return pipe.Dial(ctx, path, MostLine) }, 30*time.Second)
+	// (who asks has no more time than they have: on a busy machine it comes again)
+	ctx, err := limited(t), errTried
+	for err != nil && ctx.Err() == nil {
+		var c *Client
+		if c, err = Ask(ctx, func(ctx context.Context) (*pipe.End, error) { return pipe.Dial(ctx, path, MostLine) }, trial.Longest); err == nil {
+			_, err = c.Last(ctx)
+			c.Close()
+		}
+	}
 	must(t, err)
-	t.Cleanup(func() { c.Close() })
-	_, err = c.Last(ctx)
-	must(t, err)
-	cancel()
-	listener.Close()
-	wants(t, <-done, net.ErrClosed)
+	end()
 }
 
 // TestLines sends a signer lines that ask for nothing, or for what can't be: each is replied to, and nothing is signed.
@@ -1238,14 +1261,7 @@ func TestFailuresByLines(t *testing.T) {
 		{TooFar, TooFar, ErrMoved},
 		{errors.New("x"), pipe.ErrGone, ErrRefused},
 	} {
-		path := filepath.Join(t.TempDir(), "socket")
-		listener, err := listenAt(path)
-		must(t, err)
-		t.Cleanup(func() { listener.Close() })
-		go func(s Signer) { _ = newClients().serve(ctx, s, listener) }(unable{key, of.why})
-		c, err := Ask(ctx, func(ctx context.Context) (*pipe.End, error) { return pipe.Dial(ctx, path, MostLine) }, 20*time.Second)
-		must(t, err)
-		t.Cleanup(func() { c.Close() })
+		c := askedAtASocket(ctx, t, unable{key, of.why})
 		if _, err := c.SignHead(ctx, Head{Size: 1, Moment: 1}, nil); !errors.Is(err, of.kind) || errors.Is(err, of.not) {
 			t.Errorf("%v comes as %v", of.why, err)
 		}

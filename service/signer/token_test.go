@@ -6,6 +6,7 @@ import (
 	"os"
 	"os/exec"
 	"path/filepath"
+	"strings"
 	"testing"
 
 	"wagtenib/service/softhsm"
@@ -68,6 +69,48 @@ func TestToken(t *testing.T) {
 	}
 	if _, err := OpenKey("pkcs11:token=log-token;object=key" + behind); !errors.Is(err, ErrKey) {
 		t.Errorf("a PIN that others may read: %v", err)
+	}
+}
+
+// TestTokenIsLetGo: a token is named by its serial number too; behind the last key that is closed, and behind one that wasn't found, nobody is logged in to it.
+func TestTokenIsLetGo(t *testing.T) {
+	module, pin := softhsm.Token(t)
+	said, err := exec.Command("softhsm2-util", "--show-slots").CombinedOutput()
+	must(t, err)
+	_, serial, _ := strings.Cut(string(said), "Serial number:")
+	serial = strings.TrimSpace(strings.SplitN(serial, "\n", 2)[0])
+	wrong := filepath.Join(t.TempDir(), "pin")
+	must(t, os.WriteFile(wrong, []byte("0000"), 0o600))
+	of := func(path, pin string) string {
+		return "pkcs11:" + path + "?module-path=" + module + "&pin-source=file:" + pin
+	}
+	isLetGo := func(what string) {
+		t.Helper()
+		if key, err := OpenKey(of("token=log-token;object=key", wrong)); err == nil {
+			key.Close()
+			t.Errorf("behind %s a wrong PIN opens it", what)
+		}
+	}
+	isLetGo("nothing")
+	for _, path := range []string{"token=log-token;object=key", "serial=" + serial + ";object=key", "token=log-token;serial=" + serial + ";object=key"} {
+		key, err := OpenKey(of(path, pin))
+		if err != nil {
+			t.Fatalf("%s: %v", path, err)
+		}
+		signed, err := key.sign([]byte("a message"))
+		must(t, err)
+		must(t, Check(key.Key(), []byte("a message"), signed))
+		must(t, key.Close())
+		isLetGo(path)
+	}
+	for _, path := range []string{"token=log-token;object=other", "token=log-token;object=large"} {
+		if _, err := OpenKey(of(path, pin)); !errors.Is(err, ErrKey) {
+			t.Errorf("%s: %v", path, err)
+		}
+		isLetGo(path)
+	}
+	if _, err := OpenKey(of("serial="+serial+"0;object=key", pin)); err == nil {
+		t.Error("another serial number is taken")
 	}
 }
 

@@ -6,7 +6,8 @@ import (
 	"errors"
 	"strings"
 	"testing"
-	"time"
+
+	"wagtenib/service/trial"
 )
 
 // tbsWith is a TBSCertificate of empty fields with these extensions (RFC 5280, section 4.1).
@@ -26,7 +27,7 @@ func tbsWith(t *testing.T, extensions string) []byte {
 
 // TestPrecertificates has the stand-in cut out the poison.
 func TestPrecertificates(t *testing.T) {
-	c, ctx := client(t, 10*time.Minute, program...), within(t)
+	c, ctx := client(t, trial.Longest, program...), within(t)
 	const poison, number, other = "3013060a2b06010401d6790204030101ff04020500", "3013060a2b06010401d6790204030101ff04020201", "3009060355041d0402aabb"
 	for extensions, want := range map[string]string{poison: "", poison + other: other, other + poison: other, other + poison + other: other + other} {
 		entry, err := c.WithoutPoison(ctx, tbsWith(t, extensions))
@@ -53,18 +54,18 @@ func TestWrongPrecertificates(t *testing.T) {
 		`{"refused":""}`,
 	} {
 		reply = strings.ReplaceAll(reply, "' + long + '", strings.Repeat("AAAA", len(tbs)/3+1))
-		c := client(t, 5*time.Second, script(t, "read x; echo '"+reply+"'\n")...)
+		c := client(t, trial.Longest, script(t, "read x; echo '"+reply+"'\n")...)
 		if entry, err := c.WithoutPoison(within(t), tbs); !errors.Is(err, ErrReply) {
 			t.Errorf("%s: %x, %v", reply, entry, err)
 		}
 	}
 	for reply, want := range map[string]Refusal{`{"document":"certificate","refused":"no-extension"}`: NoExtension, `{"refused":"bad-poison"}`: BadPoison, `{"refused":"too-long"}`: TooLong} {
-		c := client(t, 5*time.Second, script(t, "read x; echo '"+reply+"'\n")...)
+		c := client(t, trial.Longest, script(t, "read x; echo '"+reply+"'\n")...)
 		if entry, err := c.WithoutPoison(within(t), tbs); !errors.Is(err, want) {
 			t.Errorf("%s: %x, %v", reply, entry, err)
 		}
 	}
-	c := client(t, 5*time.Second, script(t, "read x; exit\n")...)
+	c := client(t, trial.Longest, script(t, "read x; exit\n")...)
 	if entry, err := c.WithoutPoison(within(t), tbs); !errors.Is(err, ErrProcess) {
 		t.Errorf("%x, %v", entry, err)
 	}

@@ -6,12 +6,13 @@ import (
 	"errors"
 	"strings"
 	"testing"
-	"time"
+
+	"wagtenib/service/trial"
 )
 
 // TestReadings reads a tree of three leaves, whose nodes are computed by hand (RFC 6962, section 2.1).
 func TestReadings(t *testing.T) {
-	c, ctx := client(t, 10*time.Minute, program...), within(t)
+	c, ctx := client(t, trial.Longest, program...), within(t)
 	leaf := func(i byte) [32]byte { return sha256.Sum256([]byte{0, i}) }
 	node := func(a, b [32]byte) [32]byte { return sha256.Sum256(append(append([]byte{1}, a[:]...), b[:]...)) }
 	zero, one, two := leaf(0), leaf(1), leaf(2)
@@ -74,13 +75,13 @@ func TestWrongReadings(t *testing.T) {
 		for _, reply := range replies {
 			lines += "read x; echo '" + reply + "'\n"
 		}
-		c := client(t, 5*time.Second, script(t, lines)...)
+		c := client(t, trial.Longest, script(t, lines)...)
 		if path, err := c.Path(within(t), 0, 2, tiles); !errors.Is(err, ErrReply) {
 			t.Errorf("%.60q: %x, %v", replies, path, err)
 		}
 	}
 	for _, reply := range []string{`{"sha256_root_hash":"AA=="}`, "{}"} {
-		c := client(t, 5*time.Second, script(t, "read x; echo '"+names+"'\nread x; echo '"+reply+"'\n")...)
+		c := client(t, trial.Longest, script(t, "read x; echo '"+names+"'\nread x; echo '"+reply+"'\n")...)
 		if root, err := c.Root(within(t), 2, tiles); !errors.Is(err, ErrReply) {
 			t.Errorf("%q: %x, %v", reply, root, err)
 		}

@@ -9,6 +9,7 @@ import (
 	"encoding/json"
 	"errors"
 	"fmt"
+	"sync"
 	"time"
 
 	"wagtenib/service/pipe"
@@ -54,12 +55,16 @@ const (
 )
 
 // Client asks one process, one request at a time. Its methods may be called at once.
-type Client struct{ *pipe.Program }
+type Client struct {
+	*pipe.Program
+	// spare is the memory of a step's line that was sent, for the next one.
+	spare sync.Pool
+}
 
 // NewClient takes the program's command, and how long a request may take. The process is started by the first request.
 func NewClient(command []string, limit time.Duration) (*Client, error) {
 	program, err := pipe.NewProgram(command, MostRequest, MostReply, limit)
-	return &Client{program}, err
+	return &Client{Program: program}, err
 }
 
 // ask sends a request, and reads its reply into an object.
@@ -69,22 +74,27 @@ func (c *Client) ask(ctx context.Context, request, reply any) error {
 		return err
 	}
 	if isRefusal(answered) {
-		var refused struct {
-			Refused                Refusal
-			Document, Fault, Place string
-		}
-		if err := json.Unmarshal(answered, &refused); err != nil || refused.Refused == "" {
-			return fmt.Errorf("%w: %.200q: %v", ErrReply, answered, err)
-		}
-		if refused.Fault != "" {
-			return fmt.Errorf("%w: %s in %s of the %s", refused.Refused, refused.Fault, refused.Place, refused.Document)
-		}
-		return refused.Refused
+		return refusalIn(answered)
 	}
 	if err := json.Unmarshal(answered, reply); err != nil {
 		return fmt.Errorf("%w: %v", ErrReply, err)
 	}
 	return nil
+}
+
+// refusalIn reads a refusal.
+func refusalIn(answered []byte) error {
+	var refused struct {
+		Refused                Refusal
+		Document, Fault, Place string
+	}
+	if err := json.Unmarshal(answered, &refused); err != nil || refused.Refused == "" {
+		return fmt.Errorf("%w: %.200q: %v", ErrReply, answered, err)
+	}
+	if refused.Fault != "" {
+		return fmt.Errorf("%w: %s in %s of the %s", refused.Refused, refused.Fault, refused.Place, refused.Document)
+	}
+	return refused.Refused
 }
 
 // isRefusal says whether a reply is one: an object's keys are in the order of their bytes.
@@ -175,25 +185,28 @@ type Stepped struct {
 // Step gives the state behind a batch, with the objects that it publishes. The edge are the contents of the names that Needs
 // gives, in that order. The moment is at most so many milliseconds beyond the line's (most), or it is TooFar.
 func (c *Client) Step(ctx context.Context, line string, edge [][]byte, batch []Submission, now, most uint64) (*Stepped, error) {
-	if edge == nil {
-		edge = [][]byte{}
-	}
-	if batch == nil {
-		batch = []Submission{}
-	}
-	for i := range batch {
-		if batch[i].Chain == nil {
-			batch[i].Chain = [][]byte{}
-		}
-	}
 	var told struct {
 		Stepped
 		References []reference `json:"objects"`
 	}
-	if err := c.ask(ctx, map[string]any{"state": line, "edge": edge, "batch": batch, "now": now, "most_ahead": most}, &told); err != nil {
+	answered, err := c.askStep(ctx, line, edge, batch, now, most)
+	if err != nil {
 		return nil, err
 	}
+	if isRefusal(answered) {
+		return nil, refusalIn(answered)
+	}
+	bundle, rest, err := cutBundle(answered)
+	if err == nil {
+		err = json.Unmarshal(rest, &told)
+	}
+	if err != nil {
+		return nil, fmt.Errorf("%w: %v", ErrReply, err)
+	}
 	reply := &told.Stepped
+	if bundle != nil {
+		reply.Bundle = bundle
+	}
 	before, err := ParseState(line)
 	if err != nil {
 		return nil, err
@@ -221,6 +234,25 @@ func (c *Client) Step(ctx context.Context, line string, edge [][]byte, batch []S
 		return nil, err
 	}
 	return reply, reply.Head.check(s)
+}
+
+// askStep sends the request for a step.
+func (c *Client) askStep(ctx context.Context, state string, edge [][]byte, batch []Submission, now, most uint64) ([]byte, error) {
+	spare, ok := c.spare.Get().(*[]byte)
+	if !ok {
+		spare = new([]byte)
+	}
+	line, err := appendStep((*spare)[:0], state, edge, batch, now, most)
+	if err != nil {
+		return nil, fmt.Errorf("step: request: %w", err)
+	}
+	answered, err := c.AskLine(ctx, line)
+	// (behind an error it may still be written)
+	if err == nil {
+		*spare = line
+		c.spare.Put(spare)
+	}
+	return answered, err
 }
 
 // Claim gives the receipt of a submission's entry that stands at a place of the log of this line: the program answers it where the audit

@@ -4,7 +4,7 @@ import (
 	"bytes"
 	"context"
 	"crypto/sha256"
-	"encoding/json"
+	"encoding/base64"
 	"errors"
 	"os"
 	"path/filepath"
@@ -28,11 +28,11 @@ func client(t *testing.T, limit time.Duration, command ...string) *Client {
 	return c
 }
 
-func within(t *testing.T) context.Context { return trial.Limited(t, 10*time.Minute) }
+func within(t *testing.T) context.Context { return trial.Limited(t, trial.Longest) }
 
 // TestSteps makes two steps, from nothing and over an edge, and reads the second one's bundle both ways.
 func TestSteps(t *testing.T) {
-	c, ctx := client(t, 10*time.Minute, program...), within(t)
+	c, ctx := client(t, trial.Longest, program...), within(t)
 	line, err := c.Begin(ctx, 5)
 	must(t, err)
 	names, err := c.Needs(ctx, line)
@@ -120,15 +120,15 @@ func TestWrongPrograms(t *testing.T) {
 		c := client(t, 300*time.Millisecond, script(t, lines)...)
 		began := time.Now()
 		_, err := c.Begin(ctx, 1)
-		if !errors.Is(err, ErrProcess) && !errors.Is(err, ErrReply) && !errors.Is(err, ErrState) || time.Since(began) > 10*time.Second {
+		if !errors.Is(err, ErrProcess) && !errors.Is(err, ErrReply) && !errors.Is(err, ErrState) || time.Since(began) > trial.Longest/2 {
 			t.Errorf("a program that %s: %v in %v", name, err, time.Since(began))
 		}
 	}
-	endless := client(t, 20*time.Second, script(t, "read x; exec tr '\\0' a </dev/zero")...)
+	endless := client(t, trial.Longest, script(t, "read x; exec tr '\\0' a </dev/zero")...)
 	if _, err := endless.Begin(ctx, 1); !errors.Is(err, ErrProcess) {
 		t.Error(err)
 	}
-	said := client(t, time.Second, script(t, "read x; echo want of memory >&2; exit 1")...)
+	said := client(t, trial.Longest, script(t, "read x; echo want of memory >&2; exit 1")...)
 	if _, err := said.Begin(ctx, 1); !errors.Is(err, ErrProcess) || !strings.Contains(err.Error(), "want of memory") {
 		t.Error(err)
 	}
@@ -143,23 +143,27 @@ func TestWrongPrograms(t *testing.T) {
 	}
 }
 
+// oneEntry is the client of a program that has made the step of a log's first entry, and the line before it.
+func oneEntry(t *testing.T) (c *Client, ctx context.Context, before string, first *Stepped) {
+	t.Helper()
+	c, ctx = client(t, trial.Longest, program...), within(t)
+	before, err := c.Begin(ctx, 5)
+	must(t, err)
+	first, err = c.Step(ctx, before, nil, oneSubmission, 7, MostAhead)
+	must(t, err)
+	return c, ctx, before, first
+}
+
+// oneSubmission is its batch.
+var oneSubmission = []Submission{{LeafCertificate: []byte("one")}}
+
 // TestWrongStates has a program reply a step's state that has one thing of it wrong: what it says must follow from the request.
 func TestWrongStates(t *testing.T) {
-	c, ctx := client(t, 10*time.Minute, program...), within(t)
-	line, err := c.Begin(ctx, 5)
-	must(t, err)
-	batch := []Submission{{LeafCertificate: []byte("one")}}
-	right, err := c.Step(ctx, line, nil, batch, 7, MostAhead)
-	must(t, err)
+	_, ctx, line, right := oneEntry(t)
 	asked := func(state string) error {
 		reply := *right
 		reply.Line = state
-		text, err := json.Marshal(reply)
-		must(t, err)
-		path := filepath.Join(t.TempDir(), "reply")
-		must(t, os.WriteFile(path, append(text, '\n'), 0o600))
-		liar := client(t, 20*time.Second, script(t, "read x; cat "+path)...)
-		_, err = liar.Step(ctx, line, nil, batch, 7, MostAhead)
+		_, err := liar(t, reply).Step(ctx, line, nil, oneSubmission, 7, MostAhead)
 		return err
 	}
 	must(t, asked(right.Line))
@@ -178,7 +182,7 @@ func TestWrongStates(t *testing.T) {
 
 // TestReceipts has a batch with repeats in it answered in its order, and a program reply other receipts than one for each submission.
 func TestReceipts(t *testing.T) {
-	c, ctx := client(t, 10*time.Minute, program...), within(t)
+	c, ctx := client(t, trial.Longest, program...), within(t)
 	line, err := c.Begin(ctx, 5)
 	must(t, err)
 	of := func(leaf string) Submission { return Submission{LeafCertificate: []byte(leaf)} }
@@ -210,12 +214,7 @@ func TestReceipts(t *testing.T) {
 	} {
 		reply := *right
 		reply.Receipts = wrong(append([]Receipt{}, right.Receipts...))
-		text, err := json.Marshal(reply)
-		must(t, err)
-		path := filepath.Join(t.TempDir(), "reply")
-		must(t, os.WriteFile(path, append(text, '\n'), 0o600))
-		liar := client(t, 20*time.Second, script(t, "read x; cat "+path)...)
-		if _, err = liar.Step(ctx, before.Line, edge, batch, 7, MostAhead); !errors.Is(err, ErrReply) {
+		if _, err := liar(t, reply).Step(ctx, before.Line, edge, batch, 7, MostAhead); !errors.Is(err, ErrReply) {
 			t.Errorf("%s: %v", what, err)
 		}
 	}
@@ -223,12 +222,7 @@ func TestReceipts(t *testing.T) {
 
 // TestReferences has a program tell other places in a bundle than an object's: each is told apart from a reply.
 func TestReferences(t *testing.T) {
-	c, ctx := client(t, 10*time.Minute, program...), within(t)
-	line, err := c.Begin(ctx, 5)
-	must(t, err)
-	batch := []Submission{{LeafCertificate: []byte("one")}}
-	one, err := c.Step(ctx, line, nil, batch, 7, MostAhead)
-	must(t, err)
+	_, ctx, line, one := oneEntry(t)
 	digest := func(content string) []byte { sum := sha256.Sum256([]byte(content)); return sum[:] }
 	bundle := string(one.Bundle)
 	for what, wrong := range map[string]reference{
@@ -251,18 +245,14 @@ func TestReferences(t *testing.T) {
 				References []reference `json:"objects"`
 			}{one.Head, []reference{wrong}},
 		} {
-			text, err := json.Marshal(reply)
-			must(t, err)
-			path := filepath.Join(t.TempDir(), "reply")
-			must(t, os.WriteFile(path, append(text, '\n'), 0o600))
-			liar := client(t, 20*time.Second, script(t, "read x; cat "+path)...)
+			liar, err := liar(t, reply), error(nil)
 			if _, ok := reply.(struct {
 				Head
 				References []reference `json:"objects"`
 			}); ok {
 				_, err = liar.Resume(ctx, one.Line, one.Bundle)
 			} else {
-				_, err = liar.Step(ctx, line, nil, batch, 7, MostAhead)
+				_, err = liar.Step(ctx, line, nil, oneSubmission, 7, MostAhead)
 			}
 			if !errors.Is(err, ErrReply) {
 				t.Errorf("%s: %v", what, err)
@@ -277,7 +267,7 @@ func (s *Stepped) at(object int) uint64 {
 }
 
 func TestLongRequest(t *testing.T) {
-	c := client(t, 10*time.Minute, program...)
+	c := client(t, trial.Longest, program...)
 	if _, err := c.Resume(within(t), "growth "+strings.Repeat("0", 288), make([]byte, MostRequest)); !errors.Is(err, ErrTooLong) || c.Starts() != 0 {
 		t.Errorf("%v, %d", err, c.Starts())
 	}
@@ -293,5 +283,40 @@ func TestTexts(t *testing.T) {
 		if s, err := ParseState(line); !errors.Is(err, ErrState) {
 			t.Errorf("%q: %+v, %v", line, s, err)
 		}
+	}
+}
+
+// TestStepsReplies: a step's bundle is read where it stands first in the reply, as the program has it, and elsewhere; bytes that aren't its base64 are no reply, and
+// neither is a bundle beside a refusal.
+func TestStepsReplies(t *testing.T) {
+	ctx, bundle := within(t), strings.Repeat("a bundle", 20_000)
+	before := lineOf(3, 5)
+	line := lineOf(3, 7, [32]byte{1}, sha256.Sum256([]byte(bundle)), [32]byte{}, Digest(before))
+	root := base64.StdEncoding.EncodeToString(append([]byte{1}, make([]byte, 31)...))
+	rest := `"checkpoint":"a note","head":{"sha256_root_hash":"` + root + `","timestamp":7,"tree_size":3},"objects":[],"receipts":[],"sign":"AQ==","state":"` + line + `"`
+	text := base64.StdEncoding.EncodeToString([]byte(bundle))
+	for what, of := range map[string]struct {
+		reply string
+		right bool
+	}{
+		"first":           {`{"bundle":"` + text + `",` + rest + `}`, true},
+		"last":            {`{` + rest + `,"bundle":"` + text + `"}`, true},
+		"none":            {`{` + rest + `}`, false},
+		"another":         {`{"bundle":"AAAA",` + rest + `}`, false},
+		"cut":             {`{"bundle":"` + text[:len(text)-1] + `",` + rest + `}`, false},
+		"no rest":         {`{"bundle":"` + text + `"}`, false},
+		"beside no JSON":  {`{"bundle":"` + text + `",` + rest, false},
+		"beside a number": {`{"bundle":"` + text + `",1` + rest + `}`, false},
+	} {
+		path := filepath.Join(t.TempDir(), "reply")
+		must(t, os.WriteFile(path, []byte(of.reply+"\n"), 0o600))
+		c := client(t, trial.Longest, script(t, "read -r x; cat "+path)...)
+		stepped, err := c.Step(ctx, before, nil, nil, 7, MostAhead)
+		if of.right != (err == nil) || of.right && string(stepped.Bundle) != bundle || !of.right && !errors.Is(err, ErrReply) {
+			t.Errorf("%s: %v", what, err)
+		}
+	}
+	if _, err := client(t, trial.Longest, script(t, `read -r x; echo '{"bundle":"AAAA","refused":"full"}'`)...).Step(ctx, before, nil, nil, 7, MostAhead); !errors.Is(err, ErrReply) {
+		t.Error(err)
 	}
 }

@@ -164,7 +164,7 @@ func (at tried[T]) opened(t *testing.T) T {
 }
 
 // limited is a context within which any call of the suite has to end.
-func limited(t testing.TB) context.Context { return trial.Limited(t, time.Minute) }
+func limited(t testing.TB) context.Context { return trial.Limited(t, trial.Longest) }
 
 func chance() string {
 	var bytes [8]byte

@@ -55,7 +55,8 @@ func (f *folder) Put(ctx context.Context, name string, content []byte) error {
 	// (a folder that was made may be taken away again, as long as it is empty)
 	for try := 0; errors.Is(err, fs.ErrNotExist) && try < mostMade; try++ {
 		f.disk.forget(filepath.Dir(path))
-		if err := os.MkdirAll(filepath.Dir(path), 0o755); err != nil && !errors.Is(err, fs.ErrNotExist) {
+		// (one that goes while it is made is said to exist)
+		if err := os.MkdirAll(filepath.Dir(path), 0o755); err != nil && !errors.Is(err, fs.ErrNotExist) && !errors.Is(err, fs.ErrExist) {
 			return fmt.Errorf("stores: put %s: %w", name, err)
 		}
 		err = os.Link(whole, path)

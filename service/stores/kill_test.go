@@ -11,6 +11,8 @@ import (
 	"strings"
 	"testing"
 	"time"
+
+	"wagtenib/service/trial"
 )
 
 // writer is a child process's work on a store: it makes write number i, and returns once that is acknowledged. Numbers that
@@ -30,7 +32,7 @@ func TestMain(m *testing.M) {
 
 // write writes until it is killed, and tells of each write that was acknowledged.
 func write(words []string) error {
-	ctx, cancel := context.WithTimeout(context.Background(), time.Minute)
+	ctx, cancel := context.WithTimeout(context.Background(), trial.Longest)
 	defer cancel()
 	make := map[string]func(context.Context, string, string) (writer, error){"objects": objectWriter, "register": registerWriter, "places": placeWriter}
 	do, err := make[words[0]](ctx, words[1], words[2])

@@ -11,6 +11,8 @@ import (
 	"strings"
 	"testing"
 	"time"
+
+	"wagtenib/service/trial"
 )
 
 func identity(i int) Identity { return sha256.Sum256([]byte(fmt.Sprint(i))) }
@@ -203,7 +205,7 @@ func TestSQLiteEndsWithItsContext(t *testing.T) {
 	short, cancel := context.WithTimeout(limited(t), 300*time.Millisecond)
 	defer cancel()
 	err = other.Add(short, []Placed{placed(1)})
-	if taken := time.Since(start); err == nil || taken > 20*time.Second {
+	if taken := time.Since(start); err == nil || taken > trial.Longest/2 {
 		t.Errorf("Add beside one that writes: %v, behind %v", err, taken)
 	}
 	// What is there is read all the same.

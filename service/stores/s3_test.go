@@ -14,6 +14,8 @@ import (
 	"sync"
 	"testing"
 	"time"
+
+	"wagtenib/service/trial"
 )
 
 // fakeS3 is a bucket in memory, which speaks as much of S3 as the suite wants: so the client is tried where no engine is, and
@@ -325,7 +327,7 @@ func TestPostgresWithoutItsStandby(t *testing.T) {
 	}
 	set(reset)
 	for since := time.Now(); swap(stands) != nil; time.Sleep(10 * time.Millisecond) {
-		if time.Since(since) > 20*time.Second {
+		if time.Since(since) > trial.Longest {
 			t.Fatal("it isn't done")
 		}
 	}

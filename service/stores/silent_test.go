@@ -6,6 +6,8 @@ import (
 	"os/exec"
 	"testing"
 	"time"
+
+	"wagtenib/service/trial"
 )
 
 // pause is the command that stops an engine's process (SIGSTOP) for some seconds, as service/engines.sh tells it.
@@ -42,7 +44,7 @@ func whilePaused(t *testing.T, engine string, call func(ctx context.Context) err
 		if err == nil {
 			return
 		}
-		if time.Since(start) > time.Minute {
+		if time.Since(start) > trial.Longest {
 			t.Fatalf("%s: it goes on, and the call doesn't: %v", engine, err)
 		}
 	}

@@ -3,12 +3,18 @@ package trial
 
 import (
 	"context"
+	"crypto/rand"
 	"errors"
+	"fmt"
+	"net"
 	"os"
 	"strings"
 	"testing"
 	"time"
 )
+
+// Longest is how long a test waits for what is to come, on a machine that has much else to do.
+const Longest = 30 * time.Minute
 
 // Must fails the test at an error.
 func Must(t testing.TB, err error) {
@@ -54,4 +60,16 @@ func Says(t testing.TB, page string, sentences map[string]bool) {
 			t.Errorf("it isn't so that %q", sentence)
 		}
 	}
+}
+
+// Free gives an address of loopback at which nobody listens: of a host by chance, where nobody else's connections take its port before it is listened at.
+func Free(t testing.TB) string {
+	t.Helper()
+	var host [3]byte
+	_, err := rand.Read(host[:])
+	Must(t, err)
+	listener, err := net.Listen("tcp", fmt.Sprintf("127.%d.%d.%d:0", host[0], host[1], 1+host[2]%254))
+	Must(t, err)
+	defer listener.Close()
+	return listener.Addr().String()
 }

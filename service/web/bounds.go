@@ -112,21 +112,31 @@ func (c *counts) giveSome(address netip.Addr, some int) {
 	}
 }
 
-// groupOf gives what an address counts with, and the bound of that: the smallest prefix of a submitter that has it, or its own. What is no
-// address is a group of its own, too.
+// groupOf gives what an address counts with, and the bound of that.
 func (c *counts) groupOf(address netip.Addr) (group netip.Prefix, most int) {
+	if of, is := submitterOf(address, c.submitters); is {
+		return of.Prefix, of.Most
+	}
+	return groupOf(address), c.most
+}
+
+// groupOf gives the addresses that count as one with an address. What is no address is a group of its own, too.
+func groupOf(address netip.Addr) netip.Prefix {
 	bits := address.BitLen()
 	if address.Is6() {
 		bits = 64
 	}
-	group, most = netip.PrefixFrom(address.WithZone(""), bits).Masked(), c.most
-	found := -1
-	for _, of := range c.submitters {
-		if of.Prefix.Contains(address) && of.Prefix.Bits() > found {
-			group, most, found = of.Prefix, of.Most, of.Prefix.Bits()
+	return netip.PrefixFrom(address.WithZone(""), bits).Masked()
+}
+
+// submitterOf gives whose an address is: of those whose prefixes have it the one with the smallest.
+func submitterOf(address netip.Addr, among []Submitter) (found Submitter, is bool) {
+	for _, of := range among {
+		if of.Prefix.Contains(address) && (!is || of.Prefix.Bits() > found.Prefix.Bits()) {
+			found, is = of, true
 		}
 	}
-	return group, most
+	return found, is
 }
 
 // addressOf reads an address and port. What isn't one is the zero address.

@@ -79,6 +79,10 @@ func described(name, help string) *prometheus.Desc {
 var (
 	descEntries    = described("ctserve_entries", "Entries of the newest published head.")
 	descHeadAge    = described("ctserve_head_age_seconds", "How old the newest published head is.")
+	descAhead      = described("ctserve_unpublished_entries", "Entries that are decided, and in no published head that is known.")
+	descRound      = described("ctserve_round_age_seconds", "How long ago a round of the log's went well: one is made each second, also where nobody submits.")
+	descStore      = prometheus.NewDesc("ctserve_store_seconds", "How long calls of the stores took, also those that failed.", []string{"store", "call"}, nil)
+	descFailed     = prometheus.NewDesc("ctserve_store_failures_total", "Calls in which a store didn't do what it is there for: what it has to answer, as that there is no such object, isn't one.", []string{"store", "call"}, nil)
 	descQueue      = described("ctserve_queue", "Submissions that wait.")
 	descMostQueue  = described("ctserve_queue_most", "At how many that wait no more is taken.")
 	descFault      = described("ctserve_fault", "1 where something keeps the log from going on.")
@@ -115,6 +119,8 @@ var (
 func (c figures) Describe(to chan<- *prometheus.Desc) { prometheus.DescribeByCollect(c, to) }
 
 func (c figures) Collect(to chan<- prometheus.Metric) {
+	// (it looks for the newest head, which the figures are of)
+	unready := c.front.unready(context.Background())
 	f := c.front.log.Figures()
 	gauge := func(of *prometheus.Desc, value float64) {
 		to <- prometheus.MustNewConstMetric(of, prometheus.GaugeValue, value)
@@ -128,11 +134,13 @@ func (c figures) Collect(to chan<- prometheus.Metric) {
 	}
 	gauge(descEntries, float64(f.Entries))
 	gauge(descHeadAge, f.HeadAge.Seconds())
+	gauge(descAhead, float64(f.Unpublished))
+	gauge(descRound, f.SinceRound.Seconds())
 	gauge(descQueue, float64(f.Queue))
 	gauge(descMostQueue, float64(f.MostQueue))
 	gauge(descFault, fault)
 	ready := 1.0
-	if c.front.unready(context.Background()) != nil {
+	if unready != nil {
 		ready = 0
 	}
 	gauge(descReady, ready)
@@ -152,6 +160,10 @@ func (c figures) Collect(to chan<- prometheus.Metric) {
 	count(descWritten, f.Written)
 	for _, phase := range f.Phases {
 		to <- prometheus.MustNewConstSummary(descPhase, phase.Count, phase.Took.Seconds(), nil, phase.Name)
+	}
+	for _, call := range c.front.options.Stores.All() {
+		to <- prometheus.MustNewConstSummary(descStore, call.Count, call.Took.Seconds(), nil, call.Store, call.Name)
+		to <- prometheus.MustNewConstMetric(descFailed, prometheus.CounterValue, float64(call.Failed), call.Store, call.Name)
 	}
 	count(descBundles, f.SweptBundles)
 	gauge(descStaged, float64(f.Staged))

@@ -19,6 +19,7 @@ import (
 	"wagtenib/service/reader"
 	"wagtenib/service/step"
 	"wagtenib/service/stores"
+	"wagtenib/service/trial"
 	"wagtenib/service/web/standin"
 )
 
@@ -277,12 +278,32 @@ func TestProofsByAddress(t *testing.T) {
 func TestProofsThatAreLate(t *testing.T) {
 	f := newFixture(t, 0, func(o *Options) { o.Limits.Reading = 20 * time.Millisecond })
 	f.fill(3)
+	comes := make(chan struct{})
+	f.heldReader(comes)
+	f.isHeld()
+	refused(t, "beside it", f.get("/ct/v1/get-sth-consistency?first=1&second=2"), 503, "busy")
+	close(comes)
+}
+
+// heldReader has one proof be made at a time, of objects that don't come before that is closed.
+func (f *fixture) heldReader(comes chan struct{}) {
 	f.front.reader = reader.New(f.program, func(ctx context.Context, name string, most int64) ([]byte, error) {
-		time.Sleep(300 * time.Millisecond)
+		<-comes
 		return f.log.Object(ctx, name, most)
 	}, 1)
-	refused(t, "late", f.get("/ct/v1/get-sth-consistency?first=1&second=2"), 503, "late")
-	refused(t, "beside it", f.get("/ct/v1/get-sth-consistency?first=1&second=2"), 503, "busy")
+}
+
+// isHeld asks for proofs, each of which is late, until one is being made.
+func (f *fixture) isHeld() {
+	f.t.Helper()
+	eventually(f.t, "a proof is being made", func() bool {
+		w := f.get("/ct/v1/get-sth-consistency?first=1&second=2")
+		if w.Code == 503 && strings.Contains(w.Body.String(), `"busy"`) {
+			return true
+		}
+		refused(f.t, "late", w, 503, "late")
+		return false
+	})
 }
 
 // A partial tile that went since the head was read is no fault, where a newer head has the full one.
@@ -303,20 +324,9 @@ func TestPlaceForAProofIsGivenBack(t *testing.T) {
 	f := newFixture(t, 0, func(o *Options) { o.Limits.Reading = 100 * time.Millisecond })
 	f.fill(3)
 	comes := make(chan struct{})
-	f.front.reader = reader.New(f.program, func(ctx context.Context, name string, most int64) ([]byte, error) {
-		<-comes
-		return f.log.Object(ctx, name, most)
-	}, 1)
-	refused(t, "late", f.get("/ct/v1/get-sth-consistency?first=1&second=2"), 503, "late")
-	refused(t, "busy", f.get("/ct/v1/get-sth-consistency?first=1&second=2"), 503, "busy")
+	f.heldReader(comes)
+	f.isHeld()
 	close(comes)
-	for until := time.Now().Add(time.Minute); ; time.Sleep(10 * time.Millisecond) {
-		w := f.get("/ct/v1/get-sth-consistency?first=1&second=2")
-		if w.Code == 200 {
-			return
-		}
-		if time.Now().After(until) {
-			t.Fatalf("%d %s", w.Code, w.Body)
-		}
-	}
+	f.front.options.Limits.Reading = trial.Longest
+	eventually(t, "a proof is made again", func() bool { return f.get("/ct/v1/get-sth-consistency?first=1&second=2").Code == 200 })
 }

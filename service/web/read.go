@@ -130,11 +130,14 @@ func (f *Front) tile(w http.ResponseWriter, r *http.Request) error {
 	}
 	w.Header().Set("Cache-Control", keep)
 	if name.data {
+		w.Header().Set("Vary", "Accept-Encoding")
+		w.Header().Set("Accept-Ranges", "bytes")
+	}
+	if name.data && !asksForParts(r) {
 		f.writePacked(w, r, "application/octet-stream", content)
 		return nil
 	}
-	write(w, http.StatusOK, "application/octet-stream", content)
-	return nil
+	return writeParts(w, r, "application/octet-stream", content)
 }
 
 // issuer answers a certificate by its fingerprint.
@@ -153,6 +156,5 @@ func (f *Front) issuer(w http.ResponseWriter, r *http.Request) error {
 		return fmt.Errorf("%w: issuer/%s has another content", log.ErrStore, fingerprint)
 	}
 	w.Header().Set("Cache-Control", forEver)
-	write(w, http.StatusOK, "application/pkix-cert", content)
-	return nil
+	return writeParts(w, r, "application/pkix-cert", content)
 }

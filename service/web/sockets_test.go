@@ -19,6 +19,7 @@ import (
 	"testing"
 	"time"
 
+	"wagtenib/service/trial"
 	"wagtenib/service/web/standin"
 )
 
@@ -55,7 +56,7 @@ func dial(t testing.TB, address string) net.Conn {
 	if err != nil {
 		t.Fatal(err)
 	}
-	connection.SetDeadline(time.Now().Add(10 * time.Second))
+	connection.SetDeadline(time.Now().Add(trial.Longest))
 	t.Cleanup(func() { connection.Close() })
 	return connection
 }
@@ -206,34 +207,36 @@ func TestSlowClients(t *testing.T) {
 		}(what, send)
 	}
 	// One that asks for a large object and takes none of it: its handler ends.
-	greedy := dial(t, address)
-	greedy.(*net.TCPConn).SetReadBuffer(4096)
-	fmt.Fprintf(greedy, "GET /tile/data/000 HTTP/1.1\r\nHost: log\r\n\r\n")
-	for until := time.Now().Add(20 * time.Second); f.front.answers.used.Load() < 32<<20; time.Sleep(time.Millisecond) {
-		if time.Now().After(until) {
-			t.Fatal("the object that it doesn't take isn't counted")
+	for began := (time.Time{}); f.front.answers.used.Load() < 32<<20; time.Sleep(time.Millisecond) {
+		// (on a busy machine it was cut off before that was seen)
+		if time.Since(began) > 5*time.Second {
+			greedy := dial(t, address)
+			greedy.(*net.TCPConn).SetReadBuffer(4096)
+			fmt.Fprintf(greedy, "GET /tile/data/000 HTTP/1.1\r\nHost: log\r\n\r\n")
+			began = time.Now()
 		}
 	}
-	if statuses := said(t, address, "GET /healthz HTTP/1.1\r\nHost: log\r\n\r\n"); fmt.Sprint(statuses) != "[200]" {
-		t.Errorf("another one: %v", statuses)
-	}
+	// (who asks has no more time than they have)
+	eventually(t, "another one is answered", func() bool {
+		connection := dial(t, address)
+		defer connection.Close()
+		fmt.Fprintf(connection, "GET /healthz HTTP/1.1\r\nHost: log\r\nConnection: close\r\n\r\n")
+		answer, err := http.ReadResponse(bufio.NewReader(connection), nil)
+		return err == nil && answer.StatusCode == 200
+	})
 	left := map[string]bool{}
 	for what := range slow {
 		left[what] = true
 	}
-	for until := time.After(20 * time.Second); len(left) > 0; {
+	for until := time.After(trial.Longest); len(left) > 0; {
 		select {
 		case what := <-ended:
 			delete(left, what)
 		case <-until:
-			t.Fatalf("not cut off within 20 s: %v", left)
+			t.Fatalf("not cut off: %v", left)
 		}
 	}
-	for until := time.Now().Add(20 * time.Second); f.front.connections.open.Load() > 0; time.Sleep(5 * time.Millisecond) {
-		if time.Now().After(until) {
-			t.Fatalf("%d connections stay open", f.front.connections.open.Load())
-		}
-	}
+	eventually(t, "all connections are closed", func() bool { return f.front.connections.open.Load() == 0 })
 	if waiting, answers := f.front.waiting.used.Load(), f.front.answers.used.Load(); waiting != 0 || answers != 0 {
 		t.Errorf("%d and %d bytes are still counted", waiting, answers)
 	}
@@ -267,16 +270,12 @@ func TestConnectionsAreBounded(t *testing.T) {
 		above := dial(t, address)
 		closed(t, test.what+", one above the bound", above)
 		open[0].Close()
-		for until := time.Now().Add(20 * time.Second); ; time.Sleep(5 * time.Millisecond) {
+		eventually(t, test.what+": where one went, one is taken", func() bool {
 			again := dial(t, address)
 			fmt.Fprintf(again, "GET /healthz HTTP/1.1\r\nHost: log\r\nConnection: close\r\n\r\n")
-			if answer, err := http.ReadResponse(bufio.NewReader(again), nil); err == nil && answer.StatusCode == 200 {
-				break
-			}
-			if time.Now().After(until) {
-				t.Fatalf("%s: where one went, none is taken", test.what)
-			}
-		}
+			answer, err := http.ReadResponse(bufio.NewReader(again), nil)
+			return err == nil && answer.StatusCode == 200
+		})
 	}
 }
 
@@ -427,13 +426,13 @@ func TestServerEnds(t *testing.T) {
 	}
 	f.front.Refuse()
 	began := time.Now()
-	ctx, cancel := context.WithTimeout(context.Background(), 10*time.Second)
+	ctx, cancel := context.WithTimeout(context.Background(), trial.Longest)
 	defer cancel()
 	f.log.End(ctx)
 	if err := server.End(ctx); err != nil {
 		t.Errorf("it doesn't end: %v", err)
 	}
-	if took := time.Since(began); took > 8*time.Second {
+	if took := time.Since(began); took > trial.Longest/2 {
 		t.Errorf("it took %v", took)
 	}
 	if statuses := answersOn(t, waits); fmt.Sprint(statuses) != "[200]" {
@@ -467,14 +466,29 @@ func TestServerEndsWithinItsBound(t *testing.T) {
 
 // A submission may wait for longer than a request may take to be sent.
 func TestSubmissionsWaitLongerThanRequests(t *testing.T) {
-	f := newFixture(t, 600*time.Millisecond, func(o *Options) { o.Limits.Headers, o.Limits.Request = 150*time.Millisecond, 150*time.Millisecond })
-	address, _ := f.listening(nil)
-	body := standin.Submission(f.issue(false))
-	connection := dial(t, address)
-	began := time.Now()
-	fmt.Fprintf(connection, "POST /ct/v1/add-chain HTTP/1.1\r\nHost: log\r\nConnection: close\r\nContent-Length: %d\r\n\r\n%s", len(body), body)
-	if statuses := answersOn(t, connection); fmt.Sprint(statuses) != "[200]" || time.Since(began) < 200*time.Millisecond {
-		t.Errorf("%v after %v", statuses, time.Since(began))
+	// (on a busy machine the request itself takes longer than it may: then it may take longer)
+	for most := 150 * time.Millisecond; ; most *= 4 {
+		f := newFixture(t, 0, func(o *Options) { o.Limits.Headers, o.Limits.Request, o.Limits.Submission = most, most, trial.Longest })
+		address, _ := f.listening(nil)
+		body := standin.Submission(f.issue(false))
+		connection := dial(t, address)
+		fmt.Fprintf(connection, "POST /ct/v1/add-chain HTTP/1.1\r\nHost: log\r\nConnection: close\r\nContent-Length: %d\r\n\r\n%s", len(body), body)
+		came := make(chan []int, 1)
+		go func() { came <- answersOn(t, connection) }()
+		for len(came) == 0 && f.log.Figures().Queue == 0 {
+			time.Sleep(time.Millisecond)
+		}
+		if len(came) == 0 {
+			time.Sleep(2 * most)
+			f.log.Publish()
+			if statuses := <-came; fmt.Sprint(statuses) != "[200]" {
+				t.Errorf("%v, of a request that may take %v", statuses, most)
+			}
+			return
+		}
+		if most > trial.Longest/8 {
+			t.Fatalf("a request isn't taken within %v: %v", most, <-came)
+		}
 	}
 }
 
@@ -492,11 +506,7 @@ func TestClientsThatGo(t *testing.T) {
 		t.Errorf("%d bytes wait", f.front.waiting.used.Load())
 	}
 	connection.Close()
-	for until := time.Now().Add(20 * time.Second); f.front.waiting.used.Load() != 0; time.Sleep(time.Millisecond) {
-		if time.Now().After(until) {
-			t.Fatal("its bytes are still counted")
-		}
-	}
+	eventually(t, "its bytes aren't counted any more", func() bool { return f.front.waiting.used.Load() == 0 })
 }
 
 // A client that goes before it is answered rings no alarm: it is counted by a status of its own, and not told.
@@ -547,7 +557,7 @@ func writeKeyPair(t testing.TB, folder string, authority *standin.Authority) []b
 
 // Over TLS: from version 1.2 on, by HTTP/1.1, and a handshake has its time.
 func TestTLS(t *testing.T) {
-	f := newFixture(t, 0, func(o *Options) { o.Limits.Headers = 200 * time.Millisecond })
+	f := newFixture(t, 0, nil)
 	folder := t.TempDir()
 	certificate := writeKeyPair(t, folder, f.authority)
 	kept, err := LoadCertificate(folder+"/cert.pem", folder+"/key.pem")
@@ -577,12 +587,16 @@ func TestTLS(t *testing.T) {
 	if _, err := ask(&tls.Config{MaxVersion: tls.VersionTLS11}); err == nil {
 		t.Error("TLS 1.1 is taken")
 	}
-	silent := dial(t, address)
-	closed(t, "a handshake that doesn't come", silent)
-	measured := httptest.NewRecorder()
-	f.front.Operator().ServeHTTP(measured, httptest.NewRequest("GET", "/metrics", nil))
-	if !strings.Contains(measured.Body.String(), "\nctserve_tls_handshakes_failed_total 2\n") || strings.Contains(f.lines.String(), "handshake") {
-		t.Errorf("handshakes that failed are to be counted, and not told: %s", f.lines)
+	// (of a front of its own: the others' handshakes have no such time)
+	brief := newFixture(t, 0, func(o *Options) { o.Limits.Headers = 200 * time.Millisecond })
+	silently, _ := brief.listening(kept.Config())
+	closed(t, "a handshake that doesn't come", dial(t, silently))
+	for _, one := range []*fixture{f, brief} {
+		measured := httptest.NewRecorder()
+		one.front.Operator().ServeHTTP(measured, httptest.NewRequest("GET", "/metrics", nil))
+		if !strings.Contains(measured.Body.String(), "\nctserve_tls_handshakes_failed_total 1\n") || strings.Contains(one.lines.String(), "handshake") {
+			t.Errorf("handshakes that failed are to be counted, and not told: %s", one.lines)
+		}
 	}
 	// A reload takes the new pair, and keeps the old one where that isn't one.
 	certificate = writeKeyPair(t, folder, f.authority)

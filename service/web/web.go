@@ -2,7 +2,8 @@
 // it answers comes from a log.Log, and which chains are taken a chains.Checker says.
 //
 // It speaks HTTP/1.1. Nothing in it grows without a bound: connections are counted, altogether and by address; bodies and the
-// submissions that wait have so many bytes, together and by address, and so have objects in answers; each request has its time.
+// submissions that wait have so many bytes, together and by address, and so have objects in answers; each request has its time. What an address
+// submits and has made of tiles may have a rate.
 package web
 
 import (
@@ -52,6 +53,9 @@ type Limits struct {
 	Submitters []Submitter
 	// ProofsByAddress is how many proofs are made at once for one address.
 	ProofsByAddress int
+	// SubmissionRate is how many submissions of one address are taken a second, and ReadRate how many of what is made of tiles, proofs and
+	// get-entries; 0 bounds none. Submitters have no rate.
+	SubmissionRate, ReadRate int
 	// Checks is how many chains are checked at once.
 	Checks int
 	// WaitingBytes is how many bytes the bodies of all submissions have that are read, checked or wait. Those of one address have an eighth
@@ -93,6 +97,8 @@ type Options struct {
 	ReadOnly bool
 	// About is what the log says of itself.
 	About About
+	// Stores has counted what the log's stores are asked; nil where nobody counts.
+	Stores *stores.Calls
 }
 
 // Front answers the calls of one log. It is an http.Handler, for clients; Operator is the one for operators.
@@ -112,6 +118,7 @@ type Front struct {
 	answersOf   counts
 	requests    counts
 	proofsOf    counts
+	rates       map[cost]*rates
 	connections connections
 	roots       atomic.Pointer[encodedRoots]
 	issuers     issuers
@@ -133,6 +140,7 @@ func New(of log.Log, proofs *reader.Reader, checker *chains.Checker, options Opt
 		answersOf: counts{most: byAddress(limits.AnswerBytes, stores.MostObject+likelyEntries)},
 		requests:  counts{most: limits.ConnectionsByAddress, submitters: limits.Submitters},
 		proofsOf:  counts{most: limits.ProofsByAddress},
+		rates:     map[cost]*rates{aSubmission: newRates(limits.SubmissionRate), aRead: newRates(limits.ReadRate)},
 	}
 	f.connections.byAddress.most, f.connections.byAddress.submitters = limits.ConnectionsByAddress, limits.Submitters
 	f.metrics = newMetrics(f)
@@ -147,28 +155,38 @@ type call struct {
 	name   string
 	method string
 	serve  func(*Front, http.ResponseWriter, *http.Request) error
+	costs  cost
 }
+
+// cost is in which rate of an address a call counts: none, or that of submissions, or that of what is made of tiles.
+type cost int
+
+const (
+	_ cost = iota
+	aSubmission
+	aRead
+)
 
 var (
 	calls = map[string]call{
-		"/":                          {"page", http.MethodGet, (*Front).page},
-		"/checkpoint":                {"checkpoint", http.MethodGet, (*Front).checkpoint},
-		"/key":                       {"key", http.MethodGet, (*Front).key},
-		"/log.v3.json":               {"entry", http.MethodGet, (*Front).entry},
-		"/healthz":                   {"healthz", http.MethodGet, (*Front).healthz},
-		"/readyz":                    {"readyz", http.MethodGet, (*Front).readyz},
-		"/ct/v1/add-chain":           {"add-chain", http.MethodPost, (*Front).addChain},
-		"/ct/v1/add-pre-chain":       {"add-pre-chain", http.MethodPost, (*Front).addPreChain},
-		"/ct/v1/get-roots":           {"get-roots", http.MethodGet, (*Front).getRoots},
-		"/ct/v1/get-sth":             {"get-sth", http.MethodGet, (*Front).getSTH},
-		"/ct/v1/get-entries":         {"get-entries", http.MethodGet, (*Front).getEntries},
-		"/ct/v1/get-sth-consistency": {"get-sth-consistency", http.MethodGet, (*Front).getSTHConsistency},
-		"/ct/v1/get-proof-by-hash":   {"get-proof-by-hash", http.MethodGet, (*Front).getProofByHash},
-		"/ct/v1/get-entry-and-proof": {"get-entry-and-proof", http.MethodGet, (*Front).getEntryAndProof},
+		"/":                          {"page", http.MethodGet, (*Front).page, 0},
+		"/checkpoint":                {"checkpoint", http.MethodGet, (*Front).checkpoint, 0},
+		"/key":                       {"key", http.MethodGet, (*Front).key, 0},
+		"/log.v3.json":               {"entry", http.MethodGet, (*Front).entry, 0},
+		"/healthz":                   {"healthz", http.MethodGet, (*Front).healthz, 0},
+		"/readyz":                    {"readyz", http.MethodGet, (*Front).readyz, 0},
+		"/ct/v1/add-chain":           {"add-chain", http.MethodPost, (*Front).addChain, aSubmission},
+		"/ct/v1/add-pre-chain":       {"add-pre-chain", http.MethodPost, (*Front).addPreChain, aSubmission},
+		"/ct/v1/get-roots":           {"get-roots", http.MethodGet, (*Front).getRoots, 0},
+		"/ct/v1/get-sth":             {"get-sth", http.MethodGet, (*Front).getSTH, 0},
+		"/ct/v1/get-entries":         {"get-entries", http.MethodGet, (*Front).getEntries, aRead},
+		"/ct/v1/get-sth-consistency": {"get-sth-consistency", http.MethodGet, (*Front).getSTHConsistency, aRead},
+		"/ct/v1/get-proof-by-hash":   {"get-proof-by-hash", http.MethodGet, (*Front).getProofByHash, aRead},
+		"/ct/v1/get-entry-and-proof": {"get-entry-and-proof", http.MethodGet, (*Front).getEntryAndProof, aRead},
 	}
-	tileCall   = call{"tile", http.MethodGet, (*Front).tile}
-	issuerCall = call{"issuer", http.MethodGet, (*Front).issuer}
-	noCall     = call{"none", "", nil}
+	tileCall   = call{"tile", http.MethodGet, (*Front).tile, 0}
+	issuerCall = call{"issuer", http.MethodGet, (*Front).issuer, 0}
+	noCall     = call{"none", "", nil, 0}
 )
 
 // callOf gives the call of a request. A path is taken as it stands: none is cleaned, and none has characters of its name encoded.
@@ -211,7 +229,7 @@ func (f *Front) ServeHTTP(w http.ResponseWriter, r *http.Request) {
 	}
 	if c.method == http.MethodGet {
 		a.Header().Set("Access-Control-Allow-Origin", anybodyElse)
-		a.Header().Set("Access-Control-Expose-Headers", "ETag, Retry-After")
+		a.Header().Set("Access-Control-Expose-Headers", "ETag, Retry-After, Content-Range")
 	}
 	client := f.clientOf(r)
 	if r.Context().Value(operatorKey{}) == nil {
@@ -246,7 +264,7 @@ func (f *Front) serve(c call, w http.ResponseWriter, r *http.Request) error {
 		// A browser asks so before a page of elsewhere may ask (the Fetch standard, section 3.2).
 		w.Header().Set("Allow", allowed(c))
 		w.Header().Set("Access-Control-Allow-Methods", allowed(c))
-		w.Header().Set("Access-Control-Allow-Headers", "If-None-Match")
+		w.Header().Set("Access-Control-Allow-Headers", "If-None-Match, Range")
 		w.Header().Set("Access-Control-Max-Age", "86400")
 		w.WriteHeader(http.StatusNoContent)
 		return nil
@@ -257,6 +275,9 @@ func (f *Front) serve(c call, w http.ResponseWriter, r *http.Request) error {
 	}
 	if c.method == http.MethodGet && r.ContentLength != 0 {
 		return refusal{status: http.StatusBadRequest, name: "body", detail: "a request that reads has none", closes: true}
+	}
+	if !f.isInRate(c, f.clientOf(r)) {
+		return tooOften
 	}
 	return c.serve(f, w, r)
 }

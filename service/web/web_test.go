@@ -14,6 +14,7 @@ import (
 	"net/http"
 	"net/http/httptest"
 	"net/netip"
+	"strconv"
 	"strings"
 	"sync"
 	"testing"
@@ -23,6 +24,8 @@ import (
 	"wagtenib/service/log"
 	"wagtenib/service/reader"
 	"wagtenib/service/step"
+	"wagtenib/service/stores"
+	"wagtenib/service/trial"
 	"wagtenib/service/web/standin"
 )
 
@@ -74,13 +77,13 @@ func newFixture(t testing.TB, every time.Duration, change func(*Options)) *fixtu
 	t.Cleanup(func() { of.End(context.Background()) })
 	window := chains.Window{From: ends.AddDate(-1, 0, 0), To: ends.AddDate(1, 0, 0)}
 	f := &fixture{t: t, log: of, authority: authority, lines: &text{}}
-	options := Options{Limits: DefaultLimits(), Lines: NewLines(f.lines)}
+	options := Options{Limits: DefaultLimits(), Lines: NewLines(f.lines), Stores: &stores.Calls{}}
 	// (as long as a busy machine takes)
-	options.Limits.Reading = 5 * time.Minute
+	options.Limits.Reading = trial.Longest
 	if change != nil {
 		change(&options)
 	}
-	program, err := step.NewClient([]string{"python3", "../../tests/tiles/step.py"}, 5*time.Minute)
+	program, err := step.NewClient([]string{"python3", "../../tests/tiles/step.py"}, trial.Longest)
 	if err != nil {
 		t.Fatal(err)
 	}
@@ -89,6 +92,16 @@ func newFixture(t testing.TB, every time.Duration, change func(*Options)) *fixtu
 	f.checker = chains.NewChecker(roots, window, program)
 	f.front = New(of, reader.New(program, of.Object, 4), f.checker, options)
 	return f
+}
+
+// eventually waits until something holds.
+func eventually(t testing.TB, what string, holds func() bool) {
+	t.Helper()
+	for until := time.Now().Add(trial.Longest); !holds(); time.Sleep(time.Millisecond) {
+		if time.Now().After(until) {
+			t.Fatalf("%s: not in %v", what, trial.Longest)
+		}
+	}
 }
 
 func (f *fixture) do(method, target string, body []byte) *httptest.ResponseRecorder {
@@ -289,7 +302,7 @@ func TestBytesByAddress(t *testing.T) {
 
 // What the log answers comes out with its status, and where it is of a moment, with the time to ask again.
 func TestErrorsOfTheLog(t *testing.T) {
-	f := newFixture(t, 10*time.Millisecond, func(o *Options) { o.Limits.Submission, o.Limits.Reading = 50*time.Millisecond, 50*time.Millisecond })
+	f := newFixture(t, 10*time.Millisecond, nil)
 	body := standin.Submission(f.issue(false))
 	for _, test := range []struct {
 		err    error
@@ -473,10 +486,28 @@ func TestAbout(t *testing.T) {
 
 func TestMetricsAndHealth(t *testing.T) {
 	f := newFixture(t, 0, func(o *Options) { o.LogRequests = true })
+	began := time.Now()
 	f.fill(5)
 	f.get("/checkpoint")
 	f.get("/nothing/of/this")
 	f.do("POST", "/ct/v1/add-chain", []byte("{}"))
+	// A store of which one put of three is too late, and what is asked for isn't there.
+	folder, err := stores.OpenFolder(t.TempDir())
+	if err != nil {
+		t.Fatal(err)
+	}
+	defer folder.Close()
+	objects, late := f.front.options.Stores.Objects(folder), context.Background()
+	late, cancel := context.WithDeadline(late, time.Now().Add(-time.Second))
+	defer cancel()
+	for _, ctx := range []context.Context{context.Background(), late, context.Background()} {
+		if err := objects.Put(ctx, "tile/0/000", []byte("content")); (err != nil) != (ctx == late) {
+			t.Fatalf("a put: %v", err)
+		}
+	}
+	if _, err := objects.Get(context.Background(), "tile/0/001", 1); !errors.Is(err, stores.ErrAbsent) {
+		t.Fatalf("a get: %v", err)
+	}
 	ask := func(path string) *httptest.ResponseRecorder {
 		w := httptest.NewRecorder()
 		f.front.Operator().ServeHTTP(w, httptest.NewRequest("GET", path, nil))
@@ -490,14 +521,20 @@ func TestMetricsAndHealth(t *testing.T) {
 		`ctserve_request_seconds_count{call="checkpoint"} 1`,
 		"ctserve_entries 5", "ctserve_queue 0", `ctserve_build_info{commit="unknown",version="unreleased"} 1`, "ctserve_queue_most 1024", "ctserve_lost_swaps_total 3", "ctserve_fault 0", "ctserve_ready 1", "ctserve_roots 1",
 		"ctserve_swept_tiles_total 4", "ctserve_swept_heads_total 8", "ctserve_scrubbed_tiles_total 5", "ctserve_damaged_tiles 6", "ctserve_written_bytes_total 16", `ctserve_step_seconds_sum{phase="stage"} 1.5`, `ctserve_step_seconds_count{phase="stage"} 17`, "ctserve_swept_bundles_total 11", "ctserve_staged_bundles 12", "ctserve_tend_failures_total 13", "ctserve_damaged_issuers 9", "ctserve_mended_objects_total 10", "ctserve_decider_starts_total 9", "ctserve_signer_starts_total 7", "ctserve_waiting_bytes 0", "ctserve_answer_bytes 0", `ctserve_connections_refused_total{bound="address"} 0`,
+		"ctserve_unpublished_entries 18", "ctserve_round_age_seconds 2.5",
+		`ctserve_store_seconds_count{call="put",store="objects"} 3`, `ctserve_store_failures_total{call="put",store="objects"} 1`, `ctserve_store_seconds_count{call="get",store="objects"} 1`,
+		`ctserve_store_failures_total{call="get",store="objects"} 0`, `ctserve_store_seconds_count{call="swap",store="register"} 0`, `ctserve_store_failures_total{call="find",store="places"} 0`,
+		fmt.Sprintf(`ctserve_store_seconds_sum{call="put",store="objects"} %v`, f.front.options.Stores.All()[0].Took.Seconds()),
 		`ctserve_witness_lag{witness="w.example"} 14`, `ctserve_witness_cosignatures_total{witness="w.example"} 15`, `ctserve_witness_seen_more{witness="w.example"} 1`,
 	} {
 		if !strings.Contains(w.Body.String(), line+"\n") {
 			t.Errorf("/metrics lacks %s", line)
 		}
 	}
-	if !strings.Contains(w.Body.String(), "\nctserve_head_age_seconds 0.") {
-		t.Error("/metrics lacks the head's age")
+	_, text, _ := strings.Cut(w.Body.String(), "\nctserve_head_age_seconds ")
+	text, _, _ = strings.Cut(text, "\n")
+	if age, err := strconv.ParseFloat(text, 64); err != nil || age < 0 || age > time.Since(began).Seconds() {
+		t.Errorf("/metrics has %q for the head's age", text)
 	}
 	for path, text := range map[string]string{"/healthz": "ok\n", "/readyz": "ready\n"} {
 		if w := ask(path); w.Code != 200 || w.Body.String() != text {
@@ -535,11 +572,7 @@ func TestFaultsAndDamageAreTold(t *testing.T) {
 	}()
 	tells := func(what string) {
 		t.Helper()
-		for until := time.Now().Add(20 * time.Second); !strings.Contains(f.lines.String(), what); time.Sleep(time.Millisecond) {
-			if time.Now().After(until) {
-				t.Fatalf("it isn't told: %s", what)
-			}
-		}
+		eventually(t, "it is told: "+what, func() bool { return strings.Contains(f.lines.String(), what) })
 	}
 	measures := func(line string) {
 		t.Helper()
@@ -573,6 +606,27 @@ func TestFaultsAndDamageAreTold(t *testing.T) {
 		if count := strings.Count(f.lines.String(), `"event":"`+event+`"`); count != 1 {
 			t.Errorf("%s is told %d times", event, count)
 		}
+	}
+}
+
+// TestReloadsAreCounted: each by what was reloaded and how it ended.
+func TestReloadsAreCounted(t *testing.T) {
+	f := newFixture(t, 0, nil)
+	for i, err := range []error{nil, errors.New("no file"), nil} {
+		f.front.Reloaded("roots", err)
+		if i == 0 {
+			f.front.Reloaded("certificate", errors.New("no key"))
+		}
+	}
+	w := httptest.NewRecorder()
+	f.front.Operator().ServeHTTP(w, httptest.NewRequest("GET", "/metrics", nil))
+	for _, line := range []string{`{of="roots",outcome="done"} 2`, `{of="roots",outcome="failed"} 1`, `{of="certificate",outcome="failed"} 1`} {
+		if !strings.Contains(w.Body.String(), "\nctserve_reloads_total"+line+"\n") {
+			t.Errorf("/metrics lacks %s", line)
+		}
+	}
+	if strings.Contains(w.Body.String(), `{of="certificate",outcome="done"}`) {
+		t.Error("a reload that failed is said to be done")
 	}
 }
 
@@ -661,7 +715,8 @@ func TestClientsBehindProxies(t *testing.T) {
 
 // TestSubmitters: all addresses of a submitter's prefix count together, up to its own bound, by the smallest prefix that has one; others count as before.
 func TestSubmitters(t *testing.T) {
-	submitters := []Submitter{{netip.MustParsePrefix("198.51.100.0/24"), 3}, {netip.MustParsePrefix("198.51.100.128/25"), 1}, {netip.MustParsePrefix("2001:db8::/32"), 2}}
+	submitters := []Submitter{{netip.MustParsePrefix("198.51.100.0/24"), 3}, {netip.MustParsePrefix("198.51.100.128/25"), 1}, {netip.MustParsePrefix("2001:db8::/32"), 2},
+		{netip.MustParsePrefix("2001::/16"), 9}}
 	f := newFixture(t, 0, func(o *Options) {
 		o.Limits.ConnectionsByAddress, o.Limits.Submitters = 1, submitters
 		o.Proxies = []netip.Prefix{netip.MustParsePrefix("127.0.0.1/32")}

@@ -15,6 +15,7 @@ import (
 	"golang.org/x/mod/sumdb/note"
 
 	"wagtenib/service/log"
+	"wagtenib/service/trial"
 )
 
 // server is a witness that answers over HTTP, with what it is and what stands before it.
@@ -43,9 +44,14 @@ func serving(t testing.TB, number int, by signing) *server {
 
 // witnessNamed is a witness of a name, and one log.
 func witnessNamed(t testing.TB, name string, key ed25519.PrivateKey, by signing) *Server {
-	s, err := New(Options{Name: name, Key: key, Program: decider()})
+	s, err := New(Options{Name: name, Key: key, Program: decider(), Within: trial.Longest})
 	must(t, err)
 	t.Cleanup(func() { s.Close() })
+	// (a request has some seconds alone, in which a busy machine doesn't start the program)
+	empty, err := ParseRequest(request(0, nil, by.sign(checkpoint(origin, 0, *(*[32]byte)(emptyRoot[:])))))
+	must(t, err)
+	_, err = s.ask(limited(t), tree{Root: emptyRoot[:]}, empty, s.now())
+	must(t, err)
 	log := Log{Origin: origin, Keys: []note.Verifier{by.key}, State: stateIn(t, t.TempDir())}
 	must(t, log.Create(limited(t)))
 	s.SetLogs([]Log{log})
@@ -76,7 +82,7 @@ func three(t testing.TB, by signing, quorums Quorums) ([]*server, *Circle) {
 	c, err := NewCircle(ones, quorums, nil)
 	must(t, err)
 	// (a slow machine isn't a silent witness)
-	c.within = 2 * time.Minute
+	c.within = trial.Longest
 	t.Cleanup(func() { c.Close() })
 	return all, c
 }

@@ -25,6 +25,7 @@ import (
 	"golang.org/x/mod/sumdb/note"
 
 	"wagtenib/service/stores"
+	"wagtenib/service/trial"
 )
 
 var errTried = errors.New("tried")
@@ -325,20 +326,13 @@ func TestAsked(t *testing.T) {
 	s := serving(t, 1, a.by)
 	c, err := NewCircle([]One{s.One}, Quorums{Publish: 1, Start: 1}, nil)
 	must(t, err)
-	c.within = 2 * time.Minute
+	c.within = trial.Longest
 	defer c.Close()
 	var mu sync.Mutex
 	var asked []uint64
 	var instead []string
 	s.before.Store(before(func(w http.ResponseWriter, q *http.Request) bool {
-		body, err := io.ReadAll(q.Body)
-		if err != nil {
-			t.Error(err)
-		}
-		r, err := ParseRequest(body)
-		if err != nil {
-			t.Error(err)
-		}
+		r := requestIn(t, q)
 		mu.Lock()
 		defer mu.Unlock()
 		asked = append(asked, r.Old)
@@ -348,7 +342,6 @@ func TestAsked(t *testing.T) {
 			instead = instead[1:]
 			return true
 		}
-		q.Body = io.NopCloser(strings.NewReader(string(body)))
 		return false
 	}))
 	cosigns := func(n int64, want error, from ...uint64) {
@@ -415,7 +408,7 @@ func TestLongAnswers(t *testing.T) {
 	s := serving(t, 1, a.by)
 	c, err := NewCircle([]One{s.One}, Quorums{Publish: 1, Start: 1}, nil)
 	must(t, err)
-	c.within = 2 * time.Minute
+	c.within = trial.Longest
 	defer c.Close()
 	signed, size, proof := a.head(t, 3)
 	text, err := TextOf(signed)

@@ -7,11 +7,11 @@ import (
 	"math/bits"
 	"sync"
 	"testing"
-	"time"
 
 	"golang.org/x/mod/sumdb/note"
 
 	"wagtenib/service/stores"
+	"wagtenib/service/trial"
 )
 
 // subsets are those of n witnesses, as bits.
@@ -183,7 +183,7 @@ func (p *parties) begins(t *testing.T, q Quorums, know uint) (began int) {
 			// (quorums that aren't safe would be refused)
 			c, err := NewCircle(ones, Quorums{Publish: 3, Start: 3}, nil)
 			must(t, err)
-			c.quorums, c.within = q, 2*time.Minute
+			c.quorums, c.within = q, trial.Longest
 			signed, n, proof := old.head(t, size)
 			if _, err := c.Start(limited(t), signed, n, proof); err == nil {
 				began++

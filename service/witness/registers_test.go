@@ -25,6 +25,7 @@ import (
 	"golang.org/x/mod/sumdb/note"
 
 	"wagtenib/service/stores"
+	"wagtenib/service/trial"
 )
 
 // grounds are where a witness's states are kept: an address for a folder and a name that no other test has. Engines are those that
@@ -314,7 +315,7 @@ func TestEngineDies(t *testing.T) {
 func engineDies(t *testing.T, at string, words []string, command string) {
 	by := headKey(t, origin)
 	s := witnessOver(t, registerAt(t, at), newKey(t), decider(), by)
-	ctx, cancel := context.WithTimeout(context.Background(), 5*time.Minute)
+	ctx, cancel := context.WithTimeout(context.Background(), trial.Longest)
 	defer cancel()
 	killed := make(chan error, 1)
 	go func() {
@@ -368,14 +369,7 @@ func engineDies(t *testing.T, at string, words []string, command string) {
 func (s *server) lies(t testing.TB) {
 	key := s.witness.of.Key
 	s.before.Store(before(func(w http.ResponseWriter, q *http.Request) bool {
-		body, err := io.ReadAll(q.Body)
-		if err != nil {
-			t.Error(err)
-		}
-		r, err := ParseRequest(body)
-		if err != nil {
-			t.Error(err)
-		}
+		r := requestIn(t, q)
 		_, _ = io.WriteString(w, cosignatureLine(s.Name, key.Public().(ed25519.PublicKey), 1, ed25519.Sign(key, Message(1, r.Text))))
 		return true
 	}))

@@ -1,6 +1,7 @@
 package witness
 
 import (
+	"bytes"
 	"context"
 	"crypto/ecdsa"
 	"crypto/ed25519"
@@ -11,6 +12,7 @@ import (
 	"encoding/json"
 	"errors"
 	"fmt"
+	"io"
 	"net/http"
 	"net/http/httptest"
 	"os"
@@ -53,7 +55,7 @@ func decider() []string {
 
 var must = trial.Must
 
-func limited(t testing.TB) context.Context { return trial.Limited(t, 2*time.Minute) }
+func limited(t testing.TB) context.Context { return trial.Limited(t, trial.Longest) }
 
 const origin = "log.example/1"
 
@@ -164,7 +166,7 @@ func witnessOf(t testing.TB, folder string, key ed25519.PrivateKey, program []st
 
 // witnessOver is one whose state is in this register.
 func witnessOver(t testing.TB, state stores.Register, key ed25519.PrivateKey, program []string, by signing) *Server {
-	s, err := New(Options{Name: "w.example", Key: key, Program: program})
+	s, err := New(Options{Name: "w.example", Key: key, Program: program, Within: trial.Longest})
 	must(t, err)
 	t.Cleanup(func() { s.Close() })
 	log := Log{Origin: origin, Keys: []note.Verifier{by.key}, State: state}
@@ -185,6 +187,20 @@ func posted(t testing.TB, s http.Handler, body []byte) *httptest.ResponseRecorde
 
 func request(old int64, proof [][32]byte, signed []byte) []byte {
 	return Request{Old: uint64(old), Proof: proof, Note: signed}.body()
+}
+
+// requestIn reads what a server is asked, which may be read once more.
+func requestIn(t testing.TB, q *http.Request) Request {
+	body, err := io.ReadAll(q.Body)
+	if err != nil {
+		t.Error(err)
+	}
+	q.Body = io.NopCloser(bytes.NewReader(body))
+	r, err := ParseRequest(body)
+	if err != nil {
+		t.Error(err)
+	}
+	return r
 }
 
 // cosignatureIn finds the witness's cosignature in an answer.
@@ -514,7 +530,7 @@ func TestStates(t *testing.T) {
 		"no JSON":        "x",
 		"two":            `{} {}`,
 	} {
-		s, err := New(Options{Name: "w.example", Key: newKey(t), Program: decider()})
+		s, err := New(Options{Name: "w.example", Key: newKey(t), Program: decider(), Within: trial.Longest})
 		must(t, err)
 		defer s.Close()
 		state := stateIn(t, t.TempDir())
@@ -567,7 +583,7 @@ func TestClock(t *testing.T) {
 // TestSeveralLogs: each has its own state, and one that isn't among the settings any more is unknown.
 func TestSeveralLogs(t *testing.T) {
 	first, second := headKey(t, "a.example"), plainKey(t, "b.example")
-	s, err := New(Options{Name: "w.example", Key: newKey(t), Program: decider()})
+	s, err := New(Options{Name: "w.example", Key: newKey(t), Program: decider(), Within: trial.Longest})
 	must(t, err)
 	defer s.Close()
 	logs := []Log{

@@ -1,0 +1,268 @@
+package chains
+
+import (
+	"bytes"
+	"context"
+	"crypto/rsa"
+	"crypto/x509"
+	"encoding/asn1"
+	"encoding/csv"
+	"fmt"
+	"math/big"
+	"os"
+	"path/filepath"
+	"reflect"
+	"strings"
+	"testing"
+)
+
+// TestBounds: the largest that may be isn't refused for its size, and one more is.
+func TestBounds(t *testing.T) {
+	c := NewChecker(&Roots{}, Window{}, byASN1{})
+	of := func(lengths ...int) (chain [][]byte) {
+		for _, length := range lengths {
+			chain = append(chain, make([]byte, length))
+		}
+		return chain
+	}
+	const rest = MostBytes - 2*LongestCertificate
+	for _, test := range []struct {
+		chain [][]byte
+		why   Refusal
+	}{
+		{of(LongestCertificate), NoCertificate}, {of(LongestCertificate + 1), CertificateTooLong},
+		{of(LongestCertificate, LongestCertificate, rest), NoCertificate}, {of(LongestCertificate, LongestCertificate, rest+1), ChainTooLong},
+		{of(make([]int, MostCertificates)...), NoCertificate}, {of(make([]int, MostCertificates+1)...), ChainTooLong},
+	} {
+		if _, err := c.Certificate(context.Background(), test.chain); RefusalOf(err) != test.why {
+			t.Errorf("%d certificates: %v, and not %s", len(test.chain), err, test.why)
+		}
+	}
+	// An RSA key of as many bits as may be is worked with, and one of a bit more isn't.
+	for bits, why := range map[uint]Refusal{MostKeyBits: BadSignature, MostKeyBits + 1: KeyTooLong} {
+		modulus := new(big.Int).Lsh(big.NewInt(1), bits-1)
+		modulus.SetBit(modulus, 0, 1)
+		key := newKey(t)
+		issuer, err := x509.ParseCertificate(signedBy(t, authority("large"), authority("large"), &rsa.PublicKey{N: modulus, E: 65537}, key))
+		if err != nil {
+			t.Fatal(err)
+		}
+		below, err := readCertificate(signedBy(t, authority("below"), authority("large"), &key.PublicKey, key))
+		if err != nil {
+			t.Fatal(err)
+		}
+		if err := c.issued(below, issuer); RefusalOf(err) != why {
+			t.Errorf("a key of %d bits: %v, and not %s", bits, err, why)
+		}
+	}
+}
+
+// TestRootsOfOneName: of roots that have one name the one is found that issued a certificate.
+func TestRootsOfOneName(t *testing.T) {
+	var roots, leaves [][]byte
+	for i := 0; i < 3; i++ {
+		key := newKey(t)
+		roots = append(roots, signedBy(t, authority("root"), authority("root"), &key.PublicKey, key))
+		leaves = append(leaves, signedBy(t, authority("leaf"), authority("root"), &key.PublicKey, key))
+	}
+	taken, err := ParseRoots(inPEM(roots...))
+	if err != nil {
+		t.Fatal(err)
+	}
+	c := NewChecker(taken, Window{}, byASN1{})
+	for i, leaf := range leaves {
+		entry, err := c.Certificate(context.Background(), [][]byte{leaf})
+		if err != nil || !reflect.DeepEqual(entry.Issuers, roots[i:i+1]) {
+			t.Errorf("of root %d: %v", i, err)
+		}
+	}
+	other := newKey(t)
+	if _, err := c.Certificate(context.Background(), [][]byte{signedBy(t, authority("leaf"), authority("root"), &other.PublicKey, other)}); RefusalOf(err) != UnknownRoot {
+		t.Errorf("of none: %v", err)
+	}
+}
+
+// TestEmptySignature: a signature of no bytes is none.
+func TestEmptySignature(t *testing.T) {
+	key := newKey(t)
+	root := signedBy(t, authority("root"), authority("root"), &key.PublicKey, key)
+	parts, err := inside(signedBy(t, authority("leaf"), authority("root"), &key.PublicKey, key))
+	if err != nil {
+		t.Fatal(err)
+	}
+	bare, err := asn1.Marshal(struct {
+		TBS, Algorithm asn1.RawValue
+		Signature      asn1.BitString
+	}{parts[0], parts[1], asn1.BitString{}})
+	if err != nil {
+		t.Fatal(err)
+	}
+	roots, err := ParseRoots(inPEM(root))
+	if err != nil {
+		t.Fatal(err)
+	}
+	c := NewChecker(roots, Window{}, byASN1{})
+	for _, chain := range [][][]byte{{bare}, {bare, root}} {
+		if _, err := c.Certificate(context.Background(), chain); err == nil {
+			t.Errorf("a chain of %d is taken", len(chain))
+		}
+	}
+}
+
+// TestVersion2: an authority of version 2, which can't say that it is one, is taken where it is a root, and not otherwise.
+func TestVersion2(t *testing.T) {
+	key := newKey(t)
+	template := authority("old")
+	template.IsCA, template.BasicConstraintsValid = false, false
+	old := signed(t, signedBy(t, template, template, &key.PublicKey, key), key, func(tbs []byte) []byte {
+		return bytes.Replace(tbs, []byte{0xa0, 3, 2, 1, 2}, []byte{0xa0, 3, 2, 1, 1}, 1)
+	})
+	parsed, err := x509.ParseCertificate(old)
+	if err != nil || parsed.Version != 2 {
+		t.Fatalf("%+v, %v", parsed, err)
+	}
+	leaf := signedBy(t, authority("leaf"), template, &key.PublicKey, key)
+	roots, err := ParseRoots(inPEM(old))
+	if err != nil {
+		t.Fatal(err)
+	}
+	if _, err := NewChecker(roots, Window{}, byASN1{}).Certificate(context.Background(), [][]byte{leaf, old}); err != nil {
+		t.Errorf("a root: %v", err)
+	}
+	if err := NewChecker(&Roots{}, Window{}, byASN1{}).issued(certificateOf(parsed), parsed); RefusalOf(err) != NotAnAuthority {
+		t.Errorf("no root: %v", err)
+	}
+}
+
+// TestReloadCounts: what is new and what is gone are told apart.
+func TestReloadCounts(t *testing.T) {
+	var all [][]byte
+	for i := 0; i < 4; i++ {
+		key := newKey(t)
+		all = append(all, signedBy(t, authority(fmt.Sprint(i)), authority(fmt.Sprint(i)), &key.PublicKey, key))
+	}
+	file := filepath.Join(t.TempDir(), "roots.pem")
+	first, err := ParseRoots(inPEM(all[0]))
+	if err != nil {
+		t.Fatal(err)
+	}
+	c := NewChecker(first, Window{}, byASN1{})
+	for _, test := range []struct {
+		roots         [][]byte
+		added, remove int
+	}{{all[:3], 2, 0}, {all[2:], 1, 2}, {all[2:], 0, 0}, {all[3:], 0, 1}} {
+		if err := os.WriteFile(file, inPEM(test.roots...), 0o600); err != nil {
+			t.Fatal(err)
+		}
+		if added, removed, err := c.Reload(RootFiles{Paths: []string{file}}); added != test.added || removed != test.remove || err != nil {
+			t.Errorf("%d roots: %d are new and %d gone, %v", len(test.roots), added, removed, err)
+		}
+	}
+	if err := os.WriteFile(file, []byte("damaged"), 0o600); err != nil {
+		t.Fatal(err)
+	}
+	if added, removed, err := c.Reload(RootFiles{Paths: []string{file}}); added != 0 || removed != 0 || err == nil || len(c.Roots().Certificates()) != 1 {
+		t.Errorf("a damaged file: %d are new and %d gone, %v", added, removed, err)
+	}
+}
+
+// TestMostRoots: a file has as many bytes as may be, and a log as many roots; one more of either is an error, by which none is lost.
+func TestMostRoots(t *testing.T) {
+	key := newKey(t)
+	root := signedBy(t, authority("root"), authority("root"), &key.PublicKey, key)
+	text := inPEM(root)
+	for more, right := range map[int]bool{0: true, 1: false} {
+		long := append(text[:len(text):len(text)], bytes.Repeat([]byte("\n"), MostRootBytes+more-len(text))...)
+		file := filepath.Join(t.TempDir(), "roots.pem")
+		if err := os.WriteFile(file, long, 0o600); err != nil {
+			t.Fatal(err)
+		}
+		if _, err := (RootFiles{Paths: []string{file}}).Load(); (err == nil) != right {
+			t.Errorf("a file of %d bytes: %v", len(long), err)
+		}
+		if right {
+			continue
+		}
+		if _, err := ParseRoots(long); err == nil {
+			t.Errorf("a text of %d bytes is read", len(long))
+		}
+	}
+	roots := &Roots{byHash: map[[32]byte]bool{}, bySubject: map[string][]*x509.Certificate{}, certificates: make([]*x509.Certificate, MostRoots-1)}
+	if err := roots.take(root, nil, LeftOut{}); err != nil {
+		t.Errorf("the last that may be: %v", err)
+	}
+	if err := roots.take(root, nil, LeftOut{}); err != nil {
+		t.Errorf("the same once more: %v", err)
+	}
+	if err := roots.take(signedBy(t, authority("other"), authority("other"), &key.PublicKey, key), nil, LeftOut{}); err == nil {
+		t.Error("one more is taken")
+	}
+}
+
+// TestFilesThatFail: of several files one that can't be read whole is an error, which names it.
+func TestFilesThatFail(t *testing.T) {
+	key := newKey(t)
+	root := inPEM(signedBy(t, authority("root"), authority("root"), &key.PublicKey, key))
+	folder := t.TempDir()
+	put := puts(t, folder)
+	var table bytes.Buffer
+	rows := csv.NewWriter(&table)
+	rows.WriteAll([][]string{{"Name", "PEM Info"}, {"a root", "'" + string(root) + "'"}})
+	right := put("root.pem", root)
+	for what, test := range map[string]struct {
+		of   RootFiles
+		says string
+	}{
+		"a table whose second row is short":   {RootFiles{Paths: []string{put("short.csv", append(table.Bytes()[:table.Len():table.Len()], "a\n"...))}}, "short.csv"},
+		"a folder that has none":              {RootFiles{Paths: []string{right, filepath.Dir(put("bare/read.me", nil))}}, "bare has no file"},
+		"a line that is no fingerprint":       {RootFiles{Paths: []string{right}, Without: put("without", []byte("# those that went\n\n00ff\n"))}, "without, line 3"},
+		"a line that is longer":               {RootFiles{Paths: []string{right}, Without: put("longer", []byte(strings.Repeat("00", 33)+"\n"))}, "longer, line 1"},
+		"a folder in a list's place":          {RootFiles{Paths: []string{right}, Without: folder}, "chains: roots:"},
+		"a folder in a folder's file's place": {RootFiles{Paths: []string{filepath.Dir(filepath.Dir(put("of/x.pem/y", nil)))}}, "x.pem"},
+	} {
+		if _, err := test.of.Load(); err == nil || !strings.Contains(err.Error(), test.says) {
+			t.Errorf("%s: %v", what, err)
+		}
+	}
+}
+
+// TestFinalIssuers: a TBSCertificate of a precertificate signing certificate gets the final issuer's name and key identifier, each other field stays where it is, and what
+// isn't one is refused.
+func TestFinalIssuers(t *testing.T) {
+	const (
+		version, number, algorithm = "\xa0\x03\x02\x01\x02", "\x02\x01\x07", "\x30\x02\x05\x00"
+		name, other, validity      = "\x30\x02\x13\x00", "\x30\x02\x0c\x00", "\x30\x00"
+		subject, key               = "\x30\x02\x14\x00", "\x30\x02\x03\x00"
+		one, two                   = "\x81\x01\x00", "\x82\x01\x00"
+		authorityKey, replaced     = "\x30\x0a\x06\x03\x55\x1d\x23\x04\x03\x30\x01\x02", "\x30\x09\x06\x03\x55\x1d\x23\x04\x02\x80\x01"
+		item                       = "\x30\x07\x06\x01\x2a\x04\x02\x05\x00"
+	)
+	list := func(items ...string) string { return element(0xa3, element(0x30, items...)) }
+	final := &finalIssuer{[]byte(other), []byte("\x80\x01")}
+	for what, of := range map[string]struct{ before, behind string }{
+		"all fields": {element(0x30, version, number, algorithm, name, validity, subject, key, one, two, list(item, authorityKey, item)),
+			element(0x30, version, number, algorithm, other, validity, subject, key, one, two, list(item, replaced, item))},
+		"no version, no key identifier": {element(0x30, number, algorithm, name, validity, subject, key, list(item)), element(0x30, number, algorithm, other, validity, subject, key, list(item))},
+		"the second identifier alone": {element(0x30, version, number, algorithm, name, validity, subject, key, two, list(item)),
+			element(0x30, version, number, algorithm, other, validity, subject, key, two, list(item))},
+	} {
+		if made, err := withFinalIssuer([]byte(of.before), final); err != nil || string(made) != of.behind {
+			t.Errorf("%s: %x, and not %x: %v", what, made, of.behind, err)
+		}
+	}
+	whole := element(0x30, version, number, algorithm, name, validity, subject, key, list(item))
+	for what, wrong := range map[string]string{
+		"a byte behind it":                     whole + "\x00",
+		"a field behind the extensions":        element(0x30, version, number, algorithm, name, validity, subject, key, list(item), "\x05\x00"),
+		"a second list of extensions":          element(0x30, version, number, algorithm, name, validity, subject, key, element(0xa3, element(0x30, item), element(0x30, item))),
+		"no extensions":                        element(0x30, version, number, algorithm, name, validity, subject, key),
+		"the unique identifiers in their turn": element(0x30, version, number, algorithm, name, validity, subject, key, two, one, list(item)),
+		"no number":                            element(0x30, version, algorithm, name, validity, subject, key, list(item)),
+		"an extension that is a set":           element(0x30, version, number, algorithm, name, validity, subject, key, list("\x31"+item[1:])),
+		"an extension without a name":          element(0x30, version, number, algorithm, name, validity, subject, key, list("\x30\x02\x05\x00")),
+	} {
+		if made, err := withFinalIssuer([]byte(wrong), final); made != nil || RefusalOf(err) != NoCertificate {
+			t.Errorf("%s: %x, %v", what, made, err)
+		}
+	}
+}

@@ -1,0 +1,112 @@
+package main
+
+import (
+	"bytes"
+	"fmt"
+	"io"
+	"os"
+	"path/filepath"
+	"strings"
+	"testing"
+	"time"
+
+	"wagtenib/service/trial"
+)
+
+// TestEachBound: each time and each bound that is a setting is refused by what it has to be where it is one below its least, and taken where it is that.
+func TestEachBound(t *testing.T) {
+	with := func(name string, value any) (*settings, error) {
+		return parse([]string{"--roots", "r", "--origin", "o.example", "--signing-key", "k", fmt.Sprintf("--%s=%v", name, value)}, io.Discard)
+	}
+	for name, least := range map[string]int64{
+		"most-connections": 1, "most-connections-by-address": 1, "most-checks": 1, "most-waiting-bytes": 1 << 20, "most-answer-bytes": 64 << 20,
+		"most-queue": 1, "most-batch": 1, "most-written": 1, "most-proofs": 1,
+	} {
+		if _, err := with(name, least); err != nil {
+			t.Errorf("%s %d: %v", name, least, err)
+		}
+		if _, err := with(name, least-1); err == nil || !strings.Contains(err.Error(), "a bound is above 0") {
+			t.Errorf("%s %d: %v", name, least-1, err)
+		}
+	}
+	for _, name := range []string{"end-within", "headers-within", "request-within", "submission-within", "answer-within", "idle-within", "step-within", "interval", "refresh", "open-within",
+		"sweep-after", "sweep-tiles-after", "read-again-every", "read-all-within", "most-clock-skew"} {
+		if _, err := with(name, time.Nanosecond); err != nil {
+			t.Errorf("%s: %v", name, err)
+		}
+		for _, time := range []time.Duration{0, -1} {
+			if _, err := with(name, time); err == nil || !strings.Contains(err.Error(), "a time is above 0") {
+				t.Errorf("%s %v: %v", name, time, err)
+			}
+		}
+	}
+	for name, rate := range map[string]func(*settings) int{
+		"submission-rate-by-address": func(s *settings) int { return s.limits.SubmissionRate },
+		"read-rate-by-address":       func(s *settings) int { return s.limits.ReadRate },
+	} {
+		for _, aSecond := range []int{0, 1, 500} {
+			if s, err := with(name, aSecond); err != nil || rate(s) != aSecond || s.limits.SubmissionRate+s.limits.ReadRate != aSecond {
+				t.Errorf("%s %d: %v", name, aSecond, err)
+			}
+		}
+		if _, err := with(name, -1); err == nil || !strings.Contains(err.Error(), "a rate is 0, for none, or above") {
+			t.Errorf("%s -1: %v", name, err)
+		}
+	}
+	for all, ofOne := range map[int]int{1: 1, 3: 1, 4: 1, 8: 2, 64: 16, 67: 16} {
+		if s, err := with("most-proofs", all); err != nil || s.limits.ProofsByAddress != ofOne || s.node.mostProofs != all {
+			t.Errorf("of %d proofs an address has another share than %d: %v", all, ofOne, err)
+		}
+	}
+}
+
+// TestWhatCantBeOpened: where one thing can't be opened that a log stands on, the start ends with status 1, says so, and leaves nothing open.
+func TestWhatCantBeOpened(t *testing.T) {
+	t.Parallel()
+	at := newPlace(t)
+	at.write("file", []byte("no folder"))
+	for what, words := range map[string][]string{
+		"mkdir " + at.path("file"):                {"--folder", at.path("file/log"), "--latest-head", at.path("latest-head"), "--guard-state", "file:" + at.path("guard")},
+		"mkdir " + at.path("file/below"):          {"--latest-head", at.path("file/below/latest-head")},
+		at.path("file/objects"):                   {"--store", "folder:" + at.path("file/objects")},
+		at.path("file/register"):                  {"--register", "file:" + at.path("file/register")},
+		"the places in " + at.path("file/places"): {"--places", "sqlite:" + at.path("file/places")},
+		"open " + at.path("none.pem"):             {"--signing-key", at.path("none.pem")},
+		"objects are at folder:PATH":              {"--store", "nowhere:x"},
+		"a register is at file:PATH":              {"--register", "nowhere:x"},
+		"places are at sqlite:PATH":               {"--places", "nowhere:x"},
+	} {
+		whole := at.realWords("--signing-key", at.path("log.pem"))
+		whole = append(append(whole, "--guard", at.guard, "--create"), words...)
+		var told bytes.Buffer
+		status := run(whole, &told, openNode)
+		// (a signer waits for its guard for some seconds alone)
+		for until := time.Now().Add(trial.Longest); strings.Contains(told.String(), "gives no reply: none in ") && time.Now().Before(until); {
+			told.Reset()
+			status = run(whole, &told, openNode)
+		}
+		if status != 1 || !strings.Contains(told.String(), what) {
+			t.Errorf("%s: status %d: %s", what, status, told.String())
+		}
+		// What was opened before it is closed: no signer is left, whose words have this folder.
+		for _, left := range processesOf(t, at.folder) {
+			t.Errorf("%s: there is still %s", what, left)
+		}
+	}
+}
+
+// processesOf are the command lines of processes that have a text in them.
+func processesOf(t *testing.T, text string) (found []string) {
+	t.Helper()
+	files, err := filepath.Glob("/proc/[0-9]*/cmdline")
+	if err != nil || len(files) == 0 {
+		t.Fatalf("no processes: %v", err)
+	}
+	for _, file := range files {
+		// (one may be gone by now)
+		if words, err := os.ReadFile(file); err == nil && bytes.Contains(words, []byte(text)) {
+			found = append(found, strings.ReplaceAll(string(words), "\x00", " "))
+		}
+	}
+	return found
+}

@@ -1,0 +1,274 @@
+package pipe
+
+import (
+	"bufio"
+	"context"
+	"errors"
+	"io"
+	"net"
+	"os"
+	"path/filepath"
+	"strconv"
+	"strings"
+	"syscall"
+	"testing"
+	"time"
+
+	"wagtenib/service/trial"
+)
+
+var must, wants = trial.Must, trial.Wants
+
+func limited(t testing.TB) context.Context { return trial.Limited(t, trial.Longest) }
+
+// script starts a shell's lines.
+func script(t *testing.T, lines string, most int, environment ...string) *End {
+	e, err := Start([]string{"sh", "-c", lines}, most, environment...)
+	must(t, err)
+	t.Cleanup(func() { e.Close() })
+	return e
+}
+
+// TestReadLine: a line has at most so many bytes with its end, in however many parts it comes, and one without an end is none.
+func TestReadLine(t *testing.T) {
+	t.Parallel()
+	for _, of := range []struct {
+		text string
+		most int
+		line string
+		err  error
+	}{
+		{"one\ntwo\n", 20, "one", nil},
+		{"\n", 1, "", nil},
+		{strings.Repeat("x", 49) + "\n", 50, strings.Repeat("x", 49), nil},
+		{"one", 20, "", io.EOF},
+		{strings.Repeat("x", 40), 50, "", io.EOF},
+		{"", 20, "", io.EOF},
+	} {
+		// (16 bytes are the least that a reader holds)
+		line, err := ReadLine(bufio.NewReaderSize(strings.NewReader(of.text), 16), of.most)
+		if !errors.Is(err, of.err) || string(line) != of.line {
+			t.Errorf("of %q: %q, %v", of.text, line, err)
+		}
+	}
+	for _, text := range []string{strings.Repeat("x", 50) + "\n", strings.Repeat("x", 200), strings.Repeat("x", 200) + "\n"} {
+		if line, err := ReadLine(bufio.NewReaderSize(strings.NewReader(text), 16), 50); err == nil || !strings.Contains(err.Error(), "more than 50 bytes") {
+			t.Errorf("of %d bytes: %q, %v", len(text), line, err)
+		}
+	}
+}
+
+// TestSaid: of what a process says on standard error the last is kept, however it says it, and stands in the error.
+func TestSaid(t *testing.T) {
+	t.Parallel()
+	said := &last{}
+	for _, part := range []string{strings.Repeat("a", 300), strings.Repeat("b", 300), "the end"} {
+		if n, err := said.Write([]byte(part)); n != len(part) || err != nil {
+			t.Errorf("%d, %v", n, err)
+		}
+	}
+	if text := string(said.bytes); len(text) != mostSaid || !strings.HasSuffix(text, strings.Repeat("b", 300)+"the end") || !strings.HasPrefix(text, "a") {
+		t.Errorf("%d bytes: %q", len(text), text)
+	}
+	e := script(t, "read x; for i in 1 2 3 4 5 6 7 8 9 10; do printf '%0100d' 0 >&2; done; echo why it ends >&2; exit 1", 100)
+	if _, err := e.Exchange(limited(t), trial.Longest, []byte("x\n"), 1); !errors.Is(err, ErrGone) || !strings.Contains(err.Error(), "why it ends") {
+		t.Error(err)
+	}
+}
+
+// TestEnvironment: a process has this one's environment, and what is added.
+func TestEnvironment(t *testing.T) {
+	t.Setenv("PIPE_OWN", "own")
+	for _, of := range []struct {
+		more []string
+		says string
+	}{{nil, "own "}, {[]string{"PIPE_MORE=more"}, "own more"}} {
+		e := script(t, `read x; echo "$PIPE_OWN $PIPE_MORE"; read x`, 100, of.more...)
+		replies, err := e.Exchange(limited(t), trial.Longest, []byte("x\n"), 1)
+		if err != nil || string(replies[0]) != of.says {
+			t.Errorf("%q, %v", replies, err)
+		}
+	}
+}
+
+// TestNoProgram: what can't be started is a process that is gone, and so is a socket that isn't there.
+func TestNoProgram(t *testing.T) {
+	t.Parallel()
+	for _, words := range [][]string{nil, {"/nowhere/is"}, {filepath.Join(t.TempDir(), "nothing")}} {
+		_, err := Start(words, 100)
+		wants(t, err, ErrGone)
+	}
+	_, err := Dial(limited(t), filepath.Join(t.TempDir(), "socket"), 100)
+	wants(t, err, ErrGone)
+}
+
+// alive says whether a process runs.
+func alive(pid int) bool { return syscall.Kill(pid, 0) == nil }
+
+// TestCloseKills: a process ends with its end, whatever signals it ignores, and so does what it started.
+func TestCloseKills(t *testing.T) {
+	t.Parallel()
+	e, err := Start([]string{"sh", "-c", "trap '' TERM HUP INT; sleep 600 & echo $$; echo $!; while :; do wait; done"}, 100)
+	must(t, err)
+	replies, err := e.Exchange(limited(t), trial.Longest, []byte("x\n"), 2)
+	must(t, err)
+	var pids []int
+	for _, reply := range replies {
+		pid, err := strconv.Atoi(string(reply))
+		must(t, err)
+		pids = append(pids, pid)
+	}
+	closed := make(chan struct{})
+	go func() {
+		e.Close()
+		close(closed)
+	}()
+	select {
+	case <-closed:
+	case <-limited(t).Done():
+		t.Error("the process isn't killed")
+	}
+	for until := limited(t); ; time.Sleep(time.Millisecond) {
+		// (the child is reaped by whoever its parent is then)
+		state, _ := os.ReadFile("/proc/" + strconv.Itoa(pids[1]) + "/stat")
+		if !alive(pids[1]) || strings.Contains(string(state), ") Z ") {
+			break
+		}
+		if until.Err() != nil {
+			t.Error("what the process started goes on")
+			break
+		}
+	}
+	if alive(pids[0]) {
+		t.Error("the process goes on")
+	}
+	for _, pid := range pids {
+		_ = syscall.Kill(pid, syscall.SIGKILL)
+	}
+}
+
+// TestUnreadLines: who replies without having read what it is asked has replied to something else.
+func TestUnreadLines(t *testing.T) {
+	t.Parallel()
+	e := script(t, "exec <&-; echo yes; exec sleep 600", 100)
+	if replies, err := e.Exchange(limited(t), trial.Longest, []byte(strings.Repeat("x", 1<<20)+"\n"), 1); !errors.Is(err, ErrGone) || replies != nil {
+		t.Errorf("%q, %v", replies, err)
+	}
+}
+
+// TestDialCloses: an end at a socket is closed behind an error, and by Close.
+func TestDialCloses(t *testing.T) {
+	t.Parallel()
+	path := filepath.Join(t.TempDir(), "socket")
+	listener, err := net.Listen("unix", path)
+	must(t, err)
+	defer listener.Close()
+	gone := make(chan error, 2)
+	go func() {
+		for {
+			connection, err := listener.Accept()
+			if err != nil {
+				return
+			}
+			_, err = io.Copy(io.Discard, connection)
+			gone <- err
+		}
+	}()
+	waits := func(what string) {
+		t.Helper()
+		select {
+		case <-gone:
+		case <-limited(t).Done():
+			t.Fatalf("%s: the connection stays open", what)
+		}
+	}
+	e, err := Dial(limited(t), path, 100)
+	must(t, err)
+	ended, cancel := context.WithCancel(context.Background())
+	cancel()
+	if _, err = e.Exchange(ended, trial.Longest, []byte("x\n"), 1); !errors.Is(err, ErrGone) || !strings.Contains(err.Error(), context.Canceled.Error()) {
+		t.Errorf("who is gone: %v", err)
+	}
+	waits("behind an error")
+	e, err = Dial(limited(t), path, 100)
+	must(t, err)
+	e.Close()
+	waits("behind Close")
+}
+
+// TestWaiting: who waits for another's exchange goes with its context; a reply that doesn't come in time is told with its limit; behind Close the next exchange opens
+// an end anew, and where none can be opened the one behind that does.
+func TestWaiting(t *testing.T) {
+	t.Parallel()
+	c := NewClient(cat, 50*time.Millisecond)
+	defer c.Close()
+	e := <-c.turn
+	gone, cancel := context.WithCancel(context.Background())
+	cancel()
+	came := make(chan error, 1)
+	go func() {
+		_, err := c.Exchange(gone, []byte("one\n"), 1)
+		came <- err
+	}()
+	select {
+	case err := <-came:
+		wants(t, err, ErrGone)
+	case <-limited(t).Done():
+		t.Error("who is gone waits")
+	}
+	c.turn <- e
+	if _, err := c.Exchange(limited(t), []byte("half a line"), 1); !errors.Is(err, ErrGone) || !strings.Contains(err.Error(), "none in 50ms") {
+		t.Errorf("no reply: %v", err)
+	}
+	fails, opens := errors.New("it isn't there"), 0
+	c = NewClient(func(ctx context.Context) (*End, error) {
+		if opens++; opens == 1 {
+			return nil, fails
+		}
+		return cat(ctx)
+	}, trial.Longest)
+	defer c.Close()
+	_, err := c.Exchange(limited(t), []byte("one\n"), 1)
+	wants(t, err, fails)
+	for i := 0; i < 2; i++ {
+		replies, err := c.Exchange(limited(t), []byte("two\n"), 1)
+		if err != nil || string(replies[0]) != "two" {
+			t.Fatalf("%q, %v", replies, err)
+		}
+		must(t, c.Close())
+	}
+	if c.Opens() != 2 {
+		t.Errorf("opened %d times", c.Opens())
+	}
+}
+
+// TestOwnGroup: what a terminal sends to this process's group doesn't reach the other end.
+func TestOwnGroup(t *testing.T) {
+	t.Parallel()
+	e := script(t, "echo $$; exec sleep 600", 100)
+	replies, err := e.Exchange(limited(t), trial.Longest, []byte("x\n"), 1)
+	must(t, err)
+	pid, err := strconv.Atoi(string(replies[0]))
+	must(t, err)
+	if group, err := syscall.Getpgid(pid); err != nil || group != pid {
+		t.Errorf("process %d is of the group %d, %v", pid, group, err)
+		// (which its end wouldn't reach)
+		_ = syscall.Kill(pid, syscall.SIGKILL)
+	}
+}
+
+// TestLongReplies: of a reply in parts that is as long as the one before all is read into one place; a shorter and a longer one are read, too.
+func TestLongReplies(t *testing.T) {
+	t.Parallel()
+	e := script(t, "while read -r n; do head -c $n /dev/zero | tr '\\0' x; echo; done", 1<<22)
+	for i, of := range []struct{ bytes, most int }{{1 << 20, 0}, {1 << 20, 1<<20 + 1<<18}, {1<<20 + 1<<16, 1<<20 + 1<<18}, {10, 4096}, {1 << 20, 0}} {
+		replies, err := e.Exchange(limited(t), time.Minute, []byte(strconv.Itoa(of.bytes)+"\n"), 1)
+		if err != nil || string(replies[0]) != strings.Repeat("x", of.bytes) {
+			t.Fatalf("%d: %d bytes, %v", i, len(replies[0]), err)
+		}
+		// (where no reply was so long, the place grows)
+		if room := cap(replies[0]); of.most > 0 && room > of.most {
+			t.Errorf("%d: of %d bytes %d are held", i, of.bytes, room)
+		}
+	}
+}

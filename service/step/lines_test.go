@@ -1,0 +1,102 @@
+package step
+
+import (
+	"bytes"
+	"encoding/base64"
+	"encoding/json"
+	"os"
+	"path/filepath"
+	"strings"
+	"testing"
+	"time"
+)
+
+// TestStepIsWritten: a step's line is what encoding/json makes of the same.
+func TestStepIsWritten(t *testing.T) {
+	many := make([][]byte, 40)
+	for i := range many {
+		many[i] = bytes.Repeat([]byte{byte(i)}, i)
+	}
+	whole := Submission{Chain: [][]byte{{1}, {2, 3}}, LeafCertificate: []byte("leaf"), IssuerKeyHash: []byte("hash"), PreCertificate: []byte("pre"), TBSCertificate: []byte("tbs")}
+	for what, of := range map[string]struct {
+		state string
+		edge  [][]byte
+		batch []Submission
+	}{
+		"nothing":            {"", [][]byte{}, []Submission{}},
+		"an edge":            {lineOf(3, 7), many, []Submission{}},
+		"a certificate":      {lineOf(3, 7), [][]byte{{}}, []Submission{{Chain: [][]byte{}, LeafCertificate: []byte("leaf")}}},
+		"a precertificate":   {lineOf(3, 7), [][]byte{}, []Submission{{Chain: many, IssuerKeyHash: []byte("hash"), PreCertificate: []byte("pre"), TBSCertificate: []byte("tbs")}}},
+		"all, and a quote":   {"\"<\n", many, []Submission{whole, {Chain: [][]byte{}}, whole}},
+		"submissions' parts": {"growth", many, []Submission{{Chain: many[:1], IssuerKeyHash: []byte{0}}, {Chain: many[:2], TBSCertificate: []byte{255}}}},
+	} {
+		want, err := json.Marshal(map[string]any{"state": of.state, "edge": of.edge, "batch": of.batch, "now": uint64(1) << 63, "most_ahead": 17})
+		must(t, err)
+		line, err := appendStep(nil, of.state, of.edge, of.batch, 1<<63, 17)
+		if err != nil || string(line) != string(want)+"\n" {
+			t.Errorf("%s: %s, %v, and not %s", what, line, err, want)
+		}
+		// (what isn't there is empty)
+		if len(of.edge)+len(of.batch) == 0 {
+			if line, err = appendStep([]byte("before "), of.state, nil, nil, 1<<63, 17); err != nil || string(line) != "before "+string(want)+"\n" {
+				t.Errorf("%s: %s, %v, and not %s", what, line, err, want)
+			}
+		}
+	}
+}
+
+// TestStepAsks: what is sent is the line of the request, however long the one before it was.
+func TestStepAsks(t *testing.T) {
+	folder, ctx := t.TempDir(), within(t)
+	c := client(t, 10*time.Minute, script(t, `n=0; while read -r x; do n=$((n + 1)); printf '%s' "$x" >`+folder+`/$n; echo '{"refused":"full"}'; done`)...)
+	for i, leaf := range []string{strings.Repeat("a long one", 100), "a short one", strings.Repeat("the longest", 300)} {
+		batch := []Submission{{LeafCertificate: []byte(leaf)}}
+		if _, err := c.Step(ctx, lineOf(1, 2), [][]byte{[]byte(leaf)}, batch, 3, 4); err != Full {
+			t.Fatal(err)
+		}
+		want, err := json.Marshal(map[string]any{"state": lineOf(1, 2), "edge": []string{base64.StdEncoding.EncodeToString([]byte(leaf))},
+			"batch": []map[string]any{{"chain": []string{}, "leaf_certificate": []byte(leaf)}}, "now": 3, "most_ahead": 4})
+		must(t, err)
+		text, err := os.ReadFile(filepath.Join(folder, string(rune('1'+i))))
+		must(t, err)
+		if string(text) != string(want) {
+			t.Errorf("%d: %s, and not %s", i, text, want)
+		}
+	}
+	// A line that is too long isn't sent, and the next one is whole.
+	if _, err := c.Step(ctx, lineOf(1, 2), [][]byte{make([]byte, MostRequest)}, nil, 3, 4); err == nil || c.Starts() != 1 {
+		t.Errorf("%v, started %d times", err, c.Starts())
+	}
+	if _, err := c.Step(ctx, lineOf(1, 2), nil, nil, 3, 4); err != Full {
+		t.Error(err)
+	}
+}
+
+// TestCutBundle: the bundle that a reply begins with is cut out of it; where none stands there the reply stays whole.
+func TestCutBundle(t *testing.T) {
+	for reply, want := range map[string]struct{ bundle, rest string }{
+		`{"bundle":"AQID","state":"s"}`: {"\x01\x02\x03", `{"state":"s"}`},
+		`{"bundle":"AQI=","state":"s"}`: {"\x01\x02", `{"state":"s"}`},
+		`{"bundle":"","state":"s"}`:     {"", `{"state":"s"}`},
+		`{"bundle":"AQID"}`:             {"", `{"bundle":"AQID"}`},
+		`{"bundle":"AQID"`:              {"", `{"bundle":"AQID"`},
+		`{"bundle":"AQID`:               {"", `{"bundle":"AQID`},
+		`{"bundle":"`:                   {"", `{"bundle":"`},
+		`{"bundle": "AQID","state":""}`: {"", `{"bundle": "AQID","state":""}`},
+		`{"state":"s","bundle":"AQID"}`: {"", `{"state":"s","bundle":"AQID"}`},
+		`{"refused":"full"}`:            {"", `{"refused":"full"}`},
+		"":                              {"", ""},
+		`AQID","state":"s"}`:            {"", `AQID","state":"s"}`},
+		`{"bundle":",`:                  {"", `{"bundle":",`},
+	} {
+		bundle, rest, err := cutBundle([]byte(reply))
+		if err != nil || string(bundle) != want.bundle || string(rest) != want.rest || cap(bundle) != len(bundle) {
+			t.Errorf("%s: %q and %s, %v", reply, bundle, rest, err)
+		}
+	}
+	for _, reply := range []string{`{"bundle":"AQI","state":"s"}`, `{"bundle":"AQ=I","state":"s"}`, `{"bundle":"AQ-_","state":"s"}`} {
+		if bundle, rest, err := cutBundle([]byte(reply)); err == nil {
+			t.Errorf("%s: %q and %s", reply, bundle, rest)
+		}
+	}
+}

@@ -1,0 +1,214 @@
+package stores
+
+import (
+	"context"
+	"errors"
+	"sync"
+	"time"
+)
+
+// Call is what stores of one kind were asked by one of its interface's methods.
+type Call struct {
+	// Store is objects, register or places, and Name the method's, in small letters.
+	Store, Name string
+	// Count is how often it was asked, Failed how often it gave none of the answers that the interface has, and Took how long all of them took.
+	Count, Failed uint64
+	Took          time.Duration
+}
+
+const (
+	ofObjects  = "objects"
+	ofRegister = "register"
+	ofPlaces   = "places"
+)
+
+// callsThatAre are all, in their order; nothing else is counted.
+var callsThatAre = []Call{
+	{Store: ofObjects, Name: "put"}, {Store: ofObjects, Name: "get"}, {Store: ofObjects, Name: "list"}, {Store: ofObjects, Name: "delete"},
+	{Store: ofRegister, Name: "create"}, {Store: ofRegister, Name: "read"}, {Store: ofRegister, Name: "swap"}, {Store: ofRegister, Name: "published"}, {Store: ofRegister, Name: "raise"},
+	{Store: ofPlaces, Name: "find"}, {Store: ofPlaces, Name: "add"}, {Store: ofPlaces, Name: "replace"},
+}
+
+// Calls counts what stores are asked. A nil one has none.
+type Calls struct {
+	mutex sync.Mutex
+	of    map[[2]string]Call
+}
+
+// All are the calls of all kinds of stores, also those that nothing was asked by.
+func (c *Calls) All() (all []Call) {
+	if c == nil {
+		return nil
+	}
+	c.mutex.Lock()
+	defer c.mutex.Unlock()
+	for _, call := range callsThatAre {
+		counted := c.of[[2]string{call.Store, call.Name}]
+		counted.Store, counted.Name = call.Store, call.Name
+		all = append(all, counted)
+	}
+	return all
+}
+
+// ended counts a call that began then, and gives its error.
+func (c *Calls) ended(ctx context.Context, store, name string, began time.Time, err error) error {
+	took, failed := time.Since(began), isFailure(ctx, err)
+	c.mutex.Lock()
+	defer c.mutex.Unlock()
+	if c.of == nil {
+		c.of = map[[2]string]Call{}
+	}
+	call := c.of[[2]string{store, name}]
+	call.Count++
+	call.Took += took
+	if failed {
+		call.Failed++
+	}
+	c.of[[2]string{store, name}] = call
+	return err
+}
+
+// isFailure says whether an error is a store's that doesn't do what it is there for, and not one of its answers, nor the end of who asked it.
+func isFailure(ctx context.Context, err error) bool {
+	if err == nil || ctx.Err() == context.Canceled {
+		return false
+	}
+	for _, answer := range []error{ErrName, ErrEmpty, ErrTooLong, ErrNumber, ErrAbsent, ErrOther, ErrLost, ErrExists} {
+		if errors.Is(err, answer) {
+			return false
+		}
+	}
+	return true
+}
+
+// Objects are these, counted.
+func (c *Calls) Objects(of Objects) Objects {
+	counted := countedObjects{of, c}
+	if timed, ok := of.(Timed); ok {
+		return struct {
+			Objects
+			Timed
+		}{counted, timed}
+	}
+	return counted
+}
+
+type countedObjects struct {
+	Objects
+	calls *Calls
+}
+
+func (o countedObjects) Put(ctx context.Context, name string, content []byte) error {
+	began := time.Now()
+	return o.calls.ended(ctx, ofObjects, "put", began, o.Objects.Put(ctx, name, content))
+}
+
+func (o countedObjects) Get(ctx context.Context, name string, most int64) ([]byte, error) {
+	began := time.Now()
+	content, err := o.Objects.Get(ctx, name, most)
+	return content, o.calls.ended(ctx, ofObjects, "get", began, err)
+}
+
+func (o countedObjects) List(ctx context.Context, prefix, after string, most int) ([]string, error) {
+	began := time.Now()
+	names, err := o.Objects.List(ctx, prefix, after, most)
+	return names, o.calls.ended(ctx, ofObjects, "list", began, err)
+}
+
+func (o countedObjects) Delete(ctx context.Context, name string) error {
+	began := time.Now()
+	return o.calls.ended(ctx, ofObjects, "delete", began, o.Objects.Delete(ctx, name))
+}
+
+// Register is this one, counted.
+func (c *Calls) Register(of Register) Register {
+	counted := countedRegister{of, c}
+	if timed, ok := of.(Timed); ok {
+		return struct {
+			Register
+			Timed
+		}{counted, timed}
+	}
+	return counted
+}
+
+type countedRegister struct {
+	Register
+	calls *Calls
+}
+
+func (r countedRegister) Create(ctx context.Context, text string) error {
+	began := time.Now()
+	return r.calls.ended(ctx, ofRegister, "create", began, r.Register.Create(ctx, text))
+}
+
+func (r countedRegister) Read(ctx context.Context) (string, error) {
+	began := time.Now()
+	text, err := r.Register.Read(ctx)
+	return text, r.calls.ended(ctx, ofRegister, "read", began, err)
+}
+
+func (r countedRegister) Swap(ctx context.Context, old, new string) error {
+	began := time.Now()
+	return r.calls.ended(ctx, ofRegister, "swap", began, r.Register.Swap(ctx, old, new))
+}
+
+func (r countedRegister) Published(ctx context.Context) (Published, error) {
+	began := time.Now()
+	published, err := r.Register.Published(ctx)
+	return published, r.calls.ended(ctx, ofRegister, "published", began, err)
+}
+
+func (r countedRegister) Raise(ctx context.Context, published Published) error {
+	began := time.Now()
+	return r.calls.ended(ctx, ofRegister, "raise", began, r.Register.Raise(ctx, published))
+}
+
+// Places are these, and those of leaves, counted together.
+func (c *Calls) Places(of Places) Places {
+	counted := countedPlaces{of, c}
+	timed, tells := of.(Timed)
+	bounded, bears := of.(Bounded)
+	switch {
+	case tells && bears:
+		return struct {
+			Places
+			Timed
+			Bounded
+		}{counted, timed, bounded}
+	case tells:
+		return struct {
+			Places
+			Timed
+		}{counted, timed}
+	case bears:
+		return struct {
+			Places
+			Bounded
+		}{counted, bounded}
+	}
+	return counted
+}
+
+type countedPlaces struct {
+	Places
+	calls *Calls
+}
+
+func (p countedPlaces) Find(ctx context.Context, identities []Identity) (map[Identity]Place, error) {
+	began := time.Now()
+	found, err := p.Places.Find(ctx, identities)
+	return found, p.calls.ended(ctx, ofPlaces, "find", began, err)
+}
+
+func (p countedPlaces) Add(ctx context.Context, placed []Placed) error {
+	began := time.Now()
+	return p.calls.ended(ctx, ofPlaces, "add", began, p.Places.Add(ctx, placed))
+}
+
+func (p countedPlaces) Replace(ctx context.Context, placed []Placed) error {
+	began := time.Now()
+	return p.calls.ended(ctx, ofPlaces, "replace", began, p.Places.Replace(ctx, placed))
+}
+
+func (p countedPlaces) Leaves() Places { return countedPlaces{p.Places.Leaves(), p.calls} }
