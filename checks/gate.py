@@ -1,7 +1,8 @@
 #!/usr/bin/env python3
 """Runs `rt ci`, the merge gate, and prints each of its lines behind the time so far. Its last line, 'N passed, M failed', is printed once
-more, with the tests of the Go part in it, of which the file COUNT in the environment has how many passed and failed, and the programs that did what
-their own words ask for (tests/command_lines.py), once `rt ci` has built them; the status is that of `rt ci`, or 1 where one of these failed.
+more, with the tests of the Go part in it, of which the file COUNT in the environment has how many passed and failed, and with what is run over the
+programs once `rt ci` has built them: those over lines by words of their own (tests/command_lines.py), and the parts of the demo (examples/demo.sh). The
+status is that of `rt ci`, or 1 where one of these failed.
 
 `rt ci` tells of a crate when it is done, and not how many of its functions are proved so far; while it tells nothing, a line a minute says
 how long it has been at work.
@@ -37,6 +38,9 @@ service-race, service-engines, service-faults, service-clients, interop), and wh
 
 # About the most memory that a proof was seen to take, in bytes.
 MEMORY = 4_000_000_000
+
+# The parts of the demo over programs that `rt ci` builds. The other one, path, is over libwagtenib, of which `rt ci` leaves no archive.
+DEMO = ("monitor", "log", "watched", "tiles", "followed")
 
 # How often it says that the gate is still at work, in seconds, while nothing else happens.
 EVERY = 60
@@ -176,19 +180,31 @@ def with_go(last):
     return f"{passed} passed, {failed} failed"
 
 
-def with_words(last):
-    """The last line with the programs that are given words of their own, and how many of them failed; none where `rt ci` wasn't at its end."""
-    found, script = re.fullmatch(r"(\d+) passed, (\d+) failed", last), ROOT / "tests" / "command_lines.py"
-    if not found or not script.is_file():
+def run_programs():
+    """Runs what goes over the programs that `rt ci` has built: how many passed, and how many failed."""
+    how = {"stdout": subprocess.PIPE, "stderr": subprocess.STDOUT, "text": True, "errors": "replace"}
+    words = subprocess.run([sys.executable, ROOT / "tests" / "command_lines.py"], **how)
+    print(words.stdout, end="", flush=True)
+    passed, failed = len(re.findall(r" as due$", words.stdout, re.M)), 1 if words.returncode else 0
+    for part in DEMO:
+        shown = subprocess.run([ROOT / "examples" / "demo.sh", part], **how)
+        print(shown.stdout if shown.returncode else f"the demo's part {part}: as due", flush=True)
+        passed, failed = passed + (not shown.returncode), failed + (shown.returncode != 0)
+    return passed, failed
+
+
+def with_programs(last):
+    """The last line with what was run over the programs, and how much of that failed; nothing is where `rt ci` wasn't at its end."""
+    found = re.fullmatch(r"(\d+) passed, (\d+) failed", last)
+    # (tests/scripts.py runs this file alone, over an rt of its own)
+    if not found or not (ROOT / "tests" / "command_lines.py").is_file():
         return last, 0
-    tried = subprocess.run([sys.executable, script], stdout=subprocess.PIPE, stderr=subprocess.STDOUT, text=True)
-    print(tried.stdout, end="", flush=True)
-    passed, failed = len(re.findall(r" as due$", tried.stdout, re.M)), 1 if tried.returncode else 0
+    passed, failed = run_programs()
     return f"{int(found[1]) + passed} passed, {int(found[2]) + failed} failed", failed
 
 
 def run():
-    """Runs `rt ci` and tells of it; the answer is its status, or 1 where a program doesn't do what its words ask for."""
+    """Runs `rt ci` and tells of it; the answer is its status, or 1 where something that is run over the programs fails."""
     start, said = time.monotonic(), time.monotonic()
     ended, telling = threading.Event(), threading.Lock()
 
@@ -216,9 +232,9 @@ def run():
         # (where this program is ended, what it has begun is too)
         gate.terminate()
     ended.set()
-    last, failed = with_words(last) if status == 0 else (last, 0)
+    last, failed = with_programs(last) if status == 0 else (last, 0)
     print(with_go(last), flush=True)
-    return failed if status == 0 else max(status, 1)
+    return min(failed, 1) if status == 0 else max(status, 1)
 
 
 if __name__ == "__main__":

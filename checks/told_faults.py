@@ -60,7 +60,6 @@ TOLD = {
     "ct_live/src/ending.rt": {
         "Write": (2, "the writer's thread, or the last head's writing, failed"),
         "Threads": (1, "not every party was handed back"),
-        "Stopped": (1, "a pattern beside another"),
     },
     "ct_live/src/giving.rt": {"Stopped": (1, "all are to end")},
     "ct_live/src/live.rt": {"Threads": (1, "in place of Read, where all were to end")},

@@ -116,19 +116,27 @@ def try_counted(repository):
     os.environ.pop("COUNT")
 
 
-def try_words(repository):
-    """Behind a gate whose proofs passed the built programs are given words of their own, which its last line counts, and its status tells."""
-    script = repository.folder / "tests" / "command_lines.py"
-    script.parent.mkdir()
-    for end, rt, due, last in (
-        ("", "echo 3 passed, 0 failed", 0, "5 passed, 0 failed"),
-        ("sys.exit(1)", "echo 3 passed, 0 failed", 1, "5 passed, 1 failed"),
-        ("", "echo 2 passed, 1 failed; exit 1", 1, "2 passed, 1 failed"),
+def try_programs(repository):
+    """Behind a gate whose proofs passed the built programs are given words of their own, and the demo's parts over them are shown: its last line counts
+    both, and its status tells."""
+    words, demo = repository.folder / "tests" / "command_lines.py", repository.folder / "examples" / "demo.sh"
+    words.parent.mkdir()
+    shown = len(gate.DEMO)
+    for end, part, rt, due, last in (
+        ("", "none", "echo 3 passed, 0 failed", 0, f"{5 + shown} passed, 0 failed"),
+        ("sys.exit(1)", "none", "echo 3 passed, 0 failed", 1, f"{5 + shown} passed, 1 failed"),
+        ("", "log", "echo 3 passed, 0 failed", 1, f"{4 + shown} passed, 1 failed"),
+        ("sys.exit(1)", "tiles", "echo 3 passed, 0 failed", 1, f"{4 + shown} passed, 2 failed"),
+        ("", "none", "echo 2 passed, 1 failed; exit 1", 1, "2 passed, 1 failed"),
     ):
-        script.write_text(f"import sys\nprint('one: 7 command lines as due')\nprint('two: 8 command lines as due')\nprint('three: other')\n{end}\n")
+        words.write_text(f"import sys\nprint('one: 7 command lines as due')\nprint('two: 8 command lines as due')\nprint('three: other')\n{end}\n")
+        demo.write_text(f'#!/bin/sh\n[ "$1" != {part} ] || {{ echo "demo: other replies"; exit 1; }}\n')
+        demo.chmod(0o755)
         ended, said = repository.run("checks/gate.py", rt=rt)
-        hold(f"a gate whose programs end with {end or 'status 0'}", (ended, said.splitlines()[-1]), (due, last))
-    shutil.rmtree(script.parent)
+        hold(f"a gate whose programs end with {end or 'status 0'}, and whose demo fails in {part}", (ended, said.splitlines()[-1]), (due, last))
+        hold(f"it says why {part} failed", "demo: other replies" in said, part != "none")
+    shutil.rmtree(words.parent)
+    demo.unlink()
 
 
 def try_left(repository):
@@ -259,7 +267,7 @@ def try_sockets(folder):
 
 
 def main():
-    for case in (try_gate, try_counted, try_words, try_left, try_rooms, try_ended, try_prove, try_build, try_order):
+    for case in (try_gate, try_counted, try_programs, try_left, try_rooms, try_ended, try_prove, try_build, try_order):
         with tempfile.TemporaryDirectory() as folder:
             case(Repository(pathlib.Path(folder)))
     with tempfile.TemporaryDirectory() as folder:

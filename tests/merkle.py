@@ -51,6 +51,28 @@ def proof(m, leaves, whole=True):
     return proof(m - k, leaves[k:], False) + [root(leaves[:k])]
 
 
+class Ranges:
+    """The same in a tree that gives MTH(D[begin : end]) as root(begin, end)."""
+
+    def path(self, index, begin, end):
+        """PATH(index - begin, D[begin : end])."""
+        if end - begin == 1:
+            return []
+        half = begin + split(end - begin)
+        if index < half:
+            return self.path(index, begin, half) + [self.root(half, end)]
+        return self.path(index, half, end) + [self.root(begin, half)]
+
+    def proof(self, first, begin, end, whole=True):
+        """SUBPROOF(first - begin, D[begin : end], whole)."""
+        if first == end:
+            return [] if whole else [self.root(begin, end)]
+        half = begin + split(end - begin)
+        if first <= half:
+            return self.proof(first, begin, half, whole) + [self.root(half, end)]
+        return self.proof(first, half, end, False) + [self.root(begin, half)]
+
+
 def includes(leaf, index, size, hashes, wanted):
     """Whether the path leads from the leaf at that index to the wanted root (section 2.1.3.2)."""
     if index >= size:

@@ -146,16 +146,16 @@ class Sweep:
         count.unlink(missing_ok=True)
         place = dict(os.environ, LD_PRELOAD=str(self.shim), REFUSE=str(refused), COUNT=str(count))
         with self.input.open("rb") as given:
-            ended = subprocess.run([self.program, *self.words], stdin=given, capture_output=True, env=place, timeout=LONGEST_RUN)
+            try:
+                ended = subprocess.run([self.program, *self.words], stdin=given, capture_output=True, env=place, timeout=LONGEST_RUN)
+            except subprocess.TimeoutExpired:
+                raise Wrong("it didn't end") from None
         growths = int.from_bytes(count.read_bytes(), sys.byteorder)
         return ended.returncode, ended.stdout.decode(), ended.stderr.decode(), growths
 
     def judge(self, refused):
         """What came of it, or Wrong."""
-        try:
-            status, output, said, growths = self.run(refused)
-        except subprocess.TimeoutExpired:
-            raise Wrong("it didn't end") from None
+        status, output, said, growths = self.run(refused)
         if status == 1:
             names = [name for name in FAULTS if f"{self.NAME}: {name}\n".startswith(said)]
             claim(names, f"standard error is {said!r}")
@@ -240,10 +240,7 @@ class StoredSweep(Sweep):
                 sys.exit(f"sweep.py: where it can't {fault} the status is {ended.returncode}: {ended.stderr.decode()}")
 
     def judge(self, refused):
-        try:
-            status, output, said, growths = self.run(refused)
-        except subprocess.TimeoutExpired:
-            raise Wrong("it didn't end") from None
+        status, output, said, growths = self.run(refused)
         if status == 1:
             claim(f"{self.NAME}: memory\n".startswith(said), f"standard error is {said!r}")
             self.claim_beginning(output)

@@ -18,9 +18,8 @@ export PYTHONDONTWRITEBYTECODE=1
 # $log is a command line: its words are to be split.
 # shellcheck disable=SC2086
 python3 "$examples/http/front.py" --port 0 --state "$work/state" --every 0.05 -- $log >"$work/told" &
-front=$!
-watcher=
-trap 'kill $front $watcher 2>/dev/null || true; wait; rm -rf "$work"' EXIT
+running=$!
+trap 'kill $running 2>/dev/null || true; wait; rm -rf "$work"' EXIT
 for _ in $(seq 100); do
   [ -s "$work/told" ] && break
   sleep 0.1
@@ -41,29 +40,7 @@ make_certificate() {
     -out "$work/certificate.$1" 2>/dev/null
 }
 
-# Submits certificates number $1 to $2.
-submit() {
-  for number in $(seq "$1" "$2"); do
-    make_certificate "$number"
-    printf '{"chain":["%s"]}' "$(base64 -w0 "$work/certificate.$number")" | curl -sSf -d @- "${base}ct/v1/add-chain" >/dev/null ||
-      fail "certificate $number is refused"
-  done
-}
-
-# Runs certspotter until it has verified a head of $1 entries.
-follow() {
-  certspotter -verbose -stdout -no_save -logs "$work/logs.json" -state_dir "$work/certspotter" \
-    -watchlist "$work/watched-names" >"$work/watched.$1" 2>&1 &
-  watcher=$!
-  for _ in $(seq 100); do
-    python3 "$here/verified.py" "$work/certspotter" "$base" "$1" 2>/dev/null && break
-    kill -0 "$watcher" 2>/dev/null || fail "certspotter ended"
-    sleep 0.2
-  done
-  kill "$watcher" && wait "$watcher" || true
-  watcher=
-  python3 "$here/verified.py" "$work/certspotter" "$base" "$1" || fail "certspotter has verified no head of $1 entries"
-}
+. "$here/certspotter.sh"
 
 openssl genpkey -algorithm EC -pkeyopt ec_paramgen_curve:P-256 -out "$work/key.pem" 2>/dev/null
 printf '.example.org\n.cryptography.io\n' >"$work/watched-names"
@@ -83,12 +60,7 @@ grep '"add-pre-chain"' "$examples/real-chains.jsonl" | grep -v '"chain":\[\]' | 
 follow 30
 submit 31 50
 follow 50
-names=$(sed -n 's/.*DNS Name = \(host-[0-9]*\.example\.org\)$/\1/p' "$work"/watched.* | sort -u | wc -l)
-[ "$names" = 49 ] || fail "certspotter tells of $names certificates of the 49 that it watched for"
-grep -q 'DNS Name = cryptography.io' "$work/watched.30" || fail "certspotter doesn't tell of the precertificate"
-version=$(certspotter -version 2>&1 | grep -o '[0-9][0-9.]*' | head -n 1)
-echo "certspotter $version verified the heads of 30 and, from there, of 50 entries of ${log##*/}," \
-  "and told of all 49 certificates and the precertificate that it watched for."
+told " of ${log##*/}"
 
 packages=$(dpkg-query -L golang-github-google-certificate-transparency-dev 2>/dev/null | sed -n 's|/src/github.com$||p')
 if ! command -v go >/dev/null || [ -z "$packages" ]; then

@@ -165,11 +165,15 @@ class Tiles(Log):
         return b"".join(answers.merkle.root(self.leaves[at * span :][:span]) for at in range(index * 256, index * 256 + width))
 
 
+# Sockets that have a port, and don't listen at it.
+UNHEARD = []
+
+
 def closed_port():
-    """The URL of a port at which nobody listens."""
-    with socket.socket() as free:
-        free.bind(("127.0.0.1", 0))
-        return f"http://127.0.0.1:{free.getsockname()[1]}"
+    """The URL of a port at which nobody listens, and nobody else will."""
+    UNHEARD.append(socket.socket())
+    UNHEARD[-1].bind(("127.0.0.1", 0))
+    return f"http://127.0.0.1:{UNHEARD[-1].getsockname()[1]}"
 
 
 def fail(why):
@@ -1345,15 +1349,20 @@ def from_end(log):
     return subprocess.run(words, capture_output=True, text=True, env={**os.environ, "no_proxy": "127.0.0.1"})
 
 
+def from_end_is_right(watch, kind, size):
+    """Behind so many entries of a log, by tiles or by calls, the state is that of a run over them all."""
+    log, other = kind(), kind()
+    log.size = other.size = size
+    watch.ends(f"{kind.__name__}: all of {size} entries", 0, log.url, says=f"accepted {size} leaves")
+    ran = from_end(other)
+    if ran.returncode or ran.stdout.encode() != watch.path(log).read_bytes():
+        fail(f"{kind.__name__}: from_end.py behind {size} entries: {ran.stdout}{ran.stderr} where the state is {watch.path(log).read_text()}")
+
+
 def try_from_end(watch):
     """from_end.py makes the state that a run over all entries leaves, byte for byte, of the tiles at the edge; and watch.sh goes on behind it."""
     for size in (1, 2, 255, 256, 257, 300, 530, len(MANY)):
-        log, other = Tiles(), Tiles()
-        log.size = other.size = size
-        watch.ends(f"all of {size} entries", 0, log.url, says=f"accepted {size} leaves")
-        ran = from_end(other)
-        if ran.returncode or ran.stdout.encode() != watch.path(log).read_bytes():
-            fail(f"from_end.py behind {size} entries: {ran.stdout}{ran.stderr} where the state is {watch.path(log).read_text()}")
+        from_end_is_right(watch, Tiles, size)
     begun = Tiles()
     begun.size, begun.published, begun.instead = 300, 530, {"tile/0/001.p/44": {"status": 404}}
     watch.path(begun, "").mkdir()
@@ -1376,12 +1385,7 @@ def try_from_end(watch):
         if ran.returncode != status or ran.stdout or not ran.stderr.startswith("from_end.py: "):
             fail(f"from_end.py over {what}: status {ran.returncode} where {status} is due: {ran.stdout}{ran.stderr}")
     for size in (1, 2, 3, 4, 7, 8, 11, 24, len(LEAVES)):
-        log, other = Log(), Log()
-        log.size = other.size = size
-        watch.ends(f"by calls all of {size} entries", 0, log.url, says=f"accepted {size} leaves")
-        ran = from_end(other)
-        if ran.returncode or ran.stdout.encode() != watch.path(log).read_bytes():
-            fail(f"from_end.py behind {size} entries by calls: {ran.stdout}{ran.stderr} where the state is {watch.path(log).read_text()}")
+        from_end_is_right(watch, Log, size)
     path = json.loads(Log().text_of("get-proof-by-hash", {"hash": [answers.text(answers.merkle.leaf_hash(LEAVES[7]))], "tree_size": ["8"]}))
     for what, status, instead in [
         ("another path", 1, {"get-proof-by-hash": json.dumps({**path, "audit_path": path["audit_path"][::-1]})}),

@@ -17,7 +17,7 @@ than tiles; else the first tile that has none is {"refused":"missing-tile","tile
 {"refused":"bad-tile","tile":NAME}. Whether the tiles are a log's nobody looks at: who asks checks the answer against roots that it has.
 """
 from expected import name
-from merkle import node_hash, split
+from merkle import Ranges, node_hash, split
 
 
 class BadTile(Exception):
@@ -49,7 +49,7 @@ def root_tiles(size):
     return tiles_of(size - 1, size - 1, size - 1, size)
 
 
-class Tree:
+class Tree(Ranges):
     """The tree of so many leaves, of which these tiles are at hand, with these contents."""
 
     def __init__(self, size, tiles, contents):
@@ -69,21 +69,3 @@ class Tree:
             return self.hashes[level, begin >> 8 * level]
         half = begin + split(end - begin)
         return node_hash(self.root(begin, half), self.root(half, end))
-
-    def path(self, index, begin, end):
-        """PATH(index - begin, D[begin : end])."""
-        if end - begin == 1:
-            return []
-        half = begin + split(end - begin)
-        if index < half:
-            return self.path(index, begin, half) + [self.root(half, end)]
-        return self.path(index, half, end) + [self.root(begin, half)]
-
-    def proof(self, first, begin, end, whole=True):
-        """SUBPROOF(first - begin, D[begin : end], whole)."""
-        if first == end:
-            return [] if whole else [self.root(begin, end)]
-        half = begin + split(end - begin)
-        if first <= half:
-            return self.proof(first, begin, half, whole) + [self.root(half, end)]
-        return self.proof(first, half, end, False) + [self.root(begin, half)]

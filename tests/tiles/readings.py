@@ -22,7 +22,7 @@ sys.path.append(str(HERE.parent))
 from expected import levels  # noqa: E402
 from histories import Pair, line_of  # noqa: E402
 from judge import Wrong, hold, tile_named  # noqa: E402
-from merkle import leaf_hash, node_hash, split  # noqa: E402
+from merkle import Ranges, leaf_hash, node_hash, path, proof, split  # noqa: E402
 from mutations import mutated  # noqa: E402
 from reading import path_tiles, proof_tiles, root_tiles  # noqa: E402
 
@@ -34,7 +34,7 @@ def text(content):
     return base64.b64encode(content).decode()
 
 
-class Log:
+class Log(Ranges):
     """A log's leaf hashes, the roots of what stands in its tree, and the hashes of its tiles' levels."""
 
     def __init__(self, size):
@@ -49,22 +49,6 @@ class Log:
             half = begin + split(end - begin)
             self.roots[begin, end] = node_hash(self.root(begin, half), self.root(half, end))
         return self.roots[begin, end]
-
-    def path(self, index, begin, end):
-        if end - begin == 1:
-            return []
-        half = begin + split(end - begin)
-        if index < half:
-            return self.path(index, begin, half) + [self.root(half, end)]
-        return self.path(index, half, end) + [self.root(begin, half)]
-
-    def proof(self, first, begin, end, whole=True):
-        if first == end:
-            return [] if whole else [self.root(begin, end)]
-        half = begin + split(end - begin)
-        if first <= half:
-            return self.proof(first, begin, half, whole) + [self.root(half, end)]
-        return self.proof(first, half, end, False) + [self.root(begin, half)]
 
     def tile(self, called, size):
         """The contents of a tile in the tree of so many leaves, which has to have this width there."""
@@ -122,6 +106,14 @@ def readings(program, log, size, indexes, refused):
         reading(program, log, size, "path", index, {"audit_path": list(map(text, log.path(index, 0, size)))}, refused)
         if index:
             reading(program, log, size, "proof", index, {"consistency": list(map(text, log.proof(index, 0, size)))}, refused)
+
+
+def recursion(log, size):
+    """What is due in a tree of so few leaves is what the recursion over its leaves gives."""
+    leaves = [number.to_bytes(4, "big") for number in range(size)]
+    for index in range(size):
+        hold(log.path(index, 0, size) == path(index, leaves), "the path due is another one", index, size)
+        hold(index == 0 or log.proof(index, 0, size) == proof(index, leaves), "the proof due is another one", index, size)
 
 
 def bad_lines(program):
@@ -186,6 +178,8 @@ def run(words, sizes):
     chance, program = random.Random(1), Asked(words)
     try:
         log = Log(max([sizes, *LARGER]))
+        for size in range(1, 20):
+            recursion(log, size)
         for size in range(1, sizes + 1):
             some = {0, 1, 254, 255, 256, 257, size - 2, size - 1, chance.randrange(size), chance.randrange(size)} & set(range(size))
             readings(program, log, size, range(size) if size <= 40 else some, size in (1, 3, 256, 257))
