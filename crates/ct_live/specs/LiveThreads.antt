@@ -1,18 +1,47 @@
 -- What only inner functions' contracts use: what the threads of a live log and the end after them did.
-use Rattle.std.specs.Prelude.{◌⊎◌, ℕ, List, [], ◌∷◌, ◌++◌, Option, Result}
+use Rattle.std.specs.Prelude.{◌⊎◌, ◌<◌, ℕ, List, [], ◌∷◌, ◌++◌, Option, Result, OnOk, vec_len, vec_capacity}
 use Rattle.std.specs.Io.KnownBytes.{Appends}
 use mathlib.Core.List.{IsPrefix}
 use Rattle.rtrb.specs.Ring.{sent, received}
 use Rattle.ct_house.specs.House.{FrontView, HouseState}
+use Rattle.ct_lines.specs.declared.request.FrontRequest.{FrontRequest}
+use Rattle.json_lines.specs.declared.fault.Unwritten.{Unwritten}
 use Rattle.ct_live.specs.Rings.{all_received, all_sent, ArePrefixes}
 use Rattle.ct_live.specs.Written.{BeginsOn, WritesOn}
 use Rattle.ct_live.specs.LiveEnding.{EndsLive, EndsLogSome, Rings}
 use Rattle.ct_live.specs.LiveGiven.{GivesSome, ReadsOn}
-use Rattle.ct_live.specs.LiveWorkers.{FrontWorker, worker_fronts, worker_tasks, worker_answers, AllReply, AllReplySome, OperatorWorks, OperatorWorksSome}
+use Rattle.ct_live.specs.LiveWorkers.{
+  FrontWorker,
+  LiveFrontReplies,
+  worker_fronts,
+  worker_tasks,
+  worker_answers,
+  AllReply,
+  AllReplySome,
+  OperatorWorks,
+  OperatorWorksSome,
+  WritesOut,
+}
+use Rattle.ct_live.specs.Working.{AreJoinedOf}
+use Rattle.ct_live.specs.declared.front.LiveFront.{LiveFront}
+use Rattle.ct_live.specs.declared.pipes.workers.JoinedParties.{JoinedParties}
 use Rattle.ct_live.specs.declared.giving.End.{End}
 use Rattle.ct_live.specs.declared.pipes.fault.ThreadFault.{ThreadFault}
 use Rattle.ct_live.specs.declared.giving.Inlets.{Inlets}
 use Rattle.ct_live.specs.declared.operator.OperatorWorker.{OperatorWorker}
+
+-- What the threads leave, where all were started: by `given` what the first lines ask was given out, with this result, and by `fronts` and `operated` the
+-- fronts and the operator answered what they received, or by `begun` the operator the first of it; by `room` the operator's answers have a place beside
+-- the fronts'; and by `wrote` answers were written, with that result.
+pub record ThreadsLeave (next next_then : ℕ) (input input_then : Option (List ℕ)) (read : Result End ThreadFault) (inlets inlets_then : Inlets)
+    (workers : List FrontWorker) (joined : JoinedParties LiveFront FrontRequest) (operator operator_then : OperatorWorker)
+    (did : Result Unit ThreadFault) (rings rings_then : Rings) (old new : Option (List ℕ)) (written : Result Unit Unwritten) : Type 0 where
+  pub given : ReadsOn next next_then input input_then read inlets inlets_then
+  pub fronts : AreJoinedOf LiveFrontReplies workers joined
+  pub room : vec_len joined.answers < vec_capacity joined.answers
+  pub operated : OnOk did (OperatorWorks operator operator_then)
+  pub begun : OperatorWorksSome operator operator_then
+  pub wrote : WritesOut rings rings_then old new written
 
 -- What the threads and the end after them do: by `given` tasks were given for the lines of the input, by `did` and `operated` the fronts and
 -- the operator did theirs, by `wrote` answers were written as they came, and by `ended` the run ended then, with what `Closing` says of the

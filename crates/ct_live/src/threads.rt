@@ -1,12 +1,11 @@
 //! The threads: the reader, the writer, each front, and the operator in the thread that calls.
 
-ghost use Rattle.std.specs.Prelude.{◌≡◌, ◌≢◌, ◌<◌, length, Ok, Err, Some, None, IfOk, IfErr, OnOk, OnErr, vec_len, vec_capacity};
-ghost use Rattle.ct_live.specs.Working.{AreJoinedOf};
+ghost use Rattle.std.specs.Prelude.{◌≡◌, ◌≢◌, length, Ok, Err, Some, None, IfOk, IfErr, OnOk, OnErr};
 ghost use Rattle.ct_live.specs.LiveEnding.{EndsLog};
 ghost use Rattle.ct_live.specs.LiveGiven.{ReadsOn};
 ghost use Rattle.ct_live.specs.LiveReplied.{ClosesLog, RefusesClosing};
-ghost use Rattle.ct_live.specs.LiveThreads.{RunsBrokenOff, RunsLive};
-ghost use Rattle.ct_live.specs.LiveWorkers.{AreJoined, OperatorWorks, OperatorWorksSome, LiveFrontReplies, WritesOut};
+ghost use Rattle.ct_live.specs.LiveThreads.{RunsBrokenOff, RunsLive, ThreadsLeave};
+ghost use Rattle.ct_live.specs.LiveWorkers.{AreJoined, OperatorWorks, OperatorWorksSome, WritesOut};
 ghost use Rattle.ct_live.specs.declared.operator.OperatorWorker.{OperatorWorker as OperatorWorkerOf};
 
 use crate::ending::{Left, abandon, end_live};
@@ -263,80 +262,8 @@ fn join_writer<R: Threads, W: Write + Drop + Send>(
     }
 }
 
-// Starts the threads, has the operator do its tasks here, and joins them all.
-fn run_in<
-    'e: 's,
-    's,
-    R: Threads + Wait + Sync,
-    B: BufRead + Drop + Send + 's,
-    W: Write + Drop + Send + 's,
->(
-    rt: &'e R,
-    alloc: Global,
-    scope: &'s Scope<'s, &'e ()>,
-    parkers: &'e Parkers,
-    waiting: &'e Waiting,
-    count: u16,
-    start: Start<B, W>,
-    operator: OperatorWorker,
-) -> Ran<B, W>
-    requires count { length start.giver.inlets.fronts.items ≡ count }
-    requires workers { length start.workers.items ≡ count }
-    ensures none { OnErr result.left (W.contents result.out.output ≡ W.contents start.out.output) }
-    ensures faults { IfErr result.left (λ f. f ≢ Fault.ClockBack) }
-    ensures given { IfOk result.left (λ l. ReadsOn start.giver.lines.next l.giver.lines.next (B.remaining start.giver.lines.input)
-        (B.remaining l.giver.lines.input) l.end start.giver.inlets l.giver.inlets) }
-    ensures fronts { IfOk result.left (λ l. AreJoinedOf LiveFrontReplies start.workers.items l.fronts) }
-    ensures room { IfOk result.left (λ l. vec_len l.fronts.answers < vec_capacity l.fronts.answers) }
-    ensures operated { IfOk result.left (λ l. OnOk l.operated (OperatorWorks operator result.operator)) }
-    ensures operated_some { OnOk result.left (OperatorWorksSome operator result.operator) }
-    ensures written { IfOk result.left (λ l. WritesOut start.out.rings.items result.out.rings.items (W.contents start.out.output)
-        (W.contents result.out.output) l.written) }
-{
-    let Start {
-        giver,
-        workers,
-        out,
-    } = start;
-    let room = match JoinedParties::with_room(alloc, count) {
-        Ok(room) => room,
-        Err(error) => return not_started(operator, out, Fault::from(error)),
-    };
-    let threads = match start_workers(rt, alloc, scope, parkers, waiting, workers) {
-        Ok(threads) => threads,
-        Err(fault) => return not_started(operator, out, fault),
-    };
-    let reader = match start_reader(rt, alloc, scope, parkers, count, giver) {
-        Ok(reader) => reader,
-        Err(fault) => return not_started(operator, out, fault),
-    };
-    let writer = start_writer(rt, scope, parkers, out);
-    let Operated {
-        operator,
-        result: operated,
-    } = run_operator(rt, alloc, parkers, waiting, operator);
-    let fronts = join_workers(rt, threads, room);
-    let Reading { giver, end } = reader.join(rt);
-    let Writing {
-        out,
-        result: written,
-    } = join_writer(rt, writer);
-    let left = Left {
-        giver,
-        end,
-        fronts,
-        written,
-        operated,
-    };
-    Ran {
-        operator,
-        out,
-        left: Ok(left),
-    }
-}
-
-// The same, with a scope for the threads, behind which all of them have ended. What the scope's part holds has to be `Drop`, which
-// the operator isn't: so that part takes it out of a place beside the scope.
+// Starts the threads, has the operator do its tasks here, and joins them all, in a scope behind which all of them have ended. What the scope's part
+// holds has to be `Drop`, which the operator isn't: so that part takes it out of a place beside the scope.
 fn run_threads<R: Threads + Wait + Sync, B: BufRead + Drop + Send, W: Write + Drop + Send>(
     rt: &R,
     alloc: Global,
@@ -350,14 +277,9 @@ fn run_threads<R: Threads + Wait + Sync, B: BufRead + Drop + Send, W: Write + Dr
     requires workers { length start.workers.items ≡ count }
     ensures none { OnErr result.left (W.contents result.out.output ≡ W.contents start.out.output) }
     ensures faults { IfErr result.left (λ f. f ≢ Fault.ClockBack) }
-    ensures given { IfOk result.left (λ l. ReadsOn start.giver.lines.next l.giver.lines.next (B.remaining start.giver.lines.input)
-        (B.remaining l.giver.lines.input) l.end start.giver.inlets l.giver.inlets) }
-    ensures fronts { IfOk result.left (λ l. AreJoinedOf LiveFrontReplies start.workers.items l.fronts) }
-    ensures room { IfOk result.left (λ l. vec_len l.fronts.answers < vec_capacity l.fronts.answers) }
-    ensures operated { IfOk result.left (λ l. OnOk l.operated (OperatorWorks operator result.operator)) }
-    ensures operated_some { OnOk result.left (OperatorWorksSome operator result.operator) }
-    ensures written { IfOk result.left (λ l. WritesOut start.out.rings.items result.out.rings.items (W.contents start.out.output)
-        (W.contents result.out.output) l.written) }
+    ensures all { IfOk result.left (λ l. ThreadsLeave start.giver.lines.next l.giver.lines.next (B.remaining start.giver.lines.input)
+        (B.remaining l.giver.lines.input) l.end start.giver.inlets l.giver.inlets start.workers.items l.fronts operator result.operator l.operated
+        start.out.rings.items result.out.rings.items (W.contents start.out.output) (W.contents result.out.output) l.written) }
 {
     let mut slot = Some(operator);
     let taken = &mut slot;
@@ -370,19 +292,54 @@ fn run_threads<R: Threads + Wait + Sync, B: BufRead + Drop + Send, W: Write + Dr
             requires slot { taken.now ≢ None }
             ensures none { OnErr result.left (W.contents result.out.output ≡ W.contents start.out.output) }
             ensures faults { IfErr result.left (λ f. f ≢ Fault.ClockBack) }
-            ensures given { IfOk result.left (λ l. ReadsOn start.giver.lines.next l.giver.lines.next (B.remaining start.giver.lines.input)
-                (B.remaining l.giver.lines.input) l.end start.giver.inlets l.giver.inlets) }
-            ensures fronts { IfOk result.left (λ l. AreJoinedOf LiveFrontReplies start.workers.items l.fronts) }
-            ensures room { IfOk result.left (λ l. vec_len l.fronts.answers < vec_capacity l.fronts.answers) }
-            ensures operated { IfOk result.left (λ l. OnOk l.operated ((o : OperatorWorkerOf) → taken.entry.now ≡ Some o → OperatorWorks o result.operator)) }
-            ensures operated_some { OnOk result.left ((o : OperatorWorkerOf) → taken.entry.now ≡ Some o → OperatorWorksSome o result.operator) }
-            ensures written { IfOk result.left (λ l. WritesOut start.out.rings.items result.out.rings.items (W.contents start.out.output)
-                (W.contents result.out.output) l.written) }
+            ensures all { IfOk result.left (λ l. (o : OperatorWorkerOf) → taken.entry.now ≡ Some o → ThreadsLeave start.giver.lines.next l.giver.lines.next
+                (B.remaining start.giver.lines.input) (B.remaining l.giver.lines.input) l.end start.giver.inlets l.giver.inlets start.workers.items l.fronts
+                o result.operator l.operated start.out.rings.items result.out.rings.items (W.contents start.out.output) (W.contents result.out.output)
+                l.written) }
         {
             let Some(operator) = taken.take() else {
                 unreachable!()
             };
-            run_in(rt, alloc, scope, parkers, waiting, count, start, operator)
+            let Start {
+                giver,
+                workers,
+                out,
+            } = start;
+            let room = match JoinedParties::with_room(alloc, count) {
+                Ok(room) => room,
+                Err(error) => return not_started(operator, out, Fault::from(error)),
+            };
+            let threads = match start_workers(rt, alloc, scope, parkers, waiting, workers) {
+                Ok(threads) => threads,
+                Err(fault) => return not_started(operator, out, fault),
+            };
+            let reader = match start_reader(rt, alloc, scope, parkers, count, giver) {
+                Ok(reader) => reader,
+                Err(fault) => return not_started(operator, out, fault),
+            };
+            let writer = start_writer(rt, scope, parkers, out);
+            let Operated {
+                operator,
+                result: operated,
+            } = run_operator(rt, alloc, parkers, waiting, operator);
+            let fronts = join_workers(rt, threads, room);
+            let Reading { giver, end } = reader.join(rt);
+            let Writing {
+                out,
+                result: written,
+            } = join_writer(rt, writer);
+            let left = Left {
+                giver,
+                end,
+                fronts,
+                written,
+                operated,
+            };
+            Ran {
+                operator,
+                out,
+                left: Ok(left),
+            }
         },
     );
     if let Some(operator) = slot {

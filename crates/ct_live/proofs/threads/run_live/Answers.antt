@@ -1,42 +1,44 @@
 use Rattle.std.proofs.Common.{◌≡◌, subst, sym}
 use Rattle.std.proofs.lemmas.Result.{IfErr-at_err, IfErr-weaker, IfOk-at_ok, on_err_weaker, on_ok_weaker}
-use Rattle.std.specs.Prelude.{OnErr, OnOk}
+use Rattle.std.specs.Prelude.{OnErr}
 use Rattle.ct_live.specs.Rings.{SameConsumers}
 use Rattle.ct_live.specs.LiveEnding.{Rings}
-use Rattle.ct_live.specs.LiveWorkers.{OperatorWorksSome, WritesOut}
+use Rattle.ct_live.specs.LiveWorkers.{WritesOut}
 use Rattle.ct_live.proofs.Joined.{beside_kept, house_kept, when_ok}
 use Rattle.ct_live.proofs.Runs.{beside_joined, fronts_joined, nothing_ran, ran, ran_broken}
 use Rattle.ct_live.proofs.threads.run_live.Goals as goal
 use Rattle.ct_live.proofs.threads.run_live.Goals.{in-Ok, in-Err}
 
+pub end_live-result-requires-clause-room : goal.end_live-result-requires-clause-room
+end_live-result-requires-clause-room g c κs within =
+    let all = IfOk-at_ok _ c.in-Ok.is c.run_threads-ran.ensures.all in
+    all.room
+
 pub end_live-result-requires-clause-beside : goal.end_live-result-requires-clause-beside
 end_live-result-requires-clause-beside g c κs within =
-    let given = IfOk-at_ok _ c.in-Ok.is c.run_threads-ran.ensures.given in
-    let j = IfOk-at_ok _ c.in-Ok.is c.run_threads-ran.ensures.fronts in
-    let some = subst (λ (r : _). OnOk r (OperatorWorksSome c.args.operator c.run_threads-ran.result.operator)) c.in-Ok.is
-    c.run_threads-ran.ensures.operated_some in
-    let wrote = IfOk-at_ok _ c.in-Ok.is c.run_threads-ran.ensures.written in
+    let all = IfOk-at_ok _ c.in-Ok.is c.run_threads-ran.ensures.all in
+    let j = all.fronts in
     beside_joined c.in-Ok.left.giver.inlets c.args.start.workers.items c.in-Ok.left.fronts c.run_threads-ran.result.operator c.deref_mut.result.now j
     (beside_kept c.args.start.giver.inlets c.in-Ok.left.giver.inlets c.args.start.workers.items j.workers_then c.args.operator
-    c.run_threads-ran.result.operator c.args.start.out.rings.items c.deref_mut.result.now c.requires.joined.beside given.same j.did some
-    (subst (λ (l : Rings). SameConsumers c.args.start.out.rings.items l) (sym c.deref_mut.ensures.value) wrote.same))
+    c.run_threads-ran.result.operator c.args.start.out.rings.items c.deref_mut.result.now c.requires.joined.beside all.given.same j.did all.begun
+    (subst (λ (l : Rings). SameConsumers c.args.start.out.rings.items l) (sym c.deref_mut.ensures.value) all.wrote.same))
 
 pub end_live-result-requires-clause-fronts : goal.end_live-result-requires-clause-fronts
 end_live-result-requires-clause-fronts g c κs within = λ done.
-    let j = IfOk-at_ok _ c.in-Ok.is c.run_threads-ran.ensures.fronts in
+    let all = IfOk-at_ok _ c.in-Ok.is c.run_threads-ran.ensures.all in
+    let j = all.fronts in
     fronts_joined c.args.start.workers.items c.in-Ok.left.fronts c.run_threads-ran.result.operator.sequencer j
     (house_kept c.args.start.workers.items j.workers_then c.args.operator c.run_threads-ran.result.operator c.requires.joined.fronts
-    (j.all done.fronts) (when_ok _ c.in-Ok.left.operated done.operator (IfOk-at_ok _ c.in-Ok.is c.run_threads-ran.ensures.operated)))
+    (j.all done.fronts) (when_ok _ c.in-Ok.left.operated done.operator all.operated))
 
 pub returns-clause-ran : goal.returns-clause-ran
 returns-clause-ran g c = elim c.match-left.branch [
   | in-Ok w ↦
       rw w.result-is (rw w.output-is (on_ok_weaker w.end_live-result.result (λ ended.
-      ran (IfOk-at_ok _ w.in-Ok.is c.run_threads-ran.ensures.given) (IfOk-at_ok _ w.in-Ok.is c.run_threads-ran.ensures.fronts)
-      (IfOk-at_ok _ w.in-Ok.is c.run_threads-ran.ensures.operated)
+      let all = IfOk-at_ok _ w.in-Ok.is c.run_threads-ran.ensures.all in
+      ran all.given all.fronts all.operated
       (subst (λ (l : Rings). WritesOut c.args.start.out.rings.items l (g.W.Write.contents c.args.start.out.output)
-      (g.W.Write.contents c.run_threads-ran.result.out.output) w.in-Ok.left.written) (sym w.deref_mut.ensures.value)
-      (IfOk-at_ok _ w.in-Ok.is c.run_threads-ran.ensures.written))
+      (g.W.Write.contents c.run_threads-ran.result.out.output) w.in-Ok.left.written) (sym w.deref_mut.ensures.value) all.wrote)
       ended) w.end_live-result.ensures.ended))
   | in-Err w ↦ rw w.result-is tt
 ]
@@ -45,12 +47,10 @@ pub returns-clause-broken : goal.returns-clause-broken
 returns-clause-broken g c = elim c.match-left.branch [
   | in-Ok w ↦
       rw w.result-is (rw w.output-is (on_err_weaker w.end_live-result.result (λ broken.
-      ran_broken (IfOk-at_ok _ w.in-Ok.is c.run_threads-ran.ensures.given) (IfOk-at_ok _ w.in-Ok.is c.run_threads-ran.ensures.fronts)
-      (subst (λ (r : _). OnOk r (OperatorWorksSome c.args.operator c.run_threads-ran.result.operator)) w.in-Ok.is c.run_threads-ran.ensures.operated_some)
-      (IfOk-at_ok _ w.in-Ok.is c.run_threads-ran.ensures.operated)
+      let all = IfOk-at_ok _ w.in-Ok.is c.run_threads-ran.ensures.all in
+      ran_broken all.given all.fronts all.begun all.operated
       (subst (λ (l : Rings). WritesOut c.args.start.out.rings.items l (g.W.Write.contents c.args.start.out.output)
-      (g.W.Write.contents c.run_threads-ran.result.out.output) w.in-Ok.left.written) (sym w.deref_mut.ensures.value)
-      (IfOk-at_ok _ w.in-Ok.is c.run_threads-ran.ensures.written))
+      (g.W.Write.contents c.run_threads-ran.result.out.output) w.in-Ok.left.written) (sym w.deref_mut.ensures.value) all.wrote)
       broken) w.end_live-result.ensures.broken))
   | in-Err w ↦
       rw w.result-is (rw w.output-is
@@ -65,11 +65,10 @@ pub returns-clause-late : goal.returns-clause-late
 returns-clause-late g c = elim c.match-left.branch [
   | in-Ok w ↦
       rw w.result-is (rw w.output-is (IfErr-weaker w.end_live-result.result _ _ (λ f late is.
-      ran (IfOk-at_ok _ w.in-Ok.is c.run_threads-ran.ensures.given) (IfOk-at_ok _ w.in-Ok.is c.run_threads-ran.ensures.fronts)
-      (IfOk-at_ok _ w.in-Ok.is c.run_threads-ran.ensures.operated)
+      let all = IfOk-at_ok _ w.in-Ok.is c.run_threads-ran.ensures.all in
+      ran all.given all.fronts all.operated
       (subst (λ (l : Rings). WritesOut c.args.start.out.rings.items l (g.W.Write.contents c.args.start.out.output)
-      (g.W.Write.contents c.run_threads-ran.result.out.output) w.in-Ok.left.written) (sym w.deref_mut.ensures.value)
-      (IfOk-at_ok _ w.in-Ok.is c.run_threads-ran.ensures.written))
+      (g.W.Write.contents c.run_threads-ran.result.out.output) w.in-Ok.left.written) (sym w.deref_mut.ensures.value) all.wrote)
       (late is)) w.end_live-result.ensures.late))
   | in-Err w ↦ rw w.result-is (λ is. absurd (IfErr-at_err _ w.in-Err.is c.run_threads-ran.ensures.faults is))
 ]
