@@ -60,10 +60,11 @@ func within[T any](ctx context.Context, r *Reader, ask func(context.Context) (T,
 	}
 	done := make(chan made[T], 1)
 	go func() {
-		defer func() { <-r.waits }()
 		own, cancel := context.WithTimeout(context.Background(), mostReading)
 		defer cancel()
 		what, err := ask(own)
+		// The place is given back before anything is told: who has the answer and asks for more at once finds it free.
+		<-r.waits
 		done <- made[T]{what, err}
 	}()
 	select {

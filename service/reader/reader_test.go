@@ -196,3 +196,17 @@ func TestWhoGoes(t *testing.T) {
 		t.Errorf("behind that: %x, %v, the program was started %d times", root, err, of.Starts())
 	}
 }
+
+// TestOneBehindAnother: where one thing is made at once, who asks for the next as soon as it has an answer, or an error, is always taken.
+func TestOneBehindAnother(t *testing.T) {
+	r, ctx, broken := New(nil, nil, 1), limited(t), errors.New("the disk")
+	for i := 0; i < 20000; i++ {
+		var fails error
+		if i%2 == 1 {
+			fails = broken
+		}
+		if what, err := within(ctx, r, func(context.Context) (int, error) { return i, fails }); what != i || err != fails {
+			t.Fatalf("thing %d: %d, %v", i, what, err)
+		}
+	}
+}
