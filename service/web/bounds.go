@@ -265,10 +265,10 @@ type open struct {
 	isClient, isClosed bool
 }
 
+// Close gives the place back first: who sees that its connection is closed, and makes another one at once, isn't refused for its sake.
 func (o *open) Close() error {
-	err := o.Conn.Close()
 	o.once.Do(o.closed)
-	return err
+	return o.Conn.Close()
 }
 
 // few is a listener that closes what comes above the room of a channel.

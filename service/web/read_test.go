@@ -638,3 +638,86 @@ func TestDamagedObjects(t *testing.T) {
 		t.Errorf("%d issuers of %d bytes are kept", len(kept.kept), kept.bytes)
 	}
 }
+
+// whole is who gets an answer, and does something once all of it has come.
+type whole struct {
+	*httptest.ResponseRecorder
+	came func()
+}
+
+func (w whole) Write(some []byte) (int, error) {
+	n, err := w.ResponseRecorder.Write(some)
+	if fmt.Sprint(w.Body.Len()) == w.Header().Get("Content-Length") {
+		w.came()
+	}
+	return n, err
+}
+
+// TestAnswersComeLast: by the time that an answer has come, its request holds no place and no bytes, and is counted and told: who has it, and asks again at
+// once, is answered where one may be asked at a time.
+func TestAnswersComeLast(t *testing.T) {
+	f := newFixture(t, 5*time.Millisecond, func(o *Options) {
+		o.Limits.ConnectionsByAddress, o.Limits.ProofsByAddress, o.LogRequests = 1, 1, true
+	})
+	f.fill(300)
+	body := standin.Submission(f.issue(false))
+	for _, test := range []struct {
+		method, target, call, header, value string
+		status                              int
+	}{
+		{"GET", "/checkpoint", "checkpoint", "", "", 200},
+		{"GET", "/tile/0/000", "tile", "", "", 200},
+		{"GET", "/tile/data/000", "tile", "", "", 200},
+		{"GET", "/tile/data/000", "tile", "Accept-Encoding", "gzip", 200},
+		{"GET", "/tile/data/000", "tile", "Range", "bytes=7-8", 206},
+		{"GET", "/tile/data/000", "tile", "Range", "bytes=0-0", 206},
+		{"GET", "/tile/data/000", "tile", "Range", "bytes=0-99,200-299", 206},
+		{"GET", "/ct/v1/get-entries?start=0&end=255", "get-entries", "", "", 200},
+		{"GET", "/ct/v1/get-sth-consistency?first=1&second=300", "get-sth-consistency", "", "", 200},
+		{"GET", "/none", "none", "", "", 404},
+		{"POST", "/ct/v1/add-chain", "add-chain", "", "", 200},
+	} {
+		what := fmt.Sprint(test.target, " ", test.value)
+		ask := func(came func()) whole {
+			r := httptest.NewRequest(test.method, test.target, nil)
+			if test.method == "POST" {
+				r = httptest.NewRequest(test.method, test.target, bytes.NewReader(body))
+			}
+			if test.header != "" {
+				r.Header.Set(test.header, test.value)
+			}
+			w := whole{httptest.NewRecorder(), came}
+			f.front.ServeHTTP(w, r)
+			return w
+		}
+		counted := func() (count int) {
+			w := httptest.NewRecorder()
+			f.front.Operator().ServeHTTP(w, httptest.NewRequest("GET", "/metrics", nil))
+			_, text, _ := strings.Cut(w.Body.String(), fmt.Sprintf("\nctserve_requests_total{call=%q,status=\"%d\"} ", test.call, test.status))
+			fmt.Sscan(text, &count)
+			return count
+		}
+		told := func() int { return strings.Count(f.lines.String(), fmt.Sprintf(`"call":%q`, test.call)) }
+		before, lines, times := counted(), told(), 0
+		w := ask(func() {
+			times++
+			for which, of := range map[string]*counts{"requests": &f.front.requests, "proofs": &f.front.proofsOf, "submissions": &f.front.waitingOf, "answers": &f.front.answersOf} {
+				if len(of.of) != 0 {
+					t.Errorf("%s: of %s %v is held", what, which, of.of)
+				}
+			}
+			if submitted, read := f.front.waiting.used.Load(), f.front.answers.used.Load(); submitted != 0 || read != 0 {
+				t.Errorf("%s: %d and %d bytes are held", what, submitted, read)
+			}
+			if now, said := counted(), told(); now != before+1 || said != lines+1 {
+				t.Errorf("%s: %d are counted behind %d, and %d told behind %d", what, now, before, said, lines)
+			}
+			if again := ask(func() {}); again.Code != test.status {
+				t.Errorf("%s, at once: %d %s", what, again.Code, again.Body)
+			}
+		})
+		if w.Code != test.status || times != 1 {
+			t.Errorf("%s: %d, which came whole %d times", what, w.Code, times)
+		}
+	}
+}

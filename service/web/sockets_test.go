@@ -279,6 +279,56 @@ func TestConnectionsAreBounded(t *testing.T) {
 	}
 }
 
+// looked is a connection that does something as it is closed, and oneOf a listener to which it alone comes.
+type looked struct {
+	net.Conn
+	closes func()
+}
+
+func (l looked) Close() error {
+	l.closes()
+	return l.Conn.Close()
+}
+
+type oneOf struct {
+	net.Listener
+	connection net.Conn
+}
+
+func (o oneOf) Accept() (net.Conn, error) { return o.connection, nil }
+
+// TestClosedConnectionsHoldNoPlace: by the time that a connection is closed its place is given back, so that the other side may come again at once.
+func TestClosedConnectionsHoldNoPlace(t *testing.T) {
+	f, room := newFixture(t, 0, nil), make(chan struct{}, 1)
+	for what, test := range map[string]struct {
+		bounds func(net.Listener) net.Listener
+		held   func() int
+	}{
+		"a client's": {func(l net.Listener) net.Listener { return bounded{l, f.front} }, func() int {
+			return int(f.front.connections.open.Load()) + len(f.front.connections.byAddress.of) + f.front.connections.waiting()
+		}},
+		"an operator's": {func(l net.Listener) net.Listener { return few{l, room} }, func() int { return len(room) }},
+	} {
+		here, there := net.Pipe()
+		closed := 0
+		taken, err := test.bounds(oneOf{nil, looked{here, func() {
+			if closed++; test.held() != 0 {
+				t.Errorf("%s: %d are held", what, test.held())
+			}
+		}}}).Accept()
+		if err != nil || test.held() == 0 {
+			t.Fatalf("%s: %d are held, %v", what, test.held(), err)
+		}
+		for i := 0; i < 2; i++ {
+			taken.Close()
+		}
+		if closed != 2 || test.held() != 0 {
+			t.Errorf("%s: closed %d times, %d are held", what, closed, test.held())
+		}
+		there.Close()
+	}
+}
+
 // TestOperatorCountsApart: while one address has all the connections and requests that it may have, an operator at that address is answered; and who has all
 // of the operator's connections keeps no client out.
 func TestOperatorCountsApart(t *testing.T) {

@@ -220,6 +220,7 @@ func (f *Front) ServeHTTP(w http.ResponseWriter, r *http.Request) {
 			f.refuse(a, refusal{status: http.StatusInternalServerError, name: "internal"})
 		}
 		f.told(c, a, r, time.Since(began))
+		a.end()
 	}()
 	a.Header().Set("X-Content-Type-Options", "nosniff")
 	if len(r.TransferEncoding) > 0 {
@@ -289,13 +290,15 @@ func allowed(c call) string {
 	return c.method
 }
 
-// answer remembers what was answered.
+// answer remembers what was answered. Its last byte is held until what the request took is given back and it is counted: who has all of it, and asks
+// again at once, isn't refused for its own sake.
 type answer struct {
 	http.ResponseWriter
 	status  int
 	bytes   int64
 	refusal string
 	detail  string
+	held    []byte
 }
 
 func (a *answer) WriteHeader(status int) {
@@ -309,9 +312,24 @@ func (a *answer) Write(bytes []byte) (int, error) {
 	if a.status == 0 {
 		a.status = http.StatusOK
 	}
-	n, err := a.ResponseWriter.Write(bytes)
+	a.end()
+	n, err := len(bytes), error(nil)
+	if n > 1 {
+		n, err = a.ResponseWriter.Write(bytes[:n-1])
+	}
+	if err == nil && len(bytes) > 0 {
+		a.held, n = []byte{bytes[len(bytes)-1]}, len(bytes)
+	}
 	a.bytes += int64(n)
 	return n, err
+}
+
+// end sends the byte that is held. What a client doesn't take is its own affair.
+func (a *answer) end() {
+	if len(a.held) > 0 {
+		a.ResponseWriter.Write(a.held)
+		a.held = nil
+	}
 }
 
 // told counts a request, and tells it.
