@@ -251,12 +251,12 @@ func (c *clients) take(ctx context.Context, one *client) bool {
 	}
 }
 
-// leave closes a connection.
+// leave closes a connection. Who isn't there any more holds no room either.
 func (c *clients) leave(one *client) {
 	one.Conn.Close()
 	c.mu.Lock()
+	defer c.mu.Unlock()
 	delete(c.there, one)
-	c.mu.Unlock()
 	<-c.room
 }
 
