@@ -171,7 +171,7 @@ func TestStepOnceAllAreBack(t *testing.T) {
 		submits(1, 2)
 		eventually(t, "a step is made", func() bool { return !holds.Load() })
 		submits(2, 4)
-		eventually(t, "two wait behind it", func() bool { return s.Figures().Queue == 3 })
+		eventually(t, "two wait behind it", func() bool { return inQueue(s) == 2 })
 		close(let)
 		must(t, <-answered)
 		submits(4, 5)
