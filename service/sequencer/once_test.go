@@ -724,11 +724,9 @@ func handingNode(t *testing.T, of *Sequencer, places string) (*Sequencer, string
 	return node, server.URL
 }
 
-// TestHandedOver: who is handed over is answered by what comes back, and then what failed here counts no more, unless the log was set back; where a place lacks, or
-// nobody answers, that is a failure, behind which the node goes on by itself for a while.
-func TestHandedOver(t *testing.T) {
-	t.Parallel()
-	_, ctx, got, s := begun(t, 5, 5)
+// firstPlace is the place of a log's first entry, as a node gives it back.
+func firstPlace(t *testing.T, got *answers) string {
+	t.Helper()
 	first := firstOf(t, got)
 	var signature []byte
 	for _, one := range got.all {
@@ -738,13 +736,22 @@ func TestHandedOver(t *testing.T) {
 	}
 	right, err := json.Marshal(handedPlace{0, first.moment, signature})
 	must(t, err)
+	return string(right)
+}
+
+// TestHandedOver: who is handed over is answered by what comes back, and then what failed here counts no more, unless the log was set back; where a place lacks, or
+// nobody answers, that is a failure, behind which the node goes on by itself for a while.
+func TestHandedOver(t *testing.T) {
+	t.Parallel()
+	_, ctx, got, s := begun(t, 5, 5)
+	right := firstPlace(t, got)
 	for what, of := range map[string]struct {
 		places        string
 		fault         error
 		alone, faults bool
 	}{
-		"a place":                         {string(right), errTried, false, false},
-		"a place, of a log that was back": {string(right), ErrSetBack, false, true},
+		"a place":                         {right, errTried, false, false},
+		"a place, of a log that was back": {right, ErrSetBack, false, true},
 		"no signature":                    {`{"leaf_index":0,"timestamp":7}`, errTried, true, true},
 		"nothing":                         {"", errTried, true, true},
 	} {
@@ -764,6 +771,40 @@ func TestHandedOver(t *testing.T) {
 		if alone != of.alone || faults != of.faults || (len(w.done) == 1) != !of.alone || inQueue(node) == 1 != of.alone {
 			t.Errorf("%s: alone %v, fault %v, answered %d, %d wait", what, alone, faults, len(w.done), inQueue(node))
 		}
+	}
+}
+
+// TestHandedOverIsSettledFirst: by the time that the first of a batch is answered, what failed here counts no more, or the node goes on by itself.
+func TestHandedOverIsSettledFirst(t *testing.T) {
+	t.Parallel()
+	_, ctx, got, s := begun(t, 5, 5)
+	const many = 9
+	right := strings.Repeat(firstPlace(t, got)+",", many-1)
+	for what, of := range map[string]struct {
+		last  string
+		alone bool
+	}{"a place": {firstPlace(t, got), false}, "no signature": {`{"leaf_index":0,"timestamp":7}`, true}} {
+		node, address := handingNode(t, s, right+of.last)
+		node.fault = fault{log.ErrStore, errTried}
+		for count := 0; count < many; count++ {
+			must(t, node.queue.add(waitsAt(ctx, t, node, got.numberAt(t, 0))))
+		}
+		k := s.newestKnown()
+		k.node, k.seen = address, time.Now().Add(longest)
+		if !node.handOver(k) {
+			t.Fatalf("%s: they aren't handed over", what)
+		}
+		// (nobody is told while the queue is held)
+		node.queue.mu.Lock()
+		eventually(t, what+": one is to be answered", func() bool { return node.handed.Load() > 0 })
+		node.mu.Lock()
+		alone, faults := !node.alone.IsZero(), node.fault != nil
+		node.mu.Unlock()
+		node.queue.mu.Unlock()
+		if alone != of.alone || faults != of.alone {
+			t.Errorf("%s: alone %v, fault %v", what, alone, faults)
+		}
+		eventually(t, what+": it comes back", func() bool { return len(node.handing) == 0 })
 	}
 }
 

@@ -100,17 +100,28 @@ func (s *Sequencer) handOver(k known) bool {
 	go func() {
 		defer func() { <-s.handing }()
 		defer s.queue.giveBack(batch)
-		err := s.hand(k.node, batch)
-		s.mu.Lock()
-		defer s.mu.Unlock()
-		if err != nil {
-			s.alone = time.Now().Add(aloneFor)
-		} else if !errors.Is(s.fault, ErrSetBack) {
-			// Who submits here is answered.
-			s.fault = nil
+		places, err := s.hand(k.node, batch)
+		s.settleHanded(err)
+		for i, w := range batch {
+			if place, given := places[i]; given {
+				s.handed.Add(1)
+				s.queue.answer(w, answer{place: place})
+			}
 		}
 	}()
 	return true
+}
+
+// settleHanded keeps how it went with a batch that was handed over, before anybody of it is told.
+func (s *Sequencer) settleHanded(err error) {
+	s.mu.Lock()
+	defer s.mu.Unlock()
+	if err != nil {
+		s.alone = time.Now().Add(aloneFor)
+	} else if !errors.Is(s.fault, ErrSetBack) {
+		// Who submits here is answered.
+		s.fault = nil
+	}
 }
 
 var errNode = errors.New("sequencer: another node doesn't answer")
@@ -200,8 +211,9 @@ func (s *Sequencer) post(ctx context.Context, node string, over handedOver) (bac
 	return back, json.Unmarshal(text, &back)
 }
 
-// hand has another node take a batch, and answers those whom it answers by what the log signed. Who isn't among them waits on.
-func (s *Sequencer) hand(node string, batch []*waiting) error {
+// hand has another node take a batch, and gives the places of those whom it answers by what the log signed, by their numbers, also beside an error. Who isn't
+// among them waits on.
+func (s *Sequencer) hand(node string, batch []*waiting) (map[int]log.Place, error) {
 	ctx, cancel := context.WithTimeout(context.Background(), mostHanded)
 	defer cancel()
 	over := handedOver{}
@@ -210,27 +222,25 @@ func (s *Sequencer) hand(node string, batch []*waiting) error {
 	}
 	back, err := s.post(ctx, node, over)
 	if err != nil {
-		return err
+		return nil, err
 	}
 	if len(back.Places) != len(batch) {
-		return errNode
+		return nil, errNode
 	}
-	missing := 0
+	places := map[int]log.Place{}
 	for i, place := range back.Places {
 		if len(place.Signature) == 0 {
-			missing++
 			continue
 		}
 		if err := s.isSigned(batch[i].submission, place); err != nil {
-			return err
+			return places, err
 		}
-		s.handed.Add(1)
-		s.queue.answer(batch[i], answer{place: log.Place{LeafIndex: place.LeafIndex, Timestamp: place.Timestamp, Extensions: datatile.Extensions(place.LeafIndex), Signature: place.Signature, LogID: s.logID}})
+		places[i] = log.Place{LeafIndex: place.LeafIndex, Timestamp: place.Timestamp, Extensions: datatile.Extensions(place.LeafIndex), Signature: place.Signature, LogID: s.logID}
 	}
-	if missing > 0 {
-		return fmt.Errorf("%w: to %d of %d", errNode, missing, len(batch))
+	if missing := len(batch) - len(places); missing > 0 {
+		return places, fmt.Errorf("%w: to %d of %d", errNode, missing, len(batch))
 	}
-	return nil
+	return places, nil
 }
 
 // Handler takes what other nodes hand over, at the address that they find in the register. Whoever knows the nodes' secret has

@@ -324,7 +324,7 @@ func TestRepliesAreClosed(t *testing.T) {
 		if i == 2 {
 			atomic.StoreInt64(&status, http.StatusForbidden)
 		}
-		if err := s.hand(server.URL, []*waiting{{ctx: ctx}}); err == nil {
+		if _, err := s.hand(server.URL, []*waiting{{ctx: ctx}}); err == nil {
 			t.Error("a batch without a place is taken")
 		}
 	}
