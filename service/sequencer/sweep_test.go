@@ -131,10 +131,12 @@ func TestManyBundles(t *testing.T) {
 	for number := uint64(0); number < many; number++ {
 		add(number)
 	}
-	tender, objects := &tender{s: s}, s.config.Objects
-	s.config.Objects = undeleted{objects}
+	// (the node that goes on asks its own store meanwhile)
+	node := readingNode(s)
+	node.stepping, node.config.Objects = s.isStepping(), undeleted{s.config.Objects}
+	tender := &tender{s: node}
 	wants(t, tender.sweepBundles(ctx), errTried)
-	s.config.Objects = objects
+	tender.s = s
 	for turn, left := range []int{many - 64, many - 128, 0, 0} {
 		must(t, tender.sweepBundles(ctx))
 		names := staged(t, p)
