@@ -68,7 +68,10 @@ func said(t testing.TB, address, text string) (statuses []int) {
 	if _, err := connection.Write([]byte(text)); err != nil {
 		t.Fatal(err)
 	}
-	connection.(*net.TCPConn).CloseWrite()
+	// (who says that it closes behind an answer waits for it: to the server one that says nothing more may have gone)
+	if !strings.Contains(text, "Connection: close\r\n") {
+		connection.(*net.TCPConn).CloseWrite()
+	}
 	return answersOn(t, connection)
 }
 
