@@ -216,14 +216,10 @@ func (c *Circle) gather(ctx context.Context, least int, whole bool, signed []byt
 func (c *Circle) ask(m *member, enough <-chan struct{}, signed []byte, text string, size uint64, proof Proof) (string, error) {
 	ctx, cancel := context.WithTimeout(c.ctx, c.within)
 	defer cancel()
-	select {
-	case m.turn <- struct{}{}:
-		defer func() { <-m.turn }()
-	case <-enough:
-		return "", m.missed(fmt.Errorf("%w: %s isn't done with the head before", ErrFew, m.Name))
-	case <-ctx.Done():
-		return "", m.missed(fmt.Errorf("%w: %s isn't done with the head before: %v", ErrFew, m.Name, ctx.Err()))
+	if err := m.take(ctx, enough); err != nil {
+		return "", m.missed(err)
 	}
+	defer func() { <-m.turn }()
 	line, err := c.cosigned(ctx, m, signed, text, size, proof)
 	if err != nil {
 		return "", m.missed(err)
@@ -233,6 +229,23 @@ func (c *Circle) ask(m *member, enough <-chan struct{}, signed []byte, text stri
 	m.size = size
 	m.state = log.Witness{Name: m.Name, Cosigned: m.state.Cosigned + 1}
 	return line, nil
+}
+
+// take waits for a witness's turn. One that is free is taken at once, also where enough have cosigned by then: it is asked, too.
+func (m *member) take(ctx context.Context, enough <-chan struct{}) error {
+	select {
+	case m.turn <- struct{}{}:
+		return nil
+	default:
+	}
+	select {
+	case m.turn <- struct{}{}:
+		return nil
+	case <-enough:
+		return fmt.Errorf("%w: %s isn't done with the head before", ErrFew, m.Name)
+	case <-ctx.Done():
+		return fmt.Errorf("%w: %s isn't done with the head before: %v", ErrFew, m.Name, ctx.Err())
+	}
 }
 
 // missed keeps why a witness didn't cosign.

@@ -48,6 +48,25 @@ func TestTurnHasAnEnd(t *testing.T) {
 	}
 }
 
+// TestFreeTurnIsTaken: a witness that nobody asks is asked, also where enough others have cosigned before its turn is looked for.
+func TestFreeTurnIsTaken(t *testing.T) {
+	a := asking{headKey(t, origin), grown(t, "a", "b", "c")}
+	c, err := NewCircle([]One{{"http://127.0.0.1:1", "w.example", newKey(t).Public().(ed25519.PublicKey)}}, Quorums{Publish: 1, Start: 1}, nil)
+	must(t, err)
+	defer c.Close()
+	signed, size, proof := a.head(t, 3)
+	text, err := TextOf(signed)
+	must(t, err)
+	enough := make(chan struct{})
+	close(enough)
+	// (of two that can be chosen one is by chance)
+	for i := 0; i < 100; i++ {
+		if _, err := c.ask(c.members[0], enough, signed, text, size, proof); !errors.Is(err, ErrFew) || strings.Contains(err.Error(), "isn't done with the head before") {
+			t.Fatal(err)
+		}
+	}
+}
+
 // TestCutAnswer: an answer that breaks off says nothing: it isn't asked from a size of which only the beginning came.
 func TestCutAnswer(t *testing.T) {
 	a := asking{headKey(t, origin), grown(t, "a", "b", "c", "d", "e", "f")}
