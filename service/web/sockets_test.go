@@ -239,10 +239,10 @@ func TestSlowClients(t *testing.T) {
 			t.Fatalf("not cut off: %v", left)
 		}
 	}
-	eventually(t, "all connections are closed", func() bool { return f.front.connections.open.Load() == 0 })
-	if waiting, answers := f.front.waiting.used.Load(), f.front.answers.used.Load(); waiting != 0 || answers != 0 {
-		t.Errorf("%d and %d bytes are still counted", waiting, answers)
-	}
+	// (a connection is closed where a write on it fails, and what its request holds is given back behind that)
+	eventually(t, "all connections are closed, and no bytes are counted", func() bool {
+		return f.front.connections.open.Load() == 0 && f.front.waiting.used.Load() == 0 && f.front.answers.used.Load() == 0
+	})
 }
 
 func TestConnectionsAreBounded(t *testing.T) {
