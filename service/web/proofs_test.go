@@ -327,6 +327,6 @@ func TestPlaceForAProofIsGivenBack(t *testing.T) {
 	f.heldReader(comes)
 	f.isHeld()
 	close(comes)
-	f.front.options.Limits.Reading = trial.Longest
+	f.front.limits.Reading = trial.Longest
 	eventually(t, "a proof is made again", func() bool { return f.get("/ct/v1/get-sth-consistency?first=1&second=2").Code == 200 })
 }

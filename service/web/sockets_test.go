@@ -344,7 +344,10 @@ func TestOperatorCountsApart(t *testing.T) {
 		t.Helper()
 		connection := dial(t, address)
 		fmt.Fprintf(connection, "GET %s HTTP/1.1\r\nHost: log\r\nConnection: close\r\n\r\n", path)
-		answer, err := http.ReadResponse(bufio.NewReader(connection), nil)
+		reader := bufio.NewReader(connection)
+		answer, err := http.ReadResponse(reader, nil)
+		// (until the other side closes, by when its place is free)
+		io.Copy(io.Discard, reader)
 		connection.Close()
 		if err != nil {
 			return 0
