@@ -100,7 +100,8 @@ func TestProgram(t *testing.T) {
 func TestTimed(t *testing.T) {
 	folder := t.TempDir()
 	roots := filepath.Join(folder, "roots.pem")
-	refuses := false
+	// (what a process asked that has ended may be answered still)
+	var refuses atomic.Bool
 	server := httptest.NewServer(http.HandlerFunc(func(w http.ResponseWriter, q *http.Request) {
 		switch {
 		case q.URL.Path == "/ct/v1/get-roots":
@@ -108,7 +109,7 @@ func TestTimed(t *testing.T) {
 			for block, rest := pem.Decode(text); block != nil; block, rest = pem.Decode(rest) {
 				fmt.Fprintf(w, "%s\n", base64.StdEncoding.EncodeToString(block.Bytes))
 			}
-		case refuses:
+		case refuses.Load():
 			w.WriteHeader(http.StatusBadRequest)
 		default:
 			w.WriteHeader(http.StatusServiceUnavailable)
@@ -119,7 +120,7 @@ func TestTimed(t *testing.T) {
 	if status, out, problem := trial.Runs(t, append(words, "--for", "100ms")...); status != 0 || problem != "" || !strings.HasPrefix(out, "0 answered in ") {
 		t.Errorf("status %d, %q and %q", status, out, problem)
 	}
-	refuses = true
+	refuses.Store(true)
 	if status, _, problem := trial.Runs(t, append(words, "--for", "1h")...); status != 1 || !strings.Contains(problem, ": 400: ") {
 		t.Errorf("status %d, %q", status, problem)
 	}
