@@ -16,6 +16,8 @@ import (
 
 // publish has a tree's checkpoint at a moment be the newest.
 func (g *grown) publish(tree tlog.Tree, moment uint64) {
+	g.mu.Lock()
+	defer g.mu.Unlock()
 	g.objects["/checkpoint"] = []byte(noteOf(tree, "— "+origin+" ", blobOf(g.t, g.key, g.keyID, tree, moment)))
 }
 

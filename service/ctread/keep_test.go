@@ -15,6 +15,7 @@ import (
 	"path/filepath"
 	"sort"
 	"strings"
+	"sync"
 	"testing"
 
 	"golang.org/x/mod/sumdb/tlog"
@@ -22,11 +23,13 @@ import (
 
 // grown is a log that grows, by x/mod's tlog, over HTTP: all its objects by their paths.
 type grown struct {
-	t       *testing.T
-	key     *ecdsa.PrivateKey
-	keyID   []byte
-	hashes  stored
-	data    [][]byte
+	t      *testing.T
+	key    *ecdsa.PrivateKey
+	keyID  []byte
+	hashes stored
+	data   [][]byte
+	// mu is held while objects change, and while one is looked up: who asks may be another process.
+	mu      sync.Mutex
 	objects map[string][]byte
 }
 
@@ -35,7 +38,9 @@ func newLog(t *testing.T) (*grown, *reader) {
 	key, r := readerOf(t)
 	g := &grown{t: t, key: key, keyID: r.keyID, objects: map[string][]byte{}}
 	server := httptest.NewServer(http.HandlerFunc(func(w http.ResponseWriter, q *http.Request) {
+		g.mu.Lock()
 		content, there := g.objects[q.URL.Path]
+		g.mu.Unlock()
 		if !there {
 			http.NotFound(w, q)
 			return
@@ -67,6 +72,8 @@ func leafOf(entry []byte, text string) []byte {
 // grow has so many entries, and publishes them at a moment.
 func (g *grown) grow(size int64, moment uint64) tlog.Tree {
 	g.t.Helper()
+	g.mu.Lock()
+	defer g.mu.Unlock()
 	before := int64(len(g.data))
 	for i := before; i < size; i++ {
 		text := fmt.Sprint("entry ", i)
