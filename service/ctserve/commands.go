@@ -90,6 +90,7 @@ func runKey(words []string, answers, faults io.Writer) error {
 	if err != nil {
 		return err
 	}
+	defer key.Close()
 	public := key.Key()
 	id := sha256.Sum256(public)
 	fmt.Fprintf(answers, "log id      %s\npublic key  %s\n%s", base64.StdEncoding.EncodeToString(id[:]), base64.StdEncoding.EncodeToString(public),
@@ -237,6 +238,7 @@ func publicKey(s *settings, path string) ([]byte, error) {
 		if err != nil {
 			return nil, err
 		}
+		defer key.Close()
 		return key.Key(), nil
 	}
 	text, err := os.ReadFile(path)
@@ -288,6 +290,7 @@ func runCheck(words []string, answers, faults io.Writer) error {
 		if err == nil {
 			id := sha256.Sum256(key.Key())
 			said = "log id " + base64.StdEncoding.EncodeToString(id[:])
+			key.Close()
 		}
 		look("signing-key", said, err)
 	}
