@@ -315,20 +315,7 @@ func TestSecondSignal(t *testing.T) {
 	p.shows("ctserve_waiting_bytes 1")
 	p.signal(syscall.SIGTERM)
 	p.until("ending")
-	// (it says so before it waits for no more signals)
-	over := make(chan struct{})
-	defer close(over)
-	go func() {
-		for again := time.NewTicker(100 * time.Millisecond); ; {
-			select {
-			case <-over:
-				again.Stop()
-				return
-			case <-again.C:
-				_ = p.command.Process.Signal(syscall.SIGTERM)
-			}
-		}
-	}()
+	p.signal(syscall.SIGTERM)
 	if status := p.ends(); status != -1 {
 		t.Errorf("it ended with status %d, and not by the signal", status)
 	}

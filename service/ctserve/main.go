@@ -130,7 +130,7 @@ func serve(s *settings, lines *web.Lines, signals <-chan os.Signal, open opener)
 	if s.operator != "" {
 		servers = append(servers, &served{of: "operator", address: s.operator, handler: front.Operator()})
 	}
-	failed := make(chan error, len(servers))
+	failed, ending := make(chan error, len(servers)), os.Signal(nil)
 	for _, each := range servers {
 		if each.listener, err = net.Listen("tcp", each.address); err != nil {
 			break
@@ -155,11 +155,15 @@ func serve(s *settings, lines *web.Lines, signals <-chan os.Signal, open opener)
 		telling, stop := context.WithCancel(context.Background())
 		defer stop()
 		go front.Tell(telling, looksEvery)
-		err = wait(s, front, checker, certificate, lines, signals, failed)
+		ending, err = wait(s, front, checker, certificate, lines, signals, failed)
 	}
-	// From here on another signal ends the process.
+	// From here on another signal ends the process; that it ends is told behind that.
 	signal.Reset(syscall.SIGTERM, syscall.SIGINT)
-	return ended(s, front, of.log, servers, err)
+	front.Refuse()
+	if ending != nil {
+		lines.Info("ending", "signal", ending)
+	}
+	return ended(s, of.log, servers, err)
 }
 
 // awaitHead waits for the first head of a log, for as long as a reading may take.
@@ -197,16 +201,15 @@ func tellHead(s *settings, of log.Log, lines *web.Lines) {
 	lines.Info("serving", "origin", s.node.origin, "entries", head.TreeSize, "root_hash", hex.EncodeToString(head.RootHash[:]), "head_of", time.UnixMilli(int64(head.Timestamp)).UTC().Format(time.RFC3339))
 }
 
-// wait reloads at SIGHUP, and returns at a signal that ends, or where a server fails.
-func wait(s *settings, front *web.Front, checker *chains.Checker, certificate *web.Certificate, lines *web.Lines, signals <-chan os.Signal, failed <-chan error) error {
+// wait reloads at SIGHUP, and returns at a signal that ends, which it gives, or where a server fails.
+func wait(s *settings, front *web.Front, checker *chains.Checker, certificate *web.Certificate, lines *web.Lines, signals <-chan os.Signal, failed <-chan error) (os.Signal, error) {
 	for {
 		select {
 		case err := <-failed:
-			return err
+			return nil, err
 		case came := <-signals:
 			if came != syscall.SIGHUP {
-				lines.Info("ending", "signal", came)
-				return nil
+				return came, nil
 			}
 			reloaded := func(of string, err error, more ...any) {
 				front.Reloaded(of, err)
@@ -228,12 +231,11 @@ func wait(s *settings, front *web.Front, checker *chains.Checker, certificate *w
 	}
 }
 
-// ended takes no more, has the log publish and answer who waits, and then ends the servers, within the time for it. Reading goes
-// on until the log has ended.
-func ended(s *settings, front *web.Front, of log.Log, servers []*served, why error) error {
+// ended has the log, which takes no more, publish and answer who waits, and then ends the servers, within the time for it. Reading goes on until the log
+// has ended.
+func ended(s *settings, of log.Log, servers []*served, why error) error {
 	ctx, cancel := context.WithTimeout(context.Background(), s.endWithin)
 	defer cancel()
-	front.Refuse()
 	if err := of.End(ctx); why == nil {
 		why = err
 	}
