@@ -6,7 +6,6 @@ import (
 	"crypto/sha256"
 	"encoding/hex"
 	"errors"
-	"io/fs"
 	"os"
 	"path/filepath"
 
@@ -30,8 +29,8 @@ func (r *reader) resume(folder string) error {
 		return err
 	}
 	r.mirror = &mirror{folder, objects}
-	text, err := os.ReadFile(filepath.Join(folder, checkpointName))
-	if errors.Is(err, fs.ErrNotExist) {
+	text, err := stores.KeptFile(filepath.Join(folder, checkpointName))
+	if errors.Is(err, stores.ErrAbsent) {
 		return nil
 	}
 	if err != nil {
@@ -117,38 +116,11 @@ func (r *reader) keepHead(ctx context.Context, tree tlog.Tree, hashes tlog.HashR
 			return err
 		}
 	}
-	if err := r.mirror.replace(checkpointName, checkpoint); err != nil {
+	// (who serves the folder may be another user)
+	if err := stores.ShowFile(filepath.Join(r.mirror.folder, checkpointName), checkpoint); err != nil {
 		return err
 	}
 	return r.mirror.dropPartial(r.last.N, tree.N)
-}
-
-// replace gives a file of the folder its content: all of it, or what was there before. It is on the disk once this returns.
-func (m *mirror) replace(name string, content []byte) error {
-	file, err := os.CreateTemp(m.folder, "."+name+"-*")
-	if err != nil {
-		return err
-	}
-	defer os.Remove(file.Name())
-	_, err = file.Write(content)
-	// (who serves the folder may be another user)
-	for _, then := range []func() error{func() error { return file.Chmod(0o644) }, file.Sync, file.Close} {
-		if fault := then(); err == nil {
-			err = fault
-		}
-	}
-	if err == nil {
-		err = os.Rename(file.Name(), filepath.Join(m.folder, name))
-	}
-	if err != nil {
-		return err
-	}
-	folder, err := os.Open(m.folder)
-	if err != nil {
-		return err
-	}
-	defer folder.Close()
-	return folder.Sync()
 }
 
 // dropPartial takes the partial tiles of a tree away whose full ones a larger tree has: readers take those (C2SP static-ct-api).

@@ -16,9 +16,12 @@ import (
 	"sort"
 	"strings"
 	"sync"
+	"syscall"
 	"testing"
 
 	"golang.org/x/mod/sumdb/tlog"
+
+	"wagtenib/service/trial"
 )
 
 // grown is a log that grows, by x/mod's tlog, over HTTP: all its objects by their paths.
@@ -322,7 +325,7 @@ func TestMirrorOfAnother(t *testing.T) {
 	if err := r.follow(context.Background()); err == nil || errors.Is(err, errWrong) || r.last.N != 0 {
 		t.Errorf("a checkpoint that can't be written: %v, %d", err, r.last.N)
 	}
-	if left, _ := filepath.Glob(filepath.Join(r.mirror.folder, ".checkpoint-*")); len(left) != 0 {
+	if left, _ := filepath.Glob(filepath.Join(r.mirror.folder, "checkpoint.writing-*")); len(left) != 0 {
 		t.Errorf("half of it is left: %v", left)
 	}
 	// As long as one isn't written the tiles of the one before stay.
@@ -339,6 +342,54 @@ func TestMirrorOfAnother(t *testing.T) {
 	for _, name := range []string{"tile/data/000.p/5", "tile/0/000.p/5"} {
 		if _, err := os.Stat(filepath.Join(r.mirror.folder, name)); err != nil {
 			t.Errorf("no checkpoint is written yet, and %s went: %v", name, err)
+		}
+	}
+}
+
+// TestCheckpointThatIsCutShort: where the disk takes half of a checkpoint, the one before stays, and is gone on from.
+func TestCheckpointThatIsCutShort(t *testing.T) {
+	g, r := newLog(t)
+	g.grow(1, 7)
+	must(t, r.resume(t.TempDir()))
+	must(t, r.follow(context.Background()))
+	before := g.objects["/checkpoint"]
+	g.grow(1, 8)
+	// (nothing else of a log of one entry is as long)
+	err := trial.ShortFiles(t, uint64(len(before)-20), func() error { return r.follow(context.Background()) })
+	if !errors.Is(err, syscall.EFBIG) || r.moment != 7 {
+		t.Errorf("%v, and the last moment is %d", err, r.moment)
+	}
+	kept := func(want []byte) {
+		t.Helper()
+		if content, err := os.ReadFile(filepath.Join(r.mirror.folder, "checkpoint")); err != nil || !bytes.Equal(content, want) {
+			t.Errorf("%q is kept, %v", content, err)
+		}
+	}
+	kept(before)
+	must(t, r.follow(context.Background()))
+	kept(g.objects["/checkpoint"])
+}
+
+// TestPartialTilesThatStay: where a partial tile can't be taken away, of entries or of hashes, that is told, and what was read counts as read once it can.
+func TestPartialTilesThatStay(t *testing.T) {
+	for _, in := range []string{"tile/data", "tile/0"} {
+		g, r := newLog(t)
+		g.grow(5, 7)
+		must(t, r.resume(t.TempDir()))
+		must(t, r.follow(context.Background()))
+		g.grow(300, 8)
+		// (a folder in which a file stands in the partial tile's way; the tiles go elsewhere)
+		folder := r.mirror.folder
+		r.mirror.folder = t.TempDir()
+		must(t, os.MkdirAll(filepath.Join(r.mirror.folder, "tile"), 0o700))
+		must(t, os.WriteFile(filepath.Join(r.mirror.folder, in), nil, 0o600))
+		if err := r.follow(context.Background()); !errors.Is(err, syscall.ENOTDIR) || r.last.N != 5 {
+			t.Errorf("%s: %v, and %d are read", in, err, r.last.N)
+		}
+		r.mirror.folder = folder
+		must(t, r.follow(context.Background()))
+		if _, err := os.Stat(filepath.Join(folder, in, "000.p")); !errors.Is(err, os.ErrNotExist) || r.last.N != 300 {
+			t.Errorf("%s: %v, and %d are read", in, err, r.last.N)
 		}
 	}
 }

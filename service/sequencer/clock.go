@@ -4,7 +4,6 @@ import (
 	"context"
 	"errors"
 	"fmt"
-	"os"
 	"sort"
 	"strings"
 	"sync"
@@ -280,11 +279,8 @@ func NameDay(path, day string, now time.Time) error {
 	if !isOn(named, now) {
 		return fmt.Errorf("%w: this machine's clock says %s: set it right first", log.ErrClock, now.UTC().Format(time.RFC3339))
 	}
-	if err := stores.KeepFile(path, []byte(day+"\n")); err != nil {
-		return err
-	}
 	// (a node may run as another user than who names the day)
-	return os.Chmod(path, 0o644)
+	return stores.ShowFile(path, []byte(day+"\n"))
 }
 
 // readDay reads the day that NameDay kept; ErrAbsent where there is none.

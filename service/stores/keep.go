@@ -14,15 +14,25 @@ const MostKept = 4 << 10
 
 // KeepFile gives a file of this machine's own another content: all of it, or what stood there before. It is on the disk once this returns. The
 // folder has to be there.
-func KeepFile(path string, content []byte) (err error) {
+func KeepFile(path string, content []byte) error {
 	if len(content) > MostKept {
 		return fmt.Errorf("%w: %d bytes for %s", ErrTooLong, len(content), path)
 	}
+	return keepFile(path, content, 0o600)
+}
+
+// ShowFile is KeepFile of a file, of any length, that other users read.
+func ShowFile(path string, content []byte) error { return keepFile(path, content, 0o644) }
+
+func keepFile(path string, content []byte, mode fs.FileMode) error {
 	file, err := os.CreateTemp(filepath.Dir(path), filepath.Base(path)+halfKept+"*")
 	if err != nil {
 		return fmt.Errorf("stores: keep: %w", err)
 	}
 	_, err = file.Write(content)
+	if err == nil {
+		err = file.Chmod(mode)
+	}
 	if err == nil {
 		err = fsync(file)
 	}
@@ -39,10 +49,10 @@ func KeepFile(path string, content []byte) (err error) {
 	return syncFolder(filepath.Dir(path))
 }
 
-// halfKept stands in the names of files that KeepFile hasn't given their own yet.
+// halfKept stands in the names of files that KeepFile and ShowFile haven't given their own yet.
 const halfKept = ".writing-"
 
-// KeptFile reads what KeepFile wrote; ErrAbsent where there is no such file. It takes away what killed writers left beside it.
+// KeptFile reads what KeepFile or ShowFile wrote; ErrAbsent where there is no such file. It takes away what killed writers left beside it.
 func KeptFile(path string) ([]byte, error) {
 	left, err := filepath.Glob(path + halfKept + "*")
 	for _, half := range left {

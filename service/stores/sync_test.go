@@ -6,8 +6,11 @@ import (
 	"path/filepath"
 	"reflect"
 	"strings"
+	"syscall"
 	"testing"
 	"time"
+
+	"wagtenib/service/trial"
 )
 
 // syncs are the paths that are written to the disk while a call is made, below a root, in their order. A file that isn't named
@@ -173,4 +176,25 @@ func TestKeptFile(t *testing.T) {
 	if names, err := filepath.Glob(path + "*"); err != nil || !reflect.DeepEqual(names, []string{path, writes}) {
 		t.Errorf("%v, %v", names, err)
 	}
+}
+
+// TestFileThatIsCutShort: where the disk takes half of a content, the one before stays, and nothing is left of the half. Who may read it is as before.
+func TestFileThatIsCutShort(t *testing.T) {
+	path := filepath.Join(t.TempDir(), "kept")
+	for mode, keep := range map[os.FileMode]func(string, []byte) error{0o600: KeepFile, 0o644: ShowFile} {
+		must(t, keep(path, []byte("before")))
+		err := trial.ShortFiles(t, 100, func() error { return keep(path, make([]byte, 200)) })
+		if !errors.Is(err, syscall.EFBIG) {
+			t.Errorf("%v: %v", mode, err)
+		}
+		if content, err := KeptFile(path); err != nil || string(content) != "before" {
+			t.Errorf("%v: %q, %v", mode, content, err)
+		}
+		info, err := os.Stat(path)
+		must(t, err)
+		if names, err := filepath.Glob(path + "*"); err != nil || len(names) != 1 || info.Mode() != mode {
+			t.Errorf("%v: %v, and %v, %v", mode, info.Mode(), names, err)
+		}
+	}
+	must(t, ShowFile(path, make([]byte, MostKept+1)))
 }

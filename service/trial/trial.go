@@ -9,6 +9,7 @@ import (
 	"net"
 	"os"
 	"strings"
+	"syscall"
 	"testing"
 	"time"
 )
@@ -39,6 +40,18 @@ func Limited(t testing.TB, most time.Duration) context.Context {
 	ctx, cancel := context.WithTimeout(context.Background(), most)
 	t.Cleanup(cancel)
 	return ctx
+}
+
+// ShortFiles does something while no file of this process gets longer than so many bytes: what is written beyond fails, as on a full disk. No other test
+// runs beside it.
+func ShortFiles(t testing.TB, most uint64, do func() error) error {
+	t.Helper()
+	var before syscall.Rlimit
+	Must(t, syscall.Getrlimit(syscall.RLIMIT_FSIZE, &before))
+	Must(t, syscall.Setrlimit(syscall.RLIMIT_FSIZE, &syscall.Rlimit{Cur: most, Max: before.Max}))
+	failed := do()
+	Must(t, syscall.Setrlimit(syscall.RLIMIT_FSIZE, &before))
+	return failed
 }
 
 // Page gives the text of a page on one line.
