@@ -21,6 +21,7 @@ import (
 
 	"golang.org/x/mod/sumdb/tlog"
 
+	"wagtenib/service/stores"
 	"wagtenib/service/trial"
 )
 
@@ -368,6 +369,58 @@ func TestCheckpointThatIsCutShort(t *testing.T) {
 	kept(before)
 	must(t, r.follow(context.Background()))
 	kept(g.objects["/checkpoint"])
+}
+
+// failing is a store that fails at one call of what begins so.
+type failing struct {
+	stores.Objects
+	gets, puts string
+}
+
+var errStore = errors.New("the store fails")
+
+func (f failing) Get(ctx context.Context, name string, most int64) ([]byte, error) {
+	if f.gets != "" && strings.HasPrefix(name, f.gets) {
+		return nil, errStore
+	}
+	return f.Objects.Get(ctx, name, most)
+}
+
+func (f failing) Put(ctx context.Context, name string, content []byte) error {
+	if f.puts != "" && strings.HasPrefix(name, f.puts) {
+		return errStore
+	}
+	return f.Objects.Put(ctx, name, content)
+}
+
+// TestFolderThatFails: where one object isn't read or put, that is told, no checkpoint is written, and nothing is wrong; behind it what lacked is kept.
+func TestFolderThatFails(t *testing.T) {
+	for _, of := range []failing{{gets: "issuer/"}, {gets: "tile/data/"}, {puts: "issuer/"}, {puts: "tile/data/"}, {puts: "tile/0/"}, {puts: "tile/1/"}} {
+		g, r := newLog(t)
+		g.grow(5, 7)
+		must(t, r.resume(t.TempDir()))
+		must(t, r.follow(context.Background()))
+		fingerprint := sha256.Sum256(issuerOf(1))
+		must(t, os.Remove(filepath.Join(r.mirror.folder, "issuer", hex.EncodeToString(fingerprint[:]))))
+		g.grow(300, 8)
+		folder := r.mirror.objects
+		r.mirror.objects = failing{folder, of.gets, of.puts}
+		before, err := os.ReadFile(filepath.Join(r.mirror.folder, "checkpoint"))
+		must(t, err)
+		if err := r.follow(context.Background()); !errors.Is(err, errStore) || errors.Is(err, errWrong) || r.last.N != 5 {
+			t.Errorf("%+v: %v, and %d are read", of, err, r.last.N)
+		}
+		if kept, err := os.ReadFile(filepath.Join(r.mirror.folder, "checkpoint")); err != nil || !bytes.Equal(kept, before) {
+			t.Errorf("%+v: %q is kept, %v", of, kept, err)
+		}
+		r.mirror.objects = folder
+		must(t, r.follow(context.Background()))
+		for _, name := range []string{"tile/data/001.p/44", "tile/0/001.p/44", "tile/1/000.p/1", "issuer/" + hex.EncodeToString(fingerprint[:])} {
+			if _, err := os.Stat(filepath.Join(r.mirror.folder, name)); err != nil {
+				t.Errorf("%+v: %v", of, err)
+			}
+		}
+	}
 }
 
 // TestPartialTilesThatStay: where a partial tile can't be taken away, of entries or of hashes, that is told, and what was read counts as read once it can.
