@@ -242,6 +242,29 @@ func TestWaiting(t *testing.T) {
 	}
 }
 
+// TestClientCloses: a process ends with the client that asks it, and the next exchange starts another one.
+func TestClientCloses(t *testing.T) {
+	t.Parallel()
+	c := NewClient(func(context.Context) (*End, error) {
+		return Start([]string{"sh", "-c", "while read -r x; do echo $$; done"}, 100)
+	}, trial.Longest)
+	for i := 0; i < 2; i++ {
+		replies, err := c.Exchange(limited(t), []byte("x\n"), 1)
+		must(t, err)
+		pid, err := strconv.Atoi(string(replies[0]))
+		must(t, err)
+		must(t, c.Close())
+		if alive(pid) {
+			_ = syscall.Kill(pid, syscall.SIGKILL)
+			t.Errorf("process %d goes on", pid)
+		}
+	}
+	must(t, c.Close())
+	if c.Opens() != 2 {
+		t.Errorf("opened %d times", c.Opens())
+	}
+}
+
 // TestOwnGroup: what a terminal sends to this process's group doesn't reach the other end.
 func TestOwnGroup(t *testing.T) {
 	t.Parallel()

@@ -4,11 +4,14 @@ import (
 	"bytes"
 	"encoding/base64"
 	"encoding/json"
+	"errors"
 	"os"
 	"path/filepath"
 	"strings"
 	"testing"
 	"time"
+
+	"wagtenib/service/trial"
 )
 
 // TestStepIsWritten: a step's line is what encoding/json makes of the same.
@@ -69,6 +72,34 @@ func TestStepAsks(t *testing.T) {
 	}
 	if _, err := c.Step(ctx, lineOf(1, 2), nil, nil, 3, 4); err != Full {
 		t.Error(err)
+	}
+}
+
+// TestSentLineIsKept: the memory of a line is used again once it was replied to, and never where it wasn't: it may still be written then. What was replied isn't it.
+func TestSentLineIsKept(t *testing.T) {
+	ctx := within(t)
+	gone := client(t, time.Minute, "/nowhere/is")
+	for i := 0; i < 20; i++ {
+		if _, err := gone.Step(ctx, lineOf(1, 2), nil, nil, 3, 4); !errors.Is(err, ErrProcess) {
+			t.Fatal(err)
+		}
+	}
+	for i := 0; i < 20; i++ {
+		if kept := gone.spare.Get(); kept != nil {
+			t.Fatalf("%.20q is kept", *kept.(*[]byte))
+		}
+	}
+	c := client(t, trial.Longest, script(t, `while read -r x; do echo '{"refused":"full"}'; done`)...)
+	// (a pool may drop what it is given)
+	var kept any
+	for kept == nil {
+		if _, err := c.Step(ctx, lineOf(1, 2), nil, nil, 3, 4); err != Full {
+			t.Fatal(err)
+		}
+		kept = c.spare.Get()
+	}
+	if line := *kept.(*[]byte); !strings.HasPrefix(string(line), `{"batch":[]`) {
+		t.Errorf("%q is kept", line)
 	}
 }
 

@@ -207,6 +207,7 @@ func TestReceipts(t *testing.T) {
 		"one too many":           func(r []Receipt) []Receipt { return append(r, r[4]) },
 		"one of the log before":  func(r []Receipt) []Receipt { r[2].LeafIndex = 0; return r },
 		"one behind the entries": func(r []Receipt) []Receipt { r[4].LeafIndex = 4; return r },
+		"one farther behind":     func(r []Receipt) []Receipt { r[4].LeafIndex = 5; return r },
 		"one out of turn":        func(r []Receipt) []Receipt { r[1], r[3] = r[3], r[1]; return r },
 		"an entry without one":   func(r []Receipt) []Receipt { r[3] = r[4]; return r },
 		"of another moment":      func(r []Receipt) []Receipt { r[0].Timestamp++; return r },
