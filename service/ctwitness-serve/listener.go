@@ -14,6 +14,15 @@ type bounded struct {
 	room chan struct{}
 }
 
+// clientsAt listens for logs, with so many connections as a witness has at once.
+func clientsAt(address string) (net.Listener, error) {
+	clients, err := net.Listen("tcp", address)
+	if err != nil {
+		return nil, err
+	}
+	return bounded{clients, make(chan struct{}, mostConnections)}, nil
+}
+
 func (b bounded) Accept() (net.Conn, error) {
 	b.room <- struct{}{}
 	connection, err := b.Listener.Accept()

@@ -1,6 +1,7 @@
 package main
 
 import (
+	"context"
 	"errors"
 	"io"
 	"net"
@@ -8,13 +9,16 @@ import (
 	"net/http/httptest"
 	"os"
 	"runtime"
+	"strconv"
 	"strings"
 	"sync/atomic"
 	"syscall"
 	"testing"
 	"time"
 
+	"wagtenib/service/stores"
 	"wagtenib/service/trial"
+	"wagtenib/service/web"
 )
 
 // listening gives a connection each time that it is asked, or fails.
@@ -92,9 +96,119 @@ func TestBounded(t *testing.T) {
 	}
 }
 
-// TestServerOf: each part of a request has its time, and its headers their bound.
+// TestClientsAt: who listens for logs has a bound.
+func TestClientsAt(t *testing.T) {
+	listener, err := clientsAt("127.0.0.1:0")
+	must(t, err)
+	defer listener.Close()
+	if of, is := listener.(bounded); !is || cap(of.room) != mostConnections {
+		t.Errorf("%T", listener)
+	}
+	if _, err := clientsAt(listener.Addr().String()); err == nil {
+		t.Error("an address is listened at twice")
+	}
+}
+
+// TestListenerThatFails: a listener that fails ends it, with why.
+func TestListenerThatFails(t *testing.T) {
+	fails, failed := errors.New("no connection comes any more"), make(chan error, 1)
+	failed <- fails
+	if err := (&running{}).wait(&settings{}, web.NewLines(io.Discard), nil, failed); !errors.Is(err, fails) {
+		t.Error(err)
+	}
+}
+
+// closing is a register that counts how often it is closed.
+type closing struct {
+	stores.Register
+	closed int
+}
+
+func (c *closing) Close() error {
+	c.closed++
+	return c.Register.Close()
+}
+
+// TestOpenedOnce: a log's state is opened once, however often the logs are taken up, and closed at the end.
+func TestOpenedOnce(t *testing.T) {
+	ctx := trial.Limited(t, trial.Longest)
+	p, _ := ofOneLog(t)
+	s, err := parse(p.words(), io.Discard)
+	must(t, err)
+	w, err := open(s, web.NewLines(io.Discard))
+	must(t, err)
+	must(t, w.takeUp(s))
+	of, found := s.log("a.example")
+	if w.registers["a.example"] == nil || !found {
+		t.Fatal("it isn't open")
+	}
+	only := &closing{Register: w.registers["a.example"]}
+	w.registers["a.example"] = only
+	must(t, w.takeUp(s))
+	log, err := w.log(ctx, s, of)
+	must(t, err)
+	if log.State != only || w.registers["a.example"] != only {
+		t.Errorf("%T is opened beside it", log.State)
+	}
+	if w.close(); only.closed != 1 {
+		t.Errorf("closed %d times", only.closed)
+	}
+}
+
+// TestProgramEnds: the program that decides ends with the witness.
+func TestProgramEnds(t *testing.T) {
+	p, ofA := ofOneLog(t)
+	p.write("program.sh", "echo $$ >"+p.path("pid")+"; exec "+p.program())
+	one := p.started(p.words("--program", "sh "+p.path("program.sh"))...)
+	one.wants(200, ofA(3))
+	if status := one.ends(); status != 0 {
+		t.Errorf("the end: status %d", status)
+	}
+	text, err := os.ReadFile(p.path("pid"))
+	must(t, err)
+	pid, err := strconv.Atoi(strings.TrimSpace(string(text)))
+	must(t, err)
+	if err := syscall.Kill(pid, 0); !errors.Is(err, syscall.ESRCH) {
+		_ = syscall.Kill(pid, syscall.SIGKILL)
+		t.Errorf("process %d goes on: %v", pid, err)
+	}
+}
+
+// standing is a register that gives no answer.
+type standing struct{ stores.Register }
+
+func (standing) Read(ctx context.Context) (string, error) {
+	<-ctx.Done()
+	return "", ctx.Err()
+}
+
+func (standing) Create(ctx context.Context, _ string) error {
+	<-ctx.Done()
+	return ctx.Err()
+}
+
+// TestOpenWithin: states that give no answer are waited for as long as is said, where they are made and where they are taken up.
+func TestOpenWithin(t *testing.T) {
+	p, _ := ofOneLog(t)
+	s, err := parse(p.words("--open-within", "10ms", "--create", "a.example"), io.Discard)
+	must(t, err)
+	w, err := open(s, web.NewLines(io.Discard))
+	must(t, err)
+	w.registers["a.example"] = standing{}
+	for what, opens := range map[string]func() error{"takes up": func() error { return w.takeUp(s) }, "makes": func() error { return w.create(s, web.NewLines(io.Discard)) }} {
+		if err := opens(); !errors.Is(err, context.DeadlineExceeded) {
+			t.Errorf("it %s: %v", what, err)
+		}
+	}
+}
+
+// TestServerOf: each part of a request has its time, and its headers their bound; what net/http tells comes as a line.
 func TestServerOf(t *testing.T) {
-	s := serverOf(http.NotFoundHandler())
+	var told strings.Builder
+	s := serverOf(http.NotFoundHandler(), web.NewLines(&told))
+	if s.ErrorLog.Print("a handler that fails"); !strings.Contains(told.String(), "a handler that fails") {
+		t.Errorf("%q is told", told.String())
+	}
 	for what, time := range map[string]time.Duration{"headers": s.ReadHeaderTimeout, "a request": s.ReadTimeout, "an answer": s.WriteTimeout, "the next request": s.IdleTimeout} {
 		if time <= 0 || time > 60_000_000_000 {
 			t.Errorf("%s may take %v", what, time)
@@ -129,6 +243,15 @@ func ofOneLog(t *testing.T) (p place, signed func(size int) []byte) {
 	return p, signed
 }
 
+// program is the command of the settings that decides.
+func (p place) program() string {
+	text, err := os.ReadFile(p.path("settings"))
+	must(p.t, err)
+	_, program, _ := strings.Cut(string(text), "\nprogram ")
+	program, _, _ = strings.Cut(program, "\n")
+	return program
+}
+
 // isAsked waits until the program has written its file asked.
 func (p place) isAsked() {
 	p.t.Helper()
@@ -143,11 +266,7 @@ func (p place) isAsked() {
 func TestEndAnswers(t *testing.T) {
 	p, ofA := ofOneLog(t)
 	// (a program that says that it is asked, and goes on once it may)
-	text, err := os.ReadFile(p.path("settings"))
-	must(t, err)
-	_, program, _ := strings.Cut(string(text), "\nprogram ")
-	program, _, _ = strings.Cut(program, "\n")
-	script := "read -r line; : >" + p.path("asked") + "; while [ ! -e " + p.path("go") + " ]; do sleep 0.01; done; (printf '%s\\n' \"$line\"; cat) | exec " + program
+	script := "read -r line; : >" + p.path("asked") + "; while [ ! -e " + p.path("go") + " ]; do sleep 0.01; done; (printf '%s\\n' \"$line\"; cat) | exec " + p.program()
 	p.write("program.sh", script)
 	one := p.started(p.words("--program", "sh "+p.path("program.sh"))...)
 	answered := make(chan int, 1)
@@ -184,6 +303,7 @@ func TestEndIsLate(t *testing.T) {
 		came, err := http.Post(one.at["clients"]+"/add-checkpoint", "text/plain", strings.NewReader("old 0\n\n"+string(ofA(3))))
 		if err == nil {
 			came.Body.Close()
+			t.Errorf("who waits is answered %s", came.Status)
 		}
 	}()
 	p.isAsked()

@@ -161,12 +161,12 @@ func (w *running) serve(s *settings, lines *web.Lines, signals <-chan os.Signal)
 	if err := w.takeUp(s); err != nil {
 		return err
 	}
-	clients, err := net.Listen("tcp", s.listen)
+	clients, err := clientsAt(s.listen)
 	if err != nil {
 		return err
 	}
 	defer clients.Close()
-	servers, listeners := []*http.Server{serverOf(w.server)}, []net.Listener{bounded{clients, make(chan struct{}, mostConnections)}}
+	servers, listeners := []*http.Server{serverOf(w.server, lines)}, []net.Listener{clients}
 	lines.Info("listening", "for", "clients", "address", clients.Addr())
 	if s.operator != "" {
 		operator, err := net.Listen("tcp", s.operator)
@@ -174,12 +174,11 @@ func (w *running) serve(s *settings, lines *web.Lines, signals <-chan os.Signal)
 			return err
 		}
 		defer operator.Close()
-		servers, listeners = append(servers, serverOf(w.server.Operator())), append(listeners, operator)
+		servers, listeners = append(servers, serverOf(w.server.Operator(), lines)), append(listeners, operator)
 		lines.Info("listening", "for", "operator", "address", operator.Addr())
 	}
 	failed := make(chan error, len(servers))
 	for i := range servers {
-		servers[i].ErrorLog = logOf(lines)
 		go func(i int) { failed <- servers[i].Serve(listeners[i]) }(i)
 	}
 	lines.Info("serving", "name", s.name, "logs", len(s.logs), "verifier-key", w.server.VerifierKey())
@@ -225,9 +224,9 @@ func (w *running) wait(s *settings, lines *web.Lines, signals <-chan os.Signal, 
 	}
 }
 
-func serverOf(handler http.Handler) *http.Server {
+func serverOf(handler http.Handler, lines *web.Lines) *http.Server {
 	return &http.Server{
 		Handler: handler, ReadHeaderTimeout: 10 * time.Second, ReadTimeout: 20 * time.Second, WriteTimeout: time.Minute,
-		IdleTimeout: time.Minute, MaxHeaderBytes: mostHeader,
+		IdleTimeout: time.Minute, MaxHeaderBytes: mostHeader, ErrorLog: logOf(lines),
 	}
 }
