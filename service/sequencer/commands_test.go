@@ -141,13 +141,95 @@ func TestBundleOfAPastState(t *testing.T) {
 	if told, err := other.doLook(ctx, &turn{k: past, command: past.look}); told != nil || err != nil {
 		t.Errorf("%v, %v", told, err)
 	}
-	other.newest = s.newestKnown()
+	// (it is read once before the bundle, and once behind it)
+	well := other.config.Register
+	other.newest, other.config.Register = past, &failsAt{Register: well, at: 2}
+	_, err := other.doLook(ctx, &turn{k: past, command: past.look})
+	wants(t, err, errUnwell)
+	other.newest, other.config.Register = s.newestKnown(), well
 	now := other.newest
 	now.seen = past.seen
 	must(t, os.Remove(filepath.Join(p.objects(), headName(now.state))))
 	must(t, os.RemoveAll(filepath.Join(p.objects(), now.look.Seen.Bundle)))
-	_, err := other.doLook(ctx, &turn{k: now, command: now.look})
+	_, err = other.doLook(ctx, &turn{k: now, command: now.look})
 	wants(t, err, ErrDamaged)
+}
+
+// failsAt is a register one reading of whose text fails, by its number.
+type failsAt struct {
+	stores.Register
+	reads, at int64
+}
+
+func (f *failsAt) Read(ctx context.Context) (string, error) {
+	if atomic.AddInt64(&f.reads, 1) == f.at {
+		return "", errUnwell
+	}
+	return f.Register.Read(ctx)
+}
+
+// passing is a store of which the log goes on when an object is looked for.
+type passing struct {
+	stores.Objects
+	name   string
+	others func()
+}
+
+func (p passing) Get(ctx context.Context, name string, most int64) ([]byte, error) {
+	if name == p.name {
+		p.others()
+	}
+	return p.Objects.Get(ctx, name, most)
+}
+
+// TestPastBehindItsBundle: where the log goes on, and a state's head and bundle go, while they are looked for, nothing is damaged: the next round looks again.
+func TestPastBehindItsBundle(t *testing.T) {
+	t.Parallel()
+	p, ctx, got, s := begun(t, 5, 5)
+	k := s.newestKnown()
+	k.seen = time.Now().Add(-2 * helpsAfter)
+	must(t, os.Remove(filepath.Join(p.objects(), headName(k.state))))
+	other := readingNode(s)
+	other.newest, other.heard = k, time.Now()
+	other.config.Objects = passing{other.config.Objects, k.look.Seen.Bundle, func() {
+		must(t, os.RemoveAll(filepath.Join(p.objects(), k.look.Seen.Bundle)))
+		must(t, got.submitAll(ctx, s, 5, 6, 1))
+	}}
+	if told, err := other.doLook(ctx, &turn{k: k, command: k.look}); told != nil || err != nil {
+		t.Errorf("%v, %v", told, err)
+	}
+}
+
+// TestHelpsNoSecondHistory: the bundle of a state that is behind what this node saw isn't rolled out.
+func TestHelpsNoSecondHistory(t *testing.T) {
+	t.Parallel()
+	p, ctx := newPlace(t), limited(t)
+	var holds atomic.Bool
+	held, release := make(chan struct{}), make(chan struct{})
+	s := started(t, p.config(t), hooks{phase: func(name string) {
+		if name == "swapped" && holds.CompareAndSwap(true, false) {
+			close(held)
+			<-release
+		}
+	}})
+	got := &answers{}
+	must(t, got.submitAll(ctx, s, 0, 5, 5))
+	holds.Store(true)
+	done := make(chan error, 1)
+	go func() { done <- got.submitAll(ctx, s, 5, 6, 1) }()
+	<-held
+	other := readingNode(s)
+	other.heard = time.Now()
+	k, err := other.learn(ctx)
+	must(t, err)
+	k.seen = time.Now().Add(-2 * helpsAfter)
+	other.saw = known{line: "another", state: step.State{Size: k.state.Size + 1, Moment: k.state.Moment + 1}}
+	if told, err := other.doLook(ctx, &turn{k: k, command: k.look}); !errors.Is(err, ErrSetBack) || other.helped.Load() != 0 {
+		t.Errorf("%v, %v", told, err)
+	}
+	close(release)
+	must(t, <-done)
+	p.right(t, got)
 }
 
 // overtaken is a register behind whose first swap others go on, before who swapped reads it again.

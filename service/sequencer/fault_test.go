@@ -83,6 +83,21 @@ func (r *silentReads) Read(ctx context.Context) (string, error) {
 	return r.Register.Read(ctx)
 }
 
+// TestBackoff: rounds that fail are twice as far apart each time, up to a bound.
+func TestBackoff(t *testing.T) {
+	apart := leastApart
+	for i := 0; i < 40; i++ {
+		next := longerBackoff(apart)
+		if next != 2*apart && next != mostBackoff || next > mostBackoff || next < apart {
+			t.Fatalf("behind %v comes %v", apart, next)
+		}
+		apart = next
+	}
+	if apart != mostBackoff {
+		t.Errorf("it ends at %v", apart)
+	}
+}
+
 // TestRoundsThatFailInARow: behind each of them the next one waits at least twice as long as behind the one before.
 func TestRoundsThatFailInARow(t *testing.T) {
 	t.Parallel()

@@ -10,8 +10,11 @@ import (
 	"net/http/httptest"
 	"os"
 	"path/filepath"
+	"runtime"
 	"sort"
 	"strings"
+	"sync"
+	"sync/atomic"
 	"testing"
 	"time"
 
@@ -51,30 +54,51 @@ func TestWhatIsntPutIsntPutRight(t *testing.T) {
 	}
 }
 
-// TestRestoreThatFails: a state counts as whole again neither where an object of it can't be put, nor where the register isn't read.
+// TestRestoreThatFails: a state counts as whole again neither where an object of it or its head can't be put, nor where the register isn't read, nor where it is behind
+// what this node saw. What was remembered of its edge isn't believed.
 func TestRestoreThatFails(t *testing.T) {
 	t.Parallel()
 	p, ctx, _, s := begun(t, 5, 5)
 	k := s.newestKnown()
-	must(t, os.Remove(filepath.Join(p.objects(), "tile/0/000.p/5")))
+	const tile = "tile/0/000.p/5"
 	for what, of := range map[string]struct {
 		unwell func(*Config)
+		saw    known
 		err    error
 	}{
-		"a tile isn't put":        {func(c *Config) { refusesPuts(c, tilesPrefix) }, errTried},
-		"the register isn't read": {func(c *Config) { c.Register = &unwellRegister{Register: c.Register, reads: true} }, errUnwell},
+		"a tile isn't put":        {func(c *Config) { refusesPuts(c, tilesPrefix) }, k, errTried},
+		"the head isn't put":      {func(c *Config) { refusesPuts(c, headsPrefix) }, k, errTried},
+		"the register isn't read": {func(c *Config) { c.Register = &unwellRegister{Register: c.Register, reads: true} }, k, errUnwell},
+		"it is behind another":    {func(*Config) {}, known{line: "another", state: step.State{Size: 6, Moment: k.state.Moment + 1}}, ErrSetBack},
 	} {
+		for _, name := range []string{tile, headName(k.state)} {
+			must(t, os.RemoveAll(filepath.Join(p.objects(), name)))
+		}
 		node := readingNode(s)
-		node.newest, node.heard = k, time.Now()
+		node.newest, node.heard, node.saw = k, time.Now(), of.saw
 		of.unwell(&node.config)
 		if head, err := node.restore(ctx, k); !errors.Is(err, of.err) {
 			t.Errorf("%s: a head of %d entries, %v", what, head.TreeSize, err)
 		}
 	}
+	must(t, os.RemoveAll(filepath.Join(p.objects(), tile)))
 	node := readingNode(s)
-	node.newest, node.heard = k, time.Now()
-	if head, err := node.restore(ctx, k); err != nil || head.TreeSize != 5 || node.mended != 1 {
-		t.Errorf("a head of %d entries, %v, and %d objects were made again", head.TreeSize, err, node.mended)
+	node.newest, node.heard, node.edge = k, time.Now(), map[string][]byte{tile: []byte("another content")}
+	if head, err := node.restore(ctx, k); err != nil || head.TreeSize != 5 || node.mended != 2 || len(node.edge) != 0 {
+		t.Errorf("a head of %d entries, %v, and %d objects were made again; %d are remembered", head.TreeSize, err, node.mended, len(node.edge))
+	}
+}
+
+// TestRoundBeginsAnew: what the round before left to be done, decided and put counts no more in one that fails at once.
+func TestRoundBeginsAnew(t *testing.T) {
+	t.Parallel()
+	_, ctx, _, s := begun(t, 1, 1)
+	node := readingNode(s)
+	node.config.Register = &unwellRegister{Register: node.config.Register, reads: true}
+	node.later, node.wrote, node.written = true, true, 1<<20
+	wants(t, node.round(ctx), errUnwell)
+	if node.later || node.wrote || node.written != 0 {
+		t.Errorf("%v, %v, %d bytes", node.later, node.wrote, node.written)
 	}
 }
 
@@ -187,6 +211,31 @@ func firstOf(t *testing.T, got *answers) timestamp {
 	return timestamp{0, of.Timestamp, messageOf(submission, 0, of.Timestamp)}
 }
 
+// TestSignerThatMoved: a refusal counts as of a signer that let another head through where its last one is another by now, be it its first; not so another fault.
+func TestSignerThatMoved(t *testing.T) {
+	t.Parallel()
+	_, ctx, _, s := begun(t, 5, 5)
+	last, err := s.config.Signer.Last(ctx)
+	must(t, err)
+	before := *last
+	before.Moment--
+	for what, of := range map[string]struct {
+		last  *signer.Head
+		why   error
+		moved bool
+	}{
+		"its first head":       {nil, signer.Refusal{Name: "older"}, true},
+		"another head":         {&before, signer.Refusal{Name: "older"}, true},
+		"the same head":        {last, signer.Refusal{Name: "older"}, false},
+		"it says so":           {last, signer.ErrMoved, true},
+		"a fault of something": {nil, errUnwell, false},
+	} {
+		if moved := readingNode(s).moved(ctx, of.last, of.why); moved != of.moved {
+			t.Errorf("%s: %v", what, moved)
+		}
+	}
+}
+
 // TestEntryBeyondTheLastHead: an entry that isn't in the signer's last head yet has no path there, which is told as a refusal.
 func TestEntryBeyondTheLastHead(t *testing.T) {
 	t.Parallel()
@@ -238,6 +287,15 @@ func TestMoreHeadsThanOneList(t *testing.T) {
 	last, err := node.headsUpTo(ctx, k, false)
 	if must(t, err); last != all[many-1] {
 		t.Errorf("the last one before the state's is %s", last)
+	}
+	for i := range all {
+		all[i] = headName(step.State{Size: 7, Moment: uint64(i + 1)})
+	}
+	if name, err := node.newestHead(ctx, 7); err != nil || name != all[many-1] {
+		t.Errorf("the newest one of its size is %s, %v", name, err)
+	}
+	for i := range all {
+		all[i] = headName(step.State{Size: uint64(i + 1), Moment: 10 * uint64(i+1)})
 	}
 	// (one whose moment isn't behind those of fewer entries is of another history)
 	all[many-2] = headName(step.State{Size: many - 1, Moment: 7})
@@ -541,6 +599,26 @@ func TestPlacesOfTheSameState(t *testing.T) {
 	wants(t, node.knowsPlaces(ctx, k), errUnwell)
 	node.placed, node.placedAt = k.line, time.Now().Add(-time.Hour)
 	must(t, node.knowsPlaces(ctx, k))
+	// (of a state a moment later they are asked behind a while)
+	node.placed, node.placedAt = "another", time.Now().Add(longest)
+	must(t, node.knowsPlaces(ctx, k))
+}
+
+// TestLeafBehindOneThatIsntRead: that a tile isn't read for one entry says nothing of the next one.
+func TestLeafBehindOneThatIsntRead(t *testing.T) {
+	t.Parallel()
+	_, ctx, _, s := begun(t, 5, 5)
+	node := readingNode(s)
+	objects := &unreadable{Objects: node.config.Objects}
+	node.config.Objects = objects
+	of := node.treeOf(ctx, s.newestKnown().state)
+	objects.set("tile/0/000.p/5", waysUnread["refused"])
+	_, err := of.leafAt(3)
+	wants(t, err, errUnread)
+	objects.set("tile/0/000.p/5", nil)
+	if l, err := of.leafAt(4); err != nil || l == nil || l.index != 4 {
+		t.Errorf("%+v, %v", l, err)
+	}
 }
 
 // TestTileOfAnotherWidth: a data tile of fewer entries than its name says is damage.
@@ -590,9 +668,155 @@ func TestTaken(t *testing.T) {
 		t.Fatalf("behind it %d are taken", len(second))
 	}
 	q.answer(all[0], answer{})
-	q.giveBack([]*waiting{all[0], all[2]})
-	if left := q.take(10, 1000); len(left) != 1 || left[0] != all[2] {
-		t.Errorf("%d are given back", len(left))
+	for what, back := range map[string]func([]*waiting){"given back": q.giveBack, "put off": q.putOff} {
+		back([]*waiting{all[0], all[2]})
+		if left := q.take(10, 1000); len(left) != 1 || left[0] != all[2] {
+			t.Errorf("%d are %s", len(left), what)
+		}
+	}
+	// (as many bytes as may be)
+	one, other := waiter(), waiter()
+	for _, w := range []*waiting{one, other} {
+		w.submission.LeafCertificate = make([]byte, 250)
+		must(t, q.seat(w))
+		must(t, q.add(w))
+	}
+	if both := q.take(10, 500); len(both) != 2 {
+		t.Errorf("of two that have the batch's bytes %d are taken", len(both))
+	}
+}
+
+// TestSeatAtTheEnd: who has a seat and isn't in the queue at its end has none any more, so that the end doesn't wait for it.
+func TestSeatAtTheEnd(t *testing.T) {
+	q, w := newQueue(10, 1<<20), waiter()
+	must(t, q.seat(w))
+	q.end()
+	wants(t, q.add(w), log.ErrEnded)
+	if q.length() != 0 || len(q.everySeat) != 0 {
+		t.Errorf("%d have a seat", q.length())
+	}
+}
+
+// TestWhoIsGoneIsntSigned: of those who waited for a step who is gone gets no timestamp, and isn't waited for; where all are, those before are.
+func TestWhoIsGoneIsntSigned(t *testing.T) {
+	t.Parallel()
+	_, ctx, got, s := begun(t, 5, 5)
+	first := firstOf(t, got)
+	gone, cancel := context.WithCancel(ctx)
+	cancel()
+	node := readingNode(s)
+	of := &moving{Signer: node.config.Signer}
+	node.config.Signer, node.queue, node.back = of, newQueue(10, 1<<20), 7
+	left, stays, next := waiter(), waiter(), waiter()
+	left.ctx = gone
+	for _, w := range []*waiting{left, stays, next} {
+		must(t, node.queue.seat(w))
+	}
+	receipt := step.Receipt{LeafIndex: 0, Timestamp: first.moment, Sign: first.message}
+	must(t, node.answer(ctx, []*waiting{left}, []step.Receipt{receipt}, nil))
+	if of.asked != 0 || node.back != 7 || len(left.done) != 0 {
+		t.Errorf("who is gone: asked %d times, %d are waited for", of.asked, node.back)
+	}
+	must(t, node.queue.add(next))
+	must(t, node.answer(ctx, []*waiting{left, stays}, []step.Receipt{receipt, receipt}, nil))
+	if of.asked != 1 || node.back != 2 || len(left.done) != 0 || len(stays.done) != 1 {
+		t.Errorf("asked %d times, %d are waited for", of.asked, node.back)
+	}
+}
+
+// TestEndWaitsForItsRound: an end whose time is over gives no store back while the round goes on.
+func TestEndWaitsForItsRound(t *testing.T) {
+	t.Parallel()
+	p, ctx := newPlace(t), limited(t)
+	held, let := make(chan struct{}), make(chan struct{})
+	var holds atomic.Bool
+	config := p.config(t)
+	s := started(t, config, hooks{phase: func(name string) {
+		if name == "stepped" && holds.CompareAndSwap(true, false) {
+			close(held)
+			<-let
+		}
+	}})
+	holds.Store(true)
+	told := make(chan error, 1)
+	go func() {
+		_, err := s.Submit(ctx, entryOf(1))
+		told <- err
+	}()
+	<-held
+	ending, cancel := context.WithCancel(ctx)
+	cancel()
+	ended := make(chan bool, 1)
+	go func() {
+		_ = s.End(ending)
+		select {
+		case <-s.ended:
+			ended <- true
+		default:
+			ended <- false
+		}
+	}()
+	<-s.running.Done()
+	<-s.tended
+	<-s.told
+	// (one that doesn't wait ends meanwhile)
+	for i := 0; i < 1000 && len(ended) == 0; i++ {
+		runtime.Gosched()
+	}
+	close(let)
+	if !<-ended {
+		t.Error("it has ended, and its round goes on")
+	}
+	wants(t, <-told, log.ErrEnded)
+}
+
+// countingObjects is a store of objects that counts what is read and deleted, by its name.
+type countingObjects struct {
+	stores.Objects
+	mu            sync.Mutex
+	read, deleted map[string]int
+}
+
+func (c *countingObjects) Get(ctx context.Context, name string, most int64) ([]byte, error) {
+	c.mu.Lock()
+	c.read[name]++
+	c.mu.Unlock()
+	return c.Objects.Get(ctx, name, most)
+}
+
+func (c *countingObjects) Delete(ctx context.Context, name string) error {
+	c.mu.Lock()
+	c.deleted[name]++
+	c.mu.Unlock()
+	return c.Objects.Delete(ctx, name)
+}
+
+// TestStepsBehindEachOther: a node that makes step behind step has the edge and its newest head at hand, and deletes each bundle once.
+func TestStepsBehindEachOther(t *testing.T) {
+	t.Parallel()
+	p, ctx, got := newPlace(t), limited(t), &answers{}
+	config := p.config(t)
+	objects := &countingObjects{Objects: config.Objects, read: map[string]int{}, deleted: map[string]int{}}
+	config.Objects, config.TendEvery = objects, time.Hour
+	s := started(t, config, hooks{})
+	must(t, got.submitAll(ctx, s, 0, 5, 5))
+	objects.mu.Lock()
+	objects.read = map[string]int{}
+	objects.mu.Unlock()
+	must(t, got.submitAll(ctx, s, 5, 9, 1))
+	must(t, s.End(ctx))
+	objects.mu.Lock()
+	defer objects.mu.Unlock()
+	if len(objects.read) != 0 {
+		t.Errorf("read were %v", objects.read)
+	}
+	if len(objects.deleted) < 4 {
+		t.Errorf("deleted were %v", objects.deleted)
+	}
+	for name, times := range objects.deleted {
+		if times != 1 || !strings.HasPrefix(name, stagingPrefix) {
+			t.Errorf("%s was deleted %d times", name, times)
+		}
 	}
 }
 
@@ -805,6 +1029,39 @@ func TestHandedOverIsSettledFirst(t *testing.T) {
 			t.Errorf("%s: alone %v, fault %v", what, alone, faults)
 		}
 		eventually(t, what+": it comes back", func() bool { return len(node.handing) == 0 })
+	}
+}
+
+// TestHandedOverInPart: of two who are handed over one is answered, and the other waits on: that is a failure, too.
+func TestHandedOverInPart(t *testing.T) {
+	t.Parallel()
+	_, ctx, got, s := begun(t, 5, 5)
+	first := firstOf(t, got)
+	var signature []byte
+	for _, one := range got.all {
+		if string(one.Extensions) == string(datatile.Extensions(0)) {
+			signature = one.Signature
+		}
+	}
+	right, err := json.Marshal(handedPlace{0, first.moment, signature})
+	must(t, err)
+	node, address := handingNode(t, s, string(right)+`,{"leaf_index":1,"timestamp":7}`)
+	batch := []*waiting{waitsAt(ctx, t, node, got.numberAt(t, 0)), waitsAt(ctx, t, node, got.numberAt(t, 1))}
+	places, err := node.hand(address, batch)
+	wants(t, err, errNode)
+	if _, second := places[1]; len(places) != 1 || second || places[0].Timestamp != first.moment {
+		t.Errorf("of two %v", places)
+	}
+}
+
+// TestNobodyToHandOver: where nobody waits no place is kept among those who hand over.
+func TestNobodyToHandOver(t *testing.T) {
+	node := &Sequencer{config: Config{Address: "http://127.0.0.1:1/one"}, queue: newQueue(10, 1<<20), handing: make(chan struct{}, mostHanding)}
+	k := known{node: "http://127.0.0.1:1/other", seen: time.Now().Add(longest)}
+	for i := 0; i < 2*mostHanding; i++ {
+		if node.handOver(k) || len(node.handing) != 0 {
+			t.Fatalf("time %d: %d hand over", i, len(node.handing))
+		}
 	}
 }
 

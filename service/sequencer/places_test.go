@@ -306,6 +306,36 @@ func (u unnamed) Put(ctx context.Context, name string, content []byte) error {
 	return u.Objects.Put(ctx, name, content)
 }
 
+// listsAt is a store one listing of which below a prefix fails, by its number.
+type listsAt struct {
+	stores.Objects
+	prefix string
+	left   int
+}
+
+func (l *listsAt) List(ctx context.Context, prefix, after string, most int) ([]string, error) {
+	if prefix == l.prefix {
+		if l.left--; l.left == 0 {
+			return nil, errUnwell
+		}
+	}
+	return l.Objects.List(ctx, prefix, after, most)
+}
+
+// TestIDThatIsntListed: where the store doesn't say which places are the log's, at first or behind this node's own, a node doesn't start, and does once it says so.
+func TestIDThatIsntListed(t *testing.T) {
+	t.Parallel()
+	for listing := 1; listing <= 2; listing++ {
+		config, ctx := newPlace(t).config(t), limited(t)
+		right := config.Objects
+		config.Objects = &listsAt{right, placesPrefix, listing}
+		_, err := New(ctx, config)
+		wants(t, err, errUnwell)
+		config.Objects = right
+		ended(t, started(t, config, hooks{}))
+	}
+}
+
 // TestPlacesThatKeepNoID: places that forget are refused; where the store takes no id that is told, and the next start gives it.
 func TestPlacesThatKeepNoID(t *testing.T) {
 	t.Parallel()

@@ -84,11 +84,12 @@ func (s *Sequencer) loop(ctx context.Context) {
 			continue
 		}
 		_ = wait(ctx, backoff)
-		if backoff *= 2; backoff > mostBackoff {
-			backoff = mostBackoff
-		}
+		backoff = longerBackoff(backoff)
 	}
 }
+
+// longerBackoff is how far rounds are apart behind one more that failed.
+func longerBackoff(before time.Duration) time.Duration { return shorter(2*before, mostBackoff) }
 
 const (
 	// mostRest is how far two steps are apart at most for the sake of a rest.

@@ -51,6 +51,9 @@ func TestIssuerIsPutUntilItIsThere(t *testing.T) {
 		_, err := s.Submit(ctx, entryOf(1))
 		wants(t, err, log.ErrStore)
 	}
+	if waits := s.Figures().Queue; waits != 0 {
+		t.Errorf("%d who were told have a seat", waits)
+	}
 	objects.on.Store(false)
 	must(t, got.submitAll(ctx, s, 1, 2, 1))
 	p.right(t, got)
@@ -122,6 +125,10 @@ func TestQueueBytes(t *testing.T) {
 	}
 	must(t, q.seat(of()))
 	wants(t, q.seat(of()), log.ErrBusy)
+	exactly := newQueue(10, 1200)
+	for i := 0; i < 2; i++ {
+		must(t, exactly.seat(of()))
+	}
 }
 
 // TestNothingIsSweptEarly: nothing goes before it has stood for SweepAfter, however often the tender looks.
@@ -202,6 +209,8 @@ func TestSameStep(t *testing.T) {
 	t.Parallel()
 	p, ctx, got := newPlace(t), limited(t), &answers{}
 	config := p.config(t)
+	// (nobody else sweeps bundles)
+	config.TendEvery = time.Hour
 	config.Register = &sameStep{Register: config.Register, objects: config.Objects}
 	s := started(t, config, hooks{})
 	must(t, got.submitAll(ctx, s, 0, 5, 5))

@@ -202,4 +202,9 @@ func TestStartOverWhatMoves(t *testing.T) {
 	empty.Objects = unwellObjects{empty.Objects, tilesPrefix}
 	_, err := New(ctx, empty)
 	wants(t, err, errUnwell)
+	// (behind a refusal it is read once more)
+	none := newPlace(t).config(t)
+	none.Create, none.Register = false, &failsAt{Register: none.Register, at: 2}
+	_, err = New(ctx, none)
+	wants(t, err, errUnwell)
 }

@@ -12,6 +12,7 @@ import (
 	"time"
 
 	"wagtenib/service/log"
+	"wagtenib/service/step"
 	"wagtenib/service/stores"
 )
 
@@ -115,6 +116,16 @@ func TestBundleThatMayBeDecided(t *testing.T) {
 		t.Errorf("%v are left", left)
 	}
 	newestBundle(t, p)
+	// (of a version before, that put it before its state was decided)
+	own := oldBundleName(step.Digest(s.newestKnown().line))
+	for _, name := range []string{own, old} {
+		must(t, os.WriteFile(filepath.Join(p.objects(), name), []byte("bundle"), 0o644))
+	}
+	tender.staged, tender.text, tender.listed = map[string]bool{own: true, old: true}, "an earlier one", time.Time{}
+	must(t, tender.sweepBundles(ctx))
+	if left := strings.Join(staged(t, p), " "); !strings.Contains(left, own) || strings.Contains(left, old) {
+		t.Errorf("%s are left", left)
+	}
 }
 
 // TestManyBundles: of more bundles than a turn deletes that nobody needs, each turn deletes so many, until none is left; then staging/ is listed again

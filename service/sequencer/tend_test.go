@@ -348,6 +348,29 @@ func TestUnreadStore(t *testing.T) {
 	}
 }
 
+// TestUnreadAtTimes has one tile not be read now and then, and be read in between: it counts as damaged by none of that.
+func TestUnreadAtTimes(t *testing.T) {
+	t.Parallel()
+	p, got := newPlace(t), &answers{}
+	config := p.config(t)
+	objects := &unreadable{Objects: config.Objects}
+	config.Objects, config.TendEvery = objects, time.Hour
+	s := started(t, config, hooks{})
+	must(t, got.submitAll(limited(t), s, 0, 256, 256))
+	tender := settledAt(s)
+	for pass := 0; pass < 3; pass++ {
+		objects.set("tile/data/000", waysUnread["refused"])
+		for turn := 1; turn < mostRefused; turn++ {
+			tender.readNext(limited(t))
+		}
+		objects.set("tile/data/000", nil)
+		tender.readNext(limited(t))
+		if f := s.Figures(); f.Damaged != 0 || tender.read != 1 {
+			t.Errorf("pass %d: %d tiles count as damaged, and %d is read next", pass, f.Damaged, tender.read)
+		}
+	}
+}
+
 // TestScrubbedTiles bends old tiles, one at a time, which no submission wants: the figures name them, until they are put right.
 func TestScrubbedTiles(t *testing.T) {
 	t.Parallel()

@@ -55,6 +55,15 @@ type unraised struct{ stores.Register }
 
 func (unraised) Raise(context.Context, stores.Published) error { return errUnwell }
 
+// earlier is a register in which the head before, of the same size, is published.
+type earlier struct{ stores.Register }
+
+func (e earlier) Published(ctx context.Context) (stores.Published, error) {
+	published, err := e.Register.Published(ctx)
+	published.Moment--
+	return published, err
+}
+
 // TestLooksThatFail: where the store fails at what a node looks at before it goes on, that is what the node says; it takes nothing for as it has to be.
 func TestLooksThatFail(t *testing.T) {
 	t.Parallel()
@@ -80,6 +89,15 @@ func TestLooksThatFail(t *testing.T) {
 			func(s *Sequencer) error { s.newest = k; return s.startsWithPlaces(ctx) }, nil},
 		"nor where the store has several ids of places": {func(c *Config) { c.Register = &unwellRegister{Register: c.Register, asks: true} },
 			func(s *Sequencer) error { s.newest = k; return s.severalIDs(ctx, "one", []string{"one", "another"}) }, ErrPlaces},
+		"a head isn't published at a look": {func(c *Config) { c.Register = unraised{c.Register} },
+			func(s *Sequencer) error {
+				s.config.Register = earlier{s.config.Register}
+				out, err := s.isRolledOut(ctx, k)
+				if out != (err == nil) || (s.rolled == k.line) != out {
+					t.Errorf("rolled out %v, %v", out, err)
+				}
+				return err
+			}, nil},
 		"a head isn't published": {func(c *Config) { c.Register = unraised{c.Register} },
 			func(s *Sequencer) error {
 				err := s.raise(ctx, stores.Published{}, head)
@@ -128,6 +146,11 @@ func TestPlacesThatLackHalf(t *testing.T) {
 			t.Errorf("without %s: %v", what, err)
 		}
 	}
+	// (a place that isn't there isn't that of entry 0)
+	_, _, _, one := begun(t, 1, 1)
+	node := readingNode(one)
+	node.config.Places = unwellPlaces{Places: node.config.Places, leaves: empty.Leaves()}
+	wants(t, node.knowsPlaces(ctx, one.newestKnown()), ErrPlaces)
 	for what, places := range map[string]stores.Places{
 		"identities": unwellPlaces{Places: config.Places, replaces: true},
 		"leaves":     unwellPlaces{Places: config.Places, leaves: unwellPlaces{Places: config.Places.Leaves(), replaces: true}},
@@ -200,6 +223,17 @@ func TestRefusedHeadThatStands(t *testing.T) {
 	node.config.Objects = instead{node.config.Objects, headName(k.state), earlier.Note}
 	_, err := node.putHead(ctx, k.state, step.Head{}, nil)
 	wants(t, err, ErrDamaged)
+}
+
+// TestLooksBack: a node that hands over refuses a register that is behind what it saw.
+func TestLooksBack(t *testing.T) {
+	t.Parallel()
+	_, ctx, _, s := begun(t, 5, 5)
+	k := s.newestKnown()
+	must(t, readingNode(s).lookBack(ctx, k))
+	node := readingNode(s)
+	node.saw = known{line: "another", state: step.State{Size: 6, Moment: k.state.Moment + 1}}
+	wants(t, node.lookBack(ctx, k), ErrSetBack)
 }
 
 // TestIssuersThatArentRead: an issuer that isn't read now isn't damaged; one that is missing is, until it is there again.
