@@ -363,10 +363,12 @@ func TestUnreadAtTimes(t *testing.T) {
 		for turn := 1; turn < mostRefused; turn++ {
 			tender.readNext(limited(t))
 		}
-		objects.set("tile/data/000", nil)
-		tender.readNext(limited(t))
-		if f := s.Figures(); f.Damaged != 0 || tender.read != 1 {
+		if f := s.Figures(); f.Damaged != 0 || tender.read != 0 {
 			t.Errorf("pass %d: %d tiles count as damaged, and %d is read next", pass, f.Damaged, tender.read)
+		}
+		objects.set("tile/data/000", nil)
+		if tender.readNext(limited(t)); tender.read != 1 {
+			t.Errorf("pass %d: it isn't read", pass)
 		}
 	}
 }

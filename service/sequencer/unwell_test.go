@@ -10,6 +10,7 @@ import (
 	"os"
 	"path/filepath"
 	"strings"
+	"sync/atomic"
 	"testing"
 	"time"
 
@@ -234,6 +235,59 @@ func TestLooksBack(t *testing.T) {
 	node := readingNode(s)
 	node.saw = known{line: "another", state: step.State{Size: 6, Moment: k.state.Moment + 1}}
 	wants(t, node.lookBack(ctx, k), ErrSetBack)
+	// (all who hand over do, so nobody is handed over here)
+	for what, saw := range map[string]known{"what it saw": k, "a later one": node.saw} {
+		node := readingNode(s)
+		node.config.Address, node.queue, node.handing = "http://127.0.0.1:1/one", newQueue(1, 1<<10), make(chan struct{})
+		node.newest, node.heard, node.saw = k, time.Now(), saw
+		node.newest.node, node.newest.seen = "http://127.0.0.1:1/other", time.Now().Add(longest)
+		if err := node.round(ctx); errors.Is(err, ErrSetBack) != (saw.line != k.line) || saw.line == k.line && err != nil {
+			t.Errorf("%s: %v", what, err)
+		}
+	}
+}
+
+// movingHeads is a store of objects while whose heads are listed, once, other nodes go on.
+type movingHeads struct {
+	stores.Objects
+	on     atomic.Bool
+	others func()
+}
+
+func (m *movingHeads) List(ctx context.Context, prefix, after string, most int) ([]string, error) {
+	if prefix == headsPrefix && m.on.CompareAndSwap(true, false) {
+		m.others()
+	}
+	return m.Objects.List(ctx, prefix, after, most)
+}
+
+// TestMovesAreNoFault: that other nodes go on while a node compares what it reads is no fault of it: it makes no step for that.
+func TestMovesAreNoFault(t *testing.T) {
+	t.Parallel()
+	p, ctx, got, s := begun(t, 5, 5)
+	config := p.config(t)
+	objects := &movingHeads{Objects: config.Objects}
+	objects.others = func() {
+		if err := got.submitAll(ctx, s, 6, 7, 1); err != nil {
+			t.Error(err)
+		}
+	}
+	config.Objects, config.TendEvery, config.LatestHead = objects, time.Hour, ""
+	other := started(t, config, hooks{})
+	sees := func(entries uint64) {
+		t.Helper()
+		eventually(t, "it sees the head", func() bool { return other.Figures().Entries == entries })
+	}
+	sees(5)
+	objects.on.Store(true)
+	must(t, got.submitAll(ctx, s, 5, 6, 1))
+	sees(7)
+	must(t, got.submitAll(ctx, s, 7, 8, 1))
+	sees(8)
+	if f := other.Figures(); objects.on.Load() || f.Steps+f.LostSwaps != 0 || f.Fault != "" {
+		t.Errorf("%+v", f)
+	}
+	p.right(t, got)
 }
 
 // TestIssuersThatArentRead: an issuer that isn't read now isn't damaged; one that is missing is, until it is there again.
