@@ -297,6 +297,13 @@ func TestMoreHeadsThanOneList(t *testing.T) {
 	for i := range all {
 		all[i] = headName(step.State{Size: uint64(i + 1), Moment: 10 * uint64(i+1)})
 	}
+	// (between a state and the very next there is none)
+	_, err = node.headsUpTo(ctx, k, true)
+	wants(t, err, ErrSetBack)
+	early := k
+	early.state.Moment = 10*many - 5
+	_, err = node.headsUpTo(ctx, early, false)
+	wants(t, err, ErrSetBack)
 	// (one whose moment isn't behind those of fewer entries is of another history)
 	all[many-2] = headName(step.State{Size: many - 1, Moment: 7})
 	_, err = node.headsUpTo(ctx, k, false)
@@ -374,9 +381,15 @@ func TestVouchedForAWhile(t *testing.T) {
 	for unheard, stays := range map[time.Duration]bool{0: true, mostUnvouched + time.Second: false} {
 		node := readingNode(s)
 		node.newest, node.heard, node.isVouched = s.newestKnown(), time.Now().Add(-unheard), true
-		_, err := node.learn(ctx)
+		// (a text of the same head, as of a node that was quicker, is as good)
+		node.newest.text = "another"
+		began := time.Now()
+		k, err := node.learn(ctx)
 		if must(t, err); node.isVouched != stays {
 			t.Errorf("unheard for %v it is vouched for: %v", unheard, node.isVouched)
+		}
+		if k.text != s.newestKnown().text || node.heard.Before(began) {
+			t.Errorf("it isn't heard: %q at %v", k.text, node.heard)
 		}
 	}
 }

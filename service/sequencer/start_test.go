@@ -4,9 +4,11 @@ import (
 	"context"
 	"encoding/json"
 	"errors"
+	"fmt"
 	"os"
 	"path/filepath"
 	"strings"
+	"syscall"
 	"testing"
 
 	"wagtenib/service/decider"
@@ -153,13 +155,22 @@ func TestNotCreated(t *testing.T) {
 	}
 	config := newPlace(t).config(t)
 	must(t, config.Register.Create(ctx, "no log's"))
-	must(t, config.Register.Raise(ctx, stores.Published{Size: 5, Moment: 7}))
-	config.Register = &unwellRegister{Register: config.Register, gone: true}
-	_, err := New(ctx, config)
-	if wants(t, err, ErrSetBack); err != nil && !strings.Contains(err.Error(), "5 entries at 7 ms are published") {
-		t.Error(err)
+	gone := config
+	gone.Register = &unwellRegister{Register: config.Register, gone: true}
+	// (versions before published a size alone)
+	for _, moment := range []uint64{0, 7} {
+		must(t, config.Register.Raise(ctx, stores.Published{Size: 5, Moment: moment}))
+		_, err := New(ctx, gone)
+		if wants(t, err, ErrSetBack); !strings.Contains(err.Error(), fmt.Sprintf("5 entries at %d ms are published", moment)) {
+			t.Error(err)
+		}
 	}
 }
+
+// unmade is a register that can't be created.
+type unmade struct{ stores.Register }
+
+func (unmade) Create(context.Context, string) error { return errUnwell }
 
 // TestStartOverWhatMoves: where another node goes on between two readings, all is read again; and what can't be read is said.
 func TestStartOverWhatMoves(t *testing.T) {
@@ -184,6 +195,8 @@ func TestStartOverWhatMoves(t *testing.T) {
 		"the guard isn't asked":        {func(c *Config) { c.Signer = &unwellSigner{Signer: c.Signer, asks: true} }, errUnwell},
 		"the guard isn't asked again":  {func(c *Config) { c.Signer = &unwellSigner{Signer: c.Signer, before: []*signer.Head{&last}, asks: true} }, errUnwell},
 		"heads aren't listed":          {func(c *Config) { c.Objects = unwellObjects{c.Objects, headsPrefix} }, errUnwell},
+		"nor once":                     {func(c *Config) { c.Objects = &listsAt{c.Objects, headsPrefix, 1} }, errUnwell},
+		"what it saw isn't read":       {func(c *Config) { c.LatestHead = t.TempDir() }, syscall.EISDIR},
 		"the program is gone": {func(c *Config) {
 			c.Decider, _ = decider.NewClient([]string{"false"}, longest)
 		}, decider.ErrGone},
@@ -201,6 +214,10 @@ func TestStartOverWhatMoves(t *testing.T) {
 	empty := newPlace(t).config(t)
 	empty.Objects = unwellObjects{empty.Objects, tilesPrefix}
 	_, err := New(ctx, empty)
+	wants(t, err, errUnwell)
+	uncreated := newPlace(t).config(t)
+	uncreated.Register = unmade{uncreated.Register}
+	_, err = New(ctx, uncreated)
 	wants(t, err, errUnwell)
 	// (behind a refusal it is read once more)
 	none := newPlace(t).config(t)

@@ -231,8 +231,17 @@ func TestLooksBack(t *testing.T) {
 	t.Parallel()
 	_, ctx, _, s := begun(t, 5, 5)
 	k := s.newestKnown()
-	must(t, readingNode(s).lookBack(ctx, k))
+	if k.node != "" {
+		t.Errorf("who isn't asked is asked at %q", k.node)
+	}
 	node := readingNode(s)
+	if must(t, node.lookBack(ctx, k)); node.lookedBack.IsZero() {
+		t.Error("when it looked isn't kept")
+	}
+	node.saw = known{line: "another", state: step.State{Size: 6, Moment: k.state.Moment + 1}}
+	node.lookedBack = time.Now().Add(longest)
+	must(t, node.lookBack(ctx, k))
+	node = readingNode(s)
 	node.saw = known{line: "another", state: step.State{Size: 6, Moment: k.state.Moment + 1}}
 	wants(t, node.lookBack(ctx, k), ErrSetBack)
 	// (all who hand over do, so nobody is handed over here)
@@ -414,7 +423,7 @@ func (unswapped) Swap(context.Context, string, string) error { return errUnwell 
 // TestHeadOfAnotherRoot: at a start the store's newest head isn't given where it has another root than the register's text; the loop says so then.
 func TestHeadOfAnotherRoot(t *testing.T) {
 	t.Parallel()
-	_, ctx, _, s := begun(t, 5, 5)
+	_, ctx, got, s := begun(t, 5, 5)
 	k := s.newestKnown()
 	node := readingNode(s)
 	must(t, node.takeUpHead(ctx, stores.Published{}, k))
@@ -426,6 +435,31 @@ func TestHeadOfAnotherRoot(t *testing.T) {
 	must(t, node.takeUpHead(ctx, stores.Published{}, k))
 	if head := node.seen(); head != nil {
 		t.Errorf("%+v is given", head)
+	}
+	// (nor is another head under the name of one before the register's)
+	standing := *s.seen()
+	must(t, got.submitAll(ctx, s, 5, 9, 4))
+	newest := s.newestKnown()
+	node = readingNode(s)
+	node.config.Objects = instead{node.config.Objects, headName(newest.state), standing.Note}
+	newest.state.Size, newest.state.Moment = 10, newest.state.Moment+1
+	must(t, node.takeUpHead(ctx, stores.Published{}, newest))
+	if head := node.seen(); head != nil {
+		t.Errorf("%+v is given", head)
+	}
+}
+
+// TestMatches: a head is a state's where it has its size, its moment and its root.
+func TestMatches(t *testing.T) {
+	state := step.State{Size: 5, Moment: 7, Root: [32]byte{1}}
+	right := log.Head{TreeSize: 5, Timestamp: 7, RootHash: [32]byte{1}}
+	must(t, matches(right, state))
+	for what, bend := range map[string]func(*log.Head){"size": func(h *log.Head) { h.TreeSize = 4 }, "moment": func(h *log.Head) { h.Timestamp = 6 }, "root": func(h *log.Head) { h.RootHash[31] = 1 }} {
+		head := right
+		bend(&head)
+		if err := matches(head, state); !errors.Is(err, ErrDamaged) || errors.Is(err, errOtherHead) == (what == "root") {
+			t.Errorf("another %s: %v", what, err)
+		}
 	}
 }
 
