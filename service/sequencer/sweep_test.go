@@ -82,6 +82,8 @@ func oneBundle(t *testing.T, sweepAfter time.Duration) (p place, ctx context.Con
 	s = started(t, config, hooks{})
 	must(t, got.submitAll(ctx, s, 0, 5, 5))
 	eventually(t, "the newest state's bundle is the only one", func() bool { return len(staged(t, p)) == 1 })
+	// (what is said of bundles is by the state that a step may be made from, and that is looked at behind the answers)
+	eventually(t, "a step may be made from it", func() bool { return s.isStepping().Seen.Moment == s.newestKnown().state.Moment })
 	return p, ctx, got, s, staged(t, p)[0]
 }
 
