@@ -24,8 +24,6 @@ mod process;
 mod program;
 mod replier;
 mod replying;
-#[cfg(test)]
-mod tests;
 mod words;
 
 pub use answerer::Answerer;

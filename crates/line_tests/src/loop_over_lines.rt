@@ -3,11 +3,11 @@
 ghost use Rattle.std.specs.Prelude.{⊤, ℕ, Bool, List, codes};
 ghost use Rattle.line_program.specs.Calls.{asked_without_options};
 
-use crate::{
+use json_lines::RunFault;
+use line_program::{
     Answerer, Call, NoOptions, Program, Replier, Reply, answer_process, read_words, reply_by_line,
     run,
 };
-use json_lines::RunFault;
 use std::alloc::{Alloc, AllocError, Allocator, Global};
 use std::cell::Cell;
 use std::env::{Env, FillError};
