@@ -1,7 +1,9 @@
-//! Tests of `line_program` and of `ct_guard_lines`, in a crate of their own so that each is proved once.
+//! Tests of `line_program`, `ct_guard_lines` and `ct_step_lines`, in a crate of their own so that each is proved once.
 #![tactic(auto)]
 
 #[cfg(test)]
 mod guarding;
 #[cfg(test)]
 mod loop_over_lines;
+#[cfg(test)]
+mod stepping;

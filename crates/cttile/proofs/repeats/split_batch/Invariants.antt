@@ -1,8 +1,0 @@
-use Rattle.std.proofs.Common.{map}
-use Rattle.cttile.specs.StepAsks.{entry_parts}
-use Rattle.cttile.proofs.Splitting.{SplitSoFar}
-use Rattle.cttile.proofs.repeats.split_batch.Given as goal
-
-abbrev pub invariant-loop-entry : goal.invariant-loop-entry
-invariant-loop-entry l =
-    SplitSoFar (map entry_parts l.yielded) l.identities.keys l.submissions.items (map (λ c. c.items) l.chains.items) l.places.items
