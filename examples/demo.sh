@@ -173,7 +173,7 @@ END
 
 show_watched() {
   echo "== ctlog | ctmonitor: the head and the entries of that log, as they were replied, and a watched name =="
-  proved crates/ctmonitor/src/program.rt "where a run ends with a status, what is written, and the status, are what a run over these answers of a log gives" <<'END'
+  proved crates/ct_monitor_lines/src/program.rt "where a run ends with a status, what is written, and the status, are what a run over these answers of a log gives" <<'END'
 ensures written { IfOk result (λ status. IsRun (map string_bytes names.now) (B.remaining reader.old) (B.remaining reader.new)
     (W.contents writer.old) (W.contents writer.new) status) }
 END

@@ -1,35 +1,9 @@
 //! The program `ctmonitor`: watches a log by the answers of its front end, or by its checkpoints and data tiles, a line each on standard input.
-//! It writes what each is worth, the entries that name a watched name, and the state that the next run takes up.
-//!
-//! - `command` reads the words of a command line.
-//! - `answer` reads what a line is, and `state` reads and writes the state between two runs.
-//! - `seen` reads what a checkpoint or a data tile is to who has read entries up to an index, and `refusal` names why one is refused.
-//! - `names` looks for watched names among bytes, `watching` finds them in certificates and writes of them, `entries` writes of entries,
-//!   `verdicts` of verdicts, and `text` writes lines.
-//! - `session` takes one line after the other, and `watch` has it take those of a run.
-//! - `laws` says what holds of many runs.
-//! - `program` has `run`, over the loop of `line_program`, and what the program is of those by `line_program`: its name, how it is called, and what a run
-//!   is. `refuse_words` answers words that couldn't be read, by a text of its own: so `main` is an `answer_process` of its own.
+//! It writes what each is worth, the entries that name a watched name, and the state that the next run takes up. It is `answer_process` of
+//! `ct_monitor_lines`.
 #![tactic(auto)]
 
-mod answer;
-mod command;
-mod entries;
-mod laws;
-mod names;
-mod program;
-mod refusal;
-mod seen;
-mod session;
-mod state;
-#[cfg(test)]
-mod tests;
-mod text;
-mod verdicts;
-mod watch;
-mod watching;
-
-use program::answer_process;
+use ct_monitor_lines::answer_process;
 use std::io;
 use std::process::ExitCode;
 

@@ -1,4 +1,4 @@
-//! Tests of `line_program`, `ct_guard_lines` and `ct_step_lines`, in a crate of their own so that each is proved once.
+//! Tests of `line_program`, `ct_monitor_lines`, `ct_guard_lines` and `ct_step_lines`, in a crate of their own so that each is proved once.
 #![tactic(auto)]
 
 #[cfg(test)]
@@ -7,3 +7,5 @@ mod guarding;
 mod loop_over_lines;
 #[cfg(test)]
 mod stepping;
+#[cfg(test)]
+mod watching;
