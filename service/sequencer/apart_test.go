@@ -142,6 +142,22 @@ func TestIssuersOfATile(t *testing.T) {
 	}
 }
 
+// TestSettledAnew: behind each head that has settled old heads are looked for, and up to where others swept.
+func TestSettledAnew(t *testing.T) {
+	s := &Sequencer{}
+	of := &tender{s: s}
+	for moment := uint64(1); moment < 4; moment++ {
+		s.see(log.Head{TreeSize: 5, Timestamp: moment})
+		of.headsGone, of.asks = true, false
+		// (one settles that was seen before)
+		of.settle()
+		of.settle()
+		if of.headsGone || !of.asks || of.old.settled.Timestamp != moment {
+			t.Errorf("at %d ms: gone %v, asks %v, %+v", moment, of.headsGone, of.asks, of.old.settled)
+		}
+	}
+}
+
 // TestManyIssuers: what is remembered of issuers is bounded in number and bytes, and so is what is damaged; of these the first by its name is told.
 func TestManyIssuers(t *testing.T) {
 	i := newIssuers(&Sequencer{})

@@ -1065,6 +1065,49 @@ func TestHandedOverInPart(t *testing.T) {
 	if _, second := places[1]; len(places) != 1 || second || places[0].Timestamp != first.moment {
 		t.Errorf("of two %v", places)
 	}
+	// (a reply has a place for each)
+	for _, places := range []string{"", string(right) + "," + string(right)} {
+		node, address := handingNode(t, s, places)
+		one := []*waiting{waitsAt(ctx, t, node, got.numberAt(t, 0))}
+		if wants(t, node.hand(address, one), errNode); len(one[0].done) != 0 {
+			t.Errorf("by [%s] it is answered", places)
+		}
+	}
+}
+
+// TestFailingNodeSaysTheTime: a node whose round failed takes no batch, and says what time it has.
+func TestFailingNodeSaysTheTime(t *testing.T) {
+	t.Parallel()
+	_, ctx, _, s := begun(t, 1, 1)
+	fails := readingNode(s)
+	fails.config.Secret, fails.fault = secretOfNodes, errTried
+	server := httptest.NewServer(fails.Handler())
+	t.Cleanup(server.Close)
+	node, _ := handingNode(t, s, "")
+	_, err := node.post(ctx, server.URL, handedOver{})
+	must(t, err)
+	_, err = node.post(ctx, server.URL, handedOver{Submissions: []step.Submission{{LeafCertificate: []byte("one")}}})
+	wants(t, err, errNode)
+}
+
+// addedPlaces is a store of places that keeps how many came at once.
+type addedPlaces struct {
+	stores.Places
+	came []int
+}
+
+func (a *addedPlaces) Add(_ context.Context, placed []stores.Placed) error {
+	a.came = append(a.came, len(placed))
+	return nil
+}
+
+// TestManyPlaces: more places than a store takes at once come one part after the other.
+func TestManyPlaces(t *testing.T) {
+	of := &addedPlaces{}
+	must(t, addPlaces(limited(t), of, make([]stores.Placed, 2*stores.MostPlaces+3)))
+	if len(of.came) != 3 || of.came[0] != stores.MostPlaces || of.came[1] != stores.MostPlaces || of.came[2] != 3 {
+		t.Errorf("%v came", of.came)
+	}
 }
 
 // TestNobodyToHandOver: where nobody waits no place is kept among those who hand over.
@@ -1075,6 +1118,18 @@ func TestNobodyToHandOver(t *testing.T) {
 		if node.handOver(k) || len(node.handing) != 0 {
 			t.Fatalf("time %d: %d hand over", i, len(node.handing))
 		}
+	}
+	// (nor is anybody handed on, or to a node that did nothing for a while)
+	for _, handed := range []bool{true, false} {
+		w := waiter()
+		w.handed = handed
+		must(t, node.queue.seat(w))
+		must(t, node.queue.add(w))
+		if node.handOver(k) || inQueue(node) != 1 {
+			t.Errorf("one who was handed over (%v) is handed on", handed)
+		}
+		node.queue.leave(w)
+		k.seen = time.Now().Add(-2 * handsWithin)
 	}
 }
 

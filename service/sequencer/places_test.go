@@ -322,6 +322,17 @@ func (l *listsAt) List(ctx context.Context, prefix, after string, most int) ([]s
 	return l.Objects.List(ctx, prefix, after, most)
 }
 
+// TestSeveralIDsAreNotTaken: of several ids that the store has places that are built anew take none.
+func TestSeveralIDsAreNotTaken(t *testing.T) {
+	t.Parallel()
+	config, ctx := newPlace(t).config(t), limited(t)
+	config.Objects = names{config.Objects, []string{placesName(stores.Place{Index: 1}), placesName(stores.Place{Index: 2})}}
+	wants(t, takesID(ctx, config), ErrPlaces)
+	if _, has, err := placesID(ctx, config.Places); err != nil || has {
+		t.Errorf("%v, %v", has, err)
+	}
+}
+
 // TestIDThatIsntListed: where the store doesn't say which places are the log's, at first or behind this node's own, a node doesn't start, and does once it says so.
 func TestIDThatIsntListed(t *testing.T) {
 	t.Parallel()

@@ -145,3 +145,21 @@ func TestHungReading(t *testing.T) {
 		t.Errorf("who goes away is told %v", err)
 	}
 }
+
+// TestNobodyWaitsBehindASlowReading: where nobody waits by then, who comes later has a reading of its own.
+func TestNobodyWaitsBehindASlowReading(t *testing.T) {
+	r := readings{going: true}
+	read := func(context.Context) (log.Head, error) { return log.Head{TreeSize: 7}, nil }
+	if r.beside(read); r.going {
+		t.Fatal("a reading goes on that nobody makes")
+	}
+	later := r.join(read)
+	select {
+	case <-later.done:
+	case <-limited(t).Done():
+		t.Fatal("it doesn't come")
+	}
+	if later.err != nil || later.head.TreeSize != 7 {
+		t.Errorf("%+v, %v", later.head, later.err)
+	}
+}

@@ -341,6 +341,21 @@ func TestIssuersThatArentRead(t *testing.T) {
 	}
 	must(t, looked.look(ctx, fingerprint))
 	isDamaged(0)
+	// (one that is longer than any is another)
+	objects.set(found[0], waysUnread["too long"])
+	must(t, looked.look(ctx, fingerprint))
+	isDamaged(1)
+	// (who comes with a submission puts it right, and from then on its bytes are known)
+	objects.set(found[0], nil)
+	must(t, os.Remove(path))
+	must(t, looked.put(ctx, [][]byte{content}))
+	isDamaged(0)
+	must(t, os.Remove(path))
+	must(t, looked.look(ctx, fingerprint))
+	isDamaged(0)
+	if again, err := os.ReadFile(path); err != nil || !bytes.Equal(again, content) {
+		t.Errorf("%q stands, %v", again, err)
+	}
 }
 
 // unwellAdds fails at adding places; leaves are as unwellPlaces'.
@@ -485,6 +500,103 @@ func TestHeadsThatAreGiven(t *testing.T) {
 	published.Moment++
 	_, err := readingNode(s).headAt(ctx, published)
 	wants(t, err, ErrDamaged)
+	// (nor is another one under its name)
+	node = readingNode(s)
+	node.config.Objects = instead{node.config.Objects, nameOf(&earlier), newest.Note}
+	_, err = node.headAt(ctx, publishedOf(earlier))
+	wants(t, err, ErrDamaged)
+	// (where it was swept since, the newest one is)
+	node = readingNode(s)
+	node.config.Objects = lacking{node.config.Objects, nameOf(&earlier)}
+	node.config.Register = &publishedFirst{Register: node.config.Register, first: publishedOf(earlier)}
+	if head, err := node.checkpoint(ctx); err != nil || head.TreeSize != 9 {
+		t.Errorf("behind one that was swept: %d entries, %v", head.TreeSize, err)
+	}
+}
+
+// lacking is a store in which one object isn't any more.
+type lacking struct {
+	stores.Objects
+	gone string
+}
+
+func (u lacking) Get(ctx context.Context, name string, most int64) ([]byte, error) {
+	if name == u.gone {
+		return nil, stores.ErrAbsent
+	}
+	return u.Objects.Get(ctx, name, most)
+}
+
+func (u lacking) List(ctx context.Context, prefix, after string, most int) (left []string, err error) {
+	names, err := u.Objects.List(ctx, prefix, after, most)
+	for _, name := range names {
+		if name != u.gone {
+			left = append(left, name)
+		}
+	}
+	return left, err
+}
+
+// publishedFirst is a register that says at first that something earlier is published.
+type publishedFirst struct {
+	stores.Register
+	asked bool
+	first stores.Published
+}
+
+func (p *publishedFirst) Published(ctx context.Context) (stores.Published, error) {
+	if !p.asked {
+		p.asked = true
+		return p.first, nil
+	}
+	return p.Register.Published(ctx)
+}
+
+// TestOtherTileUnderItsName: where another tile stands under the name of one that is put, that is damage.
+func TestOtherTileUnderItsName(t *testing.T) {
+	t.Parallel()
+	_, ctx, _, s := begun(t, 5, 5)
+	wants(t, readingNode(s).putAll(ctx, []step.Object{{Name: "tile/0/000.p/5", Content: []byte("another")}}), ErrDamaged)
+}
+
+// TestWideTile: a data tile with more entries than a tile has is damage, where it is read again, where an entry of it is wanted and where somebody asks for it.
+func TestWideTile(t *testing.T) {
+	t.Parallel()
+	_, ctx, _, s := begun(t, 257, 257)
+	node, state := readingNode(s), s.newestKnown().state
+	var wide []byte
+	for _, name := range []string{"tile/data/000", "tile/data/001.p/1"} {
+		content, err := node.config.Objects.Get(ctx, name, stores.MostObject)
+		must(t, err)
+		wide = append(wide, content...)
+	}
+	head := *s.seen()
+	_, err := node.scrub(ctx, treeUnder(&head), 0)
+	must(t, err)
+	node.config.Objects = instead{node.config.Objects, "tile/data/000", wide}
+	_, err = node.scrub(ctx, treeUnder(&head), 0)
+	wants(t, err, ErrDamaged)
+	_, err = node.treeOf(ctx, state).leafAt(0)
+	wants(t, err, ErrDamaged)
+	node.damage = map[uint64]error{}
+	_, err = node.Object(ctx, "tile/data/000", stores.MostObject)
+	if wants(t, err, log.ErrStore, ErrDamaged); !node.isDamaged(0) {
+		t.Error("it doesn't count as damaged")
+	}
+}
+
+// TestDeciderGoneAtSweeping: bundles of which nobody says whether they go stay, which is told.
+func TestDeciderGoneAtSweeping(t *testing.T) {
+	t.Parallel()
+	p, ctx, _, s := begun(t, 5, 5)
+	must(t, os.WriteFile(filepath.Join(p.objects(), stagingPrefix, strings.Repeat("0", 48)), nil, 0o644))
+	eventually(t, "a step may be made", func() bool { return s.isStepping() != nil })
+	node := readingNode(s)
+	node.stepping = s.isStepping()
+	gone, err := decider.NewClient([]string{"/nowhere"}, longest)
+	must(t, err)
+	node.config.Decider = gone
+	wants(t, (&tender{s: node}).sweepBundles(ctx), decider.ErrGone)
 }
 
 // TestWhatIsntDeletedIsntPutRight: where what stands in the way can't be deleted, nothing counts as made again.

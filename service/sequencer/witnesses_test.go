@@ -497,6 +497,23 @@ func TestProofs(t *testing.T) {
 	}
 }
 
+// TestProofBehindAFault: a proof that couldn't be made is made when it is asked for again.
+func TestProofBehindAFault(t *testing.T) {
+	t.Parallel()
+	_, ctx, _, s := begun(t, 5, 5)
+	node := readingNode(s)
+	objects := &unreadable{Objects: node.config.Objects}
+	node.config.Objects = objects
+	proof := node.proofsTo(s.newestKnown().state, nil)
+	objects.set("tile/0/000.p/5", waysUnread["refused"])
+	_, err := proof(ctx, 3)
+	wants(t, err, errTried)
+	objects.set("tile/0/000.p/5", nil)
+	if hashes, err := proof(ctx, 3); err != nil || len(hashes) == 0 {
+		t.Errorf("%d hashes, %v", len(hashes), err)
+	}
+}
+
 // TestProofsOfARound: what a round has in hand isn't read.
 func TestProofsOfARound(t *testing.T) {
 	t.Parallel()
