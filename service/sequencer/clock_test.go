@@ -536,3 +536,95 @@ func TestHandedBackAhead(t *testing.T) {
 	clock.set(-time.Hour, false)
 	wants(t, s.isSigned(submission, back), errNode)
 }
+
+// standsAt is a clock that stands still, and what the kernel says of it.
+type standsAt struct {
+	now       time.Time
+	is, known bool
+}
+
+func (s standsAt) Now() time.Time                 { return s.now }
+func (s standsAt) Elapsed() time.Duration         { return time.Hour }
+func (s standsAt) Synchronized() (is, known bool) { return s.is, s.known }
+
+// says is what another machine's clock says, or that it fails.
+type says struct {
+	at     time.Time
+	within time.Duration
+	err    error
+}
+
+func (s *says) Time(context.Context) (time.Time, time.Duration, error) { return s.at, s.within, s.err }
+
+// timedObjects and timedRegister are stores on machines that say so.
+type timedObjects struct {
+	stores.Objects
+	*says
+}
+
+type timedRegister struct {
+	stores.Register
+	*says
+}
+
+// TestMoments: a step's moment is the time of day, and behind the newest head's always; it may be an hour beyond that one, or as long as the log stood.
+func TestMoments(t *testing.T) {
+	at := time.UnixMilli(1_800_000_000_000)
+	c := newClock(Config{Clock: standsAt{at, true, true}, MostSkew: 10 * time.Second})
+	now := uint64(at.UnixMilli())
+	for _, of := range []struct{ last, moment, most uint64 }{
+		{now - 5, now, step.MostAhead}, {now - 1, now, step.MostAhead}, {now, now + 1, step.MostAhead}, {now + 3000, now + 3001, step.MostAhead},
+		{now - step.MostAhead, now, step.MostAhead}, {now - 2*step.MostAhead, now, 2 * step.MostAhead},
+	} {
+		if moment, most, err := c.moment(of.last, ""); err != nil || moment != of.moment || most != of.most {
+			t.Errorf("behind %d: %d, %d, %v", of.last, moment, most, err)
+		}
+	}
+}
+
+// TestWhoSaysTheTime: of the kernel, the stores' machines and the newest head each is heard alone: who doesn't say what time it is says nothing, who says another one
+// than this machine's, by more than the bound and how far off its word may be, stops it, and no one else's word mends that.
+func TestWhoSaysTheTime(t *testing.T) {
+	const most, day = 10 * time.Second, 24 * time.Hour
+	at := time.UnixMilli(1_800_000_000_000)
+	said := func(by, within time.Duration) *says { return &says{at: at.Add(by), within: within} }
+	for what, of := range map[string]struct {
+		clock        standsAt
+		synchronized bool
+		objects      *says
+		register     *says
+		stood        time.Duration
+		wrong        bool
+	}{
+		"it is synchronized":                    {standsAt{at, true, true}, true, nil, nil, time.Hour, false},
+		"it isn't":                              {standsAt{at, false, true}, true, nil, nil, time.Hour, true},
+		"the kernel doesn't say":                {standsAt{at, true, false}, true, nil, nil, time.Hour, true},
+		"it isn't, and needn't be":              {standsAt{at, false, true}, false, nil, nil, time.Hour, false},
+		"for a day":                             {standsAt{at, false, true}, false, nil, nil, day, false},
+		"for longer":                            {standsAt{at, false, true}, false, nil, nil, day + time.Millisecond, true},
+		"a store says the same, for longer":     {standsAt{at, false, true}, false, said(0, 0), nil, 2 * day, false},
+		"a store fails":                         {standsAt{at, true, true}, false, &says{err: errTried}, nil, time.Hour, false},
+		"a store fails, for longer":             {standsAt{at, false, true}, false, &says{at: at, err: errTried}, nil, 2 * day, true},
+		"a store is behind":                     {standsAt{at, true, true}, false, said(-time.Hour, 0), nil, time.Hour, true},
+		"a store is ahead":                      {standsAt{at, true, true}, false, said(time.Hour, 0), nil, time.Hour, true},
+		"a store is behind, and another is not": {standsAt{at, true, true}, false, said(-time.Hour, 0), said(0, 0), time.Hour, true},
+		"another is behind":                     {standsAt{at, true, true}, false, said(0, 0), said(-time.Hour, 0), time.Hour, true},
+		"as far as may be":                      {standsAt{at, true, true}, false, said(-most, 0), said(most, 0), time.Hour, false},
+		"as far as its word":                    {standsAt{at, true, true}, false, said(-most-time.Second, time.Second), said(most+time.Second, time.Second), time.Hour, false},
+		"farther behind":                        {standsAt{at, true, true}, false, said(-most-2*time.Second, time.Second), nil, time.Hour, true},
+		"farther ahead":                         {standsAt{at, true, true}, false, said(most+2*time.Second, time.Second), nil, time.Hour, true},
+	} {
+		config := Config{Clock: of.clock, MostSkew: most, Synchronized: of.synchronized}
+		if of.objects != nil {
+			config.Objects = timedObjects{nil, of.objects}
+		}
+		if of.register != nil {
+			config.Register = timedRegister{nil, of.register}
+		}
+		c := newClock(config)
+		c.ask(limited(t))
+		if err := c.check(uint64(at.Add(-of.stood).UnixMilli()), ""); errors.Is(err, log.ErrClock) != of.wrong || !of.wrong && err != nil {
+			t.Errorf("%s: %v", what, err)
+		}
+	}
+}

@@ -408,7 +408,6 @@ func (t *tender) sweepNext(ctx context.Context, at int, number uint64, pass func
 	if err != nil {
 		pass(tile, err)
 	}
-	t.unswept = refusals{}
 	t.clean[at]++
 	if err != nil || found {
 		t.clean[at] = 0
