@@ -158,6 +158,28 @@ func TestSettledAnew(t *testing.T) {
 	}
 }
 
+// TestThinnedBehindTheSettled: the head that has settled stays, and what comes too fast behind it goes once another one has.
+func TestThinnedBehindTheSettled(t *testing.T) {
+	t.Parallel()
+	_, ctx, _, s := begun(t, 1, 1)
+	node := readingNode(s)
+	var all []string
+	of := &tender{s: node}
+	for _, turn := range []struct {
+		heads []uint64
+		gone  uint64
+	}{{[]uint64{600, 1000}, 0}, {[]uint64{1200, 2000}, 1}} {
+		for _, moment := range turn.heads {
+			all = append(all, headName(step.State{Size: 5, Moment: moment}))
+			of.full.settled = &log.Head{TreeSize: 5, Timestamp: moment}
+		}
+		node.config.Objects = names{s.config.Objects, all}
+		if must(t, of.thinHeads(ctx)); node.sweptHeads.Load() != turn.gone {
+			t.Errorf("up to %d ms %d heads went", of.full.settled.Timestamp, node.sweptHeads.Load())
+		}
+	}
+}
+
 // TestManyIssuers: what is remembered of issuers is bounded in number and bytes, and so is what is damaged; of these the first by its name is told.
 func TestManyIssuers(t *testing.T) {
 	i := newIssuers(&Sequencer{})

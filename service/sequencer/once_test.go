@@ -372,6 +372,12 @@ func TestSwapsAreBounded(t *testing.T) {
 			t.Errorf("a swap has %v", has)
 		}
 	}
+	gone, cancel := context.WithCancel(context.Background())
+	cancel()
+	register.has = nil
+	if won, err := s.swap(gone, "old", "new"); won || !errors.Is(err, stores.ErrUnknown) || len(register.has) != 1 {
+		t.Errorf("whose round is over: %v, %v: swapped %d times", won, err, len(register.has))
+	}
 }
 
 // TestVouchedForAWhile: a node that didn't read its register for as long as may be isn't vouched for any more.
@@ -1112,7 +1118,7 @@ func TestManyPlaces(t *testing.T) {
 
 // TestNobodyToHandOver: where nobody waits no place is kept among those who hand over.
 func TestNobodyToHandOver(t *testing.T) {
-	node := &Sequencer{config: Config{Address: "http://127.0.0.1:1/one"}, queue: newQueue(10, 1<<20), handing: make(chan struct{}, mostHanding)}
+	node := &Sequencer{config: Config{Address: "http://127.0.0.1:1/one", MostBatch: 10}, queue: newQueue(10, 1<<20), handing: make(chan struct{}, mostHanding)}
 	k := known{node: "http://127.0.0.1:1/other", seen: time.Now().Add(longest)}
 	for i := 0; i < 2*mostHanding; i++ {
 		if node.handOver(k) || len(node.handing) != 0 {

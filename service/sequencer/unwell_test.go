@@ -238,12 +238,13 @@ func TestLooksBack(t *testing.T) {
 	if must(t, node.lookBack(ctx, k)); node.lookedBack.IsZero() {
 		t.Error("when it looked isn't kept")
 	}
-	node.saw = known{line: "another", state: step.State{Size: 6, Moment: k.state.Moment + 1}}
-	node.lookedBack = time.Now().Add(longest)
-	must(t, node.lookBack(ctx, k))
-	node = readingNode(s)
-	node.saw = known{line: "another", state: step.State{Size: 6, Moment: k.state.Moment + 1}}
-	wants(t, node.lookBack(ctx, k), ErrSetBack)
+	for _, looked := range []time.Time{{}, time.Now().Add(longest)} {
+		node = readingNode(s)
+		node.saw, node.lookedBack = known{line: "another", state: step.State{Size: 6, Moment: k.state.Moment + 1}}, looked
+		if err := node.lookBack(ctx, k); errors.Is(err, ErrSetBack) != looked.IsZero() || !looked.IsZero() && err != nil {
+			t.Errorf("looked at %v: %v", looked, err)
+		}
+	}
 	// (all who hand over do, so nobody is handed over here)
 	for what, saw := range map[string]known{"what it saw": k, "a later one": node.saw} {
 		node := readingNode(s)

@@ -509,8 +509,10 @@ func TestProofBehindAFault(t *testing.T) {
 	_, err := proof(ctx, 3)
 	wants(t, err, errTried)
 	objects.set("tile/0/000.p/5", nil)
-	if hashes, err := proof(ctx, 3); err != nil || len(hashes) == 0 {
-		t.Errorf("%d hashes, %v", len(hashes), err)
+	right, err := node.proofsTo(s.newestKnown().state, nil)(ctx, 3)
+	must(t, err)
+	if hashes, err := proof(ctx, 3); err != nil || len(hashes) == 0 || fmt.Sprint(hashes) != fmt.Sprint(right) {
+		t.Errorf("%x, and not %x, %v", hashes, right, err)
 	}
 }
 
