@@ -47,6 +47,13 @@ func newWorld(seed int64) *world {
 	}
 }
 
+// by gives a number of chance below another one. Calls that a node makes side by side have theirs meanwhile.
+func (w *world) by(most int) int {
+	w.mu.Lock()
+	defer w.mu.Unlock()
+	return w.chance.Intn(most)
+}
+
 // breaks keeps the first fault.
 func (w *world) breaks(what string, of ...any) {
 	if w.fault == nil {
@@ -95,6 +102,12 @@ func (l *life) call(do func() error) error {
 		return errTried
 	}
 	return err
+}
+
+func (l *life) isOver() bool {
+	l.w.mu.Lock()
+	defer l.w.mu.Unlock()
+	return l.dead
 }
 
 // meanwhile may have another node have a round, before a call of this one.
@@ -451,8 +464,8 @@ func (h *history) born(ctx context.Context) *node {
 func (h *history) submits(n *node, count int) {
 	for i := 0; i < count; i++ {
 		number := h.number
-		if h.w.chance.Intn(4) == 0 && number > 0 {
-			number = h.w.chance.Intn(number)
+		if h.w.by(4) == 0 && number > 0 {
+			number = h.w.by(number)
 		} else {
 			h.number++
 		}
@@ -473,14 +486,14 @@ func (h *history) submits(n *node, count int) {
 
 // round has a node, or one that starts in its place, have a round.
 func (h *history) round(ctx context.Context, at int) error {
-	if h.nodes[at] == nil || h.nodes[at].life.dead {
+	if h.nodes[at] == nil || h.nodes[at].life.isOver() {
 		if h.nodes[at] = h.born(ctx); h.nodes[at] == nil {
 			return errTried
 		}
 	}
 	n := h.nodes[at]
 	if !h.w.calm {
-		h.submits(n, h.w.chance.Intn(4))
+		h.submits(n, h.w.by(4))
 	}
 	err := n.s.round(n.ctx)
 	n.s.settle(err)
@@ -508,20 +521,27 @@ func (h *history) answered() (count int) {
 	return count
 }
 
+// befalls says what befalls calls from now on. (What a node reads beside its rounds may go on.)
+func (h *history) befalls(calm bool, others func()) {
+	h.w.mu.Lock()
+	defer h.w.mu.Unlock()
+	h.w.calm, h.w.others = calm, others
+}
+
 // run has some rounds, with all that may befall their calls, and then calm ones until all is published.
 func (h *history) run(ctx context.Context, t *testing.T, nodes int) int {
 	h.nodes = make([]*node, nodes)
 	for turn := 0; turn < 14 && h.w.fault == nil; turn++ {
-		at := h.w.chance.Intn(nodes)
-		h.w.others = func() {
-			if other := h.w.chance.Intn(nodes); other != at {
+		at := h.w.by(nodes)
+		h.befalls(false, func() {
+			if other := h.w.by(nodes); other != at {
 				_ = h.round(ctx, other)
 			}
-		}
+		})
 		_ = h.round(ctx, at)
 		h.answered()
 	}
-	h.w.calm, h.w.others = true, nil
+	h.befalls(true, nil)
 	for turn := 0; h.w.fault == nil; turn++ {
 		err := h.round(ctx, 0)
 		k, read := readText(h.w.text)
@@ -573,9 +593,11 @@ func TestHistories(t *testing.T) {
 				}
 				mu.Lock()
 				answered += count
+				h.w.mu.Lock()
 				for what, times := range h.w.did {
 					did[what] += times
 				}
+				h.w.mu.Unlock()
 				mu.Unlock()
 			}
 		}(worker)
