@@ -22,7 +22,7 @@ use Rattle.ct_step_lines.specs.StepRepeats.{BatchEntry, is_known, with_identity,
 use Rattle.ct_step_lines.specs.StepWords.{Reference, steps, refuses, receipts_at}
 use Rattle.ct_step_lines.specs.declared.replies.StepRefusal.{StepRefusal}
 use Rattle.ct_step_lines.proofs.FirstIndexes.{indexes_from, entries_there, indexes_rise, none_before}
-use Rattle.ct_step_lines.proofs.Splitting.{known_behind}
+use Rattle.ct_step_lines.specs.SplitSoFar.{known_behind}
 
 -- ---- no identity stands twice
 known_if : (t : Bool) (K : List (List ℕ)) (e : BatchEntry) (R : List BatchEntry)

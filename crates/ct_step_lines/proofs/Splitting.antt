@@ -7,12 +7,8 @@ use Rattle.std.proofs.lemmas.List.Elements.{All-push}
 use Rattle.ct_codec.specs.Submitted.{Submitted, identity_of}
 use Rattle.ct_step.specs.Entries.{AreShort, IsBatchOf}
 use Rattle.ct_step_lines.specs.StepRepeats.{BatchEntry, is_known, with_identity, first_of_each, places_of_all}
+use Rattle.ct_step_lines.specs.SplitSoFar.{known_behind, SplitSoFar}
 use Rattle.ct_step_lines.proofs.Joined.{vec_bytes}
-
--- the known identities and those of the first entries of a batch behind them
-abbrev pub known_behind : List (List ℕ) → List BatchEntry → List (List ℕ)
-known_behind known [] = known
-known_behind known (e ∷ batch) = known_behind (with_identity known e) batch
 
 -- ---- one more entry
 known-push : (K : List (List ℕ)) (B : List BatchEntry) (e : BatchEntry) → known_behind K (B ++ e ∷ []) ≡ with_identity (known_behind K B) e
@@ -65,14 +61,6 @@ keys_if : (t : Bool) (keys : List (Vec ℕ Global)) (K : List (List ℕ)) (v : V
     → map vec_bytes (cond t keys (keys ++ v ∷ [])) ≡ cond t K (K ++ x ∷ [])
 keys_if true keys K v x k i = k
 keys_if false keys K v x k i = map_push vec_bytes keys v ∙ ap (λ (l : List (List ℕ)). l ++ v.items ∷ []) k ∙ ap (λ y. K ++ y ∷ []) i
-
--- what was split of the first entries: the table has their identities (known), and the columns are a batch (batch), that of the first
--- entries (firsts), which stand at these places (places)
-pub record SplitSoFar (Y : List BatchEntry) (keys : List (Vec ℕ Global)) (S : List Submitted) (C : List (List (List ℕ))) (P : List ℕ) : Type 0 where
-  pub known : map vec_bytes keys ≡ known_behind [] Y
-  pub batch : IsBatchOf (length S) C
-  pub firsts : zip S C ≡ first_of_each [] Y
-  pub places : P ≡ places_of_all [] Y
 
 split_step : (Y : List BatchEntry) (keys : List (Vec ℕ Global)) (S : List Submitted) (C : List (List (List ℕ))) (P : List ℕ) (e : BatchEntry) (v : Vec ℕ Global)
     (after : List (Vec ℕ Global)) (place : ℕ) (T : List Submitted) (D : List (List (List ℕ))) → SplitSoFar Y keys S C P → v.items ≡ identity_of e.0

@@ -1,5 +1,6 @@
 pub mod StepWords
 pub mod StepRepeats
+pub mod SplitSoFar
 pub mod StepAsks
 pub mod StepAnswers
 pub mod StepSession

@@ -1,9 +1,10 @@
 //! Taking the repeats out of a batch.
 
-ghost use Rattle.std.specs.Prelude.{◌≡◌, [], map, IfOk};
+ghost use Rattle.std.specs.Prelude.{◌≡◌, ◌++◌, List, [], ◌∷◌, map, IfOk, OnOk};
 ghost use Rattle.ct_codec.specs.Submitted.{identity_of};
 ghost use Rattle.ct_step_lines.specs.StepAsks.{entry_parts};
-ghost use Rattle.ct_step_lines.specs.StepRepeats.{first_of_each, places_of_all};
+ghost use Rattle.ct_step_lines.specs.StepRepeats.{BatchEntry, first_of_each, places_of_all};
+ghost use Rattle.ct_step_lines.specs.SplitSoFar.{IsSplit};
 
 use crate::entry::Entry;
 use crate::fault::NotMade;
@@ -32,25 +33,49 @@ fn identity_bytes(alloc: Global, submission: &Submission) -> Result<Vec<u8>, All
     }
 }
 
-// Takes the repeats out of a batch: of the entries that have one identity the first stays. Each identity is looked up once in a table.
+// What is split of the first entries of a batch: their identities, the first submission of each, with its chain, and for each entry the place among these.
+#[derive(Drop)]
+struct Splitting {
+    identities: IndexSet<Vec<u8>>,
+    submissions: Vec<Submission>,
+    chains: Vec<Vec<[u8; 32]>>,
+    places: Vec<usize>,
+}
+
+// Takes one entry more: the first of its identity stays. The identity is looked up once in a table.
+fn take_entry(alloc: Global, split: &mut Splitting, entry: Entry) -> Result<(), AllocError>
+    ensures { OnOk result ((seen : List BatchEntry) → IsSplit seen split.old → IsSplit (seen ++ entry_parts entry ∷ []) split.new) }
+{
+    let (place, is_first) = split
+        .identities
+        .insert_full(identity_bytes(alloc, &entry.submission)?)?;
+    split.places.push(place)?;
+    if is_first {
+        split.submissions.push(entry.submission)?;
+        split.chains.push(entry.chain)?;
+    }
+    Ok(())
+}
+
+// Takes the repeats out of a batch: of the entries that have one identity the first stays.
 pub(crate) fn split_batch(alloc: Global, batch: Vec<Entry>) -> Result<SplitBatch, AllocError>
     ensures firsts { IfOk result (λ s. s.firsts ≡ first_of_each [] (map entry_parts batch.items)) }
     ensures places { IfOk result (λ s. s.places.items ≡ places_of_all [] (map entry_parts batch.items)) }
 {
-    let mut identities = IndexSet::new(alloc);
-    let mut submissions = Vec::new(alloc);
-    let mut chains = Vec::new(alloc);
-    let mut places = Vec::new(alloc);
+    let mut split = Splitting {
+        identities: IndexSet::new(alloc),
+        submissions: Vec::new(alloc),
+        chains: Vec::new(alloc),
+        places: Vec::new(alloc),
+    };
     for entry in batch {
-        let (place, is_first) = identities.insert_full(identity_bytes(alloc, &entry.submission)?)?;
-        places.push(place)?;
-        if is_first {
-            submissions.push(entry.submission)?;
-            chains.push(entry.chain)?;
-        }
+        take_entry(alloc, &mut split, entry)?;
     }
-    match Batch::new(submissions, chains) {
-        Some(firsts) => Ok(SplitBatch { firsts, places }),
+    match Batch::new(split.submissions, split.chains) {
+        Some(firsts) => Ok(SplitBatch {
+            firsts,
+            places: split.places,
+        }),
         None => unreachable!(),
     }
 }
