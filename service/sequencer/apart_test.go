@@ -11,6 +11,7 @@ import (
 	"net/http/httptest"
 	"os"
 	"path/filepath"
+	"runtime"
 	"sort"
 	"strings"
 	"sync"
@@ -332,6 +333,62 @@ func TestFirstFailure(t *testing.T) {
 			t.Errorf("%d has ended: %v", at, is)
 		}
 	}
+}
+
+// TestManySideBySide: of more things than go on at once all are done, and so many at once.
+func TestManySideBySide(t *testing.T) {
+	ctx, began, goes := limited(t), make(chan int, 3*mostPuts), make(chan struct{})
+	done := make(chan error, 1)
+	go func() {
+		done <- sideBySide(ctx, 3*mostPuts, func(_ context.Context, at int) error {
+			began <- at
+			<-goes
+			return nil
+		})
+	}()
+	all := map[int]bool{}
+	for len(all) < mostPuts {
+		all[<-began] = true
+	}
+	// (one that is too many would begin meanwhile)
+	for i := 0; i < 1000 && len(began) == 0; i++ {
+		runtime.Gosched()
+	}
+	if len(began) > 0 {
+		t.Error("more than may be go on at once")
+	}
+	close(goes)
+	must(t, <-done)
+	for len(began) > 0 {
+		all[<-began] = true
+	}
+	if len(all) != 3*mostPuts {
+		t.Errorf("%d were done", len(all))
+	}
+}
+
+// TestLater: a state may come behind another one of as many entries at most, and of an earlier moment.
+func TestLater(t *testing.T) {
+	than := step.State{Size: 5, Moment: 7}
+	for s, want := range map[step.State]bool{{Size: 5, Moment: 8}: true, {Size: 6, Moment: 8}: true, {Size: 4, Moment: 8}: false, {Size: 6, Moment: 7}: false, {Size: 5, Moment: 7}: false, {Size: 6, Moment: 6}: false} {
+		if is := later(s, than); is != want {
+			t.Errorf("%d entries at %d ms: %v", s.Size, s.Moment, is)
+		}
+	}
+}
+
+// TestIssuerThatIsBeingPut: who wants an issuer that another one puts waits for that one, and no longer than it waits itself.
+func TestIssuerThatIsBeingPut(t *testing.T) {
+	i, certificate := newIssuers(&Sequencer{}), []byte("an issuer")
+	fingerprint, done := sha256.Sum256(certificate), make(chan struct{})
+	i.putting[fingerprint] = done
+	gone, cancel := context.WithCancel(context.Background())
+	cancel()
+	wants(t, i.one(gone, certificate), context.Canceled)
+	put := make(chan error, 1)
+	go func() { put <- i.one(limited(t), certificate) }()
+	i.finish(fingerprint, certificate, done, true)
+	must(t, <-put)
 }
 
 // TestNewestSeenHead: a later head of fewer entries isn't seen, nor is an earlier one.
