@@ -1075,8 +1075,9 @@ func TestHandedOverInPart(t *testing.T) {
 	for _, places := range []string{"", string(right) + "," + string(right)} {
 		node, address := handingNode(t, s, places)
 		one := []*waiting{waitsAt(ctx, t, node, got.numberAt(t, 0))}
-		if wants(t, node.hand(address, one), errNode); len(one[0].done) != 0 {
-			t.Errorf("by [%s] it is answered", places)
+		given, err := node.hand(address, one)
+		if wants(t, err, errNode); len(given) != 0 {
+			t.Errorf("by [%s] %v", places, given)
 		}
 	}
 }
