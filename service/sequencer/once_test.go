@@ -423,7 +423,8 @@ func TestHeadBetweenThatIsntRead(t *testing.T) {
 	t.Parallel()
 	_, ctx, got, s := begun(t, 5, 5)
 	before := headName(s.newestKnown().state)
-	must(t, got.submitAll(ctx, s, 5, 9, 4))
+	// (one, so one step)
+	must(t, got.submitAll(ctx, s, 5, 6, 1))
 	k := s.newestKnown()
 	for what, of := range map[string]struct {
 		fails func(context.Context) error
