@@ -200,24 +200,31 @@ func TestPastBehindItsBundle(t *testing.T) {
 	}
 }
 
-// TestHelpsNoSecondHistory: the bundle of a state that is behind what this node saw isn't rolled out.
-func TestHelpsNoSecondHistory(t *testing.T) {
-	t.Parallel()
-	p, ctx := newPlace(t), limited(t)
+// heldBehind is a node over five entries that stands behind a phase of its next step, which has one submission more, until release is closed; done has what
+// becomes of that one.
+func heldBehind(ctx context.Context, t *testing.T, p place, got *answers, phase string) (s *Sequencer, release chan struct{}, done chan error) {
+	t.Helper()
 	var holds atomic.Bool
-	held, release := make(chan struct{}), make(chan struct{})
-	s := started(t, p.config(t), hooks{phase: func(name string) {
-		if name == "swapped" && holds.CompareAndSwap(true, false) {
+	held := make(chan struct{})
+	release, done = make(chan struct{}), make(chan error, 2)
+	s = started(t, p.config(t), hooks{phase: func(name string) {
+		if name == phase && holds.CompareAndSwap(true, false) {
 			close(held)
 			<-release
 		}
 	}})
-	got := &answers{}
 	must(t, got.submitAll(ctx, s, 0, 5, 5))
 	holds.Store(true)
-	done := make(chan error, 1)
 	go func() { done <- got.submitAll(ctx, s, 5, 6, 1) }()
 	<-held
+	return s, release, done
+}
+
+// TestHelpsNoSecondHistory: the bundle of a state that is behind what this node saw isn't rolled out.
+func TestHelpsNoSecondHistory(t *testing.T) {
+	t.Parallel()
+	p, ctx, got := newPlace(t), limited(t), &answers{}
+	s, release, done := heldBehind(ctx, t, p, got, "swapped")
 	other := readingNode(s)
 	other.heard = time.Now()
 	k, err := other.learn(ctx)
@@ -280,19 +287,7 @@ func TestOvertakenBehindASwap(t *testing.T) {
 func TestAnotherIsWaitedFor(t *testing.T) {
 	t.Parallel()
 	p, ctx, got := newPlace(t), limited(t), &answers{}
-	var holds atomic.Bool
-	held, release := make(chan struct{}), make(chan struct{})
-	s := started(t, p.config(t), hooks{phase: func(name string) {
-		if name == "swapped" && holds.CompareAndSwap(true, false) {
-			close(held)
-			<-release
-		}
-	}})
-	must(t, got.submitAll(ctx, s, 0, 5, 5))
-	holds.Store(true)
-	done := make(chan error, 1)
-	go func() { done <- got.submitAll(ctx, s, 5, 6, 1) }()
-	<-held
+	s, release, done := heldBehind(ctx, t, p, got, "swapped")
 	other := readingNode(s)
 	other.heard = time.Now()
 	k, err := other.learn(ctx)

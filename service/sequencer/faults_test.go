@@ -584,19 +584,8 @@ func TestHeadsWithoutEntries(t *testing.T) {
 func TestEndAnswers(t *testing.T) {
 	t.Parallel()
 	p, ctx, got := newPlace(t), limited(t), &answers{}
-	var holds atomic.Bool
-	held, release := make(chan struct{}), make(chan struct{})
-	s := started(t, p.config(t), hooks{phase: func(name string) {
-		if name == "stepped" && holds.CompareAndSwap(true, false) {
-			close(held)
-			<-release
-		}
-	}})
-	must(t, got.submitAll(ctx, s, 0, 5, 5))
-	holds.Store(true)
-	done, over := make(chan error, 2), make(chan error, 1)
-	go func() { done <- got.submitAll(ctx, s, 5, 6, 1) }()
-	<-held
+	s, release, done := heldBehind(ctx, t, p, got, "stepped")
+	over := make(chan error, 1)
 	go func() { done <- got.submitAll(ctx, s, 6, 55, 49) }()
 	eventually(t, "all wait", func() bool { return inQueue(s) == 49 })
 	go func() { over <- s.End(ctx) }()

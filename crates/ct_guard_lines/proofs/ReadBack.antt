@@ -6,7 +6,6 @@ use Rattle.std.specs.Result.{result_ok}
 use Rattle.base64.specs.Engines.{standard}
 use Rattle.base64.specs.GeneralPurpose.{IsBytes, IsConsistent}
 use Rattle.base64.proofs.EngineFacts.{decode_of-encode_of}
-use Rattle.json.specs.Json as json
 use Rattle.json.proofs.Printed.Decimals.{IsNumber-decimal}
 use Rattle.serde_json.specs.Read.{of_json, read}
 use Rattle.serde_json.specs.Written.{outline}

@@ -33,7 +33,7 @@ without_user a (Some h) = h
 abbrev pub authority_host : List ℕ → List ℕ
 authority_host a = before_any 58 58 58 (without_user a (behind_last 64 a))
 
--- the host behind a URI's first colon, where // follows: in what stands before the first of these three bytes: / ? # (RFC 3986, section 3)
+-- the host behind a URI's first colon, where two slashes follow: in what stands before the first slash, question mark or number sign (RFC 3986, section 3)
 abbrev pub host_behind : Option (List ℕ) → Option (List ℕ)
 host_behind None = None
 host_behind (Some []) = None
