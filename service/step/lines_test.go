@@ -7,6 +7,7 @@ import (
 	"errors"
 	"os"
 	"path/filepath"
+	"reflect"
 	"strings"
 	"testing"
 	"time"
@@ -128,6 +129,46 @@ func TestCutBundle(t *testing.T) {
 	for _, reply := range []string{`{"bundle":"AQI","state":"s"}`, `{"bundle":"AQ=I","state":"s"}`, `{"bundle":"AQ-_","state":"s"}`} {
 		if bundle, rest, err := cutBundle([]byte(reply)); err == nil {
 			t.Errorf("%s: %q and %s", reply, bundle, rest)
+		}
+	}
+}
+
+// TestCutReceipts: receipts are cut out where they stand in their one form, and what is read of the rest and of them is what encoding/json reads of the whole.
+func TestCutReceipts(t *testing.T) {
+	whole := `{"head":{"tree_size":2},"receipts":[{"leaf_index":0,"sign":"eA==","timestamp":5},{"leaf_index":18446744073709551615,"sign":"","timestamp":0}],"sign":"eQ=="}`
+	none := `{"head":{"tree_size":2},"receipts":[]}`
+	for line, cut := range map[string]bool{
+		whole: true, none: true,
+		// (in another form, or not whole)
+		`{"sign":"eQ=="}`: false,
+		strings.Replace(whole, `,"sign":"eA=="`, `, "sign":"eA=="`, 1):                            false,
+		strings.Replace(whole, `"leaf_index":0,"sign":"eA=="`, `"sign":"eA==","leaf_index":0`, 1): false,
+		strings.Replace(whole, `"eA=="`, `"eA="`, 1):                                              false,
+		strings.Replace(whole, `"timestamp":5}`, `"timestamp":5,"more":1}`, 1):                    false,
+		whole[:len(whole)-20]: false,
+	} {
+		receipts, rest, ok := cutReceipts([]byte(line))
+		if ok != cut || !cut && (string(rest) != line || receipts != nil) {
+			t.Errorf("%s: cut %v, %q is left", line, ok, rest)
+		}
+		if !cut {
+			continue
+		}
+		type reply struct {
+			Receipts []Receipt
+			Sign     []byte
+			Head     struct {
+				Size int `json:"tree_size"`
+			}
+		}
+		var want, got reply
+		must(t, json.Unmarshal([]byte(line), &want))
+		must(t, json.Unmarshal(rest, &got))
+		if got.Receipts = receipts; len(want.Receipts) == 0 {
+			want.Receipts = nil
+		}
+		if !reflect.DeepEqual(got, want) {
+			t.Errorf("%s: %+v, and not %+v", line, got, want)
 		}
 	}
 }

@@ -198,6 +198,9 @@ func (c *Client) Step(ctx context.Context, line string, edge [][]byte, batch []S
 	}
 	bundle, rest, err := cutBundle(answered)
 	if err == nil {
+		var receipts []Receipt
+		receipts, rest, _ = cutReceipts(rest)
+		told.Receipts = receipts
 		err = json.Unmarshal(rest, &told)
 	}
 	if err != nil {
