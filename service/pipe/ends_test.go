@@ -14,6 +14,8 @@ import (
 	"testing"
 	"time"
 
+	"golang.org/x/sys/unix"
+
 	"wagtenib/service/trial"
 )
 
@@ -294,4 +296,21 @@ func TestLongReplies(t *testing.T) {
 			t.Errorf("%d: of %d bytes %d are held", i, of.bytes, room)
 		}
 	}
+}
+
+// TestWidth: both pipes of a process hold a long line at once.
+func TestWidth(t *testing.T) {
+	e, err := cat(context.Background())
+	trial.Must(t, err)
+	defer e.Close()
+	raw, err := e.in.(syscall.Conn).SyscallConn()
+	trial.Must(t, err)
+	trial.Must(t, raw.Control(func(of uintptr) {
+		if holds, err := unix.FcntlInt(of, unix.F_GETPIPE_SZ, 0); err != nil || holds != width {
+			t.Errorf("a pipe holds %d bytes, %v", holds, err)
+		}
+	}))
+	// (what isn't a pipe stays as it is)
+	widen(nil)
+	widen(&last{})
 }

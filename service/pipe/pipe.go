@@ -14,6 +14,8 @@ import (
 	"sync/atomic"
 	"syscall"
 	"time"
+
+	"golang.org/x/sys/unix"
 )
 
 // ErrGone: the other end doesn't start, ended, or gave no reply in time.
@@ -63,6 +65,8 @@ func Start(words []string, most int, environment ...string) (*End, error) {
 	if err != nil {
 		return nil, fmt.Errorf("%w: %v", ErrGone, err)
 	}
+	widen(in)
+	widen(out)
 	if err := command.Start(); err != nil {
 		return nil, fmt.Errorf("%w: %v", ErrGone, err)
 	}
@@ -74,6 +78,20 @@ func Start(words []string, most int, environment ...string) (*End, error) {
 		return string(bytes.TrimSpace(said.bytes))
 	}
 	return &End{in: in, out: bufio.NewReaderSize(out, 1<<16), most: most, close: end}, nil
+}
+
+// width is how many bytes a pipe holds, where the system lets it: a line of a megabyte goes through at once, and not by parts of 64 KiB.
+const width = 1 << 20
+
+// widen has a pipe hold so many bytes. One that stays narrow carries the same.
+func widen(end any) {
+	wide, ok := end.(syscall.Conn)
+	if !ok {
+		return
+	}
+	if raw, err := wide.SyscallConn(); err == nil {
+		_ = raw.Control(func(of uintptr) { _, _ = unix.FcntlInt(of, unix.F_SETPIPE_SZ, width) })
+	}
 }
 
 // Dial connects to a Unix socket.
