@@ -7,6 +7,7 @@ import (
 	"os"
 	"path/filepath"
 	"sync"
+	"syscall"
 	"time"
 )
 
@@ -152,6 +153,31 @@ func (d *disk) forget(folder string) {
 	d.mu.Lock()
 	defer d.mu.Unlock()
 	delete(d.synced, folder)
+}
+
+// mostFreed is how many files are freed at once beside everything else.
+const mostFreed = 8
+
+var freeing = make(chan struct{}, mostFreed)
+
+// hold keeps a file whose name is taken away from being freed, until it is let go, and then has it be freed beside everything else: where the file system
+// tells the disk at once what is free (discard), that takes milliseconds. Where there is no such file it does nothing.
+func hold(path string) (let func()) {
+	file, err := os.OpenFile(path, os.O_RDONLY|syscall.O_NONBLOCK, 0)
+	if err != nil {
+		return func() {}
+	}
+	return func() {
+		select {
+		case freeing <- struct{}{}:
+			go func() {
+				file.Close()
+				<-freeing
+			}()
+		default:
+			file.Close()
+		}
+	}
 }
 
 func syncFolder(path string) error {

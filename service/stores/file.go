@@ -8,6 +8,7 @@ import (
 	"os"
 	"path/filepath"
 	"strconv"
+	"sync"
 	"syscall"
 	"time"
 )
@@ -16,8 +17,8 @@ import (
 const (
 	lockFile = "lock"
 	textFile = "text"
-	// publishedFile has the published size, which is all that versions before headFile read; that has the size and the moment. Each is
-	// replaced as a whole, and the later of the two is what is published.
+	// headFile has the published size and moment. Where it isn't there yet, publishedFile has the size alone, as versions before wrote it; the later of
+	// the two is what is published. Each is replaced as a whole.
 	publishedFile = "published"
 	headFile      = "head"
 )
@@ -29,6 +30,10 @@ const (
 // of the folder with its name acknowledged stays. (Not over NFS, where flock may lock the one machine alone.)
 type file struct {
 	disk *disk
+	mu   sync.Mutex
+	// text and raised are what this process knows to be on the disk. (No text comes again, and what is published only rises.)
+	text   string
+	raised Published
 }
 
 // OpenFile opens the register in a folder, and makes the folder where it isn't there; it makes no register.
@@ -37,7 +42,7 @@ func OpenFile(root string) (Register, error) {
 	if err != nil {
 		return nil, err
 	}
-	return &file{d}, nil
+	return &file{disk: d}, nil
 }
 
 func (f *file) path(name string) string { return filepath.Join(f.disk.root, name) }
@@ -91,13 +96,57 @@ func (f *file) keep() error {
 	return nil
 }
 
-// read gives a file's content, which is on the disk.
-func (f *file) read(name string) (string, error) {
-	content, err := f.raw(name)
+// readText gives the text, which is on the disk.
+func (f *file) readText() (string, error) {
+	text, err := f.raw(textFile)
 	if err == nil {
-		err = f.keep()
+		err = f.keepText(text)
 	}
-	return content, err
+	return text, err
+}
+
+// keepText sees to it that a text that was read is on the disk.
+func (f *file) keepText(text string) error {
+	f.mu.Lock()
+	known := f.text == text && text != ""
+	f.mu.Unlock()
+	if known {
+		return nil
+	}
+	err := f.keep()
+	if err == nil {
+		f.knowText(text)
+	}
+	return err
+}
+
+// knowText notes what is on the disk.
+func (f *file) knowText(text string) {
+	f.mu.Lock()
+	defer f.mu.Unlock()
+	f.text = text
+}
+
+// keepRaised sees to it that what is published is on the disk, as it was read.
+func (f *file) keepRaised(published Published) error {
+	f.mu.Lock()
+	known := f.raised == published && published != Published{}
+	f.mu.Unlock()
+	if known {
+		return nil
+	}
+	err := f.keep()
+	if err == nil {
+		f.knowRaised(published)
+	}
+	return err
+}
+
+// knowRaised notes what of the published is on the disk.
+func (f *file) knowRaised(published Published) {
+	f.mu.Lock()
+	defer f.mu.Unlock()
+	f.raised = published
 }
 
 // set gives a file another content. Its errors before the file has its name are plain; behind that, ErrUnknown.
@@ -106,6 +155,8 @@ func (f *file) set(name, content string) error {
 	if err != nil {
 		return err
 	}
+	let := hold(f.path(name))
+	defer let()
 	if err := os.Rename(whole, f.path(name)); err != nil {
 		os.Remove(whole)
 		return fmt.Errorf("stores: register: %w", err)
@@ -121,7 +172,7 @@ func (f *file) Create(ctx context.Context, text string) error {
 		return err
 	}
 	return f.alone(ctx, func() error {
-		if _, err := f.read(textFile); err == nil {
+		if _, err := f.readText(); err == nil {
 			return ErrExists
 		} else if !errors.Is(err, ErrAbsent) {
 			return err
@@ -145,7 +196,7 @@ func (f *file) Read(ctx context.Context) (text string, err error) {
 	if err := ctx.Err(); err != nil {
 		return "", fmt.Errorf("stores: register: %w", err)
 	}
-	return f.read(textFile)
+	return f.readText()
 }
 
 func (f *file) Swap(ctx context.Context, old, new string) error {
@@ -153,16 +204,21 @@ func (f *file) Swap(ctx context.Context, old, new string) error {
 		return err
 	}
 	return f.alone(ctx, func() error {
-		standing, err := f.read(textFile)
+		// (what is replaced need not be on the disk)
+		standing, err := f.raw(textFile)
 		switch {
 		case err != nil:
 			return err
 		case standing == new:
-			return nil
+			return f.keepText(new)
 		case standing != old:
 			return ErrLost
 		}
-		return f.set(textFile, new)
+		if err := f.set(textFile, new); err != nil {
+			return err
+		}
+		f.knowText(new)
+		return nil
 	})
 }
 
@@ -197,7 +253,7 @@ func (f *file) published() (Published, error) {
 // headForm is how headFile has a size and a moment.
 const headForm = "%d %d"
 
-// created gives what is published of a register that was created, on the disk.
+// created gives what is published of a register that was created; it need not be on the disk.
 func (f *file) created() (Published, error) {
 	if _, err := f.raw(textFile); err != nil {
 		return Published{}, err
@@ -207,17 +263,21 @@ func (f *file) created() (Published, error) {
 		// Its text is there: it isn't absent.
 		return Published{}, fmt.Errorf("%v", err)
 	}
-	if err != nil {
-		return Published{}, err
-	}
-	return published, f.keep()
+	return published, err
 }
 
 func (f *file) Published(ctx context.Context) (Published, error) {
 	if err := ctx.Err(); err != nil {
 		return Published{}, fmt.Errorf("stores: register: %w", err)
 	}
-	return f.created()
+	published, err := f.created()
+	if err == nil {
+		err = f.keepRaised(published)
+	}
+	if err != nil {
+		return Published{}, err
+	}
+	return published, nil
 }
 
 func (f *file) Raise(ctx context.Context, published Published) error {
@@ -226,16 +286,17 @@ func (f *file) Raise(ctx context.Context, published Published) error {
 	}
 	return f.alone(ctx, func() error {
 		standing, err := f.created()
-		if err != nil || !standing.Before(published) {
+		if err != nil {
 			return err
+		}
+		if !standing.Before(published) {
+			return f.keepRaised(standing)
 		}
 		if err := f.set(headFile, fmt.Sprintf(headForm, published.Size, published.Moment)); err != nil {
 			return err
 		}
-		if standing.Size == published.Size {
-			return nil
-		}
-		return f.set(publishedFile, strconv.FormatUint(published.Size, 10))
+		f.knowRaised(published)
+		return nil
 	})
 }
 

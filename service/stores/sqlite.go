@@ -136,16 +136,18 @@ func (s *inSQLite) add(ctx context.Context, placed []Placed, otherwise string) e
 		return err
 	}
 	defer tx.Rollback()
-	add, err := tx.PrepareContext(ctx, "insert into "+s.table+" values (?, ?, ?) on conflict (identity) do "+otherwise)
+	err = parts(len(placed), mostVariables/3, func(from, to int) error {
+		values := make([]any, 0, 3*(to-from))
+		for i := range placed[from:to] {
+			one := &placed[from+i]
+			values = append(values, one.Identity[:], int64(one.Place.Index), int64(one.Place.Timestamp))
+		}
+		rows := strings.Repeat(", (?, ?, ?)", to-from)[2:]
+		_, err := tx.ExecContext(ctx, "insert into "+s.table+" values "+rows+" on conflict (identity) do "+otherwise, values...)
+		return err
+	})
 	if err != nil {
 		return err
-	}
-	defer add.Close()
-	for i := range placed {
-		place := placed[i].Place
-		if _, err := add.ExecContext(ctx, placed[i].Identity[:], int64(place.Index), int64(place.Timestamp)); err != nil {
-			return err
-		}
 	}
 	return tx.Commit()
 }

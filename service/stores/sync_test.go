@@ -81,13 +81,30 @@ func TestFileSyncs(t *testing.T) {
 	syncedAs(t, "Create", got, []string{"file", ".", "file", ". (named)"})
 	read := func() error { _, err := register.Read(ctx); return err }
 	syncedAs(t, "Read", syncs(t, root, "none", read), []string{"."})
+	// (what this process knows to be on the disk is synced once)
+	syncedAs(t, "Read of the same", syncs(t, root, "none", read), nil)
 	swap := func() error { return register.Swap(ctx, "a", "b") }
-	// (it reads, and so syncs, first)
-	syncedAs(t, "Swap", syncs(t, root, "none", swap), []string{".", "file", "."})
+	syncedAs(t, "Swap", syncs(t, root, "none", swap), []string{"file", "."})
+	syncedAs(t, "the same Swap", syncs(t, root, "none", swap), nil)
+	syncedAs(t, "Read of what was swapped", syncs(t, root, "none", read), nil)
 	raise := func() error { return register.Raise(ctx, Published{Size: 5}) }
-	syncedAs(t, "Raise", syncs(t, root, "none", raise), []string{".", "file", ".", "file", "."})
+	syncedAs(t, "Raise", syncs(t, root, "none", raise), []string{"file", "."})
 	same := func() error { return register.Raise(ctx, Published{5, 1}) }
-	syncedAs(t, "Raise of one size", syncs(t, root, "none", same), []string{".", "file", "."})
+	syncedAs(t, "Raise of one size", syncs(t, root, "none", same), []string{"file", "."})
+	published := func() error { _, err := register.Published(ctx); return err }
+	syncedAs(t, "Published", syncs(t, root, "none", published), nil)
+	// What another process set may not be on the disk, whoever was killed behind that.
+	other, err := OpenFile(root)
+	must(t, err)
+	register = other
+	syncedAs(t, "Published by another process", syncs(t, root, "none", published), []string{"."})
+	syncedAs(t, "the same Raise", syncs(t, root, "none", same), nil)
+	syncedAs(t, "Read by another process", syncs(t, root, "none", read), []string{"."})
+	third, err := OpenFile(root)
+	must(t, err)
+	register = third
+	syncedAs(t, "the same Swap by another process", syncs(t, root, "none", swap), []string{"."})
+	syncedAs(t, "the same Raise by another process", syncs(t, root, "none", same), []string{"."})
 }
 
 // TestFailedSyncs: where the disk doesn't take it, nothing is acknowledged; a swap is unknown once the text has its name.
@@ -122,7 +139,7 @@ func TestFailedSyncs(t *testing.T) {
 	standsAs(t, register, "a", 0)
 	calls := 0
 	fsync = func(file *os.File) error {
-		if calls++; calls == 3 { // that of the folder, behind the one of reading and the file's
+		if calls++; calls == 2 { // that of the folder, behind the file's
 			return fault
 		}
 		return file.Sync()

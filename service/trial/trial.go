@@ -25,6 +25,16 @@ func Must(t testing.TB, err error) {
 	}
 }
 
+// Eventually waits until something holds.
+func Eventually(t testing.TB, what string, holds func() bool) {
+	t.Helper()
+	for until := time.Now().Add(Longest); !holds(); time.Sleep(time.Millisecond) {
+		if time.Now().After(until) {
+			t.Fatalf("%s: not in %v", what, Longest)
+		}
+	}
+}
+
 // Wants sees that an error is all of these.
 func Wants(t testing.TB, err error, kinds ...error) {
 	t.Helper()

@@ -95,14 +95,7 @@ func newFixture(t testing.TB, every time.Duration, change func(*Options)) *fixtu
 }
 
 // eventually waits until something holds.
-func eventually(t testing.TB, what string, holds func() bool) {
-	t.Helper()
-	for until := time.Now().Add(trial.Longest); !holds(); time.Sleep(time.Millisecond) {
-		if time.Now().After(until) {
-			t.Fatalf("%s: not in %v", what, trial.Longest)
-		}
-	}
-}
+var eventually = trial.Eventually
 
 func (f *fixture) do(method, target string, body []byte) *httptest.ResponseRecorder {
 	r := httptest.NewRequest(method, target, bytes.NewReader(body))
