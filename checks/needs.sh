@@ -86,7 +86,7 @@ if [ "$what" = service ] || [ "$what" = service-test ] || [ "$what" = service-fo
     [[ " $packages " == *" ${pair#*:} "* ]] || packages+=" ${pair#*:}"
   done
   for package in libsqlite3-dev golang-github-mattn-go-sqlite3-dev golang-github-lib-pq-dev golang-etcd-server-dev \
-    golang-github-minio-minio-go-v7-dev golang-github-prometheus-client-golang-dev golang-github-thalesignite-crypto11-dev golang-golang-x-crypto-dev golang-golang-x-mod-dev; do
+    golang-github-minio-minio-go-v7-dev golang-github-prometheus-client-golang-dev golang-github-thalesignite-crypto11-dev golang-golang-x-crypto-dev golang-golang-x-mod-dev golang-golang-x-sync-dev; do
     [ "$(dpkg-query -W -f '${db:Status-Status}' "$package" 2>/dev/null)" = installed ] || { lacks "Debian's $package" && packages+=" $package"; }
   done
   [ "$missing" = 1 ] || exit 0

@@ -184,21 +184,14 @@ func (g *Guarded) known(ctx context.Context) (string, error) {
 	return g.text, nil
 }
 
-// guardRequest is a line for the guard: over the register's text a head or a receipt; or which head it has, where it isn't behind one seen before.
+// guardRequest is a line for the guard: over the register's text a head; or which head it has, where it isn't behind one seen before. (That of a receipt
+// is appendGuarded's.)
 type guardRequest struct {
 	Text string `json:"text"`
 	Seen string `json:"seen,omitempty"`
 	*headLine
-	*leafLine
 	Consistency *[][]byte `json:"consistency,omitempty"`
 	MostAhead   uint64    `json:"most_ahead,omitempty"`
-}
-
-// leafLine is a receipt as the guard's lines have it.
-type leafLine struct {
-	Leaf  []byte    `json:"leaf_input"`
-	Index *uint64   `json:"leaf_index,omitempty"`
-	Path  *[][]byte `json:"audit_path,omitempty"`
 }
 
 // guardReply is a line of the guard's: bytes to sign, and for a head's what is to stand in the register (new) in place of what (old); or the head that
@@ -222,13 +215,6 @@ func (r guardReply) refusal() error {
 
 // ask sends the guard requests. Behind an error it has ended; a refusal is a reply.
 func (g *Guarded) ask(ctx context.Context, requests []guardRequest) ([]guardReply, error) {
-	if g.end == nil {
-		end, err := pipe.Start(append(append([]string{}, g.of.Command...), "--receipts", string(g.of.Receipts)), mostReply)
-		if err != nil {
-			return nil, fmt.Errorf("signer: the guard: %w", err)
-		}
-		g.end = end
-	}
 	var lines bytes.Buffer
 	to := json.NewEncoder(&lines)
 	for _, request := range requests {
@@ -236,14 +222,26 @@ func (g *Guarded) ask(ctx context.Context, requests []guardRequest) ([]guardRepl
 			return nil, fmt.Errorf("signer: %w", err)
 		}
 	}
-	came, err := g.end.Exchange(ctx, g.of.Within, lines.Bytes(), len(requests))
+	return g.askLines(ctx, lines.Bytes(), len(requests))
+}
+
+// askLines sends the guard so many lines, each with its end.
+func (g *Guarded) askLines(ctx context.Context, lines []byte, many int) ([]guardReply, error) {
+	if g.end == nil {
+		end, err := pipe.Start(append(append([]string{}, g.of.Command...), "--receipts", string(g.of.Receipts)), mostReply)
+		if err != nil {
+			return nil, fmt.Errorf("signer: the guard: %w", err)
+		}
+		g.end = end
+	}
+	came, err := g.end.Exchange(ctx, g.of.Within, lines, many)
 	if err != nil {
 		g.end = nil
 		return nil, fmt.Errorf("signer: the guard: %w", err)
 	}
 	replies := make([]guardReply, len(came))
 	for i, line := range came {
-		if err := json.Unmarshal(line, &replies[i]); err != nil {
+		if replies[i], err = readGuarded(line); err != nil {
 			g.drop()
 			return nil, fmt.Errorf("%w: the guard: %v", ErrReply, err)
 		}
@@ -347,19 +345,19 @@ func (g *Guarded) SignTimestamps(ctx context.Context, receipts []Receipt) ([][]b
 	if err != nil {
 		return nil, err
 	}
-	var requests []guardRequest
-	for _, receipt := range receipts {
-		request := guardRequest{Text: text, leafLine: &leafLine{Leaf: receipt.Leaf}}
-		if g.of.Receipts == InHead {
-			index, path := receipt.Index, hashesOf(receipt.Path)
-			request.Index, request.Path = &index, &path
-		}
-		requests = append(requests, request)
+	quoted, err := json.Marshal(text)
+	if err != nil {
+		return nil, fmt.Errorf("signer: %w", err)
 	}
-	replies, err := g.ask(ctx, requests)
+	var lines []byte
+	for _, receipt := range receipts {
+		lines = appendGuarded(lines, quoted, receipt, g.of.Receipts)
+	}
+	replies, err := g.askLines(ctx, lines, len(receipts))
 	if err != nil {
 		return nil, err
 	}
+	messages := make([][]byte, len(replies))
 	for i, reply := range replies {
 		if err := reply.refusal(); err != nil {
 			return nil, err
@@ -367,14 +365,7 @@ func (g *Guarded) SignTimestamps(ctx context.Context, receipts []Receipt) ([][]b
 		if !bytes.Equal(reply.Sign, receipts[i].Leaf) || reply.New != "" {
 			return nil, g.other("timestamp")
 		}
+		messages[i] = reply.Sign
 	}
-	signatures := make([][]byte, 0, len(replies))
-	for _, reply := range replies {
-		signed, err := g.key.sign(reply.Sign)
-		if err != nil {
-			return nil, err
-		}
-		signatures = append(signatures, signed)
-	}
-	return signatures, nil
+	return g.key.signAll(ctx, messages)
 }

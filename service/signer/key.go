@@ -12,6 +12,9 @@ import (
 	"fmt"
 	"io"
 	"os"
+	"runtime"
+
+	"golang.org/x/sync/errgroup"
 )
 
 // mostFile is how many bytes a key's file may have.
@@ -144,16 +147,38 @@ func (k *Key) SignHead(ctx context.Context, head Head, _ [][32]byte) ([]byte, er
 
 // SignTimestamps is Signer's. Neither leaves nor paths are looked at.
 func (k *Key) SignTimestamps(ctx context.Context, receipts []Receipt) ([][]byte, error) {
-	signatures := make([][]byte, 0, len(receipts))
+	messages := make([][]byte, 0, len(receipts))
 	for _, receipt := range receipts {
-		if err := ctx.Err(); err != nil {
-			return nil, fmt.Errorf("signer: %w", err)
-		}
-		signed, err := k.sign(receipt.Leaf)
-		if err != nil {
-			return nil, err
-		}
-		signatures = append(signatures, signed)
+		messages = append(messages, receipt.Leaf)
+	}
+	return k.signAll(ctx, messages)
+}
+
+// signAll gives the DigitallySigned over each of these, or over none.
+func (k *Key) signAll(ctx context.Context, messages [][]byte) ([][]byte, error) {
+	signatures := make([][]byte, len(messages))
+	err := sideBySide(ctx, len(messages), func(at int) (err error) {
+		signatures[at], err = k.sign(messages[at])
+		return err
+	})
+	if err != nil {
+		return nil, err
 	}
 	return signatures, nil
+}
+
+// sideBySide does so many things that keep a processor busy, as many at once as there are processors, until the context ends, and gives the first error.
+func sideBySide(ctx context.Context, many int, do func(at int) error) error {
+	all, ctx := errgroup.WithContext(ctx)
+	all.SetLimit(runtime.GOMAXPROCS(0))
+	for at := 0; at < many; at++ {
+		at := at
+		all.Go(func() error {
+			if err := ctx.Err(); err != nil {
+				return fmt.Errorf("signer: %w", err)
+			}
+			return do(at)
+		})
+	}
+	return all.Wait()
 }

@@ -28,11 +28,12 @@ const (
 
 // request asks for one thing: the key, the last head, a head's signature, or those of timestamps.
 type request struct {
-	Open        bool          `json:"open,omitempty"`
-	Last        bool          `json:"last,omitempty"`
-	Head        *headLine     `json:"head,omitempty"`
-	Consistency [][]byte      `json:"consistency,omitempty"`
-	Receipts    []receiptLine `json:"receipts,omitempty"`
+	Open        bool      `json:"open,omitempty"`
+	Last        bool      `json:"last,omitempty"`
+	Head        *headLine `json:"head,omitempty"`
+	Consistency [][]byte  `json:"consistency,omitempty"`
+	// Receipts are written by appendReceipts.
+	Receipts []receiptLine `json:"receipts,omitempty"`
 }
 
 type receiptLine struct {
@@ -67,6 +68,9 @@ func hashes(texts [][]byte) ([][32]byte, error) {
 
 // answer has a signer do what a line asks for.
 func answer(ctx context.Context, s Signer, line []byte) (came reply, err error) {
+	if receipts, ok := readReceipts(line); ok {
+		return answerReceipts(ctx, s, receipts)
+	}
 	var asked request
 	if err := json.Unmarshal(line, &asked); err != nil {
 		return came, fmt.Errorf("%w: %v", ErrReply, err)
@@ -88,8 +92,6 @@ func answer(ctx context.Context, s Signer, line []byte) (came reply, err error) 
 		}
 		signed, err := s.SignHead(ctx, *head, proof)
 		return reply{Signatures: [][]byte{signed}}, err
-	case len(asked.Receipts) > MostReceipts:
-		return came, fmt.Errorf("%w: %d timestamps at once", ErrReply, len(asked.Receipts))
 	}
 	var receipts []Receipt
 	for _, one := range asked.Receipts {
@@ -98,6 +100,14 @@ func answer(ctx context.Context, s Signer, line []byte) (came reply, err error) 
 			return came, err
 		}
 		receipts = append(receipts, Receipt{one.Leaf, one.Index, path})
+	}
+	return answerReceipts(ctx, s, receipts)
+}
+
+// answerReceipts has a signer sign timestamps.
+func answerReceipts(ctx context.Context, s Signer, receipts []Receipt) (reply, error) {
+	if len(receipts) > MostReceipts {
+		return reply{}, fmt.Errorf("%w: %d timestamps at once", ErrReply, len(receipts))
 	}
 	signatures, err := s.SignTimestamps(ctx, receipts)
 	return reply{Signatures: signatures}, err
@@ -123,9 +133,11 @@ func Serve(ctx context.Context, s Signer, from io.Reader, to io.Writer) error {
 		} else if err != nil {
 			came = reply{Failed: err.Error(), Moved: errors.Is(err, ErrMoved), Bad: errors.Is(err, ErrState)}
 		}
-		text, err := json.Marshal(came)
-		if err != nil {
-			return fmt.Errorf("signer: %w", err)
+		text := appendSignatures(nil, came.Signatures)
+		if err != nil || len(came.Signatures) == 0 {
+			if text, err = json.Marshal(came); err != nil {
+				return fmt.Errorf("signer: %w", err)
+			}
 		}
 		if _, err := to.Write(append(text, '\n')); err != nil {
 			return fmt.Errorf("signer: %w", err)
@@ -384,6 +396,11 @@ func (c *Client) ask(ctx context.Context, asked request) (came reply, err error)
 	if err != nil {
 		return came, fmt.Errorf("signer: %w", err)
 	}
+	return c.askLine(ctx, line)
+}
+
+// askLine sends a request's line, which is without its end.
+func (c *Client) askLine(ctx context.Context, line []byte) (came reply, err error) {
 	if len(line) >= MostLine {
 		return came, fmt.Errorf("%w: a request of %d bytes", ErrReply, len(line))
 	}
@@ -391,7 +408,7 @@ func (c *Client) ask(ctx context.Context, asked request) (came reply, err error)
 	if err != nil {
 		return came, err
 	}
-	if err := json.Unmarshal(replies[0], &came); err != nil {
+	if came, err = readReply(replies[0]); err != nil {
 		return came, fmt.Errorf("%w: %v", ErrReply, err)
 	}
 	switch {
@@ -432,14 +449,14 @@ func (c *Client) SignHead(ctx context.Context, head Head, consistency [][32]byte
 	if err != nil {
 		return nil, err
 	}
-	if err := c.areSigned(came.Signatures, [][]byte{head.message()}); err != nil {
+	if err := c.areSigned(ctx, came.Signatures, [][]byte{head.message()}); err != nil {
 		return nil, err
 	}
 	return came.Signatures[0], nil
 }
 
 // areSigned looks at what the other process gave, as at what another node's does: one signature for each message, the key's.
-func (c *Client) areSigned(signatures, messages [][]byte) error {
+func (c *Client) areSigned(ctx context.Context, signatures, messages [][]byte) error {
 	if len(signatures) != len(messages) {
 		return fmt.Errorf("%w: %d signatures of %d", ErrReply, len(signatures), len(messages))
 	}
@@ -447,29 +464,31 @@ func (c *Client) areSigned(signatures, messages [][]byte) error {
 	if err != nil {
 		return err
 	}
-	for i, message := range messages {
-		if err := check(public, message, signatures[i]); err != nil {
+	return sideBySide(ctx, len(messages), func(at int) error {
+		if err := check(public, messages[at], signatures[at]); err != nil {
 			return fmt.Errorf("%w: %v", ErrReply, err)
 		}
-	}
-	return nil
+		return nil
+	})
 }
 
 // SignTimestamps is Signer's.
 func (c *Client) SignTimestamps(ctx context.Context, receipts []Receipt) (signatures [][]byte, err error) {
-	for from := 0; from < len(receipts); from += MostReceipts {
-		var asked request
-		var messages [][]byte
-		for _, one := range receipts[from:] {
-			if len(asked.Receipts) < MostReceipts {
-				asked.Receipts, messages = append(asked.Receipts, receiptLine{hashesOf(one.Path), one.Index, one.Leaf}), append(messages, one.Leaf)
-			}
+	for len(receipts) > 0 {
+		part := receipts
+		if len(part) > MostReceipts {
+			part = part[:MostReceipts]
 		}
-		came, err := c.ask(ctx, asked)
+		receipts = receipts[len(part):]
+		var messages [][]byte
+		for _, one := range part {
+			messages = append(messages, one.Leaf)
+		}
+		came, err := c.askLine(ctx, appendReceipts(nil, part))
 		if err != nil {
 			return nil, err
 		}
-		if err := c.areSigned(came.Signatures, messages); err != nil {
+		if err := c.areSigned(ctx, came.Signatures, messages); err != nil {
 			return nil, err
 		}
 		signatures = append(signatures, came.Signatures...)

@@ -1,0 +1,100 @@
+package signer
+
+import (
+	"bytes"
+	"encoding/json"
+	"reflect"
+	"strings"
+	"testing"
+)
+
+// someReceipts have leaves and paths of several lengths.
+func someReceipts() []Receipt {
+	return []Receipt{
+		{Leaf: []byte("a leaf"), Index: 7, Path: [][32]byte{{1}, {2, 3}}},
+		{Leaf: bytes.Repeat([]byte{255}, 1000), Index: 1<<40 - 1, Path: [][32]byte{{31: 9}}},
+		{Leaf: []byte{0}},
+	}
+}
+
+// TestReceiptsAreWritten: the lines of receipts are what encoding/json makes of the same, and are read as they were written.
+func TestReceiptsAreWritten(t *testing.T) {
+	for _, receipts := range [][]Receipt{{}, someReceipts()[:1], someReceipts()} {
+		asked := request{Receipts: []receiptLine{}}
+		for _, one := range receipts {
+			asked.Receipts = append(asked.Receipts, receiptLine{hashesOf(one.Path), one.Index, one.Leaf})
+		}
+		want, err := json.Marshal(asked)
+		must(t, err)
+		line := appendReceipts([]byte("before"), receipts)
+		if len(receipts) > 0 && string(line) != "before"+string(want) {
+			t.Errorf("%s, and not %s", line, want)
+		}
+		if read, ok := readReceipts(line[len("before"):]); !ok || len(read) != len(receipts) || len(read) > 0 && !reflect.DeepEqual(read, receipts) {
+			t.Errorf("%s is read as %+v, %v", line, read, ok)
+		}
+		signatures := [][]byte{}
+		for _, one := range receipts {
+			signatures = append(signatures, one.Leaf)
+		}
+		written := appendSignatures(nil, signatures)
+		if want, err = json.Marshal(reply{Signatures: signatures}); len(receipts) > 0 && (err != nil || string(written) != string(want)) {
+			t.Errorf("%s, and not %s, %v", written, want, err)
+		}
+		if came, err := readReply(written); err != nil || len(came.Signatures) != len(signatures) || len(signatures) > 0 && !reflect.DeepEqual(came.Signatures, signatures) {
+			t.Errorf("%s is read as %+v, %v", written, came, err)
+		}
+	}
+}
+
+// TestReceiptsOfAnotherForm: what is of another form, or isn't whole, isn't read as receipts, and the replies are read by encoding/json.
+func TestReceiptsOfAnotherForm(t *testing.T) {
+	line := string(appendReceipts(nil, someReceipts()))
+	for _, other := range []string{"", "{}", `{"open":true}`, line[:len(line)-1], line + " ", " " + line, strings.Replace(line, `"leaf_index":7`, `"leaf_index":"7"`, 1), strings.Replace(line, `"leaf_index":7,`, "", 1),
+		strings.Replace(line, "receipts", "receipt", 1), `{"receipts":[{"audit_path":["eA=="],"leaf_index":0,"leaf_input":"eA=="}]}`, `{"receipts":[{"leaf_input":"eA==","leaf_index":0}]}`} {
+		if read, ok := readReceipts([]byte(other)); ok {
+			t.Errorf("%s is read as %+v", other, read)
+		}
+	}
+	for text, want := range map[string]reply{
+		`{"signatures": ["eA=="]}`: {Signatures: [][]byte{{'x'}}}, `{"refused":"older","fault":"of it"}`: {Refused: "older", Fault: "of it"}, `{"moved":true,"failed":"so"}`: {Moved: true, Failed: "so"},
+		`{"signatures":["eA=="],"moved":true}`: {Signatures: [][]byte{{'x'}}, Moved: true},
+	} {
+		if came, err := readReply([]byte(text)); err != nil || !reflect.DeepEqual(came, want) {
+			t.Errorf("%s is read as %+v, %v", text, came, err)
+		}
+	}
+	for text, want := range map[string]guardReply{
+		`{"sign":"eA=="}`: {Sign: []byte("x")}, `{"sign":"eA==","new":"one","old":"other"}`: {Sign: []byte("x"), New: "one", Old: "other"}, `{"fault":"path-too-long","refused":"not-in-head"}`: {Refused: "not-in-head", Fault: "path-too-long"},
+	} {
+		if reply, err := readGuarded([]byte(text)); err != nil || !reflect.DeepEqual(reply, want) {
+			t.Errorf("%s is read as %+v, %v", text, reply, err)
+		}
+	}
+	for _, text := range []string{"", "{", `{"sign":"eA="}`, `{"sign":7}`, `{"signatures":["eA="]}`} {
+		_, err := readReply([]byte(text))
+		if _, guarded := readGuarded([]byte(text)); err == nil && guarded == nil {
+			t.Errorf("%s is read", text)
+		}
+	}
+}
+
+// TestGuardedLine: the guard's line of a receipt has its text, and where receipts are in the head its index and path.
+func TestGuardedLine(t *testing.T) {
+	one := someReceipts()[0]
+	quoted, err := json.Marshal("a \"text\"")
+	must(t, err)
+	for receipts, with := range map[Receipts]bool{InHead: true, Promised: false} {
+		line := appendGuarded([]byte("before\n"), quoted, one, receipts)
+		var read struct {
+			Text  string   `json:"text"`
+			Leaf  []byte   `json:"leaf_input"`
+			Index *uint64  `json:"leaf_index"`
+			Path  [][]byte `json:"audit_path"`
+		}
+		must(t, json.Unmarshal(bytes.TrimPrefix(line, []byte("before\n")), &read))
+		if read.Text != "a \"text\"" || string(read.Leaf) != "a leaf" || (read.Index != nil) != with || with && (*read.Index != 7 || !reflect.DeepEqual(read.Path, hashesOf(one.Path))) || !with && read.Path != nil || line[len(line)-1] != '\n' {
+			t.Errorf("%s: %s", receipts, line)
+		}
+	}
+}
