@@ -50,7 +50,10 @@ type opener func(context.Context, node) (*opened, error)
 // looksEvery is how often the log is looked at for what an operator is to be told.
 const looksEvery = time.Second
 
-func main() { os.Exit(run(os.Args[1:], os.Stderr, openNode)) }
+func main() {
+	settleCollector()
+	os.Exit(run(os.Args[1:], os.Stderr, openNode))
+}
 
 // statusSetBack is the status of a start that is refused, and will be until an operator has looked at the log's stores.
 const statusSetBack = 3

@@ -1,0 +1,23 @@
+package main
+
+import (
+	"os"
+	"runtime/debug"
+)
+
+// Between two collections of garbage a process allocates up to collectsAt percent of what it holds: that is little, and a collection costs by it. From
+// mostHeld bytes on, all together, it collects more often.
+const (
+	collectsAt = 400
+	mostHeld   = 1 << 30
+)
+
+// settleCollector says so to the collector, but for what the environment says to it (GOGC, GOMEMLIMIT).
+func settleCollector() {
+	if os.Getenv("GOGC") == "" {
+		debug.SetGCPercent(collectsAt)
+	}
+	if os.Getenv("GOMEMLIMIT") == "" {
+		debug.SetMemoryLimit(mostHeld)
+	}
+}
