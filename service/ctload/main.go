@@ -18,11 +18,14 @@ import (
 	"os"
 	"os/exec"
 	"os/signal"
+	"runtime"
 	"sort"
 	"strings"
 	"sync"
 	"syscall"
 	"time"
+
+	"golang.org/x/sync/errgroup"
 
 	"wagtenib/service/check"
 	"wagtenib/service/version"
@@ -39,6 +42,8 @@ type load struct {
 	answers   *json.Encoder
 	// pace has a token for each submission, where a rate is given.
 	pace <-chan time.Time
+	// made are submissions that were made before any was sent.
+	made chan submission
 
 	mu    sync.Mutex
 	took  []time.Duration
@@ -84,6 +89,7 @@ func run() error {
 	most := flag.Int("most", 0, "end once so many were answered, and those that wait are, too; 0 is no end")
 	repeats := flag.Int("repeats", 5, "of 100 submissions so many are sent again")
 	tell := flag.Duration("tell", time.Minute, "how far two lines with figures are apart")
+	ready := flag.Int("ready", 0, "so many submissions are made before the first is sent, so that making them takes nothing of the time")
 	flag.Parse()
 	if flag.NArg() > 0 {
 		return fmt.Errorf("%q isn't expected: --help says which words it takes", flag.Arg(0))
@@ -123,6 +129,9 @@ func run() error {
 	}
 	if *rate > 0 {
 		l.pace = time.Tick(time.Duration(float64(time.Second) / *rate))
+	}
+	if err := l.prepare(*ready); err != nil {
+		return err
 	}
 	if *long > 0 {
 		timed, cancel := context.WithTimeout(ctx, *long)
@@ -231,7 +240,25 @@ func (l *load) isDone() bool {
 	return l.most > 0 && l.count >= l.most
 }
 
-// next is a new submission, a precertificate's of three, or one that was answered before.
+// prepare makes so many submissions.
+func (l *load) prepare(many int) error {
+	l.made = make(chan submission, many)
+	all := errgroup.Group{}
+	all.SetLimit(runtime.GOMAXPROCS(0))
+	for number := 0; number < many; number++ {
+		chance := rand.New(rand.NewSource(int64(number)))
+		all.Go(func() error {
+			made, err := l.make(chance)
+			if err == nil {
+				l.made <- made
+			}
+			return err
+		})
+	}
+	return all.Wait()
+}
+
+// next is a new submission, or one that was answered before.
 func (l *load) next(chance *rand.Rand) (submission, error) {
 	l.mu.Lock()
 	if len(l.past) > 0 && chance.Intn(100) < l.repeats {
@@ -239,6 +266,16 @@ func (l *load) next(chance *rand.Rand) (submission, error) {
 		return l.past[chance.Intn(len(l.past))], nil
 	}
 	l.mu.Unlock()
+	select {
+	case made := <-l.made:
+		return made, nil
+	default:
+		return l.make(chance)
+	}
+}
+
+// make makes a new submission, a precertificate's of three.
+func (l *load) make(chance *rand.Rand) (submission, error) {
 	if chance.Intn(3) > 0 {
 		der, err := l.authority.Issue(false, l.ends)
 		return submission{"add-chain", standin.Submission(der), check.Answer{Certificate: der}}, err

@@ -147,6 +147,28 @@ func TestNext(t *testing.T) {
 	}
 }
 
+// TestPrepared: what was made before is submitted first, each once, and behind it what is made then.
+func TestPrepared(t *testing.T) {
+	l, _ := loadOf(t)
+	must(t, l.prepare(20))
+	if len(l.made) != 20 {
+		t.Fatalf("%d were made", len(l.made))
+	}
+	seen, calls := map[string]bool{}, map[string]int{}
+	for i := 0; i < 25; i++ {
+		s, err := l.next(rand.New(zeros{}))
+		must(t, err)
+		if seen[string(s.body)] {
+			t.Errorf("%d: %s comes again", i, s.call)
+		}
+		seen[string(s.body)] = true
+		calls[s.call]++
+	}
+	if len(l.made) != 0 || calls["add-chain"] == 0 || calls["add-pre-chain"] == 0 {
+		t.Errorf("%d are left, of %v", len(l.made), calls)
+	}
+}
+
 // TestKeep: each answer is written down, with its latency and its submission; of these two some are kept, however many there are.
 func TestKeep(t *testing.T) {
 	l, answers := loadOf(t)
