@@ -169,14 +169,14 @@ func TestThinnedBehindTheSettled(t *testing.T) {
 	for _, turn := range []struct {
 		heads []uint64
 		gone  uint64
-	}{{[]uint64{600, 1000}, 0}, {[]uint64{1200, 2000}, 1}} {
+	}{{[]uint64{6000, 10000}, 0}, {[]uint64{12000, 20000}, 1}} {
 		for _, moment := range turn.heads {
 			all = append(all, headName(step.State{Size: 5, Moment: moment}))
-			of.full.settled = &log.Head{TreeSize: 5, Timestamp: moment}
+			of.past.settled = &log.Head{TreeSize: 5, Timestamp: moment}
 		}
 		node.config.Objects = names{s.config.Objects, all}
 		if must(t, of.thinHeads(ctx)); node.sweptHeads.Load() != turn.gone {
-			t.Errorf("up to %d ms %d heads went", of.full.settled.Timestamp, node.sweptHeads.Load())
+			t.Errorf("up to %d ms %d heads went", of.past.settled.Timestamp, node.sweptHeads.Load())
 		}
 	}
 }
@@ -230,14 +230,14 @@ func TestManyIssuers(t *testing.T) {
 func TestManyHeads(t *testing.T) {
 	s, objects := largeLog(t, 1)
 	const made = stores.MostListed + 300
-	want := 0
+	want, apart := 0, uint64(headsApart.Milliseconds())/5
 	for i := uint64(0); i < made; i++ {
-		must(t, objects.Put(limited(t), headName(step.State{Size: 1, Moment: 1000 + 100*i}), nil))
+		must(t, objects.Put(limited(t), headName(step.State{Size: 1, Moment: 10_000 + apart*i}), nil))
 		if i%5 == 0 {
 			want++
 		}
 	}
-	s.head = &log.Head{TreeSize: 1, Timestamp: 1000 + 100*made}
+	s.head = &log.Head{TreeSize: 1, Timestamp: 10_000 + apart*made}
 	tender := settledAt(s)
 	for turn := 0; turn < 2*made/mostHeads; turn++ {
 		must(t, tender.thinHeads(limited(t)))

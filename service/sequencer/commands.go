@@ -30,8 +30,11 @@ type turn struct {
 	batch    []*waiting
 	receipts []step.Receipt
 	edge     map[string][]byte
-	// answered says that they were, by a head.
+	// signing is what is signed for them beside the head's being put, nil before that; answered says that they were answered, by a head.
+	signing  *signing
 	answered bool
+	// paths are those of the receipts in the head's tree, where they were made.
+	paths [][][32]byte
 }
 
 // errCommand: the program gives a command that can't be carried out here.
@@ -64,6 +67,9 @@ func (s *Sequencer) carryOut(ctx context.Context, t *turn) (bool, error) {
 // reach gets to where a step may be made from a state: where it isn't rolled out, its own node does that, or this one. It gives no turn where the next
 // round is to look again.
 func (s *Sequencer) reach(ctx context.Context, k known) (*turn, error) {
+	if stepping := s.steppingFrom(k); stepping != nil {
+		return &turn{k: k, command: stepping}, nil
+	}
 	t := &turn{k: k, command: k.look}
 	for t.command.Do != decider.Step {
 		if t.command.Do == decider.Read {
@@ -81,6 +87,16 @@ func (s *Sequencer) reach(ctx context.Context, k known) (*turn, error) {
 	s.stepping = t.command
 	s.mu.Unlock()
 	return t, nil
+}
+
+// steppingFrom is the command to have a step made from a state, where this node has had it; nil where it hasn't.
+func (s *Sequencer) steppingFrom(k known) *decider.Command {
+	s.mu.Lock()
+	defer s.mu.Unlock()
+	if s.rolled == k.line && s.stepping != nil && s.stepping.Seen.Text == k.text {
+		return s.stepping
+	}
+	return nil
 }
 
 // nameIn names an object in commands: by its name, and the digest of its content.
@@ -257,13 +273,13 @@ func (s *Sequencer) doSwap(ctx context.Context, t *turn) (decider.Told, error) {
 		// Another node was quick enough to roll it out and to go on. Who waits here is answered as a repeat.
 		return nil, nil
 	}
-	if err := s.believe(ctx, t.k, t.fresh()); err != nil {
+	if err := s.comesBehind(ctx, t.k, t.fresh()); err != nil {
 		return nil, err
 	}
-	if s.config.BehindSwap {
-		return decider.Promised(), nil
+	if !s.config.BehindSwap {
+		return decider.Done(), nil
 	}
-	return decider.Done(), nil
+	return decider.Promised(), s.keepLatest(t.k)
 }
 
 // doPut puts a state's objects under their public names.
@@ -275,10 +291,17 @@ func (s *Sequencer) doPut(ctx context.Context, t *turn) (decider.Told, error) {
 	if err == nil {
 		err = t.isOf()
 	}
-	if err == nil {
-		err = s.putAll(ctx, objects)
-	}
 	if err != nil {
+		return nil, err
+	}
+	puts := []func(context.Context) error{
+		func(ctx context.Context) error { return s.putAll(ctx, objects) },
+		func(ctx context.Context) (err error) { t.paths, err = s.pathsOf(ctx, t); return err },
+	}
+	if !s.isBelieved(t.k) {
+		puts = append(puts, func(context.Context) error { return s.keepLatest(t.k) })
+	}
+	if err := sideBySide(ctx, len(puts), func(ctx context.Context, at int) error { return puts[at](ctx) }); err != nil {
 		return nil, err
 	}
 	s.phase("tiles out")
@@ -316,12 +339,25 @@ func (s *Sequencer) doHead(ctx context.Context, t *turn) (decider.Told, error) {
 	if err := t.isOf(); err != nil {
 		return nil, err
 	}
-	published, err := s.putHead(ctx, t.k.state, t.head, t.fresh())
-	if err != nil {
-		return nil, err
+	beside, cancel := context.WithCancel(ctx)
+	defer cancel()
+	// Timestamps are signed meanwhile, and shown to nobody before the head is published.
+	published, err := s.putHead(ctx, t.k.state, t.head, t.fresh(), func() {
+		if len(t.batch) > 0 {
+			t.signing = s.sign(beside, t)
+		}
+	})
+	if err == nil {
+		s.phase("head out")
+		err = s.raise(ctx, stores.Published{}, published)
 	}
-	s.phase("head out")
-	if err := s.raise(ctx, stores.Published{}, published); err != nil {
+	if err != nil {
+		cancel()
+	}
+	if t.signing != nil {
+		<-t.signing.done
+	}
+	if err != nil {
 		return nil, err
 	}
 	s.phase("published")
@@ -337,7 +373,10 @@ func (s *Sequencer) doAnswer(ctx context.Context, t *turn) (decider.Told, error)
 	if err := t.isOf(); err != nil {
 		return nil, err
 	}
-	if err := s.answer(ctx, t.batch, t.receipts, t.fresh()); err != nil {
+	if t.signing == nil {
+		t.signing = s.sign(ctx, t)
+	}
+	if err := s.tell(t.signing); err != nil {
 		return nil, err
 	}
 	if t.command.Do == decider.Answer {
@@ -384,7 +423,12 @@ func (s *Sequencer) advance(ctx context.Context, t *turn, batch []*waiting) erro
 	if t == nil || err != nil {
 		return err
 	}
-	return s.deleteUnneeded(ctx, t)
+	if err := s.deleteUnneeded(ctx, t); err != nil {
+		return err
+	}
+	// (while those who were answered come back, what the next step wants is asked)
+	_, err = s.needsOf(ctx, t.k)
+	return err
 }
 
 // deleteUnneeded has the bundles deleted that this node knows of and that the program says are of no use any more, where a step may be made.

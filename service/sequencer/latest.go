@@ -84,13 +84,21 @@ func (s *Sequencer) behindSaw(k known) error {
 // It is called behind a swap, too: a register that was set back while this node stood still between reading and swapping shows by the heads
 // that others published meanwhile.
 func (s *Sequencer) believe(ctx context.Context, k known, objects fresh) error {
-	if k.state.IsBegin() || s.saw.line == k.line {
+	if s.isBelieved(k) {
 		return nil
 	}
-	err := s.goesOn(ctx, k, objects)
-	if err == nil {
-		return s.keepLatest(k)
+	if err := s.comesBehind(ctx, k, objects); err != nil {
+		return err
 	}
+	return s.keepLatest(k)
+}
+
+// isBelieved says whether a state is the newest that this node saw, or the one that all begin with.
+func (s *Sequencer) isBelieved(k known) bool { return k.state.IsBegin() || s.saw.line == k.line }
+
+// comesBehind is believe of a state that is kept as the newest later: before anything of it is signed or answered.
+func (s *Sequencer) comesBehind(ctx context.Context, k known, objects fresh) error {
+	err := s.goesOn(ctx, k, objects)
 	if errors.Is(err, ErrSetBack) {
 		// It isn't held against the register that it comes back from there.
 		s.mu.Lock()

@@ -208,7 +208,7 @@ func firstOf(t *testing.T, got *answers) timestamp {
 			of = &got.all[i]
 		}
 	}
-	return timestamp{0, of.Timestamp, messageOf(submission, 0, of.Timestamp)}
+	return timestamp{moment: of.Timestamp, message: messageOf(submission, 0, of.Timestamp)}
 }
 
 // TestSignerThatMoved: a refusal counts as of a signer that let another head through where its last one is another by now, be it its first; not so another fault.
@@ -242,7 +242,7 @@ func TestEntryBeyondTheLastHead(t *testing.T) {
 	_, ctx, _, s := begun(t, 5, 5)
 	for index, isIn := range map[uint64]bool{4: true, 5: false, 6: false} {
 		receipts := []signer.Receipt{{Index: index}}
-		_, err := readingNode(s).addPaths(ctx, receipts, nil)
+		_, err := readingNode(s).addPaths(ctx, 0, []timestamp{{index: index}}, receipts, nil)
 		if isIn && (err != nil || len(receipts[0].Path) == 0) || !isIn && !errors.Is(err, signer.ErrRefused) {
 			t.Errorf("entry %d of 5: %v, %d hashes", index, err, len(receipts[0].Path))
 		}
@@ -528,7 +528,7 @@ func TestTimestampsThatAreSigned(t *testing.T) {
 	node.queue.leave(batch[2])
 	// (who has gone waited for an entry of its own)
 	receipts := []step.Receipt{{LeafIndex: 0, Timestamp: first.moment, Sign: first.message}, {LeafIndex: 0, Timestamp: first.moment, Sign: first.message}, {LeafIndex: 1}}
-	must(t, node.answer(ctx, batch, receipts, nil))
+	must(t, node.tell(node.sign(ctx, &turn{batch: batch, receipts: receipts})))
 	one, other := <-batch[0].done, <-batch[1].done
 	if one.err != nil || other.err != nil || string(one.place.Signature) != string(other.place.Signature) || len(one.place.Signature) == 0 {
 		t.Errorf("%+v and %+v", one, other)
@@ -733,12 +733,12 @@ func TestWhoIsGoneIsntSigned(t *testing.T) {
 		must(t, node.queue.seat(w))
 	}
 	receipt := step.Receipt{LeafIndex: 0, Timestamp: first.moment, Sign: first.message}
-	must(t, node.answer(ctx, []*waiting{left}, []step.Receipt{receipt}, nil))
+	must(t, node.tell(node.sign(ctx, &turn{batch: []*waiting{left}, receipts: []step.Receipt{receipt}})))
 	if of.asked != 0 || node.back != 7 || len(left.done) != 0 {
 		t.Errorf("who is gone: asked %d times, %d are waited for", of.asked, node.back)
 	}
 	must(t, node.queue.add(next))
-	must(t, node.answer(ctx, []*waiting{left, stays}, []step.Receipt{receipt, receipt}, nil))
+	must(t, node.tell(node.sign(ctx, &turn{batch: []*waiting{left, stays}, receipts: []step.Receipt{receipt, receipt}})))
 	if of.asked != 1 || node.back != 2 || len(left.done) != 0 || len(stays.done) != 1 {
 		t.Errorf("asked %d times, %d are waited for", of.asked, node.back)
 	}

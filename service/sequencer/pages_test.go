@@ -28,7 +28,7 @@ func TestPageSaysBounds(t *testing.T) {
 		"a partial tile once its full one has stood for five minutes":                                   config.SweepTilesAfter == 5*time.Minute,
 		"as `swept/ENTRIES`: a start goes on there, 256 tiles of a level before":                        sweptPrefix == "swept/" && mostSweptAgain == 256,
 		"a head once a later one has stood for an hour":                                                 config.SweepAfter == time.Hour,
-		"another one stands less than half a second before it":                                          headsApart == 500*time.Millisecond,
+		"and behind ten seconds already where another one stands less than five seconds before it":      thinsAfter == 10*time.Second && headsApart == 5*time.Second,
 		"the one that set the newest state in the last three seconds":                                   handsWithin == 3*time.Second,
 		"A head without new entries is made every hour":                                                 config.Refresh == time.Hour,
 		"sixteen at once, and 32 MiB of them are kept":                                                  mostBeside == 16 && mostKeptBytes == 32<<20,

@@ -157,7 +157,7 @@ func (s *Sequencer) answerRepeats(ctx context.Context, k known, batch []*waiting
 			rest = append(rest, w)
 			continue
 		}
-		known, all = append(known, w), append(all, timestamp{receipt.LeafIndex, receipt.Timestamp, receipt.Sign})
+		known, all = append(known, w), append(all, timestamp{index: receipt.LeafIndex, moment: receipt.Timestamp, message: receipt.Sign})
 	}
 	places, err := s.signTimestamps(ctx, all, fresh(tree.tiles.seen))
 	if err != nil {

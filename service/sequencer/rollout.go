@@ -237,9 +237,9 @@ func (s *Sequencer) putAll(ctx context.Context, objects []step.Object) error {
 	return wrapped(err)
 }
 
-// putHead has a state's head signed, and puts it. Where another node put one, that is the head: signatures of one head differ. The
-// signer lets an older head than its last one through no more; then the other one's stands there, too, or it was swept, which is no fault.
-func (s *Sequencer) putHead(ctx context.Context, state step.State, head step.Head, objects fresh) (log.Head, error) {
+// putHead has a state's head signed, does something once it is (signed), and puts it. Where another node put one, that is the head: signatures of one head
+// differ. The signer lets an older head than its last one through no more; then the other one's stands there, too, or it was swept, which is no fault.
+func (s *Sequencer) putHead(ctx context.Context, state step.State, head step.Head, objects fresh, signed func()) (log.Head, error) {
 	name := headName(state)
 	made, err := s.signedHead(ctx, state, head, objects)
 	if errors.Is(err, signer.ErrRefused) {
@@ -253,6 +253,7 @@ func (s *Sequencer) putHead(ctx context.Context, state step.State, head step.Hea
 	if err != nil {
 		return log.Head{}, err
 	}
+	signed()
 	err = s.config.Objects.Put(ctx, name, made.Note)
 	if errors.Is(err, stores.ErrOther) {
 		if made, err = s.readHead(ctx, name); err == nil {

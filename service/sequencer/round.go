@@ -282,9 +282,9 @@ func tooFar(now, last uint64, of string) error {
 // step asks the program, over the edge that is remembered; where it doesn't believe that, over the store's; and where that one is damaged,
 // once more behind what the state's bundle has of it was put again.
 func (s *Sequencer) step(ctx context.Context, k known, batch []step.Submission, at moment) (*step.Stepped, map[string][]byte, error) {
-	names, err := s.config.Step.Needs(ctx, k.line)
+	names, err := s.needsOf(ctx, k)
 	if err != nil {
-		return nil, nil, fmt.Errorf("sequencer: %w", err)
+		return nil, nil, err
 	}
 	remembered := len(s.edge) > 0
 	stepped, edge, err := s.stepOver(ctx, k, names, batch, at)
@@ -298,6 +298,24 @@ func (s *Sequencer) step(ctx context.Context, k known, batch []step.Submission, 
 		}
 	}
 	return stepped, edge, err
+}
+
+// needs are the names of what a step from a state's line wants.
+type needs struct {
+	line  string
+	names []string
+}
+
+// needsOf gives what a step from a state wants, which is asked once.
+func (s *Sequencer) needsOf(ctx context.Context, k known) ([]string, error) {
+	if s.needs.line != k.line {
+		names, err := s.config.Step.Needs(ctx, k.line)
+		if err != nil {
+			return nil, fmt.Errorf("sequencer: %w", err)
+		}
+		s.needs = needs{k.line, names}
+	}
+	return s.needs.names, nil
 }
 
 // stepOver asks the program over an edge. One that is missing or isn't the state's is ErrDamaged.

@@ -74,8 +74,8 @@ type Config struct {
 	// BehindSwap answers behind the swap, and not once the head is published: sooner, but a merge is owed until then.
 	BehindSwap bool
 	// SweepAfter is how long a head stands before the heads of older states go, at least, and twice as long at most; an hour where it is 0.
-	// SweepTilesAfter is how long a full tile does before the partial tiles below its name go, and a head before of older ones no more than one
-	// each headsApart is left: SweepAfter, and at most 5 minutes, where it is 0.
+	// SweepTilesAfter is how long a full tile does before the partial tiles below its name go: SweepAfter, and at most 5 minutes, where it is 0. Of heads
+	// that have stood for 10 s no more than one in 5 s is left, sooner where SweepTilesAfter is shorter.
 	SweepAfter, SweepTilesAfter time.Duration
 	// TendEvery is how far two turns are apart in each of which partial tiles and heads are swept, and an old tile is read again; 1 s where
 	// it is 0.
@@ -163,6 +163,9 @@ type Sequencer struct {
 	// edge has tiles of the newest state that need not be read, and rolled is the line of the last state that is rolled out.
 	edge   map[string][]byte
 	rolled string
+	// needs is what a step from the newest state wants, as far as that was asked, and passed the newest head that the signer let through for this node.
+	needs  needs
+	passed *signer.Head
 	// unneeded are names of bundles that this node knows of, and that may be deleted once a step may be made from a later state.
 	unneeded []string
 	// deletes are names of bundles that are to be deleted.

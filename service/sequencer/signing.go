@@ -37,8 +37,8 @@ func (s *Sequencer) signHead(ctx context.Context, state step.State, objects fres
 	var last *signer.Head
 	for try := 0; try < mostAsked; try++ {
 		var proof [][32]byte
-		if last, err = s.config.Signer.Last(ctx); err != nil {
-			return nil, fmt.Errorf("sequencer: %w", err)
+		if last, err = s.lastPassed(ctx, try, 0); err != nil {
+			return nil, err
 		}
 		if last != nil && last.Size < head.Size {
 			if proof, err = s.proof(ctx, last.Size, head, objects); err != nil {
@@ -55,7 +55,18 @@ func (s *Sequencer) signHead(ctx context.Context, state step.State, objects fres
 	if err != nil {
 		return nil, fmt.Errorf("sequencer: a head of %d entries at %d ms: %w", head.Size, head.Moment, err)
 	}
+	s.passed = &head
 	return signed, nil
+}
+
+// lastPassed is the last head that the signer let through. At the first try it is the newest of this node's, where that has so many entries: no other
+// one was let through where this node alone makes steps, and where it isn't the last one the signer refuses.
+func (s *Sequencer) lastPassed(ctx context.Context, try int, entries uint64) (*signer.Head, error) {
+	if try == 0 && s.passed != nil && s.passed.Size >= entries {
+		return s.passed, nil
+	}
+	last, err := s.config.Signer.Last(ctx)
+	return last, wrapped(err)
 }
 
 // moved says whether something was refused since the signer's last head is another one by now.
@@ -90,6 +101,9 @@ func (s *Sequencer) proof(ctx context.Context, first uint64, head signer.Head, o
 type timestamp struct {
 	index, moment uint64
 	message       []byte
+	// path is the entry's in a head's tree (of), where it was made.
+	path [][32]byte
+	of   signer.Head
 }
 
 // signTimestamps has timestamps signed, and gives their places. Where the signer wants them, with the paths in its last head's tree,
@@ -106,7 +120,7 @@ func (s *Sequencer) signTimestamps(ctx context.Context, all []timestamp, objects
 	for try := 0; try < mostAsked; try++ {
 		var last *signer.Head
 		if s.config.Signer.Receipts() == signer.InHead {
-			if last, err = s.addPaths(ctx, receipts, objects); err != nil {
+			if last, err = s.addPaths(ctx, try, all, receipts, objects); err != nil {
 				return nil, err
 			}
 		}
@@ -124,20 +138,31 @@ func (s *Sequencer) signTimestamps(ctx context.Context, all []timestamp, objects
 }
 
 // addPaths adds the audit paths in the tree of the signer's last head, which it gives.
-func (s *Sequencer) addPaths(ctx context.Context, receipts []signer.Receipt, objects fresh) (*signer.Head, error) {
-	last, err := s.config.Signer.Last(ctx)
+func (s *Sequencer) addPaths(ctx context.Context, try int, all []timestamp, receipts []signer.Receipt, objects fresh) (*signer.Head, error) {
+	indexes, entries := make([]uint64, len(receipts)), uint64(0)
+	for i := range receipts {
+		if indexes[i] = receipts[i].Index; indexes[i] >= entries {
+			entries = indexes[i] + 1
+		}
+	}
+	last, err := s.lastPassed(ctx, try, entries)
 	if err != nil {
-		return nil, fmt.Errorf("sequencer: %w", err)
+		return nil, err
 	}
 	if last == nil {
 		// The guard says so.
 		return nil, nil
 	}
-	indexes := make([]uint64, len(receipts))
-	for i := range receipts {
-		if indexes[i] = receipts[i].Index; indexes[i] >= last.Size {
-			return last, fmt.Errorf("sequencer: entry %d isn't in the signer's last head, of %d entries: %w", indexes[i], last.Size, signer.ErrRefused)
-		}
+	if last.Size < entries {
+		return last, fmt.Errorf("sequencer: entry %d isn't in the signer's last head, of %d entries: %w", entries-1, last.Size, signer.ErrRefused)
+	}
+	made := true
+	for i, one := range all {
+		receipts[i].Path = one.path
+		made = made && one.path != nil && one.of == *last
+	}
+	if made {
+		return last, nil
 	}
 	paths, err := s.paths(ctx, *last, indexes, objects)
 	for i := range paths {

@@ -44,12 +44,12 @@ type tender struct {
 	listed time.Time
 	// begun says that reading began: at a tile of chance, so that a log that is started often is read all the same.
 	begun bool
-	// full is a head that has stood for SweepTilesAfter, and old one that has for SweepAfter.
-	full, old settling
+	// full is a head that has stood for SweepTilesAfter, old one that has for SweepAfter, and past one that has for thinsAfter.
+	full, old, past settling
 	// heads are names of heads before the old one, and headsGone says that none is left.
 	heads     []string
 	headsGone bool
-	// crowded are names of heads before the full one that are too many, thinned is the name behind which they are looked for, and kept the moment of
+	// crowded are names of heads before the past one that are too many, thinned is the name behind which they are looked for, and kept the moment of
 	// the last that stays.
 	crowded []string
 	thinned string
@@ -298,12 +298,14 @@ func (s *Sequencer) damagedBehind(from uint64) (first uint64, ok bool) {
 	return first, ok
 }
 
-// settle takes up which head has stood for SweepAfter, and which for SweepTilesAfter, with its full tiles: one that was seen so long ago.
+// settle takes up which head has stood for SweepAfter, which for SweepTilesAfter, with its full tiles, and which for thinsAfter: one that was seen so long
+// ago.
 func (t *tender) settle() {
 	head := t.s.seen()
 	if t.full.look(head, t.s.config.SweepTilesAfter) {
 		t.asks = true
 	}
+	t.past.look(head, shorter(thinsAfter, t.s.config.SweepTilesAfter))
 	if t.old.look(head, t.s.config.SweepAfter) {
 		t.headsGone = false
 	}
@@ -468,16 +470,17 @@ func (t *tender) sweepHeads(ctx context.Context) error {
 	return nil
 }
 
-// headsApart is how far two heads are apart that stay until SweepAfter: what a node compares the register with isn't each of them.
-const headsApart = 500 * time.Millisecond
+// headsApart is how far two heads are apart that stay until SweepAfter, of those that have stood for thinsAfter: what a node compares the register with
+// isn't each of them, and a step lists all that there are.
+const headsApart, thinsAfter = 5 * time.Second, 10 * time.Second
 
-// thinHeads deletes some heads before the full one that came less than headsApart behind one that stays, and gives the first error; what isn't
+// thinHeads deletes some heads before the past one that came less than headsApart behind one that stays, and gives the first error; what isn't
 // deleted then goes with the old ones.
 func (t *tender) thinHeads(ctx context.Context) error {
-	if t.full.settled == nil {
+	if t.past.settled == nil {
 		return nil
 	}
-	if until := nameOf(t.full.settled); len(t.crowded) == 0 && t.thinned < until {
+	if until := nameOf(t.past.settled); len(t.crowded) == 0 && t.thinned < until {
 		listing, cancel := context.WithTimeout(ctx, mostListing)
 		names, err := t.s.config.Objects.List(listing, headsPrefix, t.thinned, stores.MostListed)
 		cancel()
@@ -498,7 +501,7 @@ func (t *tender) thinHeads(ctx context.Context) error {
 			}
 		}
 		if len(before) < stores.MostListed {
-			t.thinned, t.kept = until, t.full.settled.Timestamp
+			t.thinned, t.kept = until, t.past.settled.Timestamp
 		}
 	}
 	for left := mostHeads; left > 0 && len(t.crowded) > 0; left-- {

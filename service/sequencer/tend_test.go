@@ -17,17 +17,11 @@ import (
 	"wagtenib/service/log"
 	"wagtenib/service/step"
 	"wagtenib/service/stores"
+	"wagtenib/service/trial"
 )
 
 // eventually waits until something holds.
-func eventually(t testing.TB, what string, holds func() bool) {
-	t.Helper()
-	for until := time.Now().Add(longest); !holds(); time.Sleep(5 * time.Millisecond) {
-		if time.Now().After(until) {
-			t.Fatalf("%s: not in %v", what, longest)
-		}
-	}
-}
+var eventually = trial.Eventually
 
 // tended grows a log of 300 entries by heads of 100, 200 and 300, with tiles that are swept and read again at once.
 func tended(t *testing.T) (place, *Sequencer, *answers) {
@@ -454,10 +448,10 @@ func TestFullTiles(t *testing.T) {
 // settledAt is a tender for whom the newest head has stood for long.
 func settledAt(s *Sequencer) *tender {
 	stood := settling{settled: s.seen()}
-	return &tender{s: s, full: stood, old: stood}
+	return &tender{s: s, full: stood, old: stood, past: stood}
 }
 
-// TestThinnedHeads has heads that came fast behind each other go before they are old, but for one each half second; the one that has stood, and all
+// TestThinnedHeads has heads that came fast behind each other go before they are old, but for one each headsApart; the one that has stood, and all
 // behind it, stay.
 func TestThinnedHeads(t *testing.T) {
 	t.Parallel()
@@ -467,11 +461,12 @@ func TestThinnedHeads(t *testing.T) {
 	config.TendEvery, config.Patience = time.Hour, longest
 	s := started(t, config, hooks{})
 	must(t, got.submitAll(ctx, s, 0, 10, 10))
-	// (older heads, of which only the names are looked at, a tenth of a second apart)
+	// (older heads, of which only the names are looked at, a fifth of headsApart apart)
 	const made = mostHeads + 100
+	apart := uint64(headsApart.Milliseconds()) / 5
 	want := map[string]bool{}
 	for i := uint64(0); i < made; i++ {
-		name := headName(step.State{Moment: 1000 + 100*i})
+		name := headName(step.State{Moment: 10_000 + apart*i})
 		must(t, os.WriteFile(filepath.Join(p.objects(), name), nil, 0o644))
 		want[name] = i%5 == 0
 	}

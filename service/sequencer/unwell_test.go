@@ -218,11 +218,11 @@ func TestRefusedHeadThatStands(t *testing.T) {
 	k := s.newestKnown()
 	node := readingNode(s)
 	node.config.Signer = refuser{node.config.Signer}
-	if head, err := node.putHead(ctx, k.state, step.Head{}, nil); err != nil || head.TreeSize != 9 {
+	if head, err := node.putHead(ctx, k.state, step.Head{}, nil, func() {}); err != nil || head.TreeSize != 9 {
 		t.Errorf("%d entries, %v", head.TreeSize, err)
 	}
 	node.config.Objects = instead{node.config.Objects, headName(k.state), earlier.Note}
-	_, err := node.putHead(ctx, k.state, step.Head{}, nil)
+	_, err := node.putHead(ctx, k.state, step.Head{}, nil, func() {})
 	wants(t, err, ErrDamaged)
 }
 

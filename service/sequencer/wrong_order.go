@@ -24,7 +24,7 @@ func (s *Sequencer) putBundle(ctx context.Context, t *turn) error {
 		err = s.putAll(ctx, objects)
 	}
 	if err == nil && order == answerFirst {
-		err = s.answer(ctx, t.batch, t.receipts, t.fresh())
+		err = s.tell(s.sign(ctx, t))
 	}
 	if err == nil {
 		err = s.config.Objects.Put(ctx, t.command.New.Bundle, t.bundle)
