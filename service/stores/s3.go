@@ -8,8 +8,10 @@ import (
 	"errors"
 	"fmt"
 	"io"
+	"net"
 	"net/http"
 	"net/http/httptrace"
+	"syscall"
 	"time"
 
 	"github.com/minio/minio-go/v7"
@@ -81,6 +83,30 @@ func (b *bucket) Time(ctx context.Context) (time.Time, time.Duration, error) {
 	return time.Time{}, 0, fmt.Errorf("stores: S3: time: %w", err)
 }
 
+// prompt is a connection that acknowledges at once what it has read. Linux puts that off by 40 ms, for which a gateway waits that sends an answer's
+// headers and its body apart (Nagle's algorithm; radosgw has it on unless its settings say tcp_nodelay=1).
+type prompt struct{ *net.TCPConn }
+
+func (p prompt) Read(into []byte) (int, error) {
+	n, err := p.TCPConn.Read(into)
+	if raw, failed := p.TCPConn.SyscallConn(); failed == nil && n > 0 {
+		// (where it can't be had it is slower, and no less right)
+		_ = raw.Control(func(file uintptr) { _ = syscall.SetsockoptInt(int(file), syscall.IPPROTO_TCP, syscall.TCP_QUICKACK, 1) })
+	}
+	return n, err
+}
+
+// promptly dials such connections.
+func promptly(dial func(ctx context.Context, network, address string) (net.Conn, error)) func(ctx context.Context, network, address string) (net.Conn, error) {
+	return func(ctx context.Context, network, address string) (net.Conn, error) {
+		connection, err := dial(ctx, network, address)
+		if over, ok := connection.(*net.TCPConn); ok && err == nil {
+			return prompt{over}, nil
+		}
+		return connection, err
+	}
+}
+
 // OpenS3 opens the objects in a bucket; ErrAbsent where there is no such bucket, ErrUnsafe where conditional puts are said to
 // be there and aren't.
 func OpenS3(ctx context.Context, at S3) (Objects, error) {
@@ -89,6 +115,7 @@ func OpenS3(ctx context.Context, at S3) (Objects, error) {
 		return nil, fmt.Errorf("stores: S3: %w", err)
 	}
 	transport.ResponseHeaderTimeout = waits
+	transport.DialContext = promptly(transport.DialContext)
 	client, err := minio.New(at.Endpoint, &minio.Options{
 		Creds:        credentials.NewStaticV4(at.Key, at.Secret, ""),
 		Secure:       at.TLS,

@@ -1,12 +1,14 @@
 package stores
 
 import (
+	"bufio"
 	"context"
 	"database/sql"
 	"encoding/xml"
 	"errors"
 	"fmt"
 	"io"
+	"net"
 	"net/http"
 	"net/http/httptest"
 	"sort"
@@ -188,6 +190,60 @@ func TestS3SaysNoLength(t *testing.T) {
 		if got, err := store.Get(limited(t), "a", most); !errors.Is(err, errNoLength) {
 			t.Errorf("%d bytes, %v", len(got), err)
 		}
+	}
+}
+
+// TestS3AcknowledgesAtOnce: a gateway that sends an answer's headers, and its body once these are acknowledged, isn't kept waiting for the 40 ms by which
+// Linux puts acknowledgements off. The quickest of many answers over one connection says so, whatever else the machine does.
+func TestS3AcknowledgesAtOnce(t *testing.T) {
+	const later, many, delay = 100, 120, 40 * time.Millisecond
+	listener, err := net.Listen("tcp", "127.0.0.1:0")
+	must(t, err)
+	defer listener.Close()
+	go func() {
+		for {
+			connection, err := listener.Accept()
+			if err != nil {
+				return
+			}
+			go func() {
+				defer connection.Close()
+				if connection.(*net.TCPConn).SetNoDelay(false) != nil {
+					return
+				}
+				for from := bufio.NewReader(connection); ; {
+					// (what asks for the bucket, by HEAD, has no body)
+					request, err := http.ReadRequest(from)
+					if err != nil {
+						return
+					}
+					for _, part := range []string{"HTTP/1.1 200 OK\r\nLast-Modified: Thu, 01 Jan 2026 00:00:00 GMT\r\nContent-Length: 7\r\n\r\n", "content"} {
+						if _, err := io.WriteString(connection, part); err != nil {
+							return
+						}
+						if request.Method == http.MethodHead {
+							break
+						}
+					}
+				}
+			}()
+		}
+	}()
+	store, err := OpenS3(limited(t), S3{Endpoint: listener.Addr().String(), Bucket: fakeBucket, Key: "key", Secret: "secret", Region: "us-east-1"})
+	must(t, err)
+	least := time.Hour
+	for i := 0; i < many; i++ {
+		began := time.Now()
+		if got, err := store.Get(limited(t), "a", manyBytes); err != nil || string(got) != "content" {
+			t.Fatalf("%q, %v", got, err)
+		}
+		// (Linux puts no acknowledgement off on a connection that is young)
+		if took := time.Since(began); i >= later && took < least {
+			least = took
+		}
+	}
+	if least >= delay {
+		t.Errorf("the quickest of %d answers takes %v", many-later, least)
 	}
 }
 
