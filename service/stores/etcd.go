@@ -5,6 +5,7 @@ import (
 	"encoding/binary"
 	"fmt"
 	"strconv"
+	"sync"
 	"time"
 
 	"go.etcd.io/etcd/clientv3"
@@ -18,8 +19,12 @@ type Etcd struct {
 	Prefix string
 }
 
-// mostOperations is how many operations go into one transaction: etcd takes 128 by default.
-const mostOperations = 100
+const (
+	// mostOperations is how many operations go into one transaction: etcd takes 128 by default.
+	mostOperations = 100
+	// mostBeside is how many transactions of one call are made at once.
+	mostBeside = 4
+)
 
 // open connects a client. The first call of it finds out whether a member answers.
 func (at Etcd) open() (*members, error) {
@@ -45,6 +50,41 @@ func (at Etcd) open() (*members, error) {
 		return nil, fmt.Errorf("stores: etcd: %w", err)
 	}
 	return newMembers(client), nil
+}
+
+// eachBeside has a list of n done in parts, each in a transaction, of which none stands on another one. It gives the error of the part that failed first, which
+// ends the others, and returns once none is made any more.
+func eachBeside(ctx context.Context, n int, each func(ctx context.Context, from, to int) error) error {
+	ctx, cancel := context.WithCancel(ctx)
+	defer cancel()
+	var made sync.WaitGroup
+	var once sync.Once
+	var first error
+	room := make(chan struct{}, mostBeside)
+	ended := parts(n, mostOperations, func(from, to int) error {
+		select {
+		case room <- struct{}{}:
+		case <-ctx.Done():
+		}
+		if ctx.Err() != nil {
+			return ctx.Err()
+		}
+		made.Add(1)
+		go func() {
+			defer made.Done()
+			if err := each(ctx, from, to); err != nil {
+				once.Do(func() { first = err })
+				cancel()
+			}
+			<-room
+		}()
+		return nil
+	})
+	made.Wait()
+	if first != nil {
+		return first
+	}
+	return ended
 }
 
 // inEtcd keeps the register in three keys: the text; the published size, which is all that versions before the third read; and the size and the
@@ -240,8 +280,8 @@ func (e *placesInEtcd) Find(ctx context.Context, identities []Identity) (map[Ide
 	if err != nil {
 		return nil, err
 	}
-	found := map[Identity]Place{}
-	return found, parts(len(identities), mostOperations, func(from, to int) error {
+	found, mu := map[Identity]Place{}, sync.Mutex{}
+	return found, eachBeside(ctx, len(identities), func(ctx context.Context, from, to int) error {
 		var gets []clientv3.Op
 		for _, identity := range identities[from:to] {
 			gets = append(gets, clientv3.OpGet(e.key(identity)))
@@ -250,6 +290,8 @@ func (e *placesInEtcd) Find(ctx context.Context, identities []Identity) (map[Ide
 		if err != nil {
 			return fmt.Errorf("stores: etcd: find: %w", err)
 		}
+		mu.Lock()
+		defer mu.Unlock()
 		for i, response := range answer.Responses {
 			for _, pair := range response.GetResponseRange().Kvs {
 				if found[identities[from+i]], err = placeOf(pair.Value); err != nil {
@@ -266,7 +308,7 @@ func (e *placesInEtcd) Add(ctx context.Context, placed []Placed) error {
 	if err != nil {
 		return err
 	}
-	return parts(len(placed), mostOperations, func(from, to int) error {
+	return eachBeside(ctx, len(placed), func(ctx context.Context, from, to int) error {
 		var adds []clientv3.Op
 		for _, p := range placed[from:to] {
 			key := e.key(p.Identity)
@@ -285,7 +327,7 @@ func (e *placesInEtcd) Replace(ctx context.Context, placed []Placed) error {
 	if err != nil {
 		return err
 	}
-	return parts(len(placed), mostOperations, func(from, to int) error {
+	return eachBeside(ctx, len(placed), func(ctx context.Context, from, to int) error {
 		var puts []clientv3.Op
 		for _, p := range placed[from:to] {
 			puts = append(puts, clientv3.OpPut(e.key(p.Identity), placeBytes(p.Place)))

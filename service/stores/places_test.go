@@ -9,6 +9,8 @@ import (
 	"path/filepath"
 	"reflect"
 	"strings"
+	"sync"
+	"sync/atomic"
 	"testing"
 	"time"
 
@@ -188,6 +190,68 @@ func TestLeavesAreApart(t *testing.T) {
 		finds(t, store, asked, map[Identity]Place{identity(1): placed(1).Place, identity(2): placed(2).Place})
 		finds(t, at.opened(t).Leaves(), asked, map[Identity]Place{identity(2): other.Place, identity(3): placed(3).Place})
 	})
+}
+
+// TestEachBeside: of a list each part is done once, as many at once as there is room for, and no more.
+func TestEachBeside(t *testing.T) {
+	const parts = 3 * mostBeside
+	var mu sync.Mutex
+	beside, most, done := 0, 0, map[int]int{}
+	full := make(chan struct{})
+	must(t, eachBeside(limited(t), parts*mostOperations-1, func(ctx context.Context, from, to int) error {
+		mu.Lock()
+		if beside++; beside > most {
+			most = beside
+		}
+		if done[from] = to; len(done) == mostBeside {
+			close(full)
+		}
+		mu.Unlock()
+		select {
+		case <-full:
+		case <-ctx.Done():
+			return ctx.Err()
+		}
+		mu.Lock()
+		defer mu.Unlock()
+		beside--
+		return nil
+	}))
+	if most != mostBeside || len(done) != parts {
+		t.Errorf("%d parts, %d of them at once", len(done), most)
+	}
+	for from, to := range done {
+		if from%mostOperations != 0 || to != from+mostOperations && to != parts*mostOperations-1 {
+			t.Errorf("a part from %d to %d", from, to)
+		}
+	}
+}
+
+// TestEachBesideFails: the error that came first is given, once those that it ended are no longer made, and none begins behind it; nor does one behind the
+// context's end.
+func TestEachBesideFails(t *testing.T) {
+	first := errors.New("the first")
+	var begun, ended atomic.Int64
+	err := eachBeside(limited(t), 3*mostBeside*mostOperations, func(ctx context.Context, from, to int) error {
+		defer ended.Add(1)
+		if begun.Add(1) == mostBeside {
+			return first
+		}
+		<-ctx.Done()
+		return ctx.Err()
+	})
+	if err != first || begun.Load() != mostBeside || ended.Load() != mostBeside {
+		t.Errorf("%v, with %d begun and %d ended", err, begun.Load(), ended.Load())
+	}
+	gone, cancel := context.WithCancel(context.Background())
+	cancel()
+	err = eachBeside(gone, mostOperations, func(context.Context, int, int) error {
+		t.Error("one begins")
+		return nil
+	})
+	if !errors.Is(err, context.Canceled) {
+		t.Errorf("behind the end: %v", err)
+	}
 }
 
 // TestSQLiteEndsWithItsContext: also where another process doesn't let it write.
