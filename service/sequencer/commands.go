@@ -31,8 +31,9 @@ type turn struct {
 	receipts []step.Receipt
 	edge     map[string][]byte
 	// signing is what is signed for them beside the head's being put, nil before that; answered says that they were answered, by a head.
-	signing  *signing
-	answered bool
+	// isPlaced says that the places of the state's entries are added.
+	signing            *signing
+	answered, isPlaced bool
 	// paths are those of the receipts in the head's tree, where they were made.
 	paths [][][32]byte
 }
@@ -282,7 +283,7 @@ func (s *Sequencer) doSwap(ctx context.Context, t *turn) (decider.Told, error) {
 	return decider.Promised(), s.keepLatest(t.k)
 }
 
-// doPut puts a state's objects under their public names.
+// doPut puts a state's objects under their public names, and beside that adds the places of its entries.
 func (s *Sequencer) doPut(ctx context.Context, t *turn) (decider.Told, error) {
 	if s.skips(t) {
 		return decider.Done(), nil
@@ -291,24 +292,17 @@ func (s *Sequencer) doPut(ctx context.Context, t *turn) (decider.Told, error) {
 	if err == nil {
 		err = t.isOf()
 	}
+	if err == nil {
+		err = s.putAndPlace(ctx, t, objects)
+	}
 	if err != nil {
-		return nil, err
-	}
-	puts := []func(context.Context) error{
-		func(ctx context.Context) error { return s.putAll(ctx, objects) },
-		func(ctx context.Context) (err error) { t.paths, err = s.pathsOf(ctx, t); return err },
-	}
-	if !s.isBelieved(t.k) {
-		puts = append(puts, func(context.Context) error { return s.keepLatest(t.k) })
-	}
-	if err := sideBySide(ctx, len(puts), func(ctx context.Context, at int) error { return puts[at](ctx) }); err != nil {
 		return nil, err
 	}
 	s.phase("tiles out")
 	return decider.Done(), nil
 }
 
-// doPlace adds the places of a state's entries.
+// doPlace adds the places of a state's entries, where that wasn't done beside its objects.
 func (s *Sequencer) doPlace(ctx context.Context, t *turn) (decider.Told, error) {
 	if s.skips(t) {
 		return decider.Done(), nil
@@ -316,16 +310,8 @@ func (s *Sequencer) doPlace(ctx context.Context, t *turn) (decider.Told, error) 
 	if err := t.isOf(); err != nil {
 		return nil, err
 	}
-	if err := addPlaces(ctx, s.config.Places, t.placed.identities); err != nil {
+	if err := s.place(ctx, t); err != nil {
 		return nil, err
-	}
-	if err := addPlaces(ctx, s.config.Places.Leaves(), t.placed.leaves); err != nil {
-		return nil, err
-	}
-	if len(t.placed.wrong) > 0 {
-		if err := s.config.Places.Replace(ctx, t.placed.wrong); err != nil {
-			return nil, fmt.Errorf("sequencer: %w", err)
-		}
 	}
 	s.phase("places added")
 	return decider.Done(), nil

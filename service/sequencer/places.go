@@ -12,6 +12,8 @@ import (
 
 	"golang.org/x/mod/sumdb/tlog"
 
+	"wagtenib/service/decider"
+	"wagtenib/service/step"
 	"wagtenib/service/stores"
 )
 
@@ -47,6 +49,45 @@ func (s *Sequencer) knowsPlaces(ctx context.Context, k known) error {
 	}
 	s.placed, s.placedAt = k.line, time.Now()
 	return nil
+}
+
+// putAndPlace puts a state's objects, adds its entries' places and keeps the state as the newest that this node saw, and makes the paths of who waits for it:
+// none of that stands on another, and its head on all.
+func (s *Sequencer) putAndPlace(ctx context.Context, t *turn, objects []step.Object) error {
+	all := []func(context.Context) error{
+		func(ctx context.Context) error {
+			defer s.took(phaseOf[decider.Put], time.Now())
+			return s.putAll(ctx, objects)
+		},
+		func(ctx context.Context) error { return s.place(ctx, t) },
+		func(ctx context.Context) (err error) {
+			t.paths, err = s.pathsOf(ctx, t)
+			return err
+		},
+	}
+	if !s.isBelieved(t.k) {
+		all = append(all, func(context.Context) error { return s.keepLatest(t.k) })
+	}
+	return sideBySide(ctx, len(all), func(ctx context.Context, at int) error { return all[at](ctx) })
+}
+
+// place adds the places of a state's entries, once.
+func (s *Sequencer) place(ctx context.Context, t *turn) error {
+	if t.isPlaced {
+		return nil
+	}
+	defer s.took(phaseOf[decider.Place], time.Now())
+	err := sideBySide(ctx, 2, func(ctx context.Context, at int) error {
+		if at == 0 {
+			return addPlaces(ctx, s.config.Places.Leaves(), t.placed.leaves)
+		}
+		if err := addPlaces(ctx, s.config.Places, t.placed.identities); err != nil || len(t.placed.wrong) == 0 {
+			return err
+		}
+		return wrapped(s.config.Places.Replace(ctx, t.placed.wrong))
+	})
+	t.isPlaced = err == nil
+	return err
 }
 
 // bears says whether the places' store bears those of one entry more than a state has: where it is full it may take the register with it.

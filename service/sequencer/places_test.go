@@ -8,6 +8,7 @@ import (
 	"path/filepath"
 	"regexp"
 	"strings"
+	"sync"
 	"testing"
 	"time"
 
@@ -23,6 +24,135 @@ func ownPlaces(t *testing.T, config *Config) {
 	t.Cleanup(func() { own.Close() })
 	config.Places.Close()
 	config.Places = own
+}
+
+// meeting has what is put of a state's entries wait until each kind of it is there: objects, identities and leaves. Then one kind fails, where it is named,
+// and the others wait until they are given up.
+type meeting struct {
+	mu    sync.Mutex
+	there map[string]bool
+	whole chan struct{}
+	fails string
+	// failed is how often it did, and ended how often others were given up for it.
+	failed, ended int
+}
+
+func (m *meeting) fail(kind string) {
+	m.mu.Lock()
+	defer m.mu.Unlock()
+	m.fails, m.there, m.whole = kind, map[string]bool{}, make(chan struct{})
+}
+
+func (m *meeting) counts() (failed, ended int) {
+	m.mu.Lock()
+	defer m.mu.Unlock()
+	return m.failed, m.ended
+}
+
+func (m *meeting) arrive(ctx context.Context, kind string) error {
+	m.mu.Lock()
+	if m.there[kind] = true; len(m.there) == 3 {
+		select {
+		case <-m.whole:
+		default:
+			close(m.whole)
+		}
+	}
+	whole, fails := m.whole, m.fails
+	m.mu.Unlock()
+	select {
+	case <-whole:
+	case <-ctx.Done():
+		return ctx.Err()
+	}
+	if fails == "" {
+		return nil
+	}
+	count := &m.failed
+	if fails != kind {
+		count = &m.ended
+		<-ctx.Done()
+	}
+	m.mu.Lock()
+	*count++
+	m.mu.Unlock()
+	if fails != kind {
+		return ctx.Err()
+	}
+	return fmt.Errorf("%w: %s", errTried, kind)
+}
+
+type meetingObjects struct {
+	stores.Objects
+	*meeting
+}
+
+func (o meetingObjects) Put(ctx context.Context, name string, content []byte) error {
+	if strings.HasPrefix(name, tilesPrefix) {
+		if err := o.arrive(ctx, "objects"); err != nil {
+			return err
+		}
+	}
+	return o.Objects.Put(ctx, name, content)
+}
+
+type meetingPlaces struct {
+	stores.Places
+	*meeting
+	kind string
+}
+
+func (p meetingPlaces) Add(ctx context.Context, placed []stores.Placed) error {
+	if err := p.arrive(ctx, p.kind); err != nil {
+		return err
+	}
+	return p.Places.Add(ctx, placed)
+}
+
+func (p meetingPlaces) Leaves() stores.Places {
+	return meetingPlaces{p.Places.Leaves(), p.meeting, "leaves"}
+}
+
+// TestPlacesBesideObjects: a state's objects and its entries' places, by identities and by leaves, are put beside one another. Where one of the three fails,
+// the others are given up, it is what the log says, and nobody is answered and no head is there until it doesn't fail.
+func TestPlacesBesideObjects(t *testing.T) {
+	t.Parallel()
+	p, ctx, got := newPlace(t), limited(t), &answers{}
+	first := started(t, p.config(t), hooks{})
+	must(t, got.submitAll(ctx, first, 0, 5, 5))
+	must(t, first.End(ctx))
+	config, meets := p.config(t), &meeting{}
+	meets.fail("")
+	config.Objects, config.Places = meetingObjects{config.Objects, meets}, meetingPlaces{config.Places, meets, "identities"}
+	config.TendEvery, config.Patience = time.Hour, longest
+	s := started(t, config, hooks{})
+	must(t, got.submitAll(ctx, s, 5, 10, 5))
+	number := 10
+	for _, kind := range []string{"objects", "identities", "leaves"} {
+		heads := headsIn(t, p)
+		failed, ended := meets.counts()
+		meets.fail(kind)
+		told := make(chan error, 1)
+		go func(from int) { told <- got.submitAll(ctx, s, from, from+5, 5) }(number)
+		eventually(t, kind+" fail twice, and the others with them", func() bool {
+			f, e := meets.counts()
+			return f >= failed+2 && e >= ended+4
+		})
+		eventually(t, "it is told", func() bool { return strings.Contains(s.Figures().Fault, errTried.Error()+": "+kind) })
+		select {
+		case err := <-told:
+			t.Errorf("%s: who waits is answered: %v", kind, err)
+		default:
+		}
+		if now := headsIn(t, p); now != heads {
+			t.Errorf("%s: a head is put: %s", kind, now)
+		}
+		meets.fail("")
+		must(t, <-told)
+		number += 5
+	}
+	leavesAreKnown(t, s, uint64(number))
+	isOf(t, p.right(t, got), number)
 }
 
 // TestPlacesApart has nodes of one log with places of each's own, which have one id, as copies have: who doesn't know another one's entries takes nothing,

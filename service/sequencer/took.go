@@ -43,8 +43,10 @@ func (s *Sequencer) phasesTook() (all []log.Phase) {
 	return all
 }
 
-// carryTimed carries a command out.
+// carryTimed carries a command out. (Objects and places, which are put beside one another, are timed there.)
 func (s *Sequencer) carryTimed(ctx context.Context, t *turn, carry func(context.Context, *turn) (decider.Told, error)) (decider.Told, error) {
-	defer s.took(phaseOf[t.command.Do], time.Now())
+	if t.command.Do != decider.Put && t.command.Do != decider.Place {
+		defer s.took(phaseOf[t.command.Do], time.Now())
+	}
 	return carry(ctx, t)
 }

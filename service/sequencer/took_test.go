@@ -75,6 +75,10 @@ func TestPhases(t *testing.T) {
 			if one := found[phase]; one.Count != 1 || one.Took < stands {
 				t.Errorf("%+v", found)
 			}
+			// (which are done beside one another)
+			if phase == "put" && found["place"].Took >= stands || phase == "place" && found["put"].Took >= stands {
+				t.Errorf("%s takes long, and not it alone: %+v", phase, found)
+			}
 			for _, name := range phaseNames {
 				if _, told := found[name]; !told || name != "look" && name != "delete" && found[name].Count != 1 {
 					t.Errorf("%s: %+v", name, found[name])
