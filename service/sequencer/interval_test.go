@@ -56,8 +56,8 @@ func TestInterval(t *testing.T) {
 	}
 }
 
-// TestLeastInterval: where no interval is set those who were answered may be back within it, but for 5 ms and for what the step put; where one is set, or the
-// stores rest, nobody is waited for.
+// TestLeastInterval: where no interval is set those who were answered may be back within it, but for 5 ms and for what the step put; where the stores rest, but
+// for the interval; where one is set and they don't, nobody is waited for.
 func TestLeastInterval(t *testing.T) {
 	const ms = time.Millisecond
 	for _, c := range []struct {
@@ -72,7 +72,9 @@ func TestLeastInterval(t *testing.T) {
 		{0, false, 20 * ms, 26 << 10, 26 * ms, 28 * ms},
 		{0, false, 20 * ms, 30 << 10, 30 * ms, 30 * ms},
 		{50 * ms, false, 20 * ms, 0, 50 * ms, 50 * ms},
-		{50 * ms, true, 40 * ms, 0, 80 * ms, 80 * ms},
+		{50 * ms, true, 40 * ms, 0, 50 * ms, 80 * ms},
+		{50 * ms, true, 40 * ms, 70 << 10, 70 * ms, 80 * ms},
+		{200 * ms, true, 40 * ms, 0, 200 * ms, 200 * ms},
 		{50 * ms, true, 40 * ms, 90 << 10, 90 * ms, 90 * ms},
 	} {
 		config := Config{Interval: c.interval, Rests: c.rests, MostWritten: 1000 << 10}
@@ -146,13 +148,14 @@ func TestWaitForBack(t *testing.T) {
 	}
 }
 
-// TestStepOnceAllAreBack: the next step begins once all wait who were answered, or waited beside them, whatever the pause; and takes all of them in.
+// TestStepOnceAllAreBack: the next step begins once all wait who were answered, or waited beside them, whatever the pause, or the rest; and takes all of them in.
 func TestStepOnceAllAreBack(t *testing.T) {
 	t.Parallel()
-	for _, behindSwap := range []bool{false, true} {
+	for _, of := range []struct{ behindSwap, rests bool }{{false, false}, {true, false}, {false, true}} {
+		behindSwap := of.behindSwap
 		p, ctx, got := newPlace(t), limited(t), &answers{}
 		config := p.config(t)
-		config.Interval, config.TendEvery, config.BehindSwap = 0, time.Hour, behindSwap
+		config.Interval, config.TendEvery, config.BehindSwap, config.Rests = 0, time.Hour, behindSwap, of.rests
 		if behindSwap {
 			p.signedBy(t, &config, signer.Promised)
 		}

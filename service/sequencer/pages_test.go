@@ -18,13 +18,15 @@ func TestPageSaysBounds(t *testing.T) {
 	over.Rests = true
 	must(t, over.settle())
 	least, most := config.interval(10*time.Millisecond, true, 0)
+	restsLeast, restsMost := over.interval(100*time.Millisecond, true, 0)
 	week := 7 * 24 * time.Hour
 	trial.Says(t, trial.Page(t, "../README.md"), map[string]bool{
 		"A step begins once somebody waits, and behind another once all are back who were answered, or half as long as that took, up to 8 ms": config.Interval == 0 && mostPause == 8*time.Millisecond &&
 			least == 5*time.Millisecond && most == 15*time.Millisecond,
-		"no more than 16 MiB a second are written (`most-written`)":                                     config.MostWritten == 16<<20,
-		"Over engines, and with witnesses, it begins 50 ms behind the beginning of the one before":      over.Interval == 50*time.Millisecond,
-		"over engines twice as late as the last step took, up to half a second":                         mostRest == 500*time.Millisecond,
+		"no more than 16 MiB a second are written (`most-written`)":                                config.MostWritten == 16<<20,
+		"Over engines, and with witnesses, it begins 50 ms behind the beginning of the one before": over.Interval == 50*time.Millisecond,
+		"over engines once all are back who were answered, or twice as late as the last step took, up to half a second": mostRest == 500*time.Millisecond &&
+			restsLeast == 50*time.Millisecond && restsMost == 200*time.Millisecond,
 		"a partial tile once its full one has stood for five minutes":                                   config.SweepTilesAfter == 5*time.Minute,
 		"as `swept/ENTRIES`: a start goes on there, 256 tiles of a level before":                        sweptPrefix == "swept/" && mostSweptAgain == 256,
 		"a head once a later one has stood for an hour":                                                 config.SweepAfter == time.Hour,

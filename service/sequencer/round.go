@@ -113,8 +113,7 @@ func (c *Config) interval(took time.Duration, wrote bool, written int) (least, m
 	if c.MostWritten > 0 {
 		paced = time.Duration(float64(written) / float64(c.MostWritten) * float64(time.Second))
 	}
-	far := longer(rested, paced)
-	return longer(least, far), longer(most, far)
+	return longer(least, paced), longer(longer(most, rested), paced)
 }
 
 // waitForBack waits for a time, and no longer than until as many wait, behind the least of it, as were answered last and waited beside those.
