@@ -10,6 +10,7 @@ import time
 
 HERE = pathlib.Path(__file__).resolve().parent
 SERVICE, CRATES, TESTS = (HERE.parent / name for name in ("service", "crates", "tests"))
+OUT = SERVICE / "out"
 ORIGIN = "bench.example/log"
 # The log's programs: the setting, the proved one, and its model in Python.
 PROGRAMS = {"step": ("cttile", "tiles/step.py"), "reader": ("ctproof", "tiles/step.py"), "decider": ("ctnode", "node/ctnode.py"), "guard": ("ctguard", "guard/model.py")}
@@ -109,10 +110,10 @@ def programs(crates):
 
 
 class Log:
-    """A log of ctserve in a folder, which is made where it isn't there."""
+    """A log of ctserve in a folder, which is made where it isn't there; out has the build of ctserve."""
 
-    def __init__(self, folder, crates=CRATES, **settings):
-        self.folder, self.port, self.operator = folder, free_port(), free_port()
+    def __init__(self, folder, crates=CRATES, out=OUT, **settings):
+        self.out, self.folder, self.port, self.operator = out, folder, free_port(), free_port()
         self.roots, new = folder / "roots.pem", not folder.exists()
         if new:
             folder.mkdir()
@@ -133,7 +134,7 @@ class Log:
         """Starts ctserve; the answer is the seconds until it serves."""
         began = time.monotonic()
         with self.said.open("w") as to:
-            self.process = subprocess.Popen([SERVICE / "out" / "ctserve", "--config", self.settings, *words], stdout=to, stderr=subprocess.STDOUT)
+            self.process = subprocess.Popen([self.out / "ctserve", "--config", self.settings, *words], stdout=to, stderr=subprocess.STDOUT)
         until(lambda: '"event":"serving"' in self.said.read_text(), "ctserve doesn't serve", self.process, self.said)
         return time.monotonic() - began
 
@@ -154,7 +155,7 @@ class Log:
 
 def load(log, clients, *words):
     """What ctload says of a log that it loads: timestamps, over how many seconds, and the median and 99th percentile of the time to one, in seconds."""
-    command = [SERVICE / "out" / "ctload", "--nodes", log.url, "--roots", log.roots, "--answers", log.folder / "answers", "--repeats", 0, "--clients", clients, "--reload", log.reload()]
+    command = [OUT / "ctload", "--nodes", log.url, "--roots", log.roots, "--answers", log.folder / "answers", "--repeats", 0, "--clients", clients, "--reload", log.reload()]
     said = run(*command, *words)
     found = re.search(r"(\d+) answered in ([0-9.]+) s: .* median ([0-9.]+) s, 99th percentile ([0-9.]+) s[^\n]*$", said.strip())
     if not found:

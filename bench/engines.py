@@ -1,0 +1,142 @@
+#!/usr/bin/env python3
+"""Times one node of ctserve over engines on loopback, by turns: what it carries, and what a step asks of which store.
+
+    service/engines.sh run bench/engines.py [--turns 2] [--seconds 12] [--clients 16,64,256,1024] [--stores etcd,postgres] [--out OUT,..] [--crates CRATES]
+
+The engines are those of service/engines.sh: register, places and the guard's state are on etcd's three members or on PostgreSQL, objects always on S3. With
+several folders OUT of builds of ctserve (service/out by itself) each is a log of its own over the same engines. In each turn ctload submits to each log with so
+many clients for so many seconds, each client a new certificate as soon as its last one is answered. CRATES has the builds of the log's programs; what isn't
+built there a program in Python stands in for, which it says. `make service` builds ctserve and ctload.
+
+It prints, of each turn: timestamps a second, the median and 99th percentile of the time to one, how many entries a step took in, the processor time of the log's
+processes and of each engine an entry until a signed head has all of them, and how many processors others had meanwhile. Then, of all turns together, how often
+a step called each store and for how long (the guard's state isn't among them: it is the signer's), and how long each part of a step took.
+"""
+import argparse
+import os
+import pathlib
+import re
+import subprocess
+import sys
+import tempfile
+import time
+import urllib.request
+
+from peers import size_of
+from served import CRATES, SERVICE, Log, busy_time, load, processor_time, run, stop, until
+
+WANTED = ("STORES_MEMBERS", "STORES_POSTGRES", "STORES_S3", "STORES_AGAIN")
+SUMMARY = re.compile(r'^ctserve_(store|step)_seconds_(sum|count)\{(.*)\} (\S+)$', re.M)
+
+
+def bucket(name):
+    """The address of a new bucket."""
+    who, _, host = os.environ["STORES_S3"].removeprefix("http://").partition("@")
+    nothing = run("sha256sum", input="").split()[0]
+    run("curl", "-sS", "--fail", "-X", "PUT", "--user", who, "--aws-sigv4", "aws:amz:us-east-1:s3", "-H", f"x-amz-content-sha256: {nothing}", f"http://{host}/{name}")
+    return f"s3://{who}@{host}/{name}?tls=no"
+
+
+def address(store, name):
+    """Where a log's register and places are."""
+    if store == "etcd":
+        return f"etcd://{os.environ['STORES_MEMBERS']}/{name}"
+    at = dict(word.split("=") for word in os.environ["STORES_POSTGRES"].split())
+    return f"postgres://{at['user']}@{at['host']}:{at['port']}/{at['dbname']}?sslmode={at['sslmode']}&log={name}"
+
+
+class Node:
+    """A log of one node, whose stores are engines."""
+
+    def __init__(self, folder, number, store, out, crates):
+        self.name, at = f"{store}{'' if out == SERVICE / 'out' else f', {out}'}", address(store, f"log{number}")
+        self.log = Log(folder, crates, out, store=bucket(f"log{number}"), register=at, places=at, guard_state=address(store, f"log{number}-guard"))
+        self.rows, self.steps, self.calls, self.phases = [], 0, {}, {}
+
+    def figures(self):
+        """Of each call of a store, and of each part of a step, how often it was made and how many seconds it took."""
+        with urllib.request.urlopen(f"http://127.0.0.1:{self.log.operator}/metrics", timeout=60) as answer:
+            text = answer.read().decode()
+        found = {}
+        for of, what, labels, value in SUMMARY.findall(text):
+            name = " ".join(sorted(re.findall(r'"([^"]*)"', labels), key=lambda word: word not in ("objects", "register", "places")))
+            found.setdefault((of, name), {})[what] = float(value)
+        return {of: (both["count"], both["sum"]) for of, both in found.items()}
+
+    def turn(self, clients, seconds, engines):
+        had, figures, busy, began = size_of(self.log), self.figures(), busy_time(), time.monotonic()
+        before, own = engines.spent(), processor_time(*self.log.ids())
+        loader = sum(os.times()[2:4])
+        count, took, middle, high, again = load(self.log, clients, "--for", f"{seconds}s")
+        loader = sum(os.times()[2:4]) - loader
+        # (those that ctload gave up at its end may come in too)
+        until(lambda: size_of(self.log) >= had + count, "no head has all entries")
+        own, after, now = processor_time(*self.log.ids()) - own, engines.spent(), self.figures()
+        spent = {engine: after[engine] - before[engine] for engine in after}
+        others = (busy_time() - busy - own - sum(spent.values()) - loader) / (time.monotonic() - began)
+        entries, grown = max(size_of(self.log) - had, 1), {of: (now[of][0] - figures[of][0], now[of][1] - figures[of][1]) for of in now}
+        steps = max(grown["step", "swap"][0], 1)
+        self.steps += steps
+        for (of, name), (many, long) in grown.items():
+            into = self.calls if of == "store" else self.phases
+            into[name] = into.get(name, (0, 0))[0] + many, into.get(name, (0, 0))[1] + long
+        each = ", ".join(f"{engine} {1000 * one / entries:.2f}" for engine, one in spent.items() if one)
+        self.rows.append(f"| {clients:,} | {self.name}{' (some were refused, and sent again)' if again else ''} | {count / took:,.0f} | {1000 * middle:,.0f} | {1000 * high:,.0f} | "
+                         f"{entries / steps:.0f} | {1000 * own / entries:.2f} | {each} | {max(others, 0):.1f} |")  # fmt: skip
+        return self.rows[-1]
+
+
+class Engines:
+    """The processes that service/engines.sh started."""
+
+    def __init__(self):
+        missing = [name for name in WANTED if name not in os.environ]
+        if missing:
+            stop(f"{', '.join(missing)} isn't told: service/engines.sh run bench/engines.py (ENGINES=\"members postgres s3\")")
+        self.folder = pathlib.Path(os.environ["STORES_AGAIN"].split()[-1])
+
+    def spent(self):
+        """The processor time of each, in seconds; members of one kind together."""
+        found = {}
+        for name in (self.folder / "names").read_text().split():
+            kind = "etcd" if name.startswith("member") else name
+            found[kind] = found.get(kind, 0) + processor_time(int((self.folder / f"{name}.id").read_text().split()[0]))
+        return found
+
+
+def main():
+    parser = argparse.ArgumentParser(description=__doc__, formatter_class=argparse.RawDescriptionHelpFormatter)
+    parser.add_argument("--turns", type=int, default=2)
+    parser.add_argument("--seconds", type=int, default=12)
+    parser.add_argument("--clients", default="16,64,256,1024")
+    parser.add_argument("--stores", default="etcd,postgres")
+    parser.add_argument("--out", default=str(SERVICE / "out"))
+    parser.add_argument("--crates", default=CRATES)
+    words = parser.parse_args()
+    engines, nodes = Engines(), []
+    with tempfile.TemporaryDirectory(dir=os.environ.get("TMPDIR")) as work:
+        try:
+            for store in words.stores.split(","):
+                for out in words.out.split(","):
+                    nodes.append(Node(pathlib.Path(work) / f"log{len(nodes)}", len(nodes), store, pathlib.Path(out).resolve(), words.crates))
+            models = nodes[0].log.models
+            print(f"{words.turns} turns of {words.seconds} s on {os.cpu_count()} processors, at a load of {os.getloadavg()[0]:.1f} before" +
+                  (f"; in Python: {', '.join(models)}" if models else "; ctserve's programs are the built ones"), flush=True)  # fmt: skip
+            print("| Clients | Register and places | Timestamps a second | Median, ms | 99th percentile, ms | Entries a step | Processor of the log, ms an entry | Of the engines | Processors that others had |\n" + "|---" * 9 + "|")
+            for clients in map(int, words.clients.split(",")):
+                for number in range(words.turns):
+                    for node in nodes[:: 1 if number % 2 == 0 else -1]:
+                        print(node.turn(clients, words.seconds, engines), flush=True)
+            for what, of in (("Calls a step, and ms each", "calls"), ("Parts of a step, ms", "phases")):
+                print(f"\n| {what} | {' | '.join(node.name for node in nodes)} |\n" + "|---" * (1 + len(nodes)) + "|")
+                for name in getattr(nodes[0], of):
+                    cells = [(getattr(node, of)[name], node.steps) for node in nodes]
+                    if any(many for (many, _), _ in cells):
+                        print(f"| {name} | " + " | ".join(f"{many / steps:.2f}, {1000 * long / max(many, 1):.1f}" if of == "calls" else f"{1000 * long / steps:.1f}" for (many, long), steps in cells) + " |")
+        finally:
+            for node in nodes:
+                node.log.end()
+
+
+if __name__ == "__main__":
+    main()
