@@ -49,8 +49,9 @@ class Node:
     """A log of one node, whose stores are engines."""
 
     def __init__(self, folder, number, store, out, crates):
-        self.name, at = f"{store}{'' if out == SERVICE / 'out' else f', {out}'}", address(store, f"log{number}")
-        self.log = Log(folder, crates, out, store=bucket(f"log{number}"), register=at, places=at, guard_state=address(store, f"log{number}-guard"))
+        self.name, name = f"{store}{'' if out == SERVICE / 'out' else f', {out}'}", f"log{os.getpid()}-{number}"
+        at = address(store, name)
+        self.log = Log(folder, crates, out, store=bucket(name), register=at, places=at, guard_state=address(store, f"{name}-guard"))
         self.rows, self.steps, self.calls, self.phases = [], 0, {}, {}
 
     def figures(self):

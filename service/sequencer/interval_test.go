@@ -12,8 +12,8 @@ import (
 	"wagtenib/service/signer"
 )
 
-// TestInterval: where a node rests, a step has half of the time, as long as the next one begins within mostRest; never does it wait for longer than
-// that behind the beginning of one, but by its interval and by what the step put: 1000 KiB a second. Where no interval is set the next one begins
+// TestInterval: where a node rests, a step has half of the time, as long as the next one begins within mostRest, and behind that two thirds, as long as the rest
+// is no longer than mostHalf; never does it wait for longer, but by its interval and by what the step put: 1000 KiB a second. Where no interval is set the next one begins
 // half as long behind a step's end as it took.
 func TestInterval(t *testing.T) {
 	const ms = time.Millisecond
@@ -28,9 +28,12 @@ func TestInterval(t *testing.T) {
 		{100 * ms, false, 400 * ms, 100 * ms, true, 0},
 		{100 * ms, true, 30 * ms, 100 * ms, true, 0},
 		{100 * ms, true, 70 * ms, 140 * ms, true, 0},
-		{100 * ms, true, 400 * ms, 500 * ms, true, 0},
-		{100 * ms, true, 900 * ms, 500 * ms, true, 0},
-		{time.Second, true, 900 * ms, time.Second, true, 0},
+		{100 * ms, true, 250 * ms, 500 * ms, true, 0},
+		{100 * ms, true, 330 * ms, 500 * ms, true, 0},
+		{100 * ms, true, 400 * ms, 600 * ms, true, 0},
+		{100 * ms, true, 500 * ms, 750 * ms, true, 0},
+		{100 * ms, true, 900 * ms, 1150 * ms, true, 0},
+		{1200 * ms, true, 900 * ms, 1200 * ms, true, 0},
 		{100 * ms, true, 200 * ms, 100 * ms, false, 0},
 		{100 * ms, false, 30 * ms, 100 * ms, true, 100 << 10},
 		{100 * ms, false, 30 * ms, 101 * ms, true, 101 << 10},

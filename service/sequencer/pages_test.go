@@ -27,6 +27,7 @@ func TestPageSaysBounds(t *testing.T) {
 		"Over engines, and with witnesses, it begins 50 ms behind the beginning of the one before": over.Interval == 50*time.Millisecond,
 		"over engines once all are back who were answered, or twice as late as the last step took, up to half a second": mostRest == 500*time.Millisecond &&
 			restsLeast == 50*time.Millisecond && restsMost == 200*time.Millisecond,
+		"or where that is later half as long behind its end as it took, up to a quarter":                mostHalf == 250*time.Millisecond,
 		"a partial tile once its full one has stood for five minutes":                                   config.SweepTilesAfter == 5*time.Minute,
 		"as `swept/ENTRIES`: a start goes on there, 256 tiles of a level before":                        sweptPrefix == "swept/" && mostSweptAgain == 256,
 		"a head once a later one has stood for an hour":                                                 config.SweepAfter == time.Hour,

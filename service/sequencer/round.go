@@ -92,8 +92,8 @@ func (s *Sequencer) loop(ctx context.Context) {
 func longerBackoff(before time.Duration) time.Duration { return shorter(2*before, mostBackoff) }
 
 const (
-	// mostRest is how far two steps are apart at most for the sake of a rest.
-	mostRest = 500 * time.Millisecond
+	// mostRest is how far two steps are apart at most so that one rests as long as it took, and mostHalf how long one rests at most for half of that.
+	mostRest, mostHalf = 500 * time.Millisecond, 250 * time.Millisecond
 	// leastApart is how far two rounds are apart at least, and mostPause how long one waits at most behind the last one's end, where no interval is set.
 	leastApart, mostPause = 5 * time.Millisecond, 8 * time.Millisecond
 )
@@ -108,7 +108,8 @@ func (c *Config) interval(took time.Duration, wrote bool, written int) (least, m
 	}
 	var rested, paced time.Duration
 	if c.Rests && wrote {
-		rested = shorter(2*took, mostRest)
+		// (behind a step that took long, too, who was answered is to come back)
+		rested = longer(shorter(2*took, mostRest), took+shorter(took/2, mostHalf))
 	}
 	if c.MostWritten > 0 {
 		paced = time.Duration(float64(written) / float64(c.MostWritten) * float64(time.Second))

@@ -57,8 +57,8 @@ type Config struct {
 	Create bool
 	// Interval is how far the beginnings of two steps are apart at least. Where it is 0, that is 50 ms over stores that rest and with witnesses, and
 	// elsewhere until those who were answered are back, or what the last step took and half as long again, at most mostPause more. Rests says that a node rests
-	// behind a step as long as it took, or until those who were answered are back, where the next one doesn't begin later than mostRest behind it anyway:
-	// while more come than these, steps have half of the stores' time.
+	// behind a step as long as it took, or until those who were answered are back, where the next one doesn't begin later than mostRest behind it anyway,
+	// and behind longer ones half as long, at most mostHalf: while more come than these, the stores have time for others.
 	Interval time.Duration
 	Rests    bool
 	// MostWritten is how many bytes a second the steps put at most, over a while: behind a step that put more, the next one comes later. 16 MiB
