@@ -5,6 +5,7 @@ import (
 	"os"
 	"path/filepath"
 	"strings"
+	"sync"
 	"sync/atomic"
 	"testing"
 	"time"
@@ -221,4 +222,108 @@ func TestSideBySide(t *testing.T) {
 			p.right(t, got)
 		})
 	}
+}
+
+// slow is a store of objects each of whose calls takes half a second. It counts how many calls stand behind one another: a call is one more than the
+// longest row of those that ended before it began.
+type slow struct {
+	stores.Objects
+	mu          sync.Mutex
+	row, atWork int
+}
+
+const slowCall = 500 * time.Millisecond
+
+func (s *slow) call(do func() error) error {
+	s.mu.Lock()
+	row := s.row + 1
+	s.atWork++
+	s.mu.Unlock()
+	time.Sleep(slowCall)
+	err := do()
+	s.mu.Lock()
+	defer s.mu.Unlock()
+	if row > s.row {
+		s.row = row
+	}
+	s.atWork--
+	return err
+}
+
+// rows is how many calls stood behind one another since it was asked last, where none is made.
+func (s *slow) rows() (row int, rests bool) {
+	s.mu.Lock()
+	defer s.mu.Unlock()
+	if s.atWork > 0 {
+		return 0, false
+	}
+	row, s.row = s.row, 0
+	return row, true
+}
+
+func (s *slow) Put(ctx context.Context, name string, content []byte) error {
+	return s.call(func() error { return s.Objects.Put(ctx, name, content) })
+}
+
+func (s *slow) Get(ctx context.Context, name string, most int64) (content []byte, err error) {
+	err = s.call(func() error {
+		content, err = s.Objects.Get(ctx, name, most)
+		return err
+	})
+	return content, err
+}
+
+func (s *slow) List(ctx context.Context, prefix, after string, most int) (names []string, err error) {
+	err = s.call(func() error {
+		names, err = s.Objects.List(ctx, prefix, after, most)
+		return err
+	})
+	return names, err
+}
+
+func (s *slow) Delete(ctx context.Context, name string) error {
+	return s.call(func() error { return s.Objects.Delete(ctx, name) })
+}
+
+// TestSlowObjects: over a store of objects that takes half a second a call a submission waits for four of them: its step's bundle; the heads' names behind the
+// swap; all its tiles; the head. For one more it waits where its issuer wasn't put yet, and for as many again where a step is made already when it comes. Who
+// reads the newest head waits for none.
+func TestSlowObjects(t *testing.T) {
+	t.Parallel()
+	p, ctx, got := newPlace(t), limited(t), &answers{}
+	first := started(t, p.config(t), hooks{})
+	must(t, got.submitAll(ctx, first, 0, 250, 250))
+	must(t, first.End(ctx))
+	config := p.config(t)
+	objects := &slow{Objects: config.Objects}
+	config.Objects, config.TendEvery, config.Patience, config.Rests, config.Interval = objects, time.Hour, longest, true, 0
+	s := started(t, config, hooks{})
+	// (all issuers but one, and the edge)
+	must(t, got.submitAll(ctx, s, 250, 254, 4))
+	for _, c := range []struct {
+		what               string
+		from, to, made, of int
+	}{{"with an issuer that is new", 254, 255, 5, 1}, {"alone", 255, 256, 4, 1}, {"forty at once", 256, 296, 8, 40}} {
+		eventually(t, "nothing is done any more", func() bool {
+			// (the bundle before the newest is gone)
+			bundles, err := os.ReadDir(filepath.Join(p.objects(), "staging"))
+			must(t, err)
+			_, rests := objects.rows()
+			return rests && len(bundles) == 1
+		})
+		began := time.Now()
+		must(t, got.submitAll(ctx, s, c.from, c.to, c.of))
+		took := time.Since(began)
+		if head, err := s.Checkpoint(ctx); err != nil || head.TreeSize != uint64(c.to) {
+			t.Errorf("%s: a head of %d entries, %v", c.what, head.TreeSize, err)
+		}
+		objects.mu.Lock()
+		row := objects.row
+		objects.mu.Unlock()
+		t.Logf("%s: %v, %d calls behind one another", c.what, took, row)
+		if row > c.made {
+			t.Errorf("%s: %d calls stand behind one another, and not %d", c.what, row, c.made)
+		}
+	}
+	isOf(t, p.right(t, got), 296)
 }
