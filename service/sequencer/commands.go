@@ -237,7 +237,7 @@ func (s *Sequencer) doStage(ctx context.Context, t *turn) (decider.Told, error) 
 	// (what is in the bundle is put once more, as objects)
 	s.written = 2 * len(t.bundle)
 	s.putBytes.Add(uint64(s.written))
-	if err := s.deleteBundles(ctx, func(ctx context.Context) error { return s.putBundle(ctx, t) }); err != nil {
+	if err := s.putBundle(ctx, t); err != nil {
 		return nil, fmt.Errorf("sequencer: %w", err)
 	}
 	s.phase("bundle put")
@@ -372,23 +372,43 @@ func (s *Sequencer) doAnswer(ctx context.Context, t *turn) (decider.Told, error)
 	return decider.Done(), nil
 }
 
-// doDelete has a bundle deleted that isn't needed any more: beside the next one's being put, or once nobody waits. Where it stays, it is swept.
+// doDelete has a bundle deleted that isn't needed any more, beside the rounds. Where it stays, it is swept.
 func (s *Sequencer) doDelete(_ context.Context, t *turn) (decider.Told, error) {
 	s.deletes = append(s.deletes, t.command.Bundle)
 	return decider.Lost(), nil
 }
 
-// deleteBundles deletes those, beside something else that is to be done, whose error it gives.
-func (s *Sequencer) deleteBundles(ctx context.Context, beside func(context.Context) error) error {
-	names := s.deletes
-	s.deletes = nil
-	return sideBySide(ctx, 1+len(names), func(part context.Context, at int) error {
-		if at == 0 {
-			return beside(part)
-		}
-		s.failed("a bundle isn't deleted", s.config.Objects.Delete(ctx, names[at-1]))
-		return nil
-	})
+// deleteBundles begins to delete those that are to be, unless some are being deleted yet: no round waits for a store that is slow in that.
+func (s *Sequencer) deleteBundles(ctx context.Context) {
+	if len(s.deletes) == 0 || s.isDeleting() {
+		return
+	}
+	names, deleted := s.deletes, make(chan struct{})
+	s.deletes, s.deleted = nil, deleted
+	go func() {
+		defer close(deleted)
+		_ = sideBySide(ctx, len(names), func(ctx context.Context, at int) error {
+			s.failed("a bundle isn't deleted", s.config.Objects.Delete(ctx, names[at]))
+			return nil
+		})
+	}()
+}
+
+func (s *Sequencer) isDeleting() bool {
+	select {
+	case <-s.deleted:
+		return false
+	default:
+		return s.deleted != nil
+	}
+}
+
+// deleteLast deletes what is left of them, and returns once nothing is being deleted.
+func (s *Sequencer) deleteLast(ctx context.Context) {
+	for len(s.deletes) > 0 || s.isDeleting() {
+		s.deleteBundles(ctx)
+		<-s.deleted
+	}
 }
 
 // advance takes who waits one step further from where one may be made, and has that decided and published.

@@ -49,13 +49,12 @@ func (s *Sequencer) achieved() achieved {
 // the one before; but not one that got something done: a store that gives some calls up isn't gone.
 func (s *Sequencer) loop(ctx context.Context) {
 	defer close(s.ended)
+	defer s.deleteLast(ctx)
 	backoff, owes := longer(s.config.Interval, leastApart), s.config.BehindSwap
 	var least, next time.Time
 	for ctx.Err() == nil {
 		some, ending := s.queue.state()
-		if !some && len(s.deletes) > 0 {
-			_ = s.deleteBundles(ctx, func(context.Context) error { return nil })
-		}
+		s.deleteBundles(ctx)
 		if !some && ending && !owes && s.queue.length() == 0 {
 			return
 		}

@@ -169,8 +169,9 @@ type Sequencer struct {
 	passed *signer.Head
 	// unneeded are names of bundles that this node knows of, and that may be deleted once a step may be made from a later state.
 	unneeded []string
-	// deletes are names of bundles that are to be deleted.
+	// deletes are names of bundles that are to be deleted, and deleted is closed once those are that were taken from there last; nil before the first.
 	deletes []string
+	deleted chan struct{}
 	// wrote says that this round had a step decided, by this node or another: all that was to be written before was.
 	wrote bool
 	// written is how many bytes this round's step put, in its bundle and as objects.

@@ -159,8 +159,8 @@ func (d deleting) Put(ctx context.Context, name string, content []byte) error {
 
 func (d deleting) Close() error { return d.Objects.Close() }
 
-// TestDeletionsBesideAStep: a bundle that isn't needed any more is deleted while the next one is put, and no step waits for it alone; the last one is deleted
-// once nobody waits.
+// TestDeletionsBesideAStep: a bundle that isn't needed any more is deleted while the next one is put, which doesn't wait for it; the last one is deleted where
+// nobody waits.
 func TestDeletionsBesideAStep(t *testing.T) {
 	t.Parallel()
 	p, ctx, got := newPlace(t), limited(t), &answers{}
@@ -192,6 +192,35 @@ func TestDeletionsBesideAStep(t *testing.T) {
 		t.Errorf("%d bundles are left, %v", len(bundles), err)
 	}
 	p.right(t, got)
+}
+
+// TestDeletionsThatStand: while the store doesn't get done with deleting a bundle steps go on; those that aren't needed meanwhile are deleted behind it.
+func TestDeletionsThatStand(t *testing.T) {
+	t.Parallel()
+	p, ctx, got := newPlace(t), limited(t), &answers{}
+	first := started(t, p.config(t), hooks{})
+	must(t, got.submitAll(ctx, first, 0, 5, 5))
+	must(t, first.End(ctx))
+	config := p.config(t)
+	held := &holding{prefix: stagingPrefix, reached: make(chan struct{}, 100), released: make(chan struct{})}
+	// (none of its puts waits for a deletion)
+	puts := &atomic.Int64{}
+	puts.Store(100)
+	config.Objects, config.TendEvery = deleting{config.Objects, held, puts}, time.Hour
+	s := started(t, config, hooks{})
+	for number := 5; number < 10; number++ {
+		must(t, got.submitAll(ctx, s, number, number+1, 1))
+	}
+	eventually(t, "one is being deleted", func() bool { return len(held.reached) > 0 })
+	if len(held.reached) != 1 {
+		t.Errorf("%d are being deleted", len(held.reached))
+	}
+	close(held.released)
+	must(t, s.End(ctx))
+	if bundles, err := os.ReadDir(filepath.Join(p.objects(), "staging")); err != nil || len(bundles) != 1 {
+		t.Errorf("%d bundles are left, %v", len(bundles), err)
+	}
+	isOf(t, p.right(t, got), 10)
 }
 
 // TestSideBySide: what doesn't stand on each other is asked of the store at once: each call waits until all are there. So are an entry's issuers put, a
