@@ -24,6 +24,8 @@ type inSQLite struct {
 	db *sql.DB
 	// table is places, or leaves.
 	table string
+	// writes is held by who adds, to either table: SQLite has one at a time, and others look again after a while.
+	writes chan struct{}
 }
 
 // mostCached is how many KiB of the file each connection remembers: the upper pages of a log of 10^8 entries. (By itself it remembers 2 MB.)
@@ -61,7 +63,7 @@ func OpenSQLite(ctx context.Context, path string) (Places, error) {
 		db.Close()
 		return nil, err
 	}
-	return &inSQLite{db, "places"}, nil
+	return &inSQLite{db, "places", make(chan struct{}, 1)}, nil
 }
 
 // unlessBusy does what others may keep from being done, again and again until the context ends. (SQLite's own waiting doesn't end
@@ -131,6 +133,12 @@ func (s *inSQLite) Replace(ctx context.Context, placed []Placed) error {
 
 // add adds rows. Where there is one of an identity it does something else.
 func (s *inSQLite) add(ctx context.Context, placed []Placed, otherwise string) error {
+	select {
+	case s.writes <- struct{}{}:
+		defer func() { <-s.writes }()
+	case <-ctx.Done():
+		return ctx.Err()
+	}
 	tx, err := s.db.BeginTx(ctx, nil)
 	if err != nil {
 		return err
@@ -152,6 +160,6 @@ func (s *inSQLite) add(ctx context.Context, placed []Placed, otherwise string) e
 	return tx.Commit()
 }
 
-func (s *inSQLite) Leaves() Places { return &inSQLite{s.db, "leaves"} }
+func (s *inSQLite) Leaves() Places { return &inSQLite{s.db, "leaves", s.writes} }
 
 func (s *inSQLite) Close() error { return s.db.Close() }
