@@ -78,13 +78,17 @@ type Figures struct {
 	Swept, SweptHeads, Scrubbed uint64
 	// Written counts the bytes that steps put, in their bundles and as objects.
 	Written uint64
-	// Phases are the parts of a step, in their order.
-	Phases []Phase
+	// Phases are the parts of a step, in their order, and Batches how many submissions steps took in.
+	Phases  []Phase
+	Batches Batches
 	// SweptBundles counts bundles of steps that were deleted since nobody needs them, and Staged is how many there were when they were listed last.
 	SweptBundles, Staged uint64
 	// TendFailures counts what failed of sweeping, which is tried again, and TendFailure is the last of it, in one line.
 	TendFailures uint64
 	TendFailure  string
+	// SweptTo is up to how many entries no partial tile is left below the full ones, by what this node knows, and ReadNext is the data tile that it reads again
+	// next.
+	SweptTo, ReadNext uint64
 	// Damaged is how many data tiles, by what was read last, are missing, can't be read or aren't the log's, or stand below hash tiles of
 	// which one of these is so; the log goes on all the same. Damage is what was seen of one of them, in one line.
 	Damaged int
@@ -98,6 +102,9 @@ type Figures struct {
 	Witnesses []Witness
 	// Fault is what keeps the log from going on, in one line; empty where nothing does.
 	Fault string
+	// Faults counts how often something began to keep it from that, and LastFault is the last of it: one may be over before anybody looks.
+	Faults    uint64
+	LastFault string
 }
 
 // Phase is a part of a step: how often it was done, or failed, and how long that took in all.
@@ -105,6 +112,14 @@ type Phase struct {
 	Name  string
 	Count uint64
 	Took  time.Duration
+}
+
+// Batches say how many submissions those steps took in that were decided.
+type Batches struct {
+	// Steps counts them, and Submissions what they took in altogether.
+	Steps, Submissions uint64
+	// AtMost says of some numbers how many steps took in no more than that.
+	AtMost map[int]uint64
 }
 
 // Witness is how a witness stands to a log whose heads it cosigns.

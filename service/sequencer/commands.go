@@ -260,7 +260,7 @@ func (s *Sequencer) doSwap(ctx context.Context, t *turn) (decider.Told, error) {
 		return decider.Lost(), nil
 	}
 	s.unneeded = append(s.unneeded, t.command.Seen.Bundle)
-	s.steps.Add(1)
+	s.decided(len(t.batch))
 	s.phase("swapped")
 	objects, err := t.objects()
 	if err != nil {

@@ -183,12 +183,14 @@ func (s *Sequencer) settle(err error) {
 	}
 	if s.fault == nil {
 		s.faultSince = time.Now()
+		s.faults++
 	}
 	kind := log.ErrStore
 	if errors.Is(err, log.ErrClock) {
 		kind = log.ErrClock
 	}
 	s.fault = fault{kind, err}
+	s.lastFault = s.fault
 	s.mu.Unlock()
 	s.queue.answerHanded(fault{kind, err})
 	if standing := s.standing(); standing != nil {

@@ -204,11 +204,17 @@ type Sequencer struct {
 	// mended counts objects that were made again, and lastMended names the last.
 	mended     uint64
 	lastMended string
-	// phases are how long each part of steps took, by its name.
-	phases map[string]log.Phase
+	// faults counts how often there was one where there was none, and lastFault is the last of it.
+	faults    uint64
+	lastFault error
+	// phases are how long each part of steps took, by its name, and batches how many submissions steps took in.
+	phases  map[string]log.Phase
+	batches log.Batches
 	// tendFailures counts what tending failed by, and tendFailure is the last of it.
 	tendFailures uint64
 	tendFailure  string
+	// sweptTo and readNext are where the tender stands.
+	sweptTo, readNext uint64
 	// alone is until when nothing is handed over, since a node didn't answer.
 	alone time.Time
 	// wentWell is when a round ended behind which no fault stands.
@@ -380,15 +386,19 @@ func (s *Sequencer) Figures() log.Figures {
 		f.Unpublished = s.newest.state.Size - f.Entries
 	}
 	f.Mended, f.LastMended = s.mended, s.lastMended
-	f.Written, f.Phases = s.putBytes.Load(), s.phasesTook()
+	f.Written, f.Phases, f.Batches = s.putBytes.Load(), s.phasesTook(), s.batchesTaken()
 	f.SweptBundles, f.Staged = s.sweptBundles.Load(), s.staged.Load()
 	f.TendFailures, f.TendFailure = s.tendFailures, s.tendFailure
+	f.SweptTo, f.ReadNext = s.sweptTo, s.readNext
 	if f.DamagedIssuers, f.Damage = s.issuers.damage(); len(s.damage) > 0 {
 		first, _ := s.damagedBehind(0)
 		f.Damage = s.damage[first].Error()
 	}
 	if s.fault != nil {
 		f.Fault = s.fault.Error()
+	}
+	if f.Faults = s.faults; s.lastFault != nil {
+		f.LastFault = s.lastFault.Error()
 	}
 	return f
 }

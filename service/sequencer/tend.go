@@ -128,7 +128,15 @@ func (s *Sequencer) tend(ctx context.Context) {
 			t.readNext(ctx)
 		}
 		t.readIssuers(ctx)
+		t.tellWhere()
 	}
+}
+
+// tellWhere keeps where this turn ended.
+func (t *tender) tellWhere() {
+	t.s.mu.Lock()
+	defer t.s.mu.Unlock()
+	t.s.sweptTo, t.s.readNext = t.sweptTo, t.read
 }
 
 // failed keeps what tending failed by; nil is nothing, and so is the end.

@@ -43,6 +43,36 @@ func (s *Sequencer) phasesTook() (all []log.Phase) {
 	return all
 }
 
+// batchBounds are the numbers of submissions by which steps are counted.
+var batchBounds = []int{0, 1, 2, 4, 8, 16, 32, 64, 128, 256, 512, 1024}
+
+// decided counts a step that was decided, and how many submissions it took in.
+func (s *Sequencer) decided(submissions int) {
+	s.steps.Add(1)
+	s.mu.Lock()
+	defer s.mu.Unlock()
+	of := &s.batches
+	of.Steps++
+	of.Submissions += uint64(submissions)
+	if of.AtMost == nil {
+		of.AtMost = map[int]uint64{}
+	}
+	for _, bound := range batchBounds {
+		if submissions <= bound {
+			of.AtMost[bound]++
+		}
+	}
+}
+
+// batchesTaken are all, whose caller has the lock.
+func (s *Sequencer) batchesTaken() log.Batches {
+	all := log.Batches{Steps: s.batches.Steps, Submissions: s.batches.Submissions, AtMost: map[int]uint64{}}
+	for _, bound := range batchBounds {
+		all.AtMost[bound] = s.batches.AtMost[bound]
+	}
+	return all
+}
+
 // carryTimed carries a command out. (Objects and places, which are put beside one another, are timed there.)
 func (s *Sequencer) carryTimed(ctx context.Context, t *turn, carry func(context.Context, *turn) (decider.Told, error)) (decider.Told, error) {
 	if t.command.Do != decider.Put && t.command.Do != decider.Place {

@@ -56,7 +56,7 @@ func (f *Front) Tell(ctx context.Context, every time.Duration) {
 	defer timer.Stop()
 	var fault, damage string
 	var tiles, issuers int
-	var mended, failures uint64
+	var mended, failures, faults uint64
 	more := map[string]bool{}
 	for {
 		figures := f.log.Figures()
@@ -68,6 +68,10 @@ func (f *Front) Tell(ctx context.Context, every time.Duration) {
 		}
 		if figures.Fault != fault {
 			f.tellOf("fault", fault, figures.Fault)
+		} else if figures.Fault == "" && figures.Faults != faults {
+			// (it came and went since the look before)
+			f.tellOf("fault", "", figures.LastFault)
+			f.tellOf("fault", figures.LastFault, "")
 		}
 		if figures.Damage != damage || damage != "" && (figures.Damaged != tiles || figures.DamagedIssuers != issuers) {
 			f.tellOf("damage", damage, figures.Damage, "tiles", figures.Damaged, "issuers", figures.DamagedIssuers)
@@ -80,6 +84,7 @@ func (f *Front) Tell(ctx context.Context, every time.Duration) {
 			f.options.Lines.Warn("made-again", "objects", figures.Mended-mended, "last", figures.LastMended)
 		}
 		fault, damage, tiles, issuers, mended = figures.Fault, figures.Damage, figures.Damaged, figures.DamagedIssuers, figures.Mended
+		faults = figures.Faults
 		select {
 		case <-timer.C:
 		case <-ctx.Done():

@@ -86,6 +86,7 @@ var (
 	descQueue      = described("ctserve_queue", "Submissions that wait.")
 	descMostQueue  = described("ctserve_queue_most", "At how many that wait no more is taken.")
 	descFault      = described("ctserve_fault", "1 where something keeps the log from going on.")
+	descFaults     = described("ctserve_faults_total", "How often something began to keep the log from going on.")
 	descReady      = described("ctserve_ready", "1 where a submission would be taken now, as /readyz says.")
 	descSteps      = described("ctserve_steps_total", "Swaps of the register that were won.")
 	descLost       = described("ctserve_lost_swaps_total", "Swaps of the register that another node was faster with.")
@@ -102,9 +103,12 @@ var (
 	descDamaged    = described("ctserve_damaged_tiles", "Data tiles that are missing, can't be read or aren't the log's, or stand below such hash tiles, by what was read last.")
 	descWritten    = described("ctserve_written_bytes_total", "Bytes that steps put, in their bundles and as objects.")
 	descPhase      = prometheus.NewDesc("ctserve_step_seconds", "How long the parts of a step took: take (the newest state is read, and repeats are answered), look (another node's step is rolled out), step (the program makes it), stage (its bundle is put), swap, put (its objects), place, sign (its head), answer, delete.", []string{"phase"}, nil)
+	descBatches    = described("ctserve_step_submissions", "How many submissions a step took in, of those that were decided.")
 	descBundles    = described("ctserve_swept_bundles_total", "Bundles of steps that were deleted since nobody needs them.")
 	descStaged     = described("ctserve_staged_bundles", "Bundles of steps that were there when they were listed last.")
 	descTending    = described("ctserve_tend_failures_total", "What failed of sweeping partial tiles, heads and bundles.")
+	descSweptTo    = described("ctserve_swept_entries", "Up to how many entries no partial tile is left below the full ones, by what this node knows.")
+	descReadNext   = described("ctserve_read_again_tile", "The data tile, of 256 entries, that is read again next.")
 	descIssuers    = described("ctserve_damaged_issuers", "Issuers that are missing or have another content, by what was read last.")
 	descMended     = described("ctserve_mended_objects_total", "Objects that were missing or had another content, and were made again.")
 	descLag        = prometheus.NewDesc("ctserve_witness_lag", "Heads that a witness was asked to cosign since it last did.", []string{"witness"}, nil)
@@ -139,6 +143,7 @@ func (c figures) Collect(to chan<- prometheus.Metric) {
 	gauge(descQueue, float64(f.Queue))
 	gauge(descMostQueue, float64(f.MostQueue))
 	gauge(descFault, fault)
+	count(descFaults, f.Faults)
 	ready := 1.0
 	if unready != nil {
 		ready = 0
@@ -161,6 +166,11 @@ func (c figures) Collect(to chan<- prometheus.Metric) {
 	for _, phase := range f.Phases {
 		to <- prometheus.MustNewConstSummary(descPhase, phase.Count, phase.Took.Seconds(), nil, phase.Name)
 	}
+	taken := map[float64]uint64{}
+	for most, steps := range f.Batches.AtMost {
+		taken[float64(most)] = steps
+	}
+	to <- prometheus.MustNewConstHistogram(descBatches, f.Batches.Steps, float64(f.Batches.Submissions), taken)
 	for _, call := range c.front.options.Stores.All() {
 		to <- prometheus.MustNewConstSummary(descStore, call.Count, call.Took.Seconds(), nil, call.Store, call.Name)
 		to <- prometheus.MustNewConstMetric(descFailed, prometheus.CounterValue, float64(call.Failed), call.Store, call.Name)
@@ -168,6 +178,8 @@ func (c figures) Collect(to chan<- prometheus.Metric) {
 	count(descBundles, f.SweptBundles)
 	gauge(descStaged, float64(f.Staged))
 	count(descTending, f.TendFailures)
+	gauge(descSweptTo, float64(f.SweptTo))
+	gauge(descReadNext, float64(f.ReadNext))
 	gauge(descIssuers, float64(f.DamagedIssuers))
 	count(descMended, f.Mended)
 	for _, w := range f.Witnesses {

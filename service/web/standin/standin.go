@@ -42,8 +42,11 @@ type Log struct {
 	hashes  [][32]byte
 	waiting []waiting
 	head    log.Head
-	ended   bool
-	stop    chan struct{}
+	// faults counts how often it was broken, and lastFault is by what it was last.
+	faults    uint64
+	lastFault string
+	ended     bool
+	stop      chan struct{}
 }
 
 type waiting struct {
@@ -280,7 +283,19 @@ func (l *Log) Change(name string, content []byte) {
 func (l *Log) Break(err error) {
 	l.mutex.Lock()
 	defer l.mutex.Unlock()
+	if err != nil {
+		l.faults++
+		l.lastFault = err.Error()
+	}
 	l.Fault = err
+}
+
+// Stumble has its figures tell of a fault that is over.
+func (l *Log) Stumble(fault string) {
+	l.mutex.Lock()
+	defer l.mutex.Unlock()
+	l.faults++
+	l.lastFault = fault
 }
 
 // Bend has its figures tell of damage; an empty text ends that.
@@ -326,7 +341,8 @@ func (l *Log) Figures() log.Figures {
 		HeadAge: time.Since(time.UnixMilli(int64(l.head.Timestamp))), LostSwaps: 3, Unpublished: 18, SinceRound: 2500 * time.Millisecond,
 		Swept: 4, SweptHeads: 8, Scrubbed: 5, Damaged: 6, Damage: l.Damage, DeciderStarts: 9, SignerStarts: 7,
 		Written: 16, Phases: []log.Phase{{Name: "stage", Count: 17, Took: 1500 * time.Millisecond}}, SweptBundles: 11, Staged: 12, TendFailures: 13, TendFailure: "nothing is deleted",
-		DamagedIssuers: 9, Mended: 10, LastMended: "issuer/07",
+		DamagedIssuers: 9, Mended: 10, LastMended: "issuer/07", SweptTo: 512, ReadNext: 19, Faults: l.faults, LastFault: l.lastFault,
+		Batches:   log.Batches{Steps: 20, Submissions: 21, AtMost: map[int]uint64{1: 18, 8: 20}},
 		Witnesses: []log.Witness{{Name: "w.example", Missed: 14, Cosigned: 15, SeenMore: true, Fault: "it has seen 7 entries"}},
 	}
 	if l.Fault != nil {
