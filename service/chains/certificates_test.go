@@ -118,6 +118,68 @@ func TestMisissuedAreShown(t *testing.T) {
 	}
 }
 
+// TestOtherFormOfASignature: a signature (r, s) of ECDSA is as valid as (r, n - s), which who has the certificate can write without the key. Both are taken, and are
+// two entries: a precertificate's are one but for what was submitted, since its own signature isn't in it.
+func TestOtherFormOfASignature(t *testing.T) {
+	key := newKey(t)
+	root := authority("root")
+	roots, err := ParseRoots(inPEM(signedBy(t, root, root, &key.PublicKey, key)))
+	if err != nil {
+		t.Fatal(err)
+	}
+	c := NewChecker(roots, Window{}, standIn(t))
+	rewritten := func(der []byte) []byte {
+		t.Helper()
+		var whole struct {
+			TBS, Algorithm asn1.RawValue
+			Signature      asn1.BitString
+		}
+		var pair struct{ R, S *big.Int }
+		if _, err := asn1.Unmarshal(der, &whole); err != nil {
+			t.Fatal(err)
+		}
+		if _, err := asn1.Unmarshal(whole.Signature.Bytes, &pair); err != nil {
+			t.Fatal(err)
+		}
+		pair.S.Sub(key.Params().N, pair.S)
+		other, err := asn1.Marshal(pair)
+		if err != nil {
+			t.Fatal(err)
+		}
+		whole.Signature = asn1.BitString{Bytes: other, BitLength: 8 * len(other)}
+		made, err := asn1.Marshal(whole)
+		if err != nil {
+			t.Fatal(err)
+		}
+		return made
+	}
+	template := &x509.Certificate{SerialNumber: big.NewInt(7), NotBefore: root.NotBefore, NotAfter: root.NotAfter}
+	first := signedBy(t, template, root, &newKey(t).PublicKey, key)
+	second := rewritten(first)
+	for what, der := range map[string][]byte{"as it was signed": first, "rewritten": second} {
+		entry, err := c.Certificate(context.Background(), [][]byte{der})
+		if err != nil || !bytes.Equal(entry.Certificate, der) {
+			t.Errorf("%s: %v", what, err)
+		}
+	}
+	if bytes.Equal(first, second) || !bytes.Equal(rewritten(second), first) {
+		t.Error("it isn't another form of the same signature")
+	}
+	template.ExtraExtensions = []pkix.Extension{{Id: oidPoison, Critical: true, Value: []byte{5, 0}}}
+	der := signedBy(t, template, root, &newKey(t).PublicKey, key)
+	one, err := c.Precertificate(context.Background(), [][]byte{der})
+	if err != nil {
+		t.Fatal(err)
+	}
+	two, err := c.Precertificate(context.Background(), [][]byte{rewritten(der)})
+	if err != nil {
+		t.Fatal(err)
+	}
+	if !bytes.Equal(one.TBSCertificate, two.TBSCertificate) || one.IssuerKeyHash != two.IssuerKeyHash || bytes.Equal(one.Precertificate, two.Precertificate) {
+		t.Error("a precertificate and its other form aren't one entry")
+	}
+}
+
 // TestReadAsByLibrary: of what crypto/x509 reads, the same is read here.
 func TestReadAsByLibrary(t *testing.T) {
 	a := madeByOpenssl(t)

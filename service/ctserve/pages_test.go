@@ -98,6 +98,32 @@ func TestPageSaysBounds(t *testing.T) {
 	}
 }
 
+// TestScraped: Prometheus is told to read where a log's figures are, by the name that the alarms ask for, and the alarms beside.
+func TestScraped(t *testing.T) {
+	s, err := parse([]string{"--roots", "r", "--origin", "o.example", "--signing-key", "k"}, &bytes.Buffer{})
+	trial.Must(t, err)
+	rules, err := os.ReadFile("../ctserve.rules.yml")
+	trial.Must(t, err)
+	jobs := regexp.MustCompile(`job="(\w+)"`).FindAllSubmatch(rules, -1)
+	if len(jobs) == 0 {
+		t.Fatal("no alarm names a job")
+	}
+	settings := trial.Page(t, "../prometheus.yml")
+	trial.Says(t, settings, map[string]bool{
+		"rule_files: [ctserve.rules.yml]":       true,
+		`targets: ["` + s.operator + `"]`:       s.operator != "",
+		"job_name: " + string(jobs[0][1]) + " ": true,
+	})
+	for _, job := range jobs {
+		if string(job[1]) != string(jobs[0][1]) {
+			t.Errorf("one alarm is of %s, and another of %s", jobs[0][1], job[1])
+		}
+	}
+	trial.Says(t, trial.Page(t, "../../docs/OPERATING.md"), map[string]bool{
+		"Prometheus reads /metrics at `operator-listen` (" + s.operator + ";": true,
+	})
+}
+
 // TestUnit: systemd doesn't end or start a log against what it says of itself: it waits for longer than an end takes, starts none anew whose settings
 // aren't ones or whose stores were set back, lets it open as many connections as it takes, and starts it once the clock is right.
 func TestUnit(t *testing.T) {

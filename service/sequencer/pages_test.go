@@ -1,10 +1,19 @@
 package sequencer
 
 import (
+	"encoding/base64"
+	"math"
+	"os"
+	"regexp"
+	"strconv"
 	"testing"
 	"time"
 
+	"wagtenib/service/chains"
+	"wagtenib/service/step"
+	"wagtenib/service/stores"
 	"wagtenib/service/trial"
+	"wagtenib/service/web"
 )
 
 // TestPageSaysBounds: the bounds that service/README.md and docs/OPERATING.md say of a node are those that are here.
@@ -46,10 +55,72 @@ func TestPageSaysBounds(t *testing.T) {
 		"one data tile a second does for 1.5 x 10^8 entries, 16 (the most) for 2.5 x 10^9": config.TendEvery == time.Second && mostReadAgain == 16 &&
 			week/time.Second*tileWidth/1e7 == 15 && week/time.Second*tileWidth*mostReadAgain/1e8 == 24,
 	})
-	trial.Says(t, trial.Page(t, "../../docs/OPERATING.md"), map[string]bool{
-		"off by more than `most-clock-skew` (10 s), either way": config.MostSkew == 10*time.Second,
-		"how late, where nothing below speaks: a day more":      mostStood == 24*time.Hour,
-		"and a `nodes-secret` of 16 bytes or more":              LeastSecret == 16,
-		"at `most-written` (16 MiB a second)":                   config.MostWritten == 16<<20,
+	// 255 of the largest entries and a step's new ones, with what a tile and a line have beside them, and a tile of the largest.
+	const beside = 10 + 32 + 2*3 + 2 + 8 + 2 + 32*chains.MostCertificates
+	request := base64.StdEncoding.EncodedLen((tileWidth-1)*(MostEntry+beside)+MostBatchBytes) + MostBatch*chainBytes
+	tile, answers := int64(tileWidth*(MostEntry+beside)), web.DefaultLimits().AnswerBytes
+	ofOne := longerOf(answers/8, stores.MostObject+1<<20)
+	// (half of what is written are partial tiles, and these stand for as long again as they have to)
+	partials := float64(config.MostWritten) / 2 * 2 * config.SweepTilesAfter.Seconds()
+	trial.Says(t, trial.Page(t, "../README.md"), map[string]bool{
+		"in base64, with 12 MiB of new ones, 62 MB of the 64 MiB that it may have": MostBatchBytes == 12<<20 && request/1e6 == 62 && request < step.MostRequest && step.MostRequest == 64<<20,
+		"So a data tile has 34 MB at most, of which answers hold 15 at once, and two for one address": math.Round(float64(tile)/1e6) == 34 && tile < stores.MostObject &&
+			answers/tile == 15 && ofOne/tile == 2,
+		"which stand for five to ten minutes until they are swept: up to 5 GB": config.SweepTilesAfter == 5*time.Minute && partials >= 5e9 && partials < 5.1e9,
+		"| the tree | 2^40 entries: `full` |":                                  step.MostLeaves == 1<<40,
 	})
+	trial.Says(t, trial.Page(t, "../../docs/OPERATING.md"), map[string]bool{
+		"Partial tiles take up to 5 GB at `most-written` (16 MiB a second)": config.MostWritten == 16<<20 && partials >= 5e9 && partials < 5.1e9,
+		"off by more than `most-clock-skew` (10 s), either way":             config.MostSkew == 10*time.Second,
+		"how late, where nothing below speaks: a day more":                  mostStood == 24*time.Hour,
+		"and a `nodes-secret` of 16 bytes or more":                          LeastSecret == 16,
+		"at `most-written` (16 MiB a second)":                               config.MostWritten == 16<<20,
+	})
+}
+
+func longerOf(one, other int64) int64 {
+	if one > other {
+		return one
+	}
+	return other
+}
+
+// alarmAt is the number above which, or below which, an alarm's figure rings, as service/ctserve.rules.yml has it.
+func alarmAt(t *testing.T, expression string) float64 {
+	t.Helper()
+	rules, err := os.ReadFile("../ctserve.rules.yml")
+	must(t, err)
+	found := regexp.MustCompile(`(?m)^    expr: ` + expression + ` (-?\d+)(?: \* (\d+))?$`).FindSubmatch(rules)
+	if found == nil {
+		t.Fatalf("no alarm has %s and a number", expression)
+	}
+	number, err := strconv.ParseFloat(string(found[1]), 64)
+	must(t, err)
+	if len(found[2]) > 0 {
+		times, err := strconv.ParseFloat(string(found[2]), 64)
+		must(t, err)
+		number *= times
+	}
+	return number
+}
+
+// TestAlarmsFitTheBounds: an alarm rings behind what a log does by itself, and before what it refuses anyway.
+func TestAlarmsFitTheBounds(t *testing.T) {
+	t.Parallel()
+	config := newPlace(t).config(t)
+	config.Refresh = 0
+	must(t, config.settle())
+	if old := alarmAt(t, "ctserve_head_age_seconds >"); old != 2*config.Refresh.Seconds() {
+		t.Errorf("a head is old behind %v s, and one is made each %v", old, config.Refresh)
+	}
+	if ahead := alarmAt(t, "ctserve_head_age_seconds <"); ahead >= 0 || -ahead > config.MostSkew.Seconds() {
+		t.Errorf("a head is ahead from %v s on, and a clock may be by %v", ahead, config.MostSkew)
+	}
+	if stands := alarmAt(t, "ctserve_round_age_seconds >"); stands < (mostRound + mostBackoff + looks).Seconds() {
+		t.Errorf("no round went well for %v s, and one may take %v, and be %v behind the one before", stands, mostRound, mostBackoff)
+	}
+	// (each turn that fails counts)
+	if swept := alarmAt(t, `increase\(ctserve_tend_failures_total\[1h\]\) >`); swept >= time.Hour.Seconds()/config.TendEvery.Seconds() || swept < 1 {
+		t.Errorf("what isn't swept rings behind %v failures in an hour, and a turn is made each %v", swept, config.TendEvery)
+	}
 }

@@ -27,6 +27,9 @@ func TestPageSaysBounds(t *testing.T) {
 	})
 	trial.Says(t, trial.Page(t, "../../docs/OPERATING.md"), map[string]bool{
 		"64 connections, or behind nginx requests, at once (`most-connections-by-address`)": limits.ConnectionsByAddress == 64,
+		"64 timestamps a head, 128 a second at `interval 500ms`":                            limits.ConnectionsByAddress == 64 && limits.ConnectionsByAddress*int(time.Second/(500*time.Millisecond)) == 128,
+		"(tiles have no rate), and ten seconds of it at once; what is above is 429 `too-often`. `submitters` have none": burst == 10*time.Second && tileCall.costs == 0 &&
+			tooOften.status == 429 && tooOften.name == "too-often",
 	})
 	if limits.Headers != 10*time.Second {
 		t.Errorf("headers have %v, and nginx's site has 10 s", limits.Headers)
