@@ -185,6 +185,7 @@ start() {
     create=
     for _ in $(seq 300); do
       curl -sf -o /dev/null "http://$(sed -n 's/^listen *//p' "$folder/node-$i.conf")/readyz" && continue 2
+      process "node-$i" >/dev/null || break
       sleep 0.1
     done
     echo "cluster.sh: node-$i isn't ready: $(tail -n 1 "$folder/node-$i.log")" >&2

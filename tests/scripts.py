@@ -1,7 +1,7 @@
 #!/usr/bin/env python3
 """Tries the scripts of examples/ and of this folder: bad_lines.py, pem_lines.py, expected.py, check.py, guard/model.py and those of tiles/ on
 stored input, tiles/step.py and node/explore.py on random histories, those of checks/ on a made-up repository, README.md's commands, release.py on
-made-up builds, and monitor/watch.sh on logs of its own.
+made-up builds, monitor/watch.sh on logs of its own, and service/cluster.sh over programs in the place of its own.
 
 It prints one line where all is as expected; else it says what isn't, and ends with status 1.
 """
@@ -454,6 +454,9 @@ def main():
         if watched.returncode:
             fail(f"monitor/{script}: {watched.stderr.decode()}")
         sys.stdout.write(watched.stdout.decode())
+    started = run("cluster.py")
+    if started.returncode:
+        fail(started.stderr.decode())
     for script in ("compare.py", "table.py", "damaged.py"):
         named = run(f"names/{script}")
         if named.returncode:
