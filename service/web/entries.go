@@ -75,15 +75,23 @@ func badParameter(detail string) error {
 	return refusal{status: http.StatusBadRequest, name: "bad-parameter", detail: detail}
 }
 
-func parameter(query url.Values, name string) (uint64, error) {
+// textOf gives the one value that a query has of a name.
+func textOf(query url.Values, name string) (string, error) {
 	switch len(query[name]) {
 	case 0:
-		return 0, badParameter(name + " is missing")
+		return "", badParameter(name + " is missing")
 	case 1:
-	default:
-		return 0, badParameter(name + " stands there more than once")
+		return query[name][0], nil
 	}
-	value, ok := number(query[name][0], stores.MostNumber)
+	return "", badParameter(name + " stands there more than once")
+}
+
+func parameter(query url.Values, name string) (uint64, error) {
+	text, err := textOf(query, name)
+	if err != nil {
+		return 0, err
+	}
+	value, ok := number(text, stores.MostNumber)
 	if !ok {
 		return 0, badParameter(fmt.Sprintf("%s is a number from 0 to %d", name, uint64(stores.MostNumber)))
 	}

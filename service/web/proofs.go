@@ -56,11 +56,12 @@ func (f *Front) getProofByHash(w http.ResponseWriter, r *http.Request) error {
 	if err != nil {
 		return err
 	}
-	var leaf [32]byte
-	if len(query["hash"]) != 1 {
-		return badParameter("hash stands there once")
+	text, err := textOf(query, "hash")
+	if err != nil {
+		return err
 	}
-	if hash, err := base64.StdEncoding.Strict().DecodeString(query.Get("hash")); err != nil || copy(leaf[:], hash) != len(hash) || len(hash) != len(leaf) {
+	var leaf [32]byte
+	if hash, err := base64.StdEncoding.Strict().DecodeString(text); err != nil || copy(leaf[:], hash) != len(hash) || len(hash) != len(leaf) {
 		return badParameter("hash is 32 bytes in base64")
 	}
 	size, index := numbers[0], uint64(0)

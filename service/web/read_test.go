@@ -385,6 +385,38 @@ func TestParametersAreRefused(t *testing.T) {
 	}
 }
 
+// TestParametersAreNamed: who asks wrongly is told what is wrong with which parameter.
+func TestParametersAreNamed(t *testing.T) {
+	f := newFixture(t, 0, nil)
+	f.fill(3)
+	for path, detail := range map[string]string{
+		"/ct/v1/get-entries?end=0":                                    "start is missing",
+		"/ct/v1/get-entries?start=0":                                  "end is missing",
+		"/ct/v1/get-entries?start=0&end=1&end=1":                      "end stands there more than once",
+		"/ct/v1/get-entries?start=0&end=18446744073709551615":         "end is a number from 0 to 9223372036854775807",
+		"/ct/v1/get-entries?start=&end=0":                             "start is a number from 0 to 9223372036854775807",
+		"/ct/v1/get-entries?start=2&end=1":                            "start is behind end",
+		"/ct/v1/get-entries?start=3&end=3":                            "the log has 3 entries",
+		"/ct/v1/get-entries?start=0&end=%zz":                          "the query isn't one",
+		"/ct/v1/get-sth-consistency?first=1":                          "second is missing",
+		"/ct/v1/get-sth-consistency?first=2&second=1":                 "first is behind second",
+		"/ct/v1/get-proof-by-hash?tree_size=3":                        "hash is missing",
+		"/ct/v1/get-proof-by-hash?hash=&tree_size=3&hash=":            "hash stands there more than once",
+		"/ct/v1/get-proof-by-hash?tree_size=3&hash=AAAA":              "hash is 32 bytes in base64",
+		"/ct/v1/get-entry-and-proof?leaf_index=3&tree_size=3":         "leaf_index isn't below tree_size",
+		"/ct/v1/get-entry-and-proof?leaf_index=0&tree_size=4":         "the log has 3 entries",
+		"/ct/v1/get-entry-and-proof?leaf_index=0&leaf_index=0":        "leaf_index stands there more than once",
+		"/ct/v1/get-entry-and-proof?leaf_index=0x0&tree_size=3&x=y&z": "leaf_index is a number from 0 to 9223372036854775807",
+	} {
+		w := f.get(path)
+		refused(t, path, w, 400, "bad-parameter")
+		var told struct{ Detail string }
+		if err := json.Unmarshal(w.Body.Bytes(), &told); err != nil || told.Detail != detail {
+			t.Errorf("%s: %q, %v, and not %q", path, told.Detail, err, detail)
+		}
+	}
+}
+
 // dataTileOf is a data tile of certificates of so many bytes.
 func dataTileOf(sizes ...int) []byte {
 	var b cryptobyte.Builder
