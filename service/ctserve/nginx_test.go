@@ -74,7 +74,8 @@ func nginxHaving(t *testing.T, site, address, main string) {
 	for _, kind := range []string{"client_body", "proxy", "fastcgi", "uwsgi", "scgi"} {
 		paths += fmt.Sprintf("%s_temp_path %s/%s;\n", kind, folder, kind)
 	}
-	whole := fmt.Sprintf("daemon off; pid %s/pid; error_log stderr; %s\nhttp { access_log off;\n%s%s}\n", folder, main, paths, site)
+	// (as Debian's own does, nginx writes down who asks where a site doesn't say otherwise)
+	whole := fmt.Sprintf("daemon off; pid %s/pid; error_log stderr; %s\nhttp { access_log %s/access.log;\n%s%s}\n", folder, main, folder, paths, site)
 	conf := filepath.Join(folder, "nginx.conf")
 	if err := os.WriteFile(conf, []byte(whole), 0o600); err != nil {
 		t.Fatal(err)
@@ -97,6 +98,9 @@ func nginxHaving(t *testing.T, site, address, main string) {
 	t.Cleanup(func() {
 		command.Process.Signal(syscall.SIGTERM)
 		command.Wait()
+		if written, err := os.ReadFile(filepath.Join(folder, "access.log")); err != nil || len(written) > 0 {
+			t.Errorf("nginx writes down who asks: %v %.300s", err, written)
+		}
 	})
 	for until := time.Now().Add(trial.Longest); ; time.Sleep(20 * time.Millisecond) {
 		if connection, err := net.Dial("tcp", address); err == nil {
@@ -117,6 +121,22 @@ func nginxBefore(t *testing.T, clients string, lines ...string) string {
 	settings := settingsAt(t, folder, "one", append([]string{"origin log.example", "proxies 127.0.0.1", "listen " + clients}, lines...)...)
 	nginxWith(t, siteOf(t, true, "--listen", address, "--cache", filepath.Join(folder, "cache"), settings), address)
 	return address
+}
+
+// TestFolderOfTiles: Debian's nginx can make the folder in which it keeps tiles where no other is said: it makes that alone, and none above it.
+func TestFolderOfTiles(t *testing.T) {
+	nginxFound(t)
+	if !isThere("/etc/nginx/nginx.conf") {
+		t.Skip("it isn't Debian's nginx")
+	}
+	site := siteOf(t, false, settingsAt(t, t.TempDir(), "one", "origin log.example", "proxies 127.0.0.1"))
+	cache := regexp.MustCompile(`(?m)^proxy_cache_path (\S+) `).FindStringSubmatch(site)
+	if cache == nil {
+		t.Fatalf("no tiles are kept: %.300s", site)
+	}
+	if above := filepath.Dir(cache[1]); !isThere(above) {
+		t.Errorf("%s isn't there", above)
+	}
 }
 
 // By its site nginx leaves idle connections before ctserve closes them.
