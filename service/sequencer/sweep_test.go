@@ -267,6 +267,25 @@ func TestSweepingBeginsAtTheEdge(t *testing.T) {
 	}
 }
 
+// TestTilesOfATurn: a turn reads as many old tiles as all of them need to be read in time, one by one from where it stands.
+func TestTilesOfATurn(t *testing.T) {
+	t.Parallel()
+	_, ctx, _, s := untended(t)
+	must(t, s.End(ctx))
+	for within, want := range map[time.Duration]uint64{time.Hour: 4, 2 * time.Hour: 2, 100 * time.Hour: 1} {
+		// (it has ended, so nobody else tends it)
+		s.config.ReadAllWithin = within
+		tender := &tender{s: s}
+		for turn := 0; turn < 4; turn++ {
+			from, before := tender.read, s.Figures().Scrubbed
+			tender.tend(ctx)
+			if read := s.Figures().Scrubbed - before; read != want || turn > 0 && tender.read%4 != (from+want)%4 {
+				t.Errorf("within %v: turn %d reads %d tiles, from %d on to %d", within, turn, read, from, tender.read)
+			}
+		}
+	}
+}
+
 // TestPace: the more old tiles there are, the more are read again in a turn, up to a bound.
 func TestPace(t *testing.T) {
 	for _, test := range []struct {

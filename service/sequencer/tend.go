@@ -115,21 +115,25 @@ func (s *Sequencer) tend(ctx context.Context) {
 	defer close(s.tended)
 	t := &tender{s: s}
 	for wait(ctx, s.config.TendEvery) == nil {
-		t.settle()
-		// What fails is tried again in the next turn: the log doesn't wait for it.
-		s.failed("up to where it was swept isn't known", t.readSwept(ctx))
-		s.failed("partial tiles aren't swept", t.sweep(ctx))
-		s.failed("up to where it was swept isn't kept", t.keepSwept(ctx))
-		s.failed("old heads aren't swept", t.sweepHeads(ctx))
-		s.failed("heads aren't thinned", t.thinHeads(ctx))
-		s.failed("bundles aren't swept", t.sweepBundles(ctx))
-		t.readDamaged(ctx)
-		for left := t.pace(); left > 0; left-- {
-			t.readNext(ctx)
-		}
-		t.readIssuers(ctx)
-		t.tellWhere()
+		t.tend(ctx)
 	}
+}
+
+// tend is one turn. What fails is tried again in the next one: the log doesn't wait for it.
+func (t *tender) tend(ctx context.Context) {
+	t.settle()
+	t.s.failed("up to where it was swept isn't known", t.readSwept(ctx))
+	t.s.failed("partial tiles aren't swept", t.sweep(ctx))
+	t.s.failed("up to where it was swept isn't kept", t.keepSwept(ctx))
+	t.s.failed("old heads aren't swept", t.sweepHeads(ctx))
+	t.s.failed("heads aren't thinned", t.thinHeads(ctx))
+	t.s.failed("bundles aren't swept", t.sweepBundles(ctx))
+	t.readDamaged(ctx)
+	for left := t.pace(); left > 0; left-- {
+		t.readNext(ctx)
+	}
+	t.readIssuers(ctx)
+	t.tellWhere()
 }
 
 // tellWhere keeps where this turn ended.
