@@ -222,6 +222,57 @@ func TestTendingThatFails(t *testing.T) {
 	p.right(t, got)
 }
 
+// undeletedBelow is a store of objects that deletes nothing below a prefix.
+type undeletedBelow struct {
+	stores.Objects
+	prefix string
+}
+
+func (u undeletedBelow) Delete(ctx context.Context, name string) error {
+	if strings.HasPrefix(name, u.prefix) {
+		return errTried
+	}
+	return u.Objects.Delete(ctx, name)
+}
+
+// TestWhatTendingFailsBy: each kind of what isn't deleted is counted, and told by what it is, where all else is.
+func TestWhatTendingFailsBy(t *testing.T) {
+	t.Parallel()
+	for what, test := range map[string]struct {
+		prefix string
+		stands func(*tender)
+	}{
+		"partial tiles aren't swept": {tilesPrefix, func(*tender) {}},
+		"old heads aren't swept":     {headsPrefix, func(of *tender) { of.thinned = nameOf(of.full.settled) }},
+		"heads aren't thinned":       {headsPrefix, func(of *tender) { of.headsGone, of.kept = true, of.full.settled.Timestamp }},
+		"bundles aren't swept":       {stagingPrefix, func(*tender) {}},
+	} {
+		what, test := what, test
+		t.Run(what, func(t *testing.T) {
+			t.Parallel()
+			p, ctx, _, s := untended(t)
+			must(t, s.End(ctx))
+			moment := s.isStepping().Seen.Moment
+			past := fmt.Sprintf("%s%016x%016x%016x", stagingPrefix, moment-1, moment-2, 7)
+			must(t, os.WriteFile(filepath.Join(p.objects(), past), []byte("bundle"), 0o644))
+			// (it has ended, so nobody else tends it)
+			whole := s.config.Objects
+			s.config.Objects = undeletedBelow{whole, test.prefix}
+			tender := settledAt(s)
+			test.stands(tender)
+			tender.tend(ctx)
+			if f := s.Figures(); f.TendFailures != 1 || f.TendFailure != what+": "+errTried.Error() {
+				t.Errorf("%d failures, the last %q", f.TendFailures, f.TendFailure)
+			}
+			s.config.Objects = whole
+			tender.tend(ctx)
+			if f := s.Figures(); f.TendFailures != 1 {
+				t.Errorf("once it can be deleted: %d failures, the last %q", f.TendFailures, f.TendFailure)
+			}
+		})
+	}
+}
+
 // listed is a store of objects that notes what is listed.
 type listed struct {
 	stores.Objects
