@@ -55,8 +55,9 @@ func TestMain(m *testing.M) {
 
 // program is a ctserve that runs.
 type program struct {
-	// serving is the line of that event.
+	// serving is the line of that event, and passed are those before that nobody waited for.
 	serving           map[string]any
+	passed            []map[string]any
 	t                 *testing.T
 	command           *exec.Cmd
 	lines             chan map[string]any
@@ -117,6 +118,9 @@ func (p *program) until(events ...string) map[string]any {
 				if line["event"] == event {
 					return line
 				}
+			}
+			if p.serving == nil {
+				p.passed = append(p.passed, line)
 			}
 		case <-late:
 			p.t.Fatalf("no line of %v in time", events)
@@ -357,6 +361,36 @@ func TestReloadBySIGHUP(t *testing.T) {
 	p.signal(syscall.SIGINT)
 	if status := p.ends(); status != 0 {
 		t.Errorf("it ended with status %d", status)
+	}
+}
+
+// TestRootsThatArentRead: a root that crypto/x509 doesn't read keeps neither a start nor a reload from going on with the others, and each tells which one it is.
+func TestRootsThatArentRead(t *testing.T) {
+	at := newPlace(t)
+	strange := pem.EncodeToMemory(&pem.Block{Type: "CERTIFICATE", Bytes: []byte("of a curve that nobody reads")})
+	leftOut := func(line map[string]any) bool {
+		return line["event"] == "root-left-out" && line["level"] == "warn" && strings.Contains(fmt.Sprint(line["root"]), at.path("roots.pem")+", certificate 2 ")
+	}
+	at.write("roots.pem", append(at.authority.PEM(), strange...))
+	p := started(t, "20ms", at.words()...)
+	told := 0
+	for _, line := range p.passed {
+		if leftOut(line) {
+			told++
+		}
+	}
+	if told != 1 {
+		t.Errorf("at the start it is told %d times: %v", told, p.passed)
+	}
+	p.signal(syscall.SIGHUP)
+	if line := p.until("reload"); line["level"] != "info" || line["roots"] != 1.0 {
+		t.Errorf("it says %v", line)
+	}
+	if line := p.until("root-left-out"); !leftOut(line) {
+		t.Errorf("it says %v", line)
+	}
+	if status, text := post(p.clients, at.submission()); status != 200 {
+		t.Errorf("of the root that is read: %d %s", status, text)
 	}
 }
 

@@ -44,6 +44,13 @@ func TestPagesNameSettings(t *testing.T) {
 			t.Fatalf("--help doesn't list %s: %d settings", name, len(settings))
 		}
 	}
+	s, err := parse([]string{"--roots", "r", "--origin", "o.example", "--signing-key", "k"}, &bytes.Buffer{})
+	trial.Must(t, err)
+	for name, command := range map[string][]string{"step": s.node.step, "decider": s.node.decider, "reader": s.node.reader, "guard": s.node.guard} {
+		if said := fmt.Sprintf("default %q", command[0]); !strings.Contains(settings[name], said) {
+			t.Errorf("where %s isn't set it is %q: %s", name, command, settings[name])
+		}
+	}
 	// What has a hyphen and is no setting.
 	others := map[string]bool{"list-entry": true, "made-again": true, "root-left-out": true, "read-only": true, "too-often": true, "statement_timeout": true, "pre-vote": true, "auto-compaction-mode=periodic": true}
 	whole := ""
