@@ -285,3 +285,35 @@ func TestFurtherLines(t *testing.T) {
 	}
 	p.right(t, got)
 }
+
+// raisedTo is a register that says of how far the log is published what it is told, and keeps what it is raised to.
+type raisedTo struct {
+	stores.Register
+	published stores.Published
+}
+
+func (r *raisedTo) Published(context.Context) (stores.Published, error) { return r.published, nil }
+
+func (r *raisedTo) Raise(_ context.Context, published stores.Published) error {
+	r.published = published
+	return nil
+}
+
+// TestRolledOutIsPublished: where a state's head stands, and an earlier one of its size is published, since who put it died then, whoever looks at it publishes it.
+func TestRolledOutIsPublished(t *testing.T) {
+	t.Parallel()
+	_, ctx, _, s := begun(t, 5, 5)
+	k, node := s.newestKnown(), readingNode(s)
+	earlier := stores.Published{Size: k.state.Size, Moment: k.state.Moment - 1}
+	register := &raisedTo{s.config.Register, earlier}
+	node.config.Register, node.saw = register, k
+	done, err := node.isRolledOut(ctx, k)
+	if err != nil || !done || register.published != publishedAt(k.state) {
+		t.Errorf("%t, %v: %+v is published", done, err, register.published)
+	}
+	// (once it was, nothing is raised again)
+	register.published = earlier
+	if done, err := node.isRolledOut(ctx, k); err != nil || !done || register.published != earlier {
+		t.Errorf("once more: %t, %v: %+v is published", done, err, register.published)
+	}
+}
