@@ -1,4 +1,4 @@
-.PHONY: help demo test check service service-test service-race service-engines service-faults service-clients cluster cluster-status cluster-stop link install install-library install-ctlog install-ctlogd install-ctmonitor install-ctguard install-cttile install-ctproof install-ctnode install-ctwitness fuzz load sweep wrong sources serve serve-ctlogd serve-witness tiles interop programs release reproduce bare container pages
+.PHONY: help demo test check service service-test service-race service-engines service-faults service-soak service-clients cluster cluster-status cluster-stop link install install-library install-ctlog install-ctlogd install-ctmonitor install-ctguard install-cttile install-ctproof install-ctnode install-ctwitness fuzz load sweep wrong sources serve serve-ctlogd serve-witness tiles interop programs release reproduce bare container pages
 
 SECONDS ?= 60
 RUNS ?= 20
@@ -59,6 +59,11 @@ service-race: ## the same as service-test, built to tell of data races (go test 
 service-faults: ## kills and stops nodes, members of etcd and radosgw below a log, a quarter of an hour a run, and judges the log from its bucket
 	@checks/needs.sh service-test
 	@service/faults.sh
+
+# As root. HOURS=2 or MINUTES=30, SEED=NUMBER for the choices of another run.
+service-soak: ## runs two logs for HOURS=2 while nodes, programs, engines, disks and clients go wrong at random, and judges them every twelve minutes and at the end
+	@checks/needs.sh service
+	@PYTHONDONTWRITEBYTECODE=1 service/soak.py $(if $(MINUTES),--minutes $(MINUTES),--hours $(or $(HOURS),2)) $(if $(SEED),--seed $(SEED))
 
 service-clients: ## has certspotter, Google's client library, x/mod's tlog and ctmonitor use a log of ctserve over HTTP, each where it is installed
 	@checks/needs.sh service
