@@ -2,6 +2,7 @@ package main
 
 import (
 	"os"
+	"os/exec"
 	"path/filepath"
 	"strings"
 	"syscall"
@@ -99,5 +100,65 @@ func TestReadsGoOn(t *testing.T) {
 				t.Errorf("it ended with status %d", status)
 			}
 		})
+	}
+}
+
+// TestObjectsAway: while a log's folder of objects is away, as a disk that isn't mounted, no start makes another one in its place, into which the node that
+// runs would go on; the one that runs refuses submissions, and takes them again once it is back.
+func TestObjectsAway(t *testing.T) {
+	t.Parallel()
+	at := newPlace(t)
+	words := append(at.realWords("--signing-key", at.path("log.pem")), "--guard", at.guard)
+	p := started(t, "", append(words, "--create")...)
+	submitted := func(wanted int, what string) {
+		t.Helper()
+		for until := time.Now().Add(trial.Longest); ; time.Sleep(50 * time.Millisecond) {
+			status, text, _ := at.submitted(t, p)
+			if status == wanted {
+				return
+			}
+			if status != 503 || time.Now().After(until) {
+				t.Fatalf("%s: %d %s", what, status, text)
+			}
+		}
+	}
+	submitted(200, "at first")
+	objects := at.path("log/objects")
+	if err := os.Rename(objects, objects+".away"); err != nil {
+		t.Fatal(err)
+	}
+	start, said, ended := exec.Command(os.Args[0], words...), &strings.Builder{}, make(chan error, 1)
+	start.Env, start.Stdout, start.Stderr = append(os.Environ(), childKey+"=1"), said, said
+	if err := start.Start(); err != nil {
+		t.Fatal(err)
+	}
+	defer start.Process.Kill()
+	go func() { ended <- start.Wait() }()
+	for waits := true; waits; {
+		select {
+		case err := <-ended:
+			if waits = false; err == nil || !strings.Contains(said.String(), "the folder of the objects") {
+				t.Errorf("a start without the objects' folder: %v: %s", err, said)
+			}
+		case <-time.After(10 * time.Millisecond):
+			if isThere(objects) {
+				t.Fatal("a start makes another folder of objects")
+			}
+		}
+	}
+	if status, told, faults := does(append([]string{"places"}, words...)...); status != 1 || !strings.Contains(faults, "the folder of the objects") {
+		t.Errorf("places: %d, %q, %q", status, told, faults)
+	}
+	if isThere(objects) {
+		t.Fatal("places makes another folder of objects")
+	}
+	submitted(503, "without the objects' folder")
+	if err := os.Rename(objects+".away", objects); err != nil {
+		t.Fatal(err)
+	}
+	submitted(200, "once it is back")
+	p.signal(syscall.SIGTERM)
+	if status := p.ends(); status != 0 {
+		t.Errorf("it ended with status %d", status)
 	}
 }

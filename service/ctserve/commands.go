@@ -361,6 +361,9 @@ func runPlaces(words []string, answers, faults io.Writer) (err error) {
 	opening, cancel := context.WithTimeout(context.Background(), s.node.openWithin)
 	defer cancel()
 	config := sequencer.Config{}
+	if err := stores.ObjectsThere(s.node.store); err != nil {
+		return err
+	}
 	if config.Objects, err = stores.ObjectsAt(opening, s.node.store); err != nil {
 		return err
 	}

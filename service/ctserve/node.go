@@ -45,6 +45,12 @@ func openNode(ctx context.Context, n node) (of *opened, err error) {
 	}
 	config.Signer = asked
 	closers = append(closers, asked.Close)
+	if !n.create {
+		// (another node that runs would write into a folder that is made anew)
+		if err := stores.ObjectsThere(n.store); err != nil {
+			return nil, err
+		}
+	}
 	if config.Objects, err = stores.ObjectsAt(ctx, n.store); err != nil {
 		return nil, err
 	}

@@ -47,6 +47,19 @@ func ObjectsAt(ctx context.Context, address string) (Objects, error) {
 	return nil, fmt.Errorf("%w: objects are at folder:PATH or s3://HOST/BUCKET, not at %.20q", ErrAddress, kind)
 }
 
+// ObjectsThere is ErrAbsent where objects are to be in a folder that isn't there, as one whose disk isn't mounted. ObjectsAt would make it, and who has
+// the folder open by its name would go on in the new one. (Of a bucket ObjectsAt says that itself.)
+func ObjectsThere(address string) error {
+	kind, path, _ := strings.Cut(address, ":")
+	if kind != "folder" {
+		return nil
+	}
+	if _, err := os.Stat(path); err != nil {
+		return fmt.Errorf("%w: the folder of the objects: %v", ErrAbsent, err)
+	}
+	return nil
+}
+
 // RegisterAt opens the register at an address:
 //
 //	file:PATH                                           a folder with the register's files
