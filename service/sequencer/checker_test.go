@@ -4,6 +4,7 @@ import (
 	"os"
 	"os/exec"
 	"path/filepath"
+	"sort"
 	"strings"
 	"testing"
 
@@ -122,6 +123,10 @@ func TestSecondJudgeSees(t *testing.T) {
 	} {
 		found, err := filepath.Glob(filepath.Join(p.objects(), name))
 		must(t, err)
+		// (a partial tile's name has its width)
+		sort.Slice(found, func(i, j int) bool {
+			return len(found[i]) < len(found[j]) || len(found[i]) == len(found[j]) && found[i] < found[j]
+		})
 		last := found[len(found)-1]
 		right, err := os.ReadFile(last)
 		must(t, err)

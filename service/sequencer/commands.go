@@ -31,9 +31,10 @@ type turn struct {
 	receipts []step.Receipt
 	edge     map[string][]byte
 	// signing is what is signed for them beside the head's being put, nil before that; answered says that they were answered, by a head.
-	// isPlaced says that the places of the state's entries are added.
-	signing            *signing
-	answered, isPlaced bool
+	signing  *signing
+	answered bool
+	// placedText is the text of the state whose entries' places were added last.
+	placedText string
 	// paths are those of the receipts in the head's tree, where they were made.
 	paths [][][32]byte
 }

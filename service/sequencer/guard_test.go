@@ -107,7 +107,7 @@ func TestUnreadGuardState(t *testing.T) {
 	s := started(t, config, hooks{})
 	must(t, got.submitAll(ctx, s, 0, 10, 8))
 	faults.failEvery(4)
-	must(t, got.submitAll(ctx, s, 10, 60, 8))
+	must(t, got.submitAll(ctx, s, 10, 60, 1))
 	faults.failEvery(0)
 	if report := p.right(t, got); report.Leaves != 60 || faults.failed == 0 {
 		t.Fatalf("%+v, and %d calls failed", report, faults.failed)

@@ -212,12 +212,16 @@ func TestHeadOfAVersionBefore(t *testing.T) {
 	newest, err := s.Checkpoint(ctx)
 	must(t, err)
 	must(t, s.End(ctx))
-	must(t, os.Remove(filepath.Join(string(p), "register", "head")))
+	asBefore := func() {
+		must(t, os.Remove(filepath.Join(string(p), "register", "head")))
+		must(t, os.WriteFile(filepath.Join(string(p), "register", "published"), []byte("10"), 0o644))
+	}
+	asBefore()
 	reader := readingNode(s)
 	if head, err := reader.Checkpoint(ctx); err != nil || head.TreeSize != newest.TreeSize || head.Timestamp != newest.Timestamp {
 		t.Errorf("%+v, %v", head, err)
 	}
-	must(t, os.Remove(filepath.Join(string(p), "register", "head")))
+	asBefore()
 	s = started(t, p.config(t), hooks{})
 	if head, err := s.Checkpoint(ctx); err != nil || head.TreeSize != newest.TreeSize || head.Timestamp != newest.Timestamp {
 		t.Errorf("%+v, %v", head, err)

@@ -73,7 +73,7 @@ func (s *Sequencer) putAndPlace(ctx context.Context, t *turn, objects []step.Obj
 
 // place adds the places of a state's entries, once.
 func (s *Sequencer) place(ctx context.Context, t *turn) error {
-	if t.isPlaced {
+	if t.placedText == t.k.text {
 		return nil
 	}
 	defer s.took(phaseOf[decider.Place], time.Now())
@@ -86,7 +86,9 @@ func (s *Sequencer) place(ctx context.Context, t *turn) error {
 		}
 		return wrapped(s.config.Places.Replace(ctx, t.placed.wrong))
 	})
-	t.isPlaced = err == nil
+	if err == nil {
+		t.placedText = t.k.text
+	}
 	return err
 }
 

@@ -87,8 +87,16 @@ func (d *disk) sweep() error {
 	return nil
 }
 
-// write makes a file of the content that has no public name yet, on the disk, and gives its path.
+// write makes a file of the content that has no public name yet, on the disk, and gives its path. Where there is no room, what is being freed is waited for.
 func (d *disk) write(content []byte) (path string, err error) {
+	if path, err = d.writeOnce(content); errors.Is(err, syscall.ENOSPC) {
+		waitForFreed()
+		path, err = d.writeOnce(content)
+	}
+	return path, err
+}
+
+func (d *disk) writeOnce(content []byte) (path string, err error) {
 	file, err := os.CreateTemp(filepath.Join(d.root, temporary), "file-")
 	if err != nil {
 		return "", fmt.Errorf("stores: write: %w", err)
@@ -177,6 +185,21 @@ func hold(path string) (let func()) {
 		default:
 			file.Close()
 		}
+	}
+}
+
+// allFreed is held by who waits for all that is being freed.
+var allFreed sync.Mutex
+
+// waitForFreed waits until all is freed that is being freed now.
+func waitForFreed() {
+	allFreed.Lock()
+	defer allFreed.Unlock()
+	for i := 0; i < mostFreed; i++ {
+		freeing <- struct{}{}
+	}
+	for i := 0; i < mostFreed; i++ {
+		<-freeing
 	}
 }
 

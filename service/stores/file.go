@@ -17,8 +17,8 @@ import (
 const (
 	lockFile = "lock"
 	textFile = "text"
-	// headFile has the published size and moment. Where it isn't there yet, publishedFile has the size alone, as versions before wrote it; the later of
-	// the two is what is published. Each is replaced as a whole.
+	// publishedFile has the published size, which is all that versions before headFile read; that has the size and the moment. Each is
+	// replaced as a whole, and the later of the two is what is published.
 	publishedFile = "published"
 	headFile      = "head"
 )
@@ -292,12 +292,29 @@ func (f *file) Raise(ctx context.Context, published Published) error {
 		if !standing.Before(published) {
 			return f.keepRaised(standing)
 		}
-		if err := f.set(headFile, fmt.Sprintf(headForm, published.Size, published.Moment)); err != nil {
+		if err := f.raise(standing, published); err != nil {
 			return err
 		}
 		f.knowRaised(published)
 		return nil
 	})
+}
+
+// raise sets both files, side by side.
+func (f *file) raise(standing, published Published) error {
+	sized := make(chan error, 1)
+	go func() {
+		if standing.Size == published.Size {
+			sized <- nil
+			return
+		}
+		sized <- f.set(publishedFile, strconv.FormatUint(published.Size, 10))
+	}()
+	err := f.set(headFile, fmt.Sprintf(headForm, published.Size, published.Moment))
+	if other := <-sized; err == nil {
+		err = other
+	}
+	return err
 }
 
 func (f *file) Close() error { return nil }

@@ -155,10 +155,20 @@ func TestReadingWaitsForNobody(t *testing.T) {
 	defer func() { fsync = (*os.File).Sync }()
 	fsync = func(*os.File) error { return syscall.EROFS }
 	standsAs(t, register, "text", 5)
+	// (another process doesn't know yet what is on the disk)
+	fsync = (*os.File).Sync
+	other, err := OpenFile(root)
+	must(t, err)
 	fsync = func(*os.File) error { return syscall.EIO }
-	if _, err := register.Read(ctx); !errors.Is(err, syscall.EIO) {
+	standsAs(t, register, "text", 5)
+	if _, err := other.Read(ctx); !errors.Is(err, syscall.EIO) {
 		t.Errorf("a disk that fails: %v", err)
 	}
+	if _, err := other.Published(ctx); !errors.Is(err, syscall.EIO) {
+		t.Errorf("a disk that fails: %v", err)
+	}
+	fsync = func(*os.File) error { return syscall.EROFS }
+	standsAs(t, other, "text", 5)
 }
 
 func TestRegisterSwapsTheTextThatWasRead(t *testing.T) {

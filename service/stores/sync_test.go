@@ -5,7 +5,9 @@ import (
 	"os"
 	"path/filepath"
 	"reflect"
+	"sort"
 	"strings"
+	"sync"
 	"syscall"
 	"testing"
 	"time"
@@ -17,7 +19,10 @@ import (
 // yet is "file", and with " (named)" behind it where the public name stands by then.
 func syncs(t *testing.T, root, public string, call func() error) (paths []string) {
 	t.Helper()
+	var mu sync.Mutex
 	fsync = func(file *os.File) error {
+		mu.Lock()
+		defer mu.Unlock()
 		path, err := filepath.Rel(root, file.Name())
 		must(t, err)
 		if strings.HasPrefix(path, temporary+"/") {
@@ -88,7 +93,10 @@ func TestFileSyncs(t *testing.T) {
 	syncedAs(t, "the same Swap", syncs(t, root, "none", swap), nil)
 	syncedAs(t, "Read of what was swapped", syncs(t, root, "none", read), nil)
 	raise := func() error { return register.Raise(ctx, Published{Size: 5}) }
-	syncedAs(t, "Raise", syncs(t, root, "none", raise), []string{"file", "."})
+	// (two files, side by side)
+	raised := syncs(t, root, "none", raise)
+	sort.Strings(raised)
+	syncedAs(t, "Raise", raised, []string{".", ".", "file", "file"})
 	same := func() error { return register.Raise(ctx, Published{5, 1}) }
 	syncedAs(t, "Raise of one size", syncs(t, root, "none", same), []string{"file", "."})
 	published := func() error { _, err := register.Published(ctx); return err }
