@@ -2,13 +2,14 @@
 """Times ctserve beside CTFE over Trillian and MariaDB, by turns, on loopback: the same loader, the same chains (bench/peers.md).
 
     peers.py fetch FOLDER                  has apt fetch what is needed of Debian 13 and of this machine's Debian, and builds it in FOLDER
-    peers.py FOLDER [--turns 2] [--seconds 12] [--clients 16,64,256,1024] [--crates CRATES] [--settle 0]
+    peers.py FOLDER [--turns 2] [--seconds 12] [--clients 16,64,256,1024] [--crates CRATES] [--settle 0] [--before OUT]
 
 Nothing is installed: all lies in FOLDER. With FOLDER alone it makes three logs, of CTFE, of ctserve, and of ctserve with answer-behind-swap, and has ctload submit
 to each in turn, in each turn with so many clients for so many seconds. CRATES has the builds of the log's programs; what isn't built there a program in Python
 stands in for, which it says. It prints timestamps a second, the median and 99th percentile of the time to one, the processor time of the log's processes an entry
 until a signed head has all of them, and how many processors others had meanwhile; then what each log's files and processes take. With --settle it looks at the
-files once more after so many seconds: what was written for a while is gone then. `make service` builds ctserve and ctload.
+files once more after so many seconds: what was written for a while is gone then. With --before a log of another build of ctserve is among them, which is in OUT.
+ctload has made its submissions before it sends the first. `make service` builds ctserve and ctload.
 """
 import argparse
 import json
@@ -86,6 +87,9 @@ Dir::Cache::archives "{0}/archives";
 Dir::Cache::pkgcache "{0}/pkgcache.bin";
 Dir::Cache::srcpkgcache "{0}/srcpkgcache.bin";
 """
+
+# How many submissions ctload makes before it begins, for each second: so many for each client, and at most so many.
+MADE_EACH, MADE = 120, 4000
 
 
 def unpack(packages, root):
@@ -208,7 +212,7 @@ def turn(log, clients, seconds):
     had, before = size_of(log), {one: processor_time(one) for one in log.ids()}
     began, busy, own = time.monotonic(), busy_time(), sum(before.values())
     loader = sum(os.times()[2:4])
-    count, took, middle, high, again = load(log, clients, "--for", f"{seconds}s")
+    count, took, middle, high, again = load(log, clients, "--for", f"{seconds}s", "--ready", min(MADE, MADE_EACH * clients) * seconds)
     loader = sum(os.times()[2:4]) - loader
     # (those that ctload gave up at its end may come in too)
     until(lambda: size_of(log) >= had + count, "no head has all entries")
@@ -225,6 +229,8 @@ def measure(folder, words):
             logs["CTFE over Trillian"] = Ctfe(work / "ctfe", folder)
             logs["ctserve"] = Log(work / "one", words.crates)
             logs["ctserve, answer-behind-swap"] = Log(work / "two", words.crates, answer_behind_swap="true")
+            if words.before:
+                logs["ctserve before"] = Log(work / "three", words.crates, out=pathlib.Path(words.before))
             began = {name: (size_of(log), disk_used(log.stored())) for name, log in logs.items()}
             models = logs["ctserve"].models
             print(f"{words.turns} turns of {words.seconds} s on {os.cpu_count()} processors, at a load of {os.getloadavg()[0]:.1f} before" +
@@ -263,6 +269,7 @@ def main():
     parser.add_argument("--clients", default="16,64,256,1024")
     parser.add_argument("--crates", default=CRATES)
     parser.add_argument("--settle", type=int, default=0)
+    parser.add_argument("--before")
     words = parser.parse_args()
     folder = pathlib.Path(words.words[-1]).resolve()
     if len(words.words) == 2 and words.words[0] == "fetch":
