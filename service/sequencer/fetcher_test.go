@@ -2,6 +2,7 @@ package sequencer
 
 import (
 	"context"
+	"errors"
 	"fmt"
 	"strings"
 	"sync"
@@ -58,6 +59,39 @@ func (h *heldTiles) holdRepeats(ctx context.Context, t *testing.T, got *answers,
 		close(held)
 		for tile := 0; tile < 4; tile++ {
 			must(t, <-answered)
+		}
+	}
+}
+
+// TestTilesThatARoundWaitsFor: a round waits for the tiles of its repeats for so long, for all of them together, and for less where new entries wait behind. One that
+// isn't there by then is left for a later round, however many are.
+func TestTilesThatARoundWaitsFor(t *testing.T) {
+	t.Parallel()
+	_, ctx, _, s := begun(t, 5, 5)
+	never := make(chan struct{})
+	t.Cleanup(func() { close(never) })
+	for before, most := range map[bool]time.Duration{true: mostBefore, false: mostRepeating} {
+		node := readingNode(s)
+		node.running, node.fetcher = ctx, newFetcher(func(context.Context, string) ([]byte, error) {
+			<-never
+			return nil, errTried
+		}, mostKeptBytes, longest)
+		tree := node.treeOf(ctx, s.newestKnown().state)
+		tree.fetch(nil, nil, before)
+		if tree.left != most {
+			t.Errorf("new entries wait: %t: it waits for %v", before, tree.left)
+		}
+		began := time.Now()
+		for tile := 0; tile < 2*mostBeside; tile++ {
+			if _, err := tree.read(ctx, fmt.Sprint("tile ", tile)); !errors.Is(err, errNotYet) {
+				t.Errorf("new entries wait: %t: tile %d: %v", before, tile, err)
+			}
+			if tree.left > 0 {
+				t.Errorf("new entries wait: %t: behind tile %d it may wait for %v yet", before, tile, tree.left)
+			}
+		}
+		if waited := time.Since(began); waited < most {
+			t.Errorf("new entries wait: %t: it waited for %v", before, waited)
 		}
 	}
 }
