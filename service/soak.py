@@ -460,7 +460,7 @@ class Soak:
         self.faults, self.gaps, self.recovered = [], [], {}
         self.heads, self.back, self.proofs, self.tiles = {}, [], [], {}
         self.memory, self.files, self.ends = {}, {}, collections.Counter()
-        self.judged, self.models = [], set()
+        self.judged, self.models, self.removed = [], set(), []
         self.register_away = 0.0
         self.answers, self.own = work / "answers", work / "own-answers"
         self.answers.touch()
@@ -718,8 +718,10 @@ class Soak:
         name, removes = chance.choice(names), chance.random() < 0.4
         content = self.stored(lambda: self.store.get(name))
         self.note(f"{name} {'removed' if removes else 'bent'}")
-        bent = bytearray(content)
-        bent[chance.randrange(len(bent))] ^= 1 << chance.randrange(8)
+        # (of a data tile's entry the precertificate and the fingerprints behind its leaf are in no hash, and nobody tells of them)
+        bent, precertificate = bytearray(content), content[9] == 1
+        hashed = len(bent) if "data" not in name else 10 + 32 * precertificate + 3 + int.from_bytes(content[10 + 32 * precertificate:13 + 32 * precertificate], "big")
+        bent[chance.randrange(hashed)] ^= 1 << chance.randrange(8)
         began = time.monotonic()
         if removes:
             self.stored(lambda: self.store.delete(name))
@@ -763,20 +765,23 @@ class Soak:
             self.stored(lambda: self.store.put(name, content))
 
     def remove_newest(self, size):
-        """Removes what a log at rest makes again by itself: the newest head, and the partial data tile below it."""
+        """Removes what a node makes again when it starts: the newest head, and the partial data tile below it where the newest bundle has any."""
         names = self.stored(self.store.names)
-        removed = [name for name in names if name.startswith("heads/")][-1:] + [name for name in names if size % TILE and name == tile_name("data", size // TILE, size % TILE)]
+        bundle = [name for name in names if name.startswith("staging/")][-1:]
+        removed = [name for name in names if name.startswith("heads/")][-1:]
+        if bundle and self.stored(lambda: self.store.get(bundle[0])):
+            removed += [name for name in names if size % TILE and name == tile_name("data", size // TILE, size % TILE)]
         for name in removed:
             self.stored(lambda name=name: self.store.delete(name))
-        self.say(f"removed: {', '.join(removed)}")
+        self.counts["newest head removed"] += 1
+        self.counts["newest partial data tile removed"] += len(removed) - 1
+        self.say(f"removed while no node runs: {', '.join(removed)}")
+        return removed
 
-        def back():
-            names = self.stored(self.store.names)
-            return [name for name in names if name.startswith("heads/")][-1:] >= removed[:1] and set(removed[1:]) <= set(names)
-
-        began = time.monotonic()
-        wait_for(back, f"what was removed isn't made again: {removed}")
-        self.say(f"it was made again behind {time.monotonic() - began:.0f} s")
+    def is_back(self, removed):
+        """Whether what was removed was made again, or a later head and a full tile are there."""
+        names = self.stored(self.store.names)
+        return any(name.startswith("heads/") and name >= removed[0] for name in names) and all(name in names or name.split(".p/")[0] in names for name in removed[1:])
 
     def damaged(self, of):
         return of(self.figure(i, "ctserve_damaged_tiles") for i in range(len(self.nodes)))
@@ -1118,8 +1123,10 @@ class Soak:
             node.held, node.kills = 0, 0
         try:
             wait_for(lambda: all(self.revived(i) for i in range(len(self.nodes))), "not every node is ready behind its start")
+            wait_for(lambda: not self.removed or self.is_back(self.removed), f"what was removed isn't made again: {self.removed}")
         except Waited as why:
             self.fail(str(why))
+        self.removed = []
         self.loader.signal(signal.SIGCONT)
         if not self.reader.alive():
             self.start_reader()
@@ -1156,7 +1163,6 @@ class Soak:
         if self.reader.process.returncode != 0:
             self.fail(f"the mirror of the log at rest: {self.last_of(self.reader)[-500:]}")
         size = heads[0]
-        self.remove_newest(size)
         state = {}
 
         def swept():
@@ -1185,7 +1191,9 @@ class Soak:
             names = self.copied(copy)
             self.judge_copy(copy, names, state, lost, mended, again, statuses)
         self.panics()
-        if last:
+        if not last:
+            self.removed = self.remove_newest(size)
+        else:
             self.loader.held = 1
             self.loader.end()
 
