@@ -23,7 +23,7 @@ demo: ## proves ctlog and ctmonitor, and shows something of each layer as soon a
 	@checks/needs.sh demo
 	@examples/demo.sh
 
-# TURN=0, 1 or 2 says of which third of the crates it tries the wrong bodies that every third gate tries.
+# TURN=0 to 5 says of which sixth of the crates it tries the wrong bodies that every sixth gate tries.
 # GO=no leaves the Go part out, SETUP=no installs no packages of Debian's for it. The file COUNT gets how many of its tests passed.
 test: ## the gate: proves every crate from nothing, and runs the tests and the program
 	@checks/needs.sh test

@@ -7,10 +7,10 @@ status is that of `rt ci`, or 1 where one of these failed.
 `rt ci` tells of a crate when it is done, and not how many of its functions are proved so far; while it tells nothing, a line a minute says
 how long it has been at work.
 
-It has `rt ci` try those edits of crates/NAME/wrong-bodies whose first line is 'tried: by each gate', and those where it is 'tried: by every third
-gate', of a third of the crates that have such: the commit's hash says which, or TURN=0, 1 or 2 in the environment. They stand in must-fail, which
+It has `rt ci` try those edits of crates/NAME/wrong-bodies whose first line is 'tried: by each gate', and those where it is 'tried: by every sixth
+gate', of a sixth of the crates that have such: the commit's hash says which, or TURN=0 to 5 in the environment. They stand in must-fail, which
 `rt ci` reads, while it runs; what a run that was killed has left there wrong_bodies.py takes away. What a crate's edits cost is one more proof of
-the crate, and little for each; so the thirds are made of whole crates, of about the same size.
+the crate, and about a sixth of that for each; so the sixths are made of whole crates, of about the same cost.
 
 `rt ci` guesses what memory a proof needs, at two to three times what was seen, and lets a large crate wait while smaller ones have that: so ct_live, in
 the longest chain of crates, waited. Where each processor has memory for a proof, it is told to use them all, by RT_JOBS.
@@ -27,10 +27,10 @@ import threading
 import time
 
 ROOT = pathlib.Path(__file__).resolve().parent.parent
-THIRDS = 3
+PARTS = 6
 
 # What the first line of an edit of wrong-bodies says of when it is tried; where it is another, `make wrong` alone tries it.
-EACH, IN_TURN = "tried: by each gate", "tried: by every third gate"
+EACH, IN_TURN = "tried: by each gate", "tried: by every sixth gate"
 
 # What it says of what it doesn't try.
 SKIPPED = """It leaves out {} others (make wrong CRATE=..), the service under the race detector, over engines, with kills and with other programs (make
@@ -50,16 +50,16 @@ ENDINGS = (signal.SIGTERM, signal.SIGHUP)
 
 
 def turn():
-    """Which third of the crates is tried: the first where no commit is known."""
+    """Which part of the crates is tried: the first where no commit is known."""
     said = os.environ.get("TURN", "")
     if said.isdigit():
-        return int(said) % THIRDS
+        return int(said) % PARTS
     try:
         commit = subprocess.run(["git", "rev-parse", "HEAD"], cwd=ROOT, capture_output=True, text=True).stdout.strip()
     except OSError:
         # (git isn't here)
         commit = ""
-    return int(commit or "0", 16) % THIRDS
+    return int(commit or "0", 16) % PARTS
 
 
 def edits(crate, *when):
@@ -112,20 +112,25 @@ def size_of(crate):
     return sum(path.stat().st_size for part in ("src", "specs", "proofs") for path in (crate / part).rglob("*") if path.is_file())
 
 
-def thirds():
-    """The crates that have edits in turn, in thirds: the largest first, each goes where least is so far."""
-    found = [[] for _ in range(THIRDS)]
-    for crate in sorted((crate for crate in ROOT.glob("crates/*") if edits(crate, IN_TURN)), key=lambda it: (-size_of(it), it.name)):
-        min(found, key=lambda third: sum(map(size_of, third))).append(crate)
+def cost_of(crate):
+    """What a turn of the crate costs, in no unit: a proof, which goes by its size, and a sixth of one for each edit."""
+    return size_of(crate) * (6 + len(edits(crate, IN_TURN)))
+
+
+def parts():
+    """The crates that have edits in turn, in parts: the dearest first, each goes where least is so far."""
+    found = [[] for _ in range(PARTS)]
+    for crate in sorted((crate for crate in ROOT.glob("crates/*") if edits(crate, IN_TURN)), key=lambda it: (-cost_of(it), it.name)):
+        min(found, key=lambda part: sum(map(cost_of, part))).append(crate)
     return found
 
 
 def put_in():
     """Puts the edits of each gate and of this turn into must-fail, and answers where they stand there."""
     put_out()
-    found, third = [], thirds()[turn()]
+    found, part = [], parts()[turn()]
     for crate in sorted(ROOT.glob("crates/*")):
-        for edit in edits(crate, EACH, *[IN_TURN] * (crate in third)):
+        for edit in edits(crate, EACH, *[IN_TURN] * (crate in part)):
             (crate / "must-fail").mkdir(exist_ok=True)
             found.append(crate / "must-fail" / edit.name)
             found[-1].write_text(for_rt(edit))

@@ -25,7 +25,7 @@ import documents  # noqa: E402
 import gate  # noqa: E402
 import wrong_bodies  # noqa: E402
 
-# Edits of the made-up crate as rt reads them: one that each gate tries, two of every third gate, and one that `make wrong` alone tries. A gate has
+# Edits of the made-up crate as rt reads them: one that each gate tries, two of every sixth gate, and one that `make wrong` alone tries. A gate has
 # left one of them whole, and one cut off; and one in must-fail is of another's.
 EDIT = "file: src/lib.rt\nold: one\nnew: {}\n"
 EACH, IN_TURN = {"each.edit": EDIT.format("each")}, {name: EDIT.format(name) for name in ("whole.edit", "cut.edit")}
@@ -92,12 +92,12 @@ def try_gate(repository):
     for tool in ("cat", "cmp", "rm"):
         (alone / tool).symlink_to(shutil.which(tool))
     for what, turn, rt, status in (
-        ("a gate of another turn", "1", f"{looks}; echo 1 passed, 0 failed", 0),
+        ("a gate of another turn", "5", f"{looks}; echo 1 passed, 0 failed", 0),
         ("a gate whose terminal ends", "", f"{looks}; kill -HUP $PPID", 1),
         ("a gate whose edits go meanwhile", "", f"{looks}; rm crates/made_up/must-fail/whole.edit; echo 1 passed, 0 failed", 1),
-        ("a gate", "0", f"{looks}; echo >crates/made_up/wrong-bodies/cut.edit; echo 1 passed, 0 failed", 0),
+        ("a gate", "6", f"{looks}; echo >crates/made_up/wrong-bodies/cut.edit; echo 1 passed, 0 failed", 0),
     ):
-        there = {**OWN, **EACH, **(IN_TURN if turn != "1" else {})}
+        there = {**OWN, **EACH, **(IN_TURN if turn != "5" else {})}
         (repository.folder / "due").write_text("".join(there[name] for name in sorted(there)))
         ended, said = repository.run("checks/gate.py", rt=rt, path=alone, turn=turn)
         hold(f"{what} ends with {said}", ended, status)
