@@ -149,17 +149,41 @@ func (f *file) knowRaised(published Published) {
 	f.raised = published
 }
 
-// set gives a file another content. Its errors before the file has its name are plain; behind that, ErrUnknown.
-func (f *file) set(name, content string) error {
-	whole, err := f.disk.write([]byte(content))
+// named is a file's content.
+type named struct{ name, content string }
+
+// set gives files another content each, in this order, and is what comes of all: they are written to the disk side by side before the first has its name.
+// Its errors before that are plain; behind it, ErrUnknown.
+func (f *file) set(files ...named) error {
+	whole, failed := make([]string, len(files)), make(chan error, len(files))
+	for i := range files {
+		go func(i int) {
+			var err error
+			whole[i], err = f.disk.write([]byte(files[i].content))
+			failed <- err
+		}(i)
+	}
+	var err error
+	for range files {
+		if one := <-failed; err == nil {
+			err = one
+		}
+	}
+	for i := range files {
+		// (who has its name already has none to be removed)
+		defer os.Remove(whole[i])
+	}
 	if err != nil {
 		return err
 	}
-	let := hold(f.path(name))
-	defer let()
-	if err := os.Rename(whole, f.path(name)); err != nil {
-		os.Remove(whole)
-		return fmt.Errorf("stores: register: %w", err)
+	for i, one := range files {
+		let := hold(f.path(one.name))
+		defer let()
+		if err := os.Rename(whole[i], f.path(one.name)); err != nil && i == 0 {
+			return fmt.Errorf("stores: register: %w", err)
+		} else if err != nil {
+			return fmt.Errorf("%w: %v", ErrUnknown, err)
+		}
 	}
 	if err := syncFolder(f.disk.root); err != nil {
 		return fmt.Errorf("%w: %v", ErrUnknown, err)
@@ -185,10 +209,10 @@ func (f *file) Create(ctx context.Context, text string) error {
 		if err != nil && !errors.Is(err, ErrAbsent) {
 			return err
 		}
-		if err := f.set(publishedFile, "0"); err != nil {
+		if err := f.set(named{publishedFile, "0"}); err != nil {
 			return err
 		}
-		return f.set(textFile, text)
+		return f.set(named{textFile, text})
 	})
 }
 
@@ -214,7 +238,7 @@ func (f *file) Swap(ctx context.Context, old, new string) error {
 		case standing != old:
 			return ErrLost
 		}
-		if err := f.set(textFile, new); err != nil {
+		if err := f.set(named{textFile, new}); err != nil {
 			return err
 		}
 		f.knowText(new)
@@ -292,29 +316,16 @@ func (f *file) Raise(ctx context.Context, published Published) error {
 		if !standing.Before(published) {
 			return f.keepRaised(standing)
 		}
-		if err := f.raise(standing, published); err != nil {
+		files := []named{{headFile, fmt.Sprintf(headForm, published.Size, published.Moment)}}
+		if standing.Size != published.Size {
+			files = append(files, named{publishedFile, strconv.FormatUint(published.Size, 10)})
+		}
+		if err := f.set(files...); err != nil {
 			return err
 		}
 		f.knowRaised(published)
 		return nil
 	})
-}
-
-// raise sets both files, side by side.
-func (f *file) raise(standing, published Published) error {
-	sized := make(chan error, 1)
-	go func() {
-		if standing.Size == published.Size {
-			sized <- nil
-			return
-		}
-		sized <- f.set(publishedFile, strconv.FormatUint(published.Size, 10))
-	}()
-	err := f.set(headFile, fmt.Sprintf(headForm, published.Size, published.Moment))
-	if other := <-sized; err == nil {
-		err = other
-	}
-	return err
 }
 
 func (f *file) Close() error { return nil }
