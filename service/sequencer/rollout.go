@@ -10,8 +10,9 @@ import (
 	"fmt"
 	"strconv"
 	"strings"
-	"sync"
 	"time"
+
+	"golang.org/x/sync/errgroup"
 
 	"wagtenib/service/log"
 	"wagtenib/service/signer"
@@ -203,27 +204,13 @@ func (s *Sequencer) putRight(ctx context.Context, name string, content []byte) e
 
 // sideBySide does so many things, none of which stands on another one, at most mostPuts at once, and gives the first error; what began is waited for.
 func sideBySide(ctx context.Context, many int, do func(ctx context.Context, at int) error) error {
-	ctx, cancel := context.WithCancel(ctx)
-	defer cancel()
-	var all sync.WaitGroup
-	room, failed := make(chan struct{}, mostPuts), make(chan error, many)
+	all, ctx := errgroup.WithContext(ctx)
+	all.SetLimit(mostPuts)
 	for at := 0; at < many; at++ {
-		room <- struct{}{}
-		all.Add(1)
-		go func(at int) {
-			defer all.Done()
-			if err := do(ctx, at); err != nil {
-				failed <- err
-				cancel()
-			}
-			<-room
-		}(at)
+		at := at
+		all.Go(func() error { return do(ctx, at) })
 	}
-	all.Wait()
-	if len(failed) == 0 {
-		return nil
-	}
-	return <-failed
+	return all.Wait()
 }
 
 // putAll puts objects under their public names.

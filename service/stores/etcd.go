@@ -10,6 +10,7 @@ import (
 
 	"go.etcd.io/etcd/clientv3"
 	"go.uber.org/zap"
+	"golang.org/x/sync/errgroup"
 )
 
 // Etcd says where a cluster is, and under which prefix a log's keys lie in it. TLS and names of users stand in the client's
@@ -55,36 +56,18 @@ func (at Etcd) open() (*members, error) {
 // eachBeside has a list of n done in parts, each in a transaction, of which none stands on another one. It gives the error of the part that failed first, which
 // ends the others, and returns once none is made any more.
 func eachBeside(ctx context.Context, n int, each func(ctx context.Context, from, to int) error) error {
-	ctx, cancel := context.WithCancel(ctx)
-	defer cancel()
-	var made sync.WaitGroup
-	var once sync.Once
-	var first error
-	room := make(chan struct{}, mostBeside)
-	ended := parts(n, mostOperations, func(from, to int) error {
-		select {
-		case room <- struct{}{}:
-		case <-ctx.Done():
-		}
-		if ctx.Err() != nil {
-			return ctx.Err()
-		}
-		made.Add(1)
-		go func() {
-			defer made.Done()
-			if err := each(ctx, from, to); err != nil {
-				once.Do(func() { first = err })
-				cancel()
+	all, ctx := errgroup.WithContext(ctx)
+	all.SetLimit(mostBeside)
+	_ = parts(n, mostOperations, func(from, to int) error {
+		all.Go(func() error {
+			if err := ctx.Err(); err != nil {
+				return err
 			}
-			<-room
-		}()
+			return each(ctx, from, to)
+		})
 		return nil
 	})
-	made.Wait()
-	if first != nil {
-		return first
-	}
-	return ended
+	return all.Wait()
 }
 
 // inEtcd keeps the register in three keys: the text; the published size, which is all that versions before the third read; and the size and the
