@@ -68,7 +68,8 @@ func (f *Front) Tell(ctx context.Context, every time.Duration) {
 		}
 		if figures.Fault != fault {
 			f.tellOf("fault", fault, figures.Fault)
-		} else if figures.Fault == "" && figures.Faults != faults {
+		}
+		if figures.Fault == "" && figures.Faults != faults {
 			// (it came and went since the look before)
 			f.tellOf("fault", "", figures.LastFault)
 			f.tellOf("fault", figures.LastFault, "")
