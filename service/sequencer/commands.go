@@ -366,6 +366,8 @@ func (s *Sequencer) doAnswer(ctx context.Context, t *turn) (decider.Told, error)
 	if err := s.tell(t.signing); err != nil {
 		return nil, err
 	}
+	// (who was answered by a promise isn't answered, or counted as such, by the head again)
+	t.signing = nil
 	if t.command.Do == decider.Answer {
 		t.answered = true
 		s.phase("answered")
