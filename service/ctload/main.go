@@ -91,6 +91,9 @@ func run() error {
 	tell := flag.Duration("tell", time.Minute, "how far two lines with figures are apart")
 	ready := flag.Int("ready", 0, "so many submissions are made before the first is sent, so that making them takes nothing of the time")
 	flag.Parse()
+	if *ready < 0 {
+		return fmt.Errorf("--ready is a number from 0")
+	}
 	if flag.NArg() > 0 {
 		return fmt.Errorf("%q isn't expected: --help says which words it takes", flag.Arg(0))
 	}

@@ -86,6 +86,7 @@ func TestProgram(t *testing.T) {
 		{append(words, "--roots", filepath.Join(folder, "nowhere", "roots.pem")), "no such file"},
 		{append(words, "--answers", filepath.Join(folder, "nowhere", "answers")), "no such file"},
 		{append(words, "word"), `"word" isn't expected`},
+		{append(words, "--ready", "-1"), "--ready is a number from 0"},
 	} {
 		if status, out, problem := trial.Runs(t, of.words...); status != 1 || out != "" || !strings.Contains(problem, of.says) || submitted.Load() != 6 {
 			t.Errorf("%q: status %d, %q and %q", of.says, status, out, problem)

@@ -435,9 +435,9 @@ func (s *Sequencer) advance(ctx context.Context, t *turn, batch []*waiting) erro
 	if err := s.deleteUnneeded(ctx, t); err != nil {
 		return err
 	}
-	// (while those who were answered come back, what the next step wants is asked)
-	_, err = s.needsOf(ctx, t.k)
-	return err
+	// (while those who were answered come back, what the next step wants is asked; where that fails, the step asks again)
+	_, _ = s.needsOf(ctx, t.k)
+	return nil
 }
 
 // deleteUnneeded has the bundles deleted that this node knows of and that the program says are of no use any more, where a step may be made.

@@ -102,7 +102,7 @@ var (
 	descScrubbed   = described("ctserve_scrubbed_tiles_total", "Old data tiles that were read again and were right.")
 	descDamaged    = described("ctserve_damaged_tiles", "Data tiles that are missing, can't be read or aren't the log's, or stand below such hash tiles, by what was read last.")
 	descWritten    = described("ctserve_written_bytes_total", "Bytes that steps put, in their bundles and as objects.")
-	descPhase      = prometheus.NewDesc("ctserve_step_seconds", "How long the parts of a step took: take (the newest state is read, and repeats are answered), look (another node's step is rolled out), step (the program makes it), stage (its bundle is put), swap, put (its objects), place, sign (its head), answer, delete.", []string{"phase"}, nil)
+	descPhase      = prometheus.NewDesc("ctserve_step_seconds", "How long the parts of a step took: take (the newest state is read, and repeats are answered), look (another node's step is rolled out), step (the program makes it), stage (its bundle is put), swap, put (its objects), place, sign (its head, and timestamps), answer, delete. Objects are put and places added side by side.", []string{"phase"}, nil)
 	descBatches    = described("ctserve_step_submissions", "How many submissions a step took in, of those that were decided.")
 	descBundles    = described("ctserve_swept_bundles_total", "Bundles of steps that were deleted since nobody needs them.")
 	descStaged     = described("ctserve_staged_bundles", "Bundles of steps that were there when they were listed last.")
