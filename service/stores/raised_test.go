@@ -1,0 +1,130 @@
+package stores
+
+import (
+	"errors"
+	"os"
+	"path/filepath"
+	"sync"
+	"sync/atomic"
+	"testing"
+)
+
+// TestRaisedInPart: of the two files of what is published, the one with size and moment has its name first. Where the other can't have its own then, it isn't
+// known what stands, and what was raised is read; nothing that was written is left.
+func TestRaisedInPart(t *testing.T) {
+	root, ctx := t.TempDir(), limited(t)
+	register, err := OpenFile(root)
+	must(t, err)
+	must(t, register.Create(ctx, "a"))
+	must(t, register.Raise(ctx, Published{5, 1}))
+	size, before := filepath.Join(root, publishedFile), filepath.Join(root, "before")
+	var once sync.Once
+	fsync = func(file *os.File) error {
+		once.Do(func() {
+			// (a folder that isn't empty leaves its name to no file)
+			if err := os.Rename(size, before); err != nil {
+				t.Error(err)
+			}
+			if err := os.MkdirAll(filepath.Join(size, "x"), 0o700); err != nil {
+				t.Error(err)
+			}
+		})
+		return file.Sync()
+	}
+	defer func() { fsync = (*os.File).Sync }()
+	if err := register.Raise(ctx, Published{6, 2}); !errors.Is(err, ErrUnknown) {
+		t.Errorf("raised in part: %v", err)
+	}
+	must(t, os.RemoveAll(size))
+	must(t, os.Rename(before, size))
+	if published, err := register.Published(ctx); err != nil || published != (Published{6, 2}) {
+		t.Errorf("%+v is published, %v", published, err)
+	}
+	if left, err := os.ReadDir(filepath.Join(root, temporary)); err != nil || len(left) > 0 {
+		t.Errorf("files are left: %v, %v", left, err)
+	}
+}
+
+// TestOnTheDisk: a process that knows one text, or one head, to be on the disk doesn't take another one to be there, which another process set; nor one that
+// it set itself, or read, where the disk didn't take that.
+func TestOnTheDisk(t *testing.T) {
+	root, ctx := t.TempDir(), limited(t)
+	one, err := OpenFile(root)
+	must(t, err)
+	other, err := OpenFile(root)
+	must(t, err)
+	must(t, one.Create(ctx, "a"))
+	must(t, one.Raise(ctx, Published{5, 1}))
+	read := func() error { _, err := other.Read(ctx); return err }
+	published := func() error { _, err := other.Published(ctx); return err }
+	both := func(when string, want []string) {
+		t.Helper()
+		syncedAs(t, "Read "+when, syncs(t, root, "none", read), want)
+		syncedAs(t, "Published "+when, syncs(t, root, "none", published), want)
+	}
+	both("at first", []string{"."})
+	both("of the same", nil)
+	must(t, one.Swap(ctx, "a", "b"))
+	must(t, one.Raise(ctx, Published{6, 2}))
+	both("of what another process set", []string{"."})
+	fault := errors.New("the disk is broken")
+	fsync = func(file *os.File) error {
+		if info, err := file.Stat(); err != nil || info.IsDir() {
+			return fault
+		}
+		return file.Sync()
+	}
+	defer func() { fsync = (*os.File).Sync }()
+	if err := other.Swap(ctx, "b", "c"); !errors.Is(err, ErrUnknown) {
+		t.Errorf("Swap: %v", err)
+	}
+	if err := other.Raise(ctx, Published{7, 3}); !errors.Is(err, ErrUnknown) {
+		t.Errorf("Raise: %v", err)
+	}
+	for _, time := range []string{"first", "second"} {
+		if err := read(); !errors.Is(err, fault) {
+			t.Errorf("the %s Read of what isn't on the disk: %v", time, err)
+		}
+		if err := published(); !errors.Is(err, fault) {
+			t.Errorf("the %s Published of what isn't on the disk: %v", time, err)
+		}
+	}
+	fsync = (*os.File).Sync
+	both("once the disk takes it", []string{"."})
+	if text, err := other.Read(ctx); err != nil || text != "c" {
+		t.Errorf("it has %q, %v", text, err)
+	}
+	if at, err := other.Published(ctx); err != nil || at != (Published{7, 3}) {
+		t.Errorf("%+v is published, %v", at, err)
+	}
+}
+
+// TestOneOfTwoFiles: where one of the two files of what is published isn't written, whichever, nothing is raised.
+func TestOneOfTwoFiles(t *testing.T) {
+	root, ctx := t.TempDir(), limited(t)
+	register, err := OpenFile(root)
+	must(t, err)
+	must(t, register.Create(ctx, "a"))
+	must(t, register.Raise(ctx, Published{5, 1}))
+	fault := errors.New("the disk takes no more than one")
+	defer func() { fsync = (*os.File).Sync }()
+	for size := uint64(6); size < 56; size++ {
+		var calls atomic.Int64
+		fsync = func(file *os.File) error {
+			if calls.Add(1) == 1 {
+				return fault
+			}
+			return file.Sync()
+		}
+		if err := register.Raise(ctx, Published{size, 2}); !errors.Is(err, fault) || errors.Is(err, ErrUnknown) {
+			t.Fatalf("to %d: %v", size, err)
+		}
+		fsync = (*os.File).Sync
+		if at, err := register.Published(ctx); err != nil || at != (Published{5, 1}) {
+			t.Fatalf("%+v is published, %v", at, err)
+		}
+		if left, err := os.ReadDir(filepath.Join(root, temporary)); err != nil || len(left) > 0 {
+			t.Fatalf("files are left: %v, %v", left, err)
+		}
+	}
+}
