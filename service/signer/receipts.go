@@ -36,7 +36,9 @@ func readReceipts(line []byte) (receipts []Receipt, ok bool) {
 		if c.Want(`{`); c.Has(`"audit_path":`) {
 			c.Each(func() {
 				var hash [32]byte
-				wrong = copy(hash[:], c.Bytes()) != len(hash) || wrong
+				content := c.Bytes()
+				wrong = wrong || len(content) != len(hash)
+				copy(hash[:], content)
 				one.Path = append(one.Path, hash)
 			})
 			c.Want(`,`)

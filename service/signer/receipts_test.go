@@ -3,6 +3,7 @@ package signer
 import (
 	"bytes"
 	"encoding/json"
+	"errors"
 	"reflect"
 	"strings"
 	"testing"
@@ -75,6 +76,25 @@ func TestReceiptsOfAnotherForm(t *testing.T) {
 		_, err := readReply([]byte(text))
 		if _, guarded := readGuarded([]byte(text)); err == nil && guarded == nil {
 			t.Errorf("%s is read", text)
+		}
+	}
+}
+
+// TestHashesOfAnotherLength: a line of receipts one of whose paths has a hash of more or fewer bytes than 32, wherever it stands, is refused.
+func TestHashesOfAnotherLength(t *testing.T) {
+	for _, lengths := range [][]int{{31}, {33}, {64}, {0}, {31, 32}, {33, 32}, {32, 31}, {32, 33}} {
+		var path [][]byte
+		for _, length := range lengths {
+			path = append(path, bytes.Repeat([]byte{7}, length))
+		}
+		line, err := json.Marshal(request{Receipts: []receiptLine{{path, 7, []byte("a leaf")}, {hashesOf([][32]byte{{1}}), 8, []byte("another")}}})
+		must(t, err)
+		if read, ok := readReceipts(line); ok {
+			t.Errorf("hashes of %d bytes are read as %+v", lengths, read)
+			continue
+		}
+		if _, err := answer(limited(t), nil, line); !errors.Is(err, ErrReply) {
+			t.Errorf("hashes of %d bytes: %v", lengths, err)
 		}
 	}
 }
