@@ -2,6 +2,7 @@ package stores
 
 import (
 	"errors"
+	"os"
 	"path/filepath"
 	"reflect"
 	"strings"
@@ -84,4 +85,21 @@ func TestLocalAddresses(t *testing.T) {
 	must(t, objects.Close())
 	must(t, register.Close())
 	must(t, places.Close())
+}
+
+// TestObjectsThere: a folder of objects that isn't there is absent, and isn't made; of one that is there, and of a bucket, nothing is said.
+func TestObjectsThere(t *testing.T) {
+	root := t.TempDir()
+	away := filepath.Join(root, "away")
+	if err := ObjectsThere("folder:" + away); !errors.Is(err, ErrAbsent) {
+		t.Errorf("a folder that isn't there: %v", err)
+	}
+	if _, err := os.Stat(away); !errors.Is(err, os.ErrNotExist) {
+		t.Errorf("it is made: %v", err)
+	}
+	for _, address := range []string{"folder:" + root, "s3://host/bucket"} {
+		if err := ObjectsThere(address); err != nil {
+			t.Errorf("%s: %v", address, err)
+		}
+	}
 }

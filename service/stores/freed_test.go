@@ -3,6 +3,7 @@ package stores
 import (
 	"os"
 	"path/filepath"
+	"runtime/debug"
 	"strings"
 	"testing"
 
@@ -44,10 +45,25 @@ func TestFreedBeside(t *testing.T) {
 		let()
 	}
 	trial.Eventually(t, "all are freed", func() bool { return opened(t, root) == 0 && len(freeing) == 0 })
+	// (where as many are being freed as may be, one more is freed at once)
+	must(t, os.WriteFile(path, []byte("x"), 0o600))
+	let := hold(path)
+	must(t, os.Remove(path))
+	for i := 0; i < mostFreed; i++ {
+		freeing <- struct{}{}
+	}
+	if let(); opened(t, root) != 0 {
+		t.Error("one more isn't freed")
+	}
+	for i := 0; i < mostFreed; i++ {
+		<-freeing
+	}
 }
 
 // TestNothingStaysOpen: a register that is swapped, and objects that are deleted, leave no file open.
 func TestNothingStaysOpen(t *testing.T) {
+	// (a collection would close what was forgotten)
+	defer debug.SetGCPercent(debug.SetGCPercent(-1))
 	root, ctx := t.TempDir(), limited(t)
 	register, err := OpenFile(filepath.Join(root, "register"))
 	must(t, err)

@@ -278,6 +278,33 @@ func TestSQLiteEndsWithItsContext(t *testing.T) {
 	must(t, other.Add(limited(t), []Placed{placed(1)}))
 }
 
+// TestSQLiteTurnEndsWithItsContext: who waits until another one of the same process has added, to either table, waits no longer than its context lasts.
+func TestSQLiteTurnEndsWithItsContext(t *testing.T) {
+	ctx := limited(t)
+	store, err := OpenSQLite(ctx, filepath.Join(t.TempDir(), "places.db"))
+	must(t, err)
+	defer store.Close()
+	turn := store.(*inSQLite).writes
+	turn <- struct{}{}
+	ending, end := context.WithCancel(ctx)
+	told := make(chan error, 2)
+	for _, of := range []Places{store, store.Leaves()} {
+		of := of
+		go func() { told <- of.Add(ending, []Placed{placed(1)}) }()
+	}
+	end()
+	for i := 0; i < cap(told); i++ {
+		select {
+		case err := <-told:
+			trial.Wants(t, err, context.Canceled)
+		case <-ctx.Done():
+			t.Fatal("it waits behind its context's end")
+		}
+	}
+	<-turn
+	must(t, store.Add(ctx, []Placed{placed(1)}))
+}
+
 // TestSQLiteSyncs: each commit goes to the disk, in the mode in which it has to be asked for (PRAGMA synchronous is 2, FULL).
 func TestSQLiteSyncs(t *testing.T) {
 	places, err := OpenSQLite(limited(t), filepath.Join(t.TempDir(), "places"))
