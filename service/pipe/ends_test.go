@@ -4,6 +4,7 @@ import (
 	"bufio"
 	"context"
 	"errors"
+	"fmt"
 	"io"
 	"net"
 	"os"
@@ -310,6 +311,14 @@ func TestWidth(t *testing.T) {
 			t.Errorf("a pipe holds %d bytes, %v", holds, err)
 		}
 	}))
+	// (as the process itself sees both: 1032 is F_GETPIPE_SZ)
+	seen, err := Start([]string{"python3", "-c", "import fcntl; input(); print(*(fcntl.fcntl(of, 1032) for of in (0, 1)), flush=True)"}, 100)
+	trial.Must(t, err)
+	defer seen.Close()
+	replies, err := seen.Exchange(trial.Limited(t, trial.Longest), trial.Longest, []byte("\n"), 1)
+	if want := fmt.Sprintf("%d %d", width, width); err != nil || string(replies[0]) != want {
+		t.Errorf("its pipes hold %q bytes, and not %s: %v", replies, want, err)
+	}
 	// (what isn't a pipe stays as it is)
 	widen(nil)
 	widen(&last{})
