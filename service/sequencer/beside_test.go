@@ -3,6 +3,7 @@ package sequencer
 import (
 	"context"
 	"strings"
+	"sync"
 	"sync/atomic"
 	"testing"
 
@@ -97,4 +98,86 @@ func TestSignedBesideTheHead(t *testing.T) {
 		t.Errorf("given up %v, refused %v", of.left.Load(), objects.refused.Load())
 	}
 	p.right(t, got)
+}
+
+// headsBehind refuses the puts of heads while it is on, each once timestamps were signed.
+type headsBehind struct {
+	stores.Objects
+	signed chan struct{}
+	on     atomic.Bool
+	puts   atomic.Int64
+}
+
+func (h *headsBehind) Put(ctx context.Context, name string, content []byte) error {
+	if strings.HasPrefix(name, headsPrefix) && h.on.Load() {
+		<-h.signed
+		h.puts.Add(1)
+		return errUnwell
+	}
+	return h.Objects.Put(ctx, name, content)
+}
+
+// saysSigned says once timestamps were signed.
+type saysSigned struct {
+	signer.Signer
+	signed chan struct{}
+	once   sync.Once
+}
+
+func (s *saysSigned) SignTimestamps(ctx context.Context, receipts []signer.Receipt) ([][]byte, error) {
+	signatures, err := s.Signer.SignTimestamps(ctx, receipts)
+	s.once.Do(func() { close(s.signed) })
+	return signatures, err
+}
+
+// TestAnsweredBehindTheHead: timestamps that are signed are shown to nobody while their head can't be put, round after round; who waits is answered once it can.
+func TestAnsweredBehindTheHead(t *testing.T) {
+	t.Parallel()
+	p, ctx, got := newPlace(t), limited(t), &answers{}
+	s := started(t, p.config(t), hooks{})
+	must(t, got.submitAll(ctx, s, 0, 1, 1))
+	ended(t, s)
+	config, signed := p.config(t), make(chan struct{})
+	objects := &headsBehind{Objects: config.Objects, signed: signed}
+	objects.on.Store(true)
+	config.Objects, config.Signer = objects, &saysSigned{Signer: config.Signer, signed: signed}
+	s = started(t, config, hooks{})
+	told := make(chan error, 1)
+	go func() { told <- got.submitAll(ctx, s, 1, 2, 1) }()
+	eventually(t, "the head is put again and again", func() bool { return objects.puts.Load() >= 3 })
+	select {
+	case err := <-told:
+		t.Fatalf("who waits is answered before the head is published: %v", err)
+	default:
+	}
+	if head, err := s.Checkpoint(ctx); err != nil || head.TreeSize != 1 {
+		t.Errorf("a head of %d entries, %v", head.TreeSize, err)
+	}
+	objects.on.Store(false)
+	must(t, <-told)
+	isOf(t, p.right(t, got), 2)
+}
+
+// TestPathsOfAnotherHead: the paths that were made in a head's tree are what the signer gets where that head is its last, and are made anew where another one is.
+func TestPathsOfAnotherHead(t *testing.T) {
+	t.Parallel()
+	_, ctx, _, s := begun(t, 5, 5)
+	node := readingNode(s)
+	last, err := s.config.Signer.Last(ctx)
+	must(t, err)
+	smaller, earlier, made := *last, *last, [32]byte{1}
+	smaller.Size--
+	earlier.Moment--
+	for of, isLast := range map[signer.Head]bool{*last: true, smaller: false, earlier: false} {
+		receipts := []signer.Receipt{{Index: 2}, {Index: 3}}
+		all := []timestamp{{index: 2, path: [][32]byte{made}, of: *last}, {index: 3, path: [][32]byte{made}, of: of}}
+		if _, err := node.addPaths(ctx, 0, all, receipts, nil); err != nil {
+			t.Fatal(err)
+		}
+		for _, receipt := range receipts {
+			if path := receipt.Path; len(path) == 0 || (path[0] == made) != isLast {
+				t.Errorf("of %+v, and the last is %+v: entry %d has %x", of, *last, receipt.Index, path)
+			}
+		}
+	}
 }

@@ -61,8 +61,12 @@ func TestSinceARoundWentWell(t *testing.T) {
 	}
 	objects.on.Store(false)
 	eventually(t, "a round goes well", func() bool { return s.Figures().SinceRound < least })
-	if fault := s.Figures().Fault; fault != "" {
-		t.Errorf("behind it stands %q", fault)
+	f := s.Figures()
+	if f.Fault != "" {
+		t.Errorf("behind it stands %q", f.Fault)
+	}
+	if f.Faults != 1 || !strings.Contains(f.LastFault, errTried.Error()) {
+		t.Errorf("%d faults are told behind one, the last %q", f.Faults, f.LastFault)
 	}
 }
 
@@ -103,15 +107,25 @@ func TestBatches(t *testing.T) {
 	register.on.Store(true)
 	close(goes)
 	eventually(t, "a step isn't decided", func() bool { return register.swaps.Load() >= mostSwaps })
-	if b := s.Figures().Batches; b.Steps != 0 || b.Submissions != 0 {
+	none := log.Batches{AtMost: map[int]uint64{}}
+	for _, bound := range batchBounds {
+		none.AtMost[bound] = 0
+	}
+	if b := s.Figures().Batches; !reflect.DeepEqual(b, none) {
 		t.Errorf("nothing is decided: %+v", b)
 	}
 	register.on.Store(false)
 	must(t, <-submitted)
+	first := s.Figures().Batches
 	must(t, got.submitAll(ctx, s, 5, 6, 1))
 	want := log.Batches{Steps: 2, Submissions: 6, AtMost: map[int]uint64{0: 0, 1: 1, 2: 1, 4: 1, 8: 2, 16: 2, 32: 2, 64: 2, 128: 2, 256: 2, 512: 2, 1024: 2}}
 	if b := s.Figures().Batches; !reflect.DeepEqual(b, want) {
 		t.Errorf("a step of five and one of one: %+v", b)
+	}
+	// (what was told stays as it was)
+	want = log.Batches{Steps: 1, Submissions: 5, AtMost: map[int]uint64{0: 0, 1: 0, 2: 0, 4: 0, 8: 1, 16: 1, 32: 1, 64: 1, 128: 1, 256: 1, 512: 1, 1024: 1}}
+	if !reflect.DeepEqual(first, want) {
+		t.Errorf("a step of five: %+v", first)
 	}
 	p.right(t, got)
 }
