@@ -268,6 +268,27 @@ func TestLatestHead(t *testing.T) {
 	comesBack(t, s, got, 8)
 }
 
+// TestLatestHeadThatIsntKept: where a node that runs can't keep what it saw any more, it answers nobody by what it couldn't keep and publishes no head of it,
+// until it can.
+func TestLatestHeadThatIsntKept(t *testing.T) {
+	t.Parallel()
+	p, ctx, got := newPlace(t), limited(t), &answers{}
+	config, folder := p.config(t), filepath.Join(string(p), "own")
+	must(t, os.Mkdir(folder, 0o755))
+	config.LatestHead, config.Patience = filepath.Join(folder, "latest-head"), time.Second
+	s := started(t, config, hooks{})
+	must(t, got.submitAll(ctx, s, 0, 1, 1))
+	must(t, os.Rename(folder, folder+"-away"))
+	_, err := s.Submit(ctx, entryOf(1))
+	wants(t, err, log.ErrStore)
+	if head, err := s.Checkpoint(ctx); err != nil || head.TreeSize != 1 {
+		t.Errorf("a head of %d entries, %v", head.TreeSize, err)
+	}
+	must(t, os.Rename(folder+"-away", folder))
+	comesBack(t, s, got, 8)
+	p.right(t, got)
+}
+
 // Three states in which one of a log's stores may be put back.
 const (
 	now  = "now"
