@@ -759,6 +759,24 @@ func TestGuardThatEnds(t *testing.T) {
 	must(t, err)
 }
 
+// TestGuardThatRepliesNoJSON has a guard reply what isn't JSON, once: it isn't asked again, and another one is started.
+func TestGuardThatRepliesNoJSON(t *testing.T) {
+	t.Parallel()
+	ctx, key, right, folder := limited(t), newKey(t), listOf(t, 9, 9), t.TempDir()
+	wrong := filepath.Join(folder, "wrong")
+	script := filepath.Join(folder, "guard.sh")
+	must(t, os.WriteFile(script, []byte(fmt.Sprintf("rm '%s' 2>/dev/null && { read x; echo no; exec sleep 600; }; exec python3 '%s' \"$@\"", wrong, model[1])), 0o700))
+	g := behind(t, key, folder, []string{"sh", script}, InHead)
+	_, err := g.SignHead(ctx, right.head(t, 5, 100), nil)
+	must(t, err)
+	must(t, g.Close())
+	must(t, os.WriteFile(wrong, nil, 0o600))
+	_, err = g.SignTimestamps(ctx, []Receipt{right.receipt(t, 1, 5)})
+	wants(t, err, ErrReply)
+	_, err = g.SignHead(ctx, right.head(t, 9, 101), right.proof(t, 5, 9))
+	must(t, err)
+}
+
 // TestWrongGuards has programs in the guard's place that reply other bytes, or none: nothing is signed.
 func TestWrongGuards(t *testing.T) {
 	t.Parallel()
