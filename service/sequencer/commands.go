@@ -287,7 +287,7 @@ func (s *Sequencer) doSwap(ctx context.Context, t *turn) (decider.Told, error) {
 // doPut puts a state's objects under their public names, and beside that adds the places of its entries.
 func (s *Sequencer) doPut(ctx context.Context, t *turn) (decider.Told, error) {
 	if s.skips(t) {
-		return decider.Done(), nil
+		return decider.Done(), s.keepLatest(t.k)
 	}
 	objects, err := t.objects()
 	if err == nil {

@@ -55,7 +55,10 @@ func (s *Sequencer) signHead(ctx context.Context, state step.State, objects fres
 	if err != nil {
 		return nil, fmt.Errorf("sequencer: a head of %d entries at %d ms: %w", head.Size, head.Moment, err)
 	}
-	s.passed = &head
+	// (who isn't guarded has no last head)
+	if s.isGuarded() {
+		s.passed = &head
+	}
 	return signed, nil
 }
 
