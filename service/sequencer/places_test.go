@@ -150,6 +150,8 @@ func TestPlacesBesideObjects(t *testing.T) {
 		meets.fail("")
 		must(t, <-told)
 		number += 5
+		// (behind a fault a step without entries is made, and has a head of its own)
+		eventually(t, kind+" are mended", func() bool { return s.Figures().Fault == "" })
 	}
 	leavesAreKnown(t, s, uint64(number))
 	isOf(t, p.right(t, got), number)
