@@ -1,8 +1,8 @@
 #!/usr/bin/env python3
 """No fault is told at will. No contract can say that a reader, a writer or the start of a thread failed, nor why nothing was shown or nobody came
 in time. So where the sources of a crate (but those of tests) tell such a fault, that place is named here with its reason: behind a call that
-failed, behind the last turn of a bounded loop, or where another's fault is handed on. Conversions (`impl From`) may tell them, and patterns, types
-and imports may name them. Such faults too are an error of std's input and output and its kind, what tells of one (a call that failed, a value that
+failed, behind the last turn of a bounded loop, or where another's fault is handed on. Conversions (`impl From`) may tell them, but of a struct without
+fields that is none of them, and patterns, types and imports may name them, but not give them another name. Such faults too are an error of std's input and output and its kind, what tells of one (a call that failed, a value that
 was handed back), and a call of std that may fail by itself. What is told behind the last turn over lines or calls stands right behind a loop of
 2^50 turns, which nothing breaks off, or a test whether there were 2^50; no other constant hides that number. Where a program tells a fault by its text,
 that is a fault's that it was handed or that a pattern took, and the status 1 stands behind it alone. And since std's contracts don't say what a process's status is, the `main`
@@ -20,6 +20,13 @@ FAULT = re.compile(
     r"\b(?:\w*Fault|Refusal)::(Read|Write|Threads|Closed|Late|Stopped|Endless)\b|\b(?:io::)?(Error)::(?:from|new|other)\b|\b(ErrorKind::\w+)"
     r"|\b(NotAppended|ReadFailed|Stopped|Unwritten|WriteFailed)\b|(?:\.|::)(read_exact|read_to_end|read_to_string|read_until|write_all|write_fmt)\s*\("
 )
+# Another name for a fault's type, by an import or a type, under which it would be told unseen; and a struct without fields, which tells of nothing.
+RENAMED = re.compile(
+    r"^[ \t]*(?:pub(?:\(\w+\))? )?(?:use [^;]*?\b\w*(?:Fault|Refusal|Error|ErrorKind|Failed|Stopped|Unwritten|NotAppended)\s+as\s+\w"
+    r"|type (?!\w*Fault\b)\w+\s*=\s*(?:\w+::)*\w*(?:Fault|Refusal|ErrorKind|Failed|Stopped|Unwritten|NotAppended)\s*;)",
+    re.M,
+)
+EMPTY = re.compile(r"\bstruct (\w+);")
 # A loop behind whose last turn a fault is told, and how many turns it makes.
 LOOP = re.compile(r"\bfor turn in 0\.\.([A-Z]+) \{")
 # A test behind which a fault is told at once.
@@ -94,6 +101,10 @@ def told(text):
         behind = text[found.end() : text.find("\n", found.end())]
         if not (any(start <= found.start() < end for start, end in allowed) or BEHIND.match(behind)):
             yield found.start(), next(filter(None, found.groups()))
+    yield from ((found.start(), "by another name") for found in RENAMED.finditer(text))
+    for found in re.finditer(r"\bimpl(?:<[^{]*?>)? From<(\w+)> for", text):
+        if found[1] in EMPTY.findall(text) and not FAULT.fullmatch(found[1]):
+            yield found.start(), f"{found[1]}, which tells of nothing,"
 
 
 def is_whole(text, name):
@@ -150,13 +161,22 @@ use json_lines::tell; use crate::few::FEW as READS; fn f() -> Answer {{ {LOOPS} 
 {LINES} fn f(words: &[String]) -> u8 {{ if words.len() > 8 {{ return 1; }} {RUN} }}
 {LINES} fn f(words: &[String]) -> u8 {{ match run(words) {{ Ok(status) => status, Err(_) => {{ tell(faults, READ.as_bytes()); 1 }} }} }}
 {LINES} fn f(words: &[String]) -> u8 {{ let fault = made(words); tell(faults, fault_text(fault).as_bytes()); 1 }}
-fn f(error: io::Error) -> Answer {{ Err(io::ErrorKind::UnexpectedEof) }}"""
+fn f(error: io::Error) -> Answer {{ Err(io::ErrorKind::UnexpectedEof) }}
+use json_lines::RunFault as Ended;
+pub(crate) use json_lines::{{send, RunFault as Ended}};
+type Ended = json_lines::RunFault;
+struct GaveUp; impl From<GaveUp> for RunFault {{ fn from(_e: GaveUp) -> RunFault {{ RunFault::Write }} }}"""
 RIGHT = f"""{LINES} fn f() -> Answer {{ for turn in 0..READS {{ next(turn)?; }} Err(fault) }}
 {LINES} fn f(words: &[String]) -> u8 {{ {RUN} }}
 {LINES} fn f(words: &[String]) -> Result<u8, Fault> {{ tell(faults, USAGE.as_bytes()); Ok(2) }}
 {LINES} fn f(fault: Fault) -> u8 {{ tell(faults, program.line_of(fault).as_bytes()); 1 }}
 {LINES} fn f(text: &[u8]) -> u8 {{ tell(faults, text); 2 }}
-fn f(fault: Fault) -> Answer {{ match fault {{ Fault::Read => true, _ => false }} }}"""
+fn f(fault: Fault) -> Answer {{ match fault {{ Fault::Read => true, _ => false }} }}
+ghost use Rattle.json_lines.specs.declared.fault.RunFault.{{RunFault as FaultOf}};
+type Answer = Result<(), json_lines::RunFault>;
+impl Sink for Outbox {{ type Fault = ThreadFault; }}
+struct Unwritten; impl From<Unwritten> for RunFault {{ fn from(_e: Unwritten) -> RunFault {{ RunFault::Write }} }}
+struct Held {{ fault: Fault }} impl From<Held> for RunFault {{ fn from(held: Held) -> RunFault {{ RunFault::Write }} }}"""
 
 
 def try_itself():
