@@ -180,7 +180,8 @@ root_fault fault text origin rest behind n o s (inl is) none =
   where
     not_memory : BadRoot ≡ Memory → ⊥
     not_memory e = cc
-root_fault fault text origin rest behind n o s (inr is) none = subst (λ (f : CheckpointFault). IsCheckpointFault f text) (sym is) tt
+root_fault fault text origin rest behind n o s (inr is) none =
+    subst (λ (f : CheckpointFault). IsCheckpointFault f text) (sym is) (origin, rest, n, behind, o, s)
 
 -- what isn't empty has bytes
 pub has_bytes : (line : List ℕ) (t : Bool) → t ≡ (length line == 0) → t ≡ false → 0 < length line

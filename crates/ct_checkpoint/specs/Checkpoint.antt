@@ -1,5 +1,5 @@
 -- The text of a checkpoint (C2SP tlog-checkpoint, "Note text").
-use Rattle.std.specs.Prelude.{⊤, ◌≡◌, ◌≢◌, ◌⊎◌, ◌<◌, ◌^◌, ◌++◌, ◌∷◌, [], ℕ, List, All, decimal, length}
+use Rattle.std.specs.Prelude.{◌≡◌, ◌≢◌, ◌⊎◌, ◌<◌, ◌^◌, ◌++◌, ◌∷◌, [], ℕ, List, All, decimal, length}
 use Rattle.std.specs.Str.Parse.{IsNumeral, digits_value, without_leading_plus}
 use Rattle.base64.specs.Engines.{standard}
 use Rattle.base64.specs.GeneralPurpose.{IsBytes, encode_of}
@@ -54,8 +54,8 @@ HasSize rest n behind = (line : List ℕ) × IsWithinLine line × (rest ≡ line
 
 -- Why a text is no checkpoint's, the first fault from the left. BadOrigin: it has no line end, or begins with one. BadSize: behind an origin
 -- there is no line that is a number. BadRoot: behind both stands no root's base64 with one byte behind it. NotAsWritten: there stands one, and the
--- text isn't what is written for the three, so its size begins with a plus or a zero too many, or its last byte is no line end. Nothing is said
--- of a text at which a growth was refused.
+-- text isn't what is written for the three, so its size begins with a plus or a zero too many, or its last byte is no line end. A growth may be
+-- refused only behind an origin and a number.
 abbrev pub IsCheckpointFault : CheckpointFault → List ℕ → Type 0
 IsCheckpointFault BadOrigin text = IsWithinLine text ⊎ ((rest : List ℕ) × (text ≡ 10 ∷ rest))
 IsCheckpointFault BadSize text = (origin : List ℕ) × (rest : List ℕ) × IsOriginOf text origin rest × HasNoSize rest
@@ -65,4 +65,5 @@ IsCheckpointFault BadRoot text =
 IsCheckpointFault NotAsWritten text =
     (origin : List ℕ) × (rest : List ℕ) × (n : ℕ) × (behind : List ℕ) × IsOriginOf text origin rest × HasSize rest n behind
     × (root : List ℕ) × (last : ℕ) × IsRootOfTree root × (behind ≡ encode_of standard root ++ (last ∷ [])) × (text ≢ checkpoint_text origin n root)
-IsCheckpointFault Memory text = ⊤
+IsCheckpointFault Memory text =
+    (origin : List ℕ) × (rest : List ℕ) × (n : ℕ) × (behind : List ℕ) × IsOriginOf text origin rest × HasSize rest n behind
