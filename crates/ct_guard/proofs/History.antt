@@ -11,7 +11,7 @@ use Rattle.ct_verify.specs.ConsistencyEvidence.{IsAcceptedFor, IsBeginning}
 use Rattle.ct_verify.specs.InclusionEvidence.{IsAccepted}
 use Rattle.ct_verify.specs.Laws.{AreHashes, SomeCollide}
 use Rattle.ct_verify.specs.Verdict.{AcceptsInclusion, AcceptsConsistency}
-use Rattle.ct_guard.specs.Guarded.{PassesHead, PassesReceipt, IsLater}
+use Rattle.ct_guard.specs.Guarded.{PassesHead, IsLater}
 use Rattle.ct_guard.specs.History.{Passed, ArePassed, BeginsAll, AreBeginnings, PassedHeadsAgree, PassedReceiptsStand}
 
 -- ---- beginnings
@@ -84,13 +84,13 @@ module _ (H : List ℕ → List ℕ) (hash_length : (x : List ℕ) → length (H
       (λ (pair : SomeCollide H). inr pair)
       (behind s.head t.head s.leaves t.leaves t.proof a.2 next.2 next.1 next.0)
 
-  stands : (last : Head) (D : List (List ℕ)) (b : List ℕ) (m : ℕ) (p : List (List ℕ)) → IsHeadOfAll H D last → PassesReceipt H (Some last) b m p
-      → ((m < length D) × (b ≡ get_or D m [])) ⊎ SomeCollide H
+  stands : (last : Head) (D : List (List ℕ)) (b : List ℕ) (m : ℕ) (p : List (List ℕ)) → IsHeadOfAll H D last
+      → AcceptsInclusion H (hash_leaf H b) m last.tree_size p last.root → ((m < length D) × (b ≡ get_or D m [])) ⊎ SomeCollide H
   stands last D b m p a r =
       ⊎_elim
       (λ z. inl (z.0, z.1))
       (λ (pair : SomeCollide H). inr pair)
-      (path_tells H hash_length D b m p (rw (sym a.0, sym a.1) r.1))
+      (path_tells H hash_length D b m p (rw (sym a.0, sym a.1) r))
 
 pub passed_heads_agree : PassedHeadsAgree
 passed_heads_agree H hash_length last steps a = agree H hash_length last steps a

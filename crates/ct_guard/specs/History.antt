@@ -1,11 +1,13 @@
 -- What follows over many heads and receipts that were let through. H is any hash function on byte lists with hashes of 32 bytes.
 use Rattle.std.specs.Prelude.{◌≡◌, ◌⊎◌, ◌<◌, ⊤, ℕ, List, [], ◌∷◌, length, get_or, Some}
 use Rattle.std.specs.declared.option.Option.{Option}
+use Rattle.ct_tree.specs.Tree.{hash_leaf}
 use Rattle.ct_tree.specs.declared.head.Head.{Head}
 use Rattle.ct_monitor.specs.Heads.{IsHeadOfAll}
 use Rattle.ct_verify.specs.ConsistencyEvidence.{IsBeginning}
 use Rattle.ct_verify.specs.Laws.{AreHashes, SomeCollide}
-use Rattle.ct_guard.specs.Guarded.{PassesHead, PassesReceipt}
+use Rattle.ct_verify.specs.Verdict.{AcceptsInclusion}
+use Rattle.ct_guard.specs.Guarded.{PassesHead}
 
 -- A head that was let through: the head, the proof that was handed in with it (elements of 32 bytes), and the leaves of the list whose
 -- head it is, which nobody need have.
@@ -37,9 +39,9 @@ PassedHeadsAgree =
     (H : List ℕ → List ℕ) → ((x : List ℕ) → length (H x) ≡ 32) → (last : Option Head) (steps : List Passed) → ArePassed H last steps
     → AreBeginnings steps ⊎ SomeCollide H
 
--- the leaf of a receipt that was let through stands at its index in the list D of the last head, or two different strings with one
--- hash are given
+-- a leaf whose audit path leads to the last head's root, as that of each receipt that is let through does, stands at its index in the list D
+-- of that head, or two different strings with one hash are given
 abbrev pub PassedReceiptsStand : Type 0
 PassedReceiptsStand =
     (H : List ℕ → List ℕ) → ((x : List ℕ) → length (H x) ≡ 32) → (last : Head) (D : List (List ℕ)) (b : List ℕ) (m : ℕ) (p : List (List ℕ))
-    → IsHeadOfAll H D last → PassesReceipt H (Some last) b m p → ((m < length D) × (b ≡ get_or D m [])) ⊎ SomeCollide H
+    → IsHeadOfAll H D last → AcceptsInclusion H (hash_leaf H b) m last.tree_size p last.root → ((m < length D) × (b ≡ get_or D m [])) ⊎ SomeCollide H

@@ -20,8 +20,8 @@ pub fn heads_go_back()
     ensures { HeadsGoBack }
 {}
 
-/// Where the last head is that of a list of leaves, the leaf of a receipt that is let through stands in that list at its index, or
-/// two different strings with one digest are given.
+/// Where the last head is that of a list of leaves, a leaf whose audit path leads to that head's root, as that of each receipt that is let
+/// through does, stands in that list at its index, or two different strings with one digest are given.
 #[tactic(auto, using(crate::proofs::History::passed_receipts_stand))]
 pub fn receipts()
     ensures { PassedReceiptsStand }
