@@ -27,7 +27,7 @@ abbrev pub TakeUp : {H : List ℕ → List ℕ} → List ℕ → List (RunMade H
 TakeUp line [] = ⊤
 TakeUp line (r ∷ runs) = (first_piece 10 r.input ≡ line) × TakeUp (guard_state_text (last_head r.did.last)) runs
 
--- the head whose bytes a line gave, if it gave a head's, and the proof that was handed in with it
+-- the head whose bytes a line gave, if it gave a head's and not over a register's text, and the proof that was handed in with it
 abbrev pub given_head : Option (Ask × Outcome) → List (Head × List (List ℕ))
 given_head (Some (for_head head p most, LetThrough)) = (head, p) ∷ []
 given_head gave = []

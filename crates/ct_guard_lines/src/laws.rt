@@ -7,7 +7,8 @@ ghost use Rattle.ct_guard_lines.specs.Register.{SignedAgree, SignedAreSteps, Sig
 
 /// However many runs are made, each begun with the line that the output of the one before ended with: where each of the heads whose
 /// bytes were given is that of some list of leaves, these lists are beginnings of one list, or two different strings with one hash
-/// are given. The law is one of every hash function with hashes of 32 bytes, and [`crate::run`] is one of SHA-256, here and below.
+/// are given. The law is one of every hash function with hashes of 32 bytes, and [`crate::run`] is one of SHA-256, here and below. Heads that were
+/// given over a register's text aren't counted here, nor in the three below: of these [`signed_heads_agree`] speaks.
 #[tactic(auto, using(crate::proofs::GivenRuns::given_agree))]
 pub fn given_heads_agree()
     ensures { GivenHeadsAgree }
