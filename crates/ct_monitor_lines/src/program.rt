@@ -1,6 +1,6 @@
 //! The program over a reader of lines and a writer of verdicts, and what words ask for.
 
-ghost use Rattle.std.specs.Prelude.{◌≡◌, ◌≢◌, ◌⊎◌, ℕ, List, Option, IfOk, OnErr, map, string_bytes, codes};
+ghost use Rattle.std.specs.Prelude.{◌≡◌, ◌≢◌, ◌⊎◌, ℕ, List, IfOk, OnErr, map, string_bytes, codes};
 ghost use Rattle.json_lines.specs.Sends.{SendsSome};
 ghost use Rattle.line_program.specs.Calls.{version_line, IsAskedDone, IsAskedBroken};
 ghost use Rattle.ct_monitor_lines.specs.BrokenOff.{IsRunBroken};
@@ -163,11 +163,11 @@ pub fn answer_process<H: Env + Alloc<A = Global> + Input, W: Write, E: Write>(
     faults: &mut E,
 ) -> u8
     ensures answered { result ≢ 1 → IsUnreadable (W.contents output.old) (W.contents output.new) (E.contents faults.old) (E.contents faults.new) result
-        ⊎ ((words : List (List ℕ)) × (source : Option (List ℕ)) × IsAskedDone help_text (version_line (codes "ctmonitor")) IsWatched
-        (monitor_call words) source (W.contents output.old) (W.contents output.new) (E.contents faults.old) (E.contents faults.new) result) }
+        ⊎ ((words : List (List ℕ)) × (reader : H.Reader) × IsAskedDone help_text (version_line (codes "ctmonitor")) IsWatched
+        (monitor_call words) (H.Reader.remaining reader) (W.contents output.old) (W.contents output.new) (E.contents faults.old) (E.contents faults.new) result) }
     ensures fault { result ≡ 1 → (f : FaultOf) × SendsSome (E.contents faults.old) (E.contents faults.new) (run_fault_line (codes "ctmonitor") f) }
-    ensures broken { result ≡ 1 → (W.contents output.new ≡ W.contents output.old) ⊎ ((words : List (List ℕ)) × (source : Option (List ℕ))
-        × IsAskedBroken help_text (version_line (codes "ctmonitor")) IsRunBroken (monitor_call words) source (W.contents output.old) (W.contents output.new)) }
+    ensures broken { result ≡ 1 → (W.contents output.new ≡ W.contents output.old) ⊎ ((words : List (List ℕ)) × (reader : H.Reader)
+        × IsAskedBroken help_text (version_line (codes "ctmonitor")) IsRunBroken (monitor_call words) (H.Reader.remaining reader) (W.contents output.old) (W.contents output.new)) }
 {
     match process_words(rt) {
         Ok(words) => answer_words::<Ctmonitor, H::Reader, W, E>(

@@ -1,6 +1,6 @@
 //! A program over its process's words and standard streams.
 
-ghost use Rattle.std.specs.Prelude.{◌≡◌, ◌≢◌, ◌⊎◌, ℕ, List, Option, IfErr, OnOk, IsOk, IsOkUnless};
+ghost use Rattle.std.specs.Prelude.{◌≡◌, ◌≢◌, ◌⊎◌, ℕ, List, IfErr, OnOk, IsOk, IsOkUnless};
 ghost use Rattle.std.specs.IoError.{error_kind};
 ghost use Rattle.json_lines.specs.Faults.{run_fault_line, IsInputFault};
 ghost use Rattle.json_lines.specs.Sends.{SendsSome};
@@ -48,11 +48,11 @@ pub fn answer_process<P: Program, H: Env + Alloc<A = Global> + Input, W: Write, 
     output: &mut W,
     faults: &mut E,
 ) -> u8
-    ensures answered { result ≢ 1 → (words : List (List ℕ)) × (source : Option (List ℕ)) × IsAskedDone P.usage (version_line P.name) P.runs (P.asks words) source
-        (W.contents output.old) (W.contents output.new) (E.contents faults.old) (E.contents faults.new) result }
+    ensures answered { result ≢ 1 → (words : List (List ℕ)) × (reader : H.Reader) × IsAskedDone P.usage (version_line P.name) P.runs (P.asks words)
+        (H.Reader.remaining reader) (W.contents output.old) (W.contents output.new) (E.contents faults.old) (E.contents faults.new) result }
     ensures fault { result ≡ 1 → (f : FaultOf) × SendsSome (E.contents faults.old) (E.contents faults.new) (run_fault_line P.name f) }
-    ensures broken { result ≡ 1 → (W.contents output.new ≡ W.contents output.old) ⊎ ((words : List (List ℕ)) × (source : Option (List ℕ))
-        × IsAskedBroken P.usage (version_line P.name) P.breaks (P.asks words) source (W.contents output.old) (W.contents output.new)) }
+    ensures broken { result ≡ 1 → (W.contents output.new ≡ W.contents output.old) ⊎ ((words : List (List ℕ)) × (reader : H.Reader)
+        × IsAskedBroken P.usage (version_line P.name) P.breaks (P.asks words) (H.Reader.remaining reader) (W.contents output.old) (W.contents output.new)) }
 {
     match process_words(rt) {
         Ok(words) => {
