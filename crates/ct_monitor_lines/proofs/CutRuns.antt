@@ -4,11 +4,12 @@ use Rattle.std.specs.List.{concat}
 use Rattle.std.specs.Io.BufRead.{first_piece, drop_through}
 use Rattle.ct_monitor.specs.WatcherState.{WatcherState}
 use Rattle.line_program.specs.Replied.{FirstReplies, is_next_first}
-use Rattle.ct_monitor_lines.specs.CutRuns.{IsCutBehind, BrokenWatchingIsCut, CutTextsAgree}
+use Rattle.ct_monitor_lines.specs.CutRuns.{IsCutBehind, BrokenWatchingIsCut, CutTextsAgree, CutFirstAgrees}
 use Rattle.ct_monitor_lines.specs.History.{RunTaken, FollowOn, after_runs, taken_of, all_taken}
 use Rattle.ct_monitor_lines.specs.Session.{FirstGives, TakesFirstLines}
-use Rattle.ct_monitor_lines.specs.StateText.{IsLineOfState}
+use Rattle.ct_monitor_lines.specs.StateText.{IsLineOfState, IsNoStateLine}
 use Rattle.ct_monitor_lines.specs.Watching.{monitor_gives}
+use Rattle.ct_monitor_lines.specs.declared.session.Session.{Session}
 use Rattle.ct_monitor_lines.specs.declared.watch.Watch.{Watch}
 use Rattle.ct_monitor_lines.proofs.Runs.{runs_agree}
 use Rattle.ct_monitor_lines.proofs.StateTexts.{state_lines_differ}
@@ -80,6 +81,50 @@ cut_taken state names input first told is b =
     let gives = subst (λ (ns : List (List ℕ)). FirstGives ns new.session (first_piece 10 input) first after.session) watched lines.1.1.1 in
     from_state state names input first b.1 told new after b.2 is (lines.1.1.0 ∙ watched) gives lines.1.2
 
+-- ---- a run that is cut off, of which no state stands on the first line
+
+with_first : (names : List (List ℕ)) (input first left : List ℕ) (told : List (List ℕ)) (new after now : Watch) → IsNoStateLine (first_piece 10 input)
+    → 0 < length input → after.names ≡ names → FirstGives names new.session (first_piece 10 input) first after.session
+    → FirstReplies monitor_gives false after told (drop_through 10 input) left now
+    → (c : RunTaken) × IsTaken new.session.watcher names (concat (first ∷ told)) c
+with_first names input first left told new after now none some same (inl taken) f = absurd (none after.session.watcher taken.0)
+with_first names input first left told new after now none some same (inr gave) f =
+    let line = gave.1 in
+    let rest = lines_taken names after now told (drop_through 10 input) left same f in
+    let behind = subst (λ (m : Session). TakesFirstLines names m rest.0 (drop_through 10 input) (concat told) left now.session) (sym line.3) rest.1 in (
+      record {
+        names = names;
+        start = new.session;
+        lines = input;
+        told = first ++ concat told;
+        steps = line.0 ∷ rest.0;
+        left = left;
+        last = now.session;
+      },
+      (refl, refl, refl, (some, line.1, (concat told, behind, ap (λ (t : List ℕ). t ++ concat told) (sym line.2)))),
+    )
+
+without_state : (names : List (List ℕ)) (input left : List ℕ) (told : List (List ℕ)) (new now : Watch) → new.names ≡ names
+    → IsNoStateLine (first_piece 10 input) → FirstReplies monitor_gives true new told input left now
+    → (c : RunTaken) × IsTaken new.session.watcher names (concat told) c
+without_state names input left [] new now is none f = (
+  record {
+    names = names;
+    start = new.session;
+    lines = input;
+    told = [];
+    steps = [];
+    left = left;
+    last = now.session;
+  },
+  (refl, refl, refl, (f.0, refl, ap (λ (w : Watch). w.session) f.1)),
+)
+without_state names input left (r ∷ told) new now is none f =
+    let after : Watch = f.1.0 in
+    let first : FirstGives names new.session (first_piece 10 input) r after.session =
+    subst (λ (ns : List (List ℕ)). FirstGives ns new.session (first_piece 10 input) r after.session) is f.1.1.1 in
+    with_first names input r left told new after now none f.0 (f.1.1.0 ∙ is) first f.1.2
+
 -- ---- behind runs that ended
 
 follow_and : (s : WatcherState) (runs : List RunTaken) (c : RunTaken) → FollowOn s runs → c.start.watcher ≡ after_runs s runs
@@ -97,3 +142,13 @@ cut_texts_agree r runs t none f names input first told b u =
     let g : FollowOn t.new.watcher (whole ++ c ∷ []) = follow_and t.new.watcher whole c (follow_texts r runs t none f) cut.1.2 cut.1.3 in
     let agree = runs_agree t.new.watcher (whole ++ c ∷ []) t.fresh g in
     (c, cut.1.0, cut.1.1, g, agree.0, agree.1)
+
+pub cut_first_agrees : CutFirstAgrees
+unfolding FollowOn
+cut_first_agrees names input told none b =
+    let new : Watch = b.0 in
+    let cut = without_state names input b.1 told new b.2 b.4.watched none b.3 in
+    let c : RunTaken = cut.0 in
+    let g : FollowOn new.session.watcher (c ∷ []) = (cut.1.2, cut.1.3, tt) in
+    let agree = runs_agree new.session.watcher (c ∷ []) b.4.fresh g in
+    (new.session.watcher, b.4.fresh, c, cut.1.0, cut.1.1, g, agree.0, agree.1)

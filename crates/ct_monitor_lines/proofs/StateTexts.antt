@@ -1,5 +1,5 @@
 -- A state is read back from its line: so the line is that of no other.
-use Rattle.std.proofs.Common.{◌≡◌, ◌∙◌, ◌<◌, ◌≤◌, ◌^◌, ℕ, suc, true, false, List, [], ◌∷◌, map, ◌==◌, if◌then◌else◌, codes, Option, Some, None, All, sym, refl, ap, ap₂, subst, arith}
+use Rattle.std.proofs.Common.{◌≡◌, ◌∙◌, ◌<◌, ◌≤◌, ◌^◌, ℕ, suc, Bool, true, false, List, [], ◌∷◌, length, map, ◌==◌, if◌then◌else◌, codes, Option, Some, None, All, sym, refl, ap, ap₂, subst, arith}
 use Rattle.std.specs.Prelude.{max, option_map, option_and_then}
 use Rattle.std.specs.Result.{result_ok}
 use Rattle.std.proofs.lemmas.Option.{same_Some, none-some}
@@ -21,7 +21,7 @@ use Rattle.ct_tree.specs.declared.head.Head.{Head}
 use Rattle.ct_monitor.specs.WatcherState.{WatcherState}
 use Rattle.ct_fields.specs.Heads.{head_in, head_with, head_data}
 use Rattle.ct_monitor_lines.specs.StateText.{peaks_data, state_data, check_data, state_text, IsRootHash, IsNoneOrOfBytes, ArePeaksOfBytes, IsOfBytes}
-use Rattle.ct_monitor_lines.specs.StateText.{fits_together, peaks_in, state_in, state_with, IsLineOfState, IsNoStateLine, LinesOfStatesDiffer, StatesReadBack}
+use Rattle.ct_monitor_lines.specs.StateText.{fits_together, peaks_in, state_in, state_with, IsLineOfState, IsNoStateLine, LinesOfStatesDiffer, ReadsState, StatesReadBack}
 
 -- ---- a value's text reads as the value
 
@@ -213,6 +213,18 @@ pub empty_is_none : IsNoStateLine []
 unfolding state_text
 empty_is_none s l = let e : [] ≡ state_text s = l.2 in cc
 
+-- a state is no other that fits, where it doesn't fit itself
+no_fit : (s t : WatcherState) → t ≡ s → fits_together t ≡ true → fits_together s ≡ false → ⊥
+no_fit s t same fits unfit =
+    let own : fits_together s ≡ true = subst (λ (x : WatcherState). fits_together x ≡ true) same fits in
+    let both : false ≡ true = sym unfit ∙ own in cc
+
+read_by : (s : WatcherState) (o : Option WatcherState) (b : Bool) → fits_together s ≡ b → IsOfBytes s → length (state_text s) ≤ 16777216
+    → ReadsState (state_text s) o → o ≡ (if b then Some s else None)
+read_by s None true fits x few reads = absurd (reads s (x, few, refl, fits))
+read_by s (Some t) true fits x few reads = ap (λ (u : WatcherState). Some u) (state_lines_differ t s reads.0 x (sym reads.2))
+read_by s None false unfit x few reads = refl
+read_by s (Some t) false unfit x few reads = absurd (no_fit s t (state_lines_differ t s reads.0 x (sym reads.2)) reads.3 unfit)
+
 pub states_read_back : StatesReadBack
-states_read_back s None x fits few reads = absurd (reads s (x, few, refl, fits))
-states_read_back s (Some t) x fits few reads = ap (λ (u : WatcherState). Some u) (state_lines_differ t s reads.0 x (sym reads.2))
+states_read_back s o x few reads = read_by s o (fits_together s) refl x few reads

@@ -2,7 +2,9 @@
 use Rattle.std.specs.Prelude.{◌≡◌, ◌<◌, ℕ, true, List, [], ◌∷◌, ◌++◌, length, Option}
 use Rattle.std.specs.List.{concat}
 use Rattle.std.specs.Io.BufRead.{first_piece}
-use Rattle.ct_monitor.specs.Watched.{Watched}
+use Rattle.sha2.specs.Sha256.{sha256}
+use Rattle.ct_monitor.specs.Watched.{Watched, nothing_seen}
+use Rattle.ct_monitor.specs.WatcherState.{WatcherState, Keeps}
 use Rattle.line_program.specs.Replied.{FirstReplies, is_next_first, Broken}
 use Rattle.ct_monitor_lines.specs.History.{RunTaken, FollowOn, HandedOut, RunText, IsRunText, TakesUp, FollowTexts, taken_of, all_taken}
 use Rattle.ct_monitor_lines.specs.StateText.{IsNoStateLine}
@@ -39,3 +41,10 @@ CutTextsAgree = (r : RunText) (runs : List RunText) (t : IsRunText r) → IsNoSt
     → (c : RunTaken) × (c.names ≡ names) × (c.told ≡ concat (first ∷ told))
     × (g : FollowOn t.new.watcher ((taken_of r t ∷ all_taken r.text runs f) ++ c ∷ []))
     × (w : Watched) × HandedOut t.new.watcher ((taken_of r t ∷ all_taken r.text runs f) ++ c ∷ []) g w
+
+-- Take a run that was cut off anywhere, whose first line is no state. Then it began with nothing seen, and each head to which `accepted` was said
+-- is that of a beginning of the accepted leaves of all that its answers handed out.
+abbrev pub CutFirstAgrees : Type 0
+CutFirstAgrees = (names : List (List ℕ)) (input : List ℕ) (told : List (List ℕ)) → IsNoStateLine (first_piece 10 input) → IsCutBehind names input told
+    → (s : WatcherState) × Keeps sha256 s nothing_seen × (c : RunTaken) × (c.names ≡ names) × (c.told ≡ concat told)
+    × (g : FollowOn s (c ∷ [])) × (w : Watched) × HandedOut s (c ∷ []) g w

@@ -1,5 +1,5 @@
 -- The line of a state.
-use Rattle.std.specs.Prelude.{◌≡◌, ◌<◌, ◌≤◌, ◌^◌, ◌==◌, ◌&&◌, nat_le, count_ones, ⊤, ℕ, Bool, true, List, length, All, Some, None, option_map, option_and_then, codes}
+use Rattle.std.specs.Prelude.{◌≡◌, ◌<◌, ◌≤◌, ◌^◌, ◌==◌, ◌&&◌, nat_le, count_ones, ⊤, ℕ, Bool, true, List, length, All, Some, None, if◌then◌else◌, option_map, option_and_then, codes}
 use Rattle.base64.specs.GeneralPurpose.{IsBytes}
 use Rattle.std.specs.declared.option.Option.{Option}
 use Rattle.serde_json.specs.Data.{Data, null, object, member, no_members}
@@ -103,10 +103,10 @@ ReadsState line (Some s) = IsLineOfState line s
 abbrev pub LinesOfStatesDiffer : Type 0
 LinesOfStatesDiffer = (s t : WatcherState) → IsOfBytes s → IsOfBytes t → state_text s ≡ state_text t → s ≡ t
 
--- what is written of a state whose numbers fit one another is read as that state and as nothing else, where its line has at most 16,777,216 bytes
+-- what is written of a state is read as that state where its numbers fit one another, and else as none, where its line has at most 16,777,216 bytes
 abbrev pub StatesReadBack : Type 0
-StatesReadBack = (s : WatcherState) (o : Option WatcherState) → IsOfBytes s → fits_together s ≡ true → length (state_text s) ≤ 16777216
-    → ReadsState (state_text s) o → o ≡ Some s
+StatesReadBack = (s : WatcherState) (o : Option WatcherState) → IsOfBytes s → length (state_text s) ≤ 16777216
+    → ReadsState (state_text s) o → o ≡ (if fits_together s then Some s else None)
 
 -- they fit in each state that stands for what a log handed out
 abbrev pub StatesFit : Type 0

@@ -1,6 +1,6 @@
 //! What follows of the definitions, the contract of a function that does nothing.
 
-ghost use Rattle.ct_monitor_lines.specs.CutRuns.{BrokenWatchingIsCut, CutTextsAgree};
+ghost use Rattle.ct_monitor_lines.specs.CutRuns.{BrokenWatchingIsCut, CutFirstAgrees, CutTextsAgree};
 ghost use Rattle.ct_monitor_lines.specs.History.{RunsAgree, TextsAgree};
 ghost use Rattle.ct_monitor_lines.specs.StateText.{LinesOfStatesDiffer, StatesFit, StatesReadBack};
 
@@ -20,10 +20,11 @@ pub fn texts_agree()
     ensures { TextsAgree }
 {}
 
-/// The same where behind such runs one was cut off behind any line, which began with the last state that was written: each run that a fault
-/// broke off is one ([`broken_runs_are_cut`]).
+/// The same where behind such runs one was cut off behind any line, which began with the last state that was written; and of one that began
+/// without a state. Each run that a fault broke off is one that was cut off ([`broken_runs_are_cut`]), and writes no state.
 pub fn cut_texts_agree()
-    ensures { CutTextsAgree }
+    ensures behind { CutTextsAgree }
+    ensures first { CutFirstAgrees }
 {}
 
 /// A run that a fault broke off, as [`run`](crate::program::run) ensures, is cut off behind the lines of which all is written that they have to
@@ -45,7 +46,7 @@ pub fn states_fit()
     ensures { StatesFit }
 {}
 
-/// What is written of a state whose numbers fit one another is read as that state, where it has at most 16,777,216 bytes.
+/// What is written of a state is read as that state where its numbers fit one another, and else as none, where it has at most 16,777,216 bytes.
 #[tactic(auto, using(crate::proofs::StateTexts::states_read_back))]
 pub fn states_read_back()
     ensures { StatesReadBack }
