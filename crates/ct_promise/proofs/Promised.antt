@@ -25,7 +25,7 @@ use Rattle.ct_promise.specs.declared.fault.Unfit.{Unfit}
 use Rattle.ct_promise.specs.declared.fault.Unfit.TheVariants.{BadPoison, TooLong}
 use Rattle.ct_promise.specs.declared.fault.PromiseFault.{PromiseFault}
 use Rattle.ct_promise.specs.Promise.{poison_identifier, poison_text, list_identifier, in_document, promised_entry_at, promised_leaf_at}
-use Rattle.ct_promise.specs.Promise.{promised_at, GivesPromise, IsEntryOf, IsPromised, IsPromiseKept, StandsInAll}
+use Rattle.ct_promise.specs.Promise.{promised_at, GivesPromise, IsEntryOf, IsPromised, IsPromiseKept, StandsInAll, KeptPromisesStand}
 
 bound : {A B F : Type 0} (r : Result A F) (f : A → Result B F) (y : B) → (r >>= f) ≡ Ok y → (x : A) × (r ≡ Ok x) × (f x ≡ Ok y)
 bound (Ok x) f y e = (x, refl, e)
@@ -142,9 +142,13 @@ pub leaf_answered : (certificate issuer : List ℕ) (t : ℕ) (x : List ℕ) (r 
 leaf_answered certificate issuer t x (Ok v) fits also moment short given = promised_found certificate issuer t x v.items fits also moment short given
 leaf_answered certificate issuer t x (Err e) fits also moment short given = tt
 
+pub kept_promises_stand : KeptPromisesStand
+kept_promises_stand H hash_length certificate issuer t x index size path root (leaf, is, accepts) D all mth =
+    let there = subst (λ (n : ℕ). AcceptsInclusion H (hash_leaf H leaf) index n path (mth_of_leaves H D)) (sym all)
+    (subst (λ (r : List ℕ). AcceptsInclusion H (hash_leaf H leaf) index size path r) (sym mth) accepts) in
+    elim (path_tells H hash_length D leaf index path there) [ inl audited ↦ inl (leaf, is, audited) | inr clash ↦ inr clash ]
+
 pub kept_stands : (certificate issuer : List ℕ) (t : ℕ) (x : List ℕ) (index size : ℕ) (path : List (List ℕ)) (root : List ℕ)
     → IsPromiseKept certificate issuer t x index size path root → StandsInAll certificate issuer t x index size path root
-kept_stands certificate issuer t x index size path root (leaf, is, accepts) D all mth =
-    let there = subst (λ (n : ℕ). AcceptsInclusion sha256 (hash_leaf sha256 leaf) index n path (mth_of_leaves sha256 D)) (sym all)
-    (subst (λ (r : List ℕ). AcceptsInclusion sha256 (hash_leaf sha256 leaf) index size path r) (sym mth) accepts) in
-    elim (path_tells sha256 length-sha256 D leaf index path there) [ inl audited ↦ inl (leaf, is, audited) | inr clash ↦ inr clash ]
+kept_stands certificate issuer t x index size path root kept =
+    kept_promises_stand sha256 length-sha256 certificate issuer t x index size path root kept

@@ -83,10 +83,14 @@ pub record IsPromised (certificate issuer : List ℕ) (t : ℕ) (x leaf : List �
   pub key_is : IsKeyOf key issuer_tbs
   pub leaf_is : LeafText t (precertificate (sha256 key) entry) x leaf
 
--- the audit path leads from the leaf, which was promised, to the root
+-- by a hash function H the audit path leads from the leaf, which was promised, to the root
+abbrev pub IsPromiseKeptBy : (List ℕ → List ℕ) → List ℕ → List ℕ → ℕ → List ℕ → ℕ → ℕ → List (List ℕ) → List ℕ → Type 0
+IsPromiseKeptBy H certificate issuer t x index size path root =
+    (leaf : List ℕ) × IsPromised certificate issuer t x leaf × AcceptsInclusion H (hash_leaf H leaf) index size path root
+
+-- the same by SHA-256
 abbrev pub IsPromiseKept : List ℕ → List ℕ → ℕ → List ℕ → ℕ → ℕ → List (List ℕ) → List ℕ → Type 0
-IsPromiseKept certificate issuer t x index size path root =
-    (leaf : List ℕ) × IsPromised certificate issuer t x leaf × AcceptsInclusion sha256 (hash_leaf sha256 leaf) index size path root
+IsPromiseKept certificate issuer t x index size path root = IsPromiseKeptBy sha256 certificate issuer t x index size path root
 
 -- why it doesn't, unless memory ran out
 abbrev pub IsUnkept : List ℕ → List ℕ → ℕ → List ℕ → ℕ → ℕ → List (List ℕ) → List ℕ → Unkept → Type 0
@@ -95,9 +99,20 @@ IsUnkept certificate issuer t x index size path root (kept.NotThere f) =
     (leaf : List ℕ) × IsPromised certificate issuer t x leaf × RefusesInclusion sha256 (hash_leaf sha256 leaf) index size path root f
 IsUnkept certificate issuer t x index size path root kept.Memory = Unit {0}
 
--- In each list of so many leaves whose MTH is the root, the leaf that was promised stands at the index, and the path is its PATH; or two
--- different strings with one hash are given (RFC 6962, 2.1).
+-- By a hash function H: in each list of so many leaves whose MTH is the root, the leaf that was promised stands at the index, and the path is
+-- its PATH; or two different strings with one hash are given (RFC 6962, 2.1).
+abbrev pub StandsInAllBy : (List ℕ → List ℕ) → List ℕ → List ℕ → ℕ → List ℕ → ℕ → ℕ → List (List ℕ) → List ℕ → Type 0
+StandsInAllBy H certificate issuer t x index size path root =
+    (D : List (List ℕ)) → length D ≡ size → mth_of_leaves H D ≡ root
+    → ((leaf : List ℕ) × IsPromised certificate issuer t x leaf × IsAudited H D leaf index path) ⊎ SomeCollide H
+
+-- the same by SHA-256
 abbrev pub StandsInAll : List ℕ → List ℕ → ℕ → List ℕ → ℕ → ℕ → List (List ℕ) → List ℕ → Type 0
-StandsInAll certificate issuer t x index size path root =
-    (D : List (List ℕ)) → length D ≡ size → mth_of_leaves sha256 D ≡ root
-    → ((leaf : List ℕ) × IsPromised certificate issuer t x leaf × IsAudited sha256 D leaf index path) ⊎ SomeCollide sha256
+StandsInAll certificate issuer t x index size path root = StandsInAllBy sha256 certificate issuer t x index size path root
+
+-- By every hash function H with hashes of 32 bytes: where the audit path leads from the leaf that was promised to the root, that leaf stands in
+-- each list with this root, or two different strings with one hash are given.
+abbrev pub KeptPromisesStand : Type 0
+KeptPromisesStand = (H : List ℕ → List ℕ) → ((y : List ℕ) → length (H y) ≡ 32)
+    → (certificate issuer : List ℕ) (t : ℕ) (x : List ℕ) (index size : ℕ) (path : List (List ℕ)) (root : List ℕ)
+    → IsPromiseKeptBy H certificate issuer t x index size path root → StandsInAllBy H certificate issuer t x index size path root

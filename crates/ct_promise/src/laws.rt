@@ -1,5 +1,6 @@
-//! Laws of the cut, each the contract of a function that does nothing.
+//! Laws of the cut, and of promises, each the contract of a function that does nothing.
 
+ghost use Rattle.ct_promise.specs.Promise.{KeptPromisesStand};
 ghost use Rattle.ct_promise.specs.Laws.{CutsAreRead, ReadCutsAreThere, WrittenCutsAreThere, CutsAreWritten, OneCut, PuttingBack, OneTbs, OneKey};
 
 /// The parts of each TBSCertificate with one extension of an identifier are read, and what is read is there.
@@ -28,4 +29,11 @@ pub fn putting_back()
 pub fn certificates_have_one_key()
     ensures tbs { OneTbs }
     ensures key { OneKey }
+{}
+
+/// Where an audit path leads from the leaf that a timestamp within a certificate stands for to a root, that leaf stands in each list with this
+/// root, or two different strings with one hash are given: a law of every hash function with hashes of 32 bytes, of which
+/// [`check_promise`](crate::check_promise) has the one of SHA-256.
+pub fn kept_promises_stand()
+    ensures { KeptPromisesStand }
 {}

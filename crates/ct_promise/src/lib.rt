@@ -11,7 +11,7 @@
 //! - [`check_promise`] says whether that very leaf stands in a tree, by an audit path: its theorem begins at the certificate's own bytes.
 //! - All are exact: what is read is of the grammar in `specs/Tbs.antt`, and what is of the grammar is read. A [`CutFault`] is the first that
 //!   reading meets, with its field.
-//! - [`laws`] shows that no bytes have two cuts, and that a cut that is put back gives the bytes.
+//! - [`laws`] shows that no bytes have two cuts, that a cut that is put back gives the bytes, and what a promise that was kept tells.
 //!
 //! Which timestamps a certificate has, and whether the log's key signed them, is for the caller to see. Names, moments, keys, signatures and
 //! the values of extensions aren't looked at: more is read than DER allows.
