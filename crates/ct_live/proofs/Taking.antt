@@ -32,7 +32,7 @@ took_some front max most now c n old new xs some is t more early count few all t
   settling = settling front now old new xs t more early;
   answer = (
     same ∙ count,
-    omega arith,
+    subst (λ k. n ≤ k) is (omega (arith, few, same)),
     subst (λ k. min k (hand_count old front) ≤ n) is
         (subst (λ k. min most (hand_count old front) ≤ k) (sym same) all),
     λ below. time,

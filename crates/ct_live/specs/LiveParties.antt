@@ -13,12 +13,12 @@ use Rattle.ct_parties.specs.FrontWork.{FrontDoes, FrontGoesOn}
 use Rattle.ct_parties.specs.OperatorWork.{GoesOn, IsBadLine, OperatorDoes, Settling}
 use Rattle.ct_lines.specs.declared.request.FrontRequest.{FrontRequest}
 
--- The answer where what is there of a front's items is to be settled, so many of them at most: how many were, and these are at least
+-- The answer where what is there of a front's items is to be settled, so many of them and 256 at most: how many were, and these are at least
 -- those that were in hand, up to that many and to 256; or the refusal, of the clock or of memory, where fewer were settled than that many
 -- and than 256.
 abbrev pub IsTakeAnswer : ℕ → ℕ → ℕ → HouseState → List Item → Answer → Type 0
 IsTakeAnswer front max now old xs (a_settled_count n) =
-    (n ≡ length xs) × (n ≤ max) × (min (min max 256) (hand_count old front) ≤ n) × (0 < max → clock_of old.core ≤ now)
+    (n ≡ length xs) × (n ≤ min max 256) × (min (min max 256) (hand_count old front) ≤ n) × (0 < max → clock_of old.core ≤ now)
 IsTakeAnswer front max now old xs (refused e) = (length xs < min max 256) × (e ≡ settle_refusal old.core now)
 IsTakeAnswer front max now old xs _ = ⊥
 
