@@ -1,8 +1,9 @@
 #!/usr/bin/env python3
 """Runs `rt ci`, the merge gate, and prints each of its lines behind the time so far. Its last line, 'N passed, M failed', is printed once
 more, with the tests of the Go part in it, of which the file COUNT in the environment has how many passed and failed, and with what is run over the
-programs once `rt ci` has built them: those over lines by words of their own (tests/command_lines.py), and the parts of the demo (examples/demo.sh). The
-status is that of `rt ci`, or 1 where one of these failed.
+programs once `rt ci` has built them: those over lines by words of their own (tests/command_lines.py), all while some growths of memory are refused
+(tests/sweep.py) and ctlogd while it is broken off (tests/live_break.py), and the parts of the demo (examples/demo.sh). The status is that of `rt ci`, or
+1 where one of these failed.
 
 `rt ci` tells of a crate when it is done, and not how many of its functions are proved so far; while it tells nothing, a line a minute says
 how long it has been at work.
@@ -41,6 +42,14 @@ MEMORY = 4_000_000_000
 
 # The parts of the demo over programs that `rt ci` builds. The other one, path, is over libwagtenib, of which `rt ci` leaves no archive.
 DEMO = ("monitor", "log", "watched", "tiles", "followed")
+
+# How the programs are broken off: each so many-th growth of memory is refused (make sweep refuses every one), or a run ends whose input is open.
+BROKEN_OFF = (
+    ("live_break.py", "--step", "60"),
+    ("sweep.py", "--step", "40"),
+    ("sweep.py", "--live", "--step", "40"),
+    *(("sweep.py", "--stored", name, "--step", "40") for name in ("ctguard", "ctmonitor", "ctnode", "ctproof", "cttile")),
+)
 
 # How often it says that the gate is still at work, in seconds, while nothing else happens.
 EVERY = 60
@@ -191,6 +200,10 @@ def run_programs():
     words = subprocess.run([sys.executable, ROOT / "tests" / "command_lines.py"], **how)
     print(words.stdout, end="", flush=True)
     passed, failed = len(re.findall(r" as due$", words.stdout, re.M)), 1 if words.returncode else 0
+    for script, *given in BROKEN_OFF:
+        broken = subprocess.run([sys.executable, ROOT / "tests" / script, *given], **how)
+        print(broken.stdout if broken.returncode else f"{' '.join([script, *given])}: as due", flush=True)
+        passed, failed = passed + (not broken.returncode), failed + (broken.returncode != 0)
     for part in DEMO:
         shown = subprocess.run([ROOT / "examples" / "demo.sh", part], **how)
         print(shown.stdout if shown.returncode else f"the demo's part {part}: as due", flush=True)

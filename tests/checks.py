@@ -117,23 +117,27 @@ def try_counted(repository):
 
 
 def try_programs(repository):
-    """Behind a gate whose proofs passed the built programs are given words of their own, and the demo's parts over them are shown: its last line counts
-    both, and its status tells."""
+    """Behind a gate whose proofs passed the built programs are given words of their own, growths of memory are refused to them, and the demo's parts over
+    them are shown: its last line counts all of these, and its status tells."""
     words, demo = repository.folder / "tests" / "command_lines.py", repository.folder / "examples" / "demo.sh"
     words.parent.mkdir()
-    shown = len(gate.DEMO)
-    for end, part, rt, due, last in (
-        ("", "none", "echo 3 passed, 0 failed", 0, f"{5 + shown} passed, 0 failed"),
-        ("sys.exit(1)", "none", "echo 3 passed, 0 failed", 1, f"{5 + shown} passed, 1 failed"),
-        ("", "log", "echo 3 passed, 0 failed", 1, f"{4 + shown} passed, 1 failed"),
-        ("sys.exit(1)", "tiles", "echo 3 passed, 0 failed", 1, f"{4 + shown} passed, 2 failed"),
-        ("", "none", "echo 2 passed, 1 failed; exit 1", 1, "2 passed, 1 failed"),
+    shown = len(gate.DEMO) + len(gate.BROKEN_OFF)
+    for end, swept, part, rt, due, last in (
+        ("", "none", "none", "echo 3 passed, 0 failed", 0, f"{5 + shown} passed, 0 failed"),
+        ("sys.exit(1)", "none", "none", "echo 3 passed, 0 failed", 1, f"{5 + shown} passed, 1 failed"),
+        ("", "cttile", "none", "echo 3 passed, 0 failed", 1, f"{4 + shown} passed, 1 failed"),
+        ("", "none", "log", "echo 3 passed, 0 failed", 1, f"{4 + shown} passed, 1 failed"),
+        ("sys.exit(1)", "none", "tiles", "echo 3 passed, 0 failed", 1, f"{4 + shown} passed, 2 failed"),
+        ("", "none", "none", "echo 2 passed, 1 failed; exit 1", 1, "2 passed, 1 failed"),
     ):
         words.write_text(f"import sys\nprint('one: 7 command lines as due')\nprint('two: 8 command lines as due')\nprint('three: other')\n{end}\n")
+        for script in {script for script, *_ in gate.BROKEN_OFF}:
+            (words.parent / script).write_text(f"import sys\nsys.exit('sweep: another reply' if {swept!r} in sys.argv else 0)\n")
         demo.write_text(f'#!/bin/sh\n[ "$1" != {part} ] || {{ echo "demo: other replies"; exit 1; }}\n')
         demo.chmod(0o755)
         ended, said = repository.run("checks/gate.py", rt=rt)
-        hold(f"a gate whose programs end with {end or 'status 0'}, and whose demo fails in {part}", (ended, said.splitlines()[-1]), (due, last))
+        hold(f"a gate whose programs end with {end or 'status 0'}, whose sweep fails in {swept}, and demo in {part}", (ended, said.splitlines()[-1]), (due, last))
+        hold(f"it says why {swept} failed", "sweep: another reply" in said, swept != "none")
         hold(f"it says why {part} failed", "demo: other replies" in said, part != "none")
     shutil.rmtree(words.parent)
     demo.unlink()

@@ -1,7 +1,7 @@
 #!/usr/bin/env python3
 """Refuses each growth of ctlog, or with --live of ctlogd, in turn, and judges what it then does.
 
-    sweep.py [--live | --stored NAME] [PROGRAM] [--from N] [--most N]
+    sweep.py [--live | --stored NAME] [PROGRAM] [--from N] [--most N] [--step N]
 
 The script of lines has two fronts and three shifts: A, B, A on front 0 and A on front 1, each kind of question and two publications; B and C on
 front 0, which settle as the second shift ends; then a question of each front, a shutdown, and the closed log's answers with an audit. It is run once with ample memory, and then with the first growth refused, the second, and so on, until a run makes
@@ -20,7 +20,7 @@ ctlogd has the same lines but for the shifts, and a `take` and a `close`. Its re
 wait for one another to write, and the whole is judged by check.py --live. With status 1, what was written before is whole replies, of each party
 without one left out, and those of the ample run up to the party's first line that waited in vain.
 
---stored takes a program that answers line by line (ctguard, ctmonitor, cttile, ctproof, ctnode) over the run that is stored in crates/NAME. With ample memory its
+--step refuses each N-th of them, and else every one. --stored takes a program that answers line by line (ctguard, ctmonitor, cttile, ctproof, ctnode) over the run that is stored in crates/NAME. With ample memory its
 output and status have to be the stored ones; with a growth refused, too, or the status 1, with `NAME: memory` or a beginning of that line, and whole replies.
 Before that an output that is full has to end it with status 1 and `NAME: write`, and an input that is a folder with `NAME: read`.
 
@@ -257,6 +257,7 @@ def main():
     parser.add_argument("--stored", metavar="NAME")
     parser.add_argument("--from", type=int, default=1, dest="first")
     parser.add_argument("--most", type=int, default=1_000_000)
+    parser.add_argument("--step", type=int, default=1)
     options = parser.parse_args()
     with tempfile.TemporaryDirectory() as folder:
         place = pathlib.Path(folder)
@@ -272,7 +273,7 @@ def main():
             if growths < refused and what.endswith("all as with ample memory"):
                 break
             sweep.found[what] += 1
-            refused += 1
+            refused += options.step
     if not sweep.found:
         sys.exit("sweep.py: there was no growth to be refused")
     for what, times in sorted(sweep.found.items(), key=lambda pair: -pair[1]):
