@@ -6,7 +6,7 @@ programs once `rt ci` has built them: those over lines by words of their own (te
 1 where one of these failed.
 
 `rt ci` tells of a crate when it is done, and not how many of its functions are proved so far; while it tells nothing, a line a minute says
-how long it has been at work.
+how long it has been at work. Behind it a line says how many processor minutes it took.
 
 It has `rt ci` try those edits of crates/NAME/wrong-bodies whose first line is 'tried: by each gate', and those where it is 'tried: by every sixth
 gate', of a sixth of the crates that have such: the commit's hash says which, or TURN=0 to 5 in the environment. They stand in must-fail, which
@@ -21,6 +21,7 @@ import fcntl
 import os
 import pathlib
 import re
+import resource
 import signal
 import subprocess
 import sys
@@ -250,6 +251,8 @@ def run():
         # (where this program is ended, what it has begun is too)
         gate.terminate()
     ended.set()
+    used = resource.getrusage(resource.RUSAGE_CHILDREN)
+    say(f"rt ci took {(used.ru_utime + used.ru_stime) / 60:.1f} processor minutes")
     last, failed = with_programs(last) if status == 0 else (last, 0)
     print(with_go(last), flush=True)
     return min(failed, 1) if status == 0 else max(status, 1)
