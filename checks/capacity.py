@@ -112,6 +112,17 @@ def is_named(expression, signature, body, known, given):
     return re.search(rf"\b{name}\s*:|\b{name}\b(?=[,)])", signature) is not None
 
 
+# An array, and how many items it has.
+ARRAY = re.compile(r"(?<!vec!)\[[^\[\];]*;\s*([^\[\];]+)\]")
+
+
+def arrays(text, known):
+    """The places of arrays, or of their types, that may have more items than a growth may ask for: so an item may be as large as a machine."""
+    for found in ARRAY.finditer(text):
+        if not re.fullmatch(r"[A-Z]", found.group(1).strip()) and not is_bounded(found.group(1), "", "", known):
+            yield found.start()
+
+
 def growths(text, known, given=None):
     """The places of growths that may ask for more than there is need of, with these constants; the parameters that they ask for join `given`."""
     for found in GROWTH.finditer(text):

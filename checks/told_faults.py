@@ -1,8 +1,9 @@
 #!/usr/bin/env python3
 """No fault is told at will. No contract can say that a reader, a writer or the start of a thread failed, nor why nothing was shown or nobody came
 in time. So where the sources of a crate (but those of tests) tell such a fault, that place is named here with its reason: behind a call that
-failed, behind the last turn of a bounded loop, or where another's fault is handed on. Conversions (`impl From`) may tell them, but of a struct without
-fields that is none of them, and patterns, types and imports may name them, but not give them another name. Such faults too are an error of std's input and output and its kind, what tells of one (a call that failed, a value that
+failed, behind the last turn of a bounded loop, or where another's fault is handed on. A conversion (`impl From`) of what its name
+says to be an error may tell them, and patterns, types and imports may name them, but give them no other name. What is read or written to is what a
+function was handed. Such faults too are an error of std's input and output and its kind, what tells of one (a call that failed, a value that
 was handed back), and a call of std that may fail by itself. What is told behind the last turn over lines or calls stands right behind a loop of
 2^50 turns, which nothing breaks off, or a test whether there were 2^50; no other constant hides that number. Where a program tells a fault by its text,
 that is a fault's that it was handed or that a pattern took, and the status 1 stands behind it alone. And since std's contracts don't say what a process's status is, the `main`
@@ -12,21 +13,14 @@ which isn't there, and ends with status 1 where there is one."""
 import re
 import sys
 
-from capacity import parts
+from capacity import function_around, parameters, parts
 from source import CRATES, blanked, closing, crates, is_for_tests, line_of, sources, without_clauses
 from want_of_memory import BEHIND, asked, blocks, declared
 
 FAULT = re.compile(
-    r"\b(?:\w*Fault|Refusal)::(Read|Write|Threads|Closed|Late|Stopped|Endless)\b|\b(?:io::)?(Error)::(?:from|new|other)\b|\b(ErrorKind::\w+)"
+    r"\b(?:\w*Fault|Refusal|Self)::(Read|Write|Threads|Closed|Late|Stopped|Endless)\b|\b(?:io::)?(Error)::(?:from|new|other)\b|\b(ErrorKind::\w+)"
     r"|\b(NotAppended|ReadFailed|Stopped|Unwritten|WriteFailed)\b|(?:\.|::)(read_exact|read_to_end|read_to_string|read_until|write_all|write_fmt)\s*\("
 )
-# Another name for a fault's type, by an import or a type, under which it would be told unseen; and a struct without fields, which tells of nothing.
-RENAMED = re.compile(
-    r"^[ \t]*(?:pub(?:\(\w+\))? )?(?:use [^;]*?\b\w*(?:Fault|Refusal|Error|ErrorKind|Failed|Stopped|Unwritten|NotAppended)\s+as\s+\w"
-    r"|type (?!\w*Fault\b)\w+\s*=\s*(?:\w+::)*\w*(?:Fault|Refusal|ErrorKind|Failed|Stopped|Unwritten|NotAppended)\s*;)",
-    re.M,
-)
-EMPTY = re.compile(r"\bstruct (\w+);")
 # A loop behind whose last turn a fault is told, and how many turns it makes.
 LOOP = re.compile(r"\bfor turn in 0\.\.([A-Z]+) \{")
 # A test behind which a fault is told at once.
@@ -38,6 +32,14 @@ TELLS = re.compile(r"\b(?:tell\([^;]*\b(?:fault_text|line_of)\(fault\)[^;]*\)|te
 # What is told among the faults: a text of a fault, which came by a pattern or was handed over; or a text that no status 1 stands behind.
 TOLD_TEXT = re.compile(r"(?:[A-Z]+|text|(?:\w+_text|(?:\w+\.)?line_of)\(fault\))(?:\.as_bytes\(\))?$")
 STATUS = re.compile(r"\bfn\s+\w[^;{]*->\s*u8\b[^;{]*\{")
+# Another name for a fault: an import's, a type's, or a case that is brought in by itself.
+RENAMED = re.compile(
+    r"\b(?:\w*Fault|Refusal)(?:::\w+)?\s+as\s+\w|^(?:pub(?:\(\w+\))? )?type\s[^=;]*=\s*(?:\w+::)*(?:\w*Fault|Refusal)\s*;|\buse\s[^;]*\b(?:\w*Fault|Refusal)::", re.M
+)
+# What a conversion may tell a fault of: an error, by its name.
+SOURCE = re.compile(r"From<(?:.*\b)?(?:\w*(?:Fault|Failed|Error|ErrorKind|Refused|Appended)(?:<\w+>)?|Refusal|Stopped|Unwritten|Unkept|Unfit|Unread)>+ for")
+# What is written to, and read.
+STREAM = re.compile(r"(?<!fn )(?<![.\w])(?:send|write_whole|write_bytes|tell|next_line)\(\s*(&mut )?(\w+)")
 # How long a line waits.
 WAITS = {
     "ct_live/src/live.rt": {"TURNS": "50_000_000"},
@@ -95,16 +97,24 @@ TOLD = {
 def told(text):
     """The places at which a source tells such a fault, with its name."""
     text = without_clauses(blanked(text))
-    allowed = list(blocks(text, r"\bimpl(?:<[^{]*?>)? From<")) + list(declared(text)) + list(asked(text))
+    conversions = [block for block in blocks(text, r"\bimpl(?:<[^{]*?>)? From<") if SOURCE.search(text[slice(*block)])]
+    allowed = conversions + list(declared(text)) + list(asked(text))
     allowed += [found.span() for found in re.finditer(r"\buse [^;]*;", text)]
     for found in FAULT.finditer(text):
         behind = text[found.end() : text.find("\n", found.end())]
         if not (any(start <= found.start() < end for start, end in allowed) or BEHIND.match(behind)):
             yield found.start(), next(filter(None, found.groups()))
-    yield from ((found.start(), "by another name") for found in RENAMED.finditer(text))
-    for found in re.finditer(r"\bimpl(?:<[^{]*?>)? From<(\w+)> for", text):
-        if found[1] in EMPTY.findall(text) and not FAULT.fullmatch(found[1]):
-            yield found.start(), f"{found[1]}, which tells of nothing,"
+
+
+def of_its_own(text):
+    """The places at which a fault is given another name, and those of a call that reads or writes over what is no parameter."""
+    text = without_clauses(blanked(text))
+    yield from (found.start() for found in RENAMED.finditer(text))
+    for found in STREAM.finditer(text):
+        signature, body = function_around(text, found.start())
+        name = found.group(2)
+        if name != "self" and (name not in parameters(signature) or re.search(rf"\blet (?:mut )?{name}\b", body)):
+            yield found.start()
 
 
 def is_whole(text, name):
@@ -155,35 +165,38 @@ WRONG = f"""{LINES} fn f() -> Answer {{ const READS: u64 = 1 << 20; {LOOPS} }}
 use json_lines::tell; use crate::few::FEW as READS; fn f() -> Answer {{ {LOOPS} }}
 {LINES} fn f(output: &mut W) -> Answer {{ Write::write_all(output, bytes)?; }}
 {LINES} fn f(output: &mut W) -> Answer {{ <W as Write>::write_all (output, bytes)?; }}
-{LINES} fn f(words: &[String]) -> u8 {{ if words.len() > 8 {{ tell(faults, b"ctguard: read"); return 1; }} {RUN} }}
-{LINES} fn f(words: &[String]) -> u8 {{ if words.len() > 8 {{ tell(faults, "ctguard: read".as_bytes()); return 1; }} {RUN} }}
-{LINES} fn f(words: &[String]) -> u8 {{ if words.len() > 8 {{ tell(faults, USAGE.as_bytes()); return 1; }} {RUN} }}
-{LINES} fn f(words: &[String]) -> u8 {{ if words.len() > 8 {{ return 1; }} {RUN} }}
-{LINES} fn f(words: &[String]) -> u8 {{ match run(words) {{ Ok(status) => status, Err(_) => {{ tell(faults, READ.as_bytes()); 1 }} }} }}
-{LINES} fn f(words: &[String]) -> u8 {{ let fault = made(words); tell(faults, fault_text(fault).as_bytes()); 1 }}
+{LINES} fn f(words: &[String], faults: &mut E) -> u8 {{ if words.len() > 8 {{ tell(faults, b"ctguard: read"); return 1; }} {RUN} }}
+{LINES} fn f(words: &[String], faults: &mut E) -> u8 {{ if words.len() > 8 {{ tell(faults, "ctguard: read".as_bytes()); return 1; }} {RUN} }}
+{LINES} fn f(words: &[String], faults: &mut E) -> u8 {{ if words.len() > 8 {{ tell(faults, USAGE.as_bytes()); return 1; }} {RUN} }}
+{LINES} fn f(words: &[String], faults: &mut E) -> u8 {{ if words.len() > 8 {{ return 1; }} {RUN} }}
+{LINES} fn f(words: &[String], faults: &mut E) -> u8 {{ match run(words) {{ Ok(status) => status, Err(_) => {{ tell(faults, READ.as_bytes()); 1 }} }} }}
+{LINES} fn f(words: &[String], faults: &mut E) -> u8 {{ let fault = made(words); tell(faults, fault_text(fault).as_bytes()); 1 }}
 fn f(error: io::Error) -> Answer {{ Err(io::ErrorKind::UnexpectedEof) }}
-use json_lines::RunFault as Ended;
-pub(crate) use json_lines::{{send, RunFault as Ended}};
+use json_lines::RunFault as Ended; fn f() -> Answer {{ Err(Ended::Write) }}
+use json_lines::RunFault::Write as Ended; fn f() -> Answer {{ Err(Ended) }}
+use json_lines::RunFault::*; fn f() -> Answer {{ Err(Write) }}
 type Ended = json_lines::RunFault;
-struct GaveUp; impl From<GaveUp> for RunFault {{ fn from(_e: GaveUp) -> RunFault {{ RunFault::Write }} }}"""
+impl RunFault {{ fn given_up() -> RunFault {{ Self::Write }} }}
+impl From<GaveUp> for RunFault {{ fn from(_e: GaveUp) -> RunFault {{ RunFault::Write }} }}
+fn f(output: &mut W) -> Answer {{ let mut full: &mut [u8] = &mut []; send(&mut full, b"x")?; }}
+fn f(output: &mut W) -> Answer {{ let mut output: &mut [u8] = &mut []; send(&mut output, b"x")?; }}"""
 RIGHT = f"""{LINES} fn f() -> Answer {{ for turn in 0..READS {{ next(turn)?; }} Err(fault) }}
-{LINES} fn f(words: &[String]) -> u8 {{ {RUN} }}
-{LINES} fn f(words: &[String]) -> Result<u8, Fault> {{ tell(faults, USAGE.as_bytes()); Ok(2) }}
-{LINES} fn f(fault: Fault) -> u8 {{ tell(faults, program.line_of(fault).as_bytes()); 1 }}
-{LINES} fn f(text: &[u8]) -> u8 {{ tell(faults, text); 2 }}
+{LINES} fn f(words: &[String], faults: &mut E) -> u8 {{ {RUN} }}
+{LINES} fn f(words: &[String], faults: &mut E) -> Result<u8, Fault> {{ tell(faults, USAGE.as_bytes()); Ok(2) }}
+{LINES} fn f(fault: Fault, faults: &mut E) -> u8 {{ tell(faults, program.line_of(fault).as_bytes()); 1 }}
+{LINES} fn f(text: &[u8], faults: &mut E) -> u8 {{ tell(faults, text); 2 }}
 fn f(fault: Fault) -> Answer {{ match fault {{ Fault::Read => true, _ => false }} }}
-ghost use Rattle.json_lines.specs.declared.fault.RunFault.{{RunFault as FaultOf}};
-type Answer = Result<(), json_lines::RunFault>;
-impl Sink for Outbox {{ type Fault = ThreadFault; }}
-struct Unwritten; impl From<Unwritten> for RunFault {{ fn from(_e: Unwritten) -> RunFault {{ RunFault::Write }} }}
-struct Held {{ fault: Fault }} impl From<Held> for RunFault {{ fn from(held: Held) -> RunFault {{ RunFault::Write }} }}"""
+impl From<io::Error> for RunFault {{ fn from(_e: io::Error) -> RunFault {{ RunFault::Write }} }}
+impl From<Unwritten> for RunFault {{ fn from(_e: Unwritten) -> RunFault {{ RunFault::Write }} }}
+fn f<W: Write>(output: &mut W, bytes: &[u8]) -> Answer {{ send(output, bytes)?; }}
+fn f(&mut self) -> Answer {{ next_line(&mut self.input, KEPT, line)?; }}"""
 
 
 def try_itself():
     """Judges the lines above, each as a source of its own."""
 
     def is_wrong(line):
-        return bool([name for _, name in told(line) if name != "Read"] or None in set(loops(line)) or list(texts_told(line)))
+        return bool([name for _, name in told(line) if name != "Read"] or None in set(loops(line)) or list(texts_told(line)) or list(of_its_own(line)))
 
     missed = [line for line in WRONG.splitlines() if not is_wrong(line)] + [line for line in RIGHT.splitlines() if is_wrong(line)]
     if missed:
@@ -210,6 +223,7 @@ def main():
             seen.add(name)
             places, ends = list(told(text)), set(loops(text))
             differ += ends_and_waits(text, name)
+            differ += [f"{name}:{line_of(text, at)} gives a fault another name, or reads or writes over what it wasn't handed" for at in of_its_own(text)]
             differ += [f"{name}:{line_of(text, at)} tells a fault that it wasn't handed, or ends with 1 behind none" for at in texts_told(text)]
             if None in ends:
                 differ.append(f"{name} has a loop over turns that isn't of {TURNS}, or is broken off, or has no error behind it")

@@ -7,14 +7,14 @@ into an error, or a conversion that passes on an error which tells of one; every
 enum, a signature, an `impl`'s head, behind `let x:` or in angle brackets), imports and patterns may name it. The library for C has a number for
 it, 8, which stands only behind a pattern that names it. No growth is asked for that may be more than a machine has room for: how many places it
 asks for is a sum of lengths, of parameters, and of literals below 2^20, by way of `let`s of its function and constants, and so is what each call
-gives for such a parameter (`capacity.py`); only shared/src/count.rt asks for all places that there are, behind the last number. And none
+gives for such a parameter (`capacity.py`); only shared/src/count.rt asks for all places that there are, behind the last number. No array has 2^20 items or more. And none
 names `forget`, `leak` or `ManuallyDrop`. The script prints each place that breaks this, and ends with status 1 where there is one. Before that
 it tries itself on lines of its own, wrong ones and right ones.
 """
 import re
 import sys
 
-from capacity import calls, constants, growths
+from capacity import arrays, calls, constants, growths
 from source import ROOT, blanked, closing, crates, is_for_tests, line_of, sources, without_clauses
 
 NAMES = re.compile(r"\b(?:Memory|OutOfMemory|AllocError|AllocFailed)\b")
@@ -134,7 +134,7 @@ def made_up(text, crate, path, known, given=None):
     if crate == NUMBERED:
         found |= set(numbers(text))
     if not path.endswith(COUNT):
-        found |= set(growths(text, known, given))
+        found |= set(growths(text, known, given)) | set(arrays(text, known))
     return sorted(found)
 
 
@@ -189,7 +189,9 @@ type Refused = std::alloc::AllocError;
 fn f(alloc: Global, head: &Head) -> Answer { let room: Vec<u8> = Vec::with_capacity(alloc, head.tree_size)?; }
 fn f(alloc: Global, head: &Head) -> Answer { let room: Vec<u8> = Vec::with_capacity(alloc, head.tree_size as usize + 1)?; }
 fn f(alloc: Global, head: &Head) -> Answer { let size = head.tree_size; let room: Vec<u8> = Vec::with_capacity(alloc, size)?; }
-fn f(items: &mut Vec<u8>, log: Log) -> Answer { items.reserve(log.state.size)?; }"""
+fn f(items: &mut Vec<u8>, log: Log) -> Answer { items.reserve(log.state.size)?; }
+fn f(alloc: Global) -> Answer { let room: Vec<[u8; 1 << 46]> = Vec::with_capacity(alloc, 1)?; }
+fn f(items: &mut Vec<[u64; 4_294_967_296]>) -> Answer { items.reserve(1)?; }"""
 RIGHT = """impl From<AllocError> for Fault { fn from(_e: AllocError) -> Fault { Fault::Memory } }
 impl From<Held> for Fault { fn from(held: Held) -> Fault { match held { Held::Memory => Fault::Memory, Held::Read => Fault::Read } } }
 impl From<Held> for Fault { fn from(held: Held) -> Fault { let fault = match held { Held::Memory(_) => Fault::Memory, _ => Fault::Read }; fault } }
@@ -222,7 +224,8 @@ fn f(alloc: Global, row: &[u8]) -> Answer { let count = row.len() / 256; let roo
 let input = BufReader::with_capacity(alloc, CAPACITY, input)?;
 Err(AllocError) => 8,
 DecodeFault::Memory => 8,
-let eight = [0u8; 8];"""
+let eight = [0u8; 8];
+fn f<const N: usize>(alloc: Global, all: [u8; N]) -> Answer { let one = vec![in alloc; root(h, leaves)]?; }"""
 
 
 GIVEN_TOO_MUCH = """fn g<F: Fn(u8) -> u8>(alloc: Global, f: F, count: usize) -> Answer { Vec::with_capacity(alloc, count) } fn h(alloc: Global) -> Answer { g(alloc, f, 1 << 62) }
