@@ -21,7 +21,7 @@ pub fn texts_agree()
 {}
 
 /// The same where behind such runs one was cut off behind any line, which began with the last state that was written; and of one that began
-/// without a state. Each run that a fault broke off is one that was cut off ([`broken_runs_are_cut`]), and writes no state.
+/// without a state. Each run that a fault broke off is one that was cut off ([`broken_runs_are_cut`]).
 pub fn cut_texts_agree()
     ensures behind { CutTextsAgree }
     ensures first { CutFirstAgrees }
