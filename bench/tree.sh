@@ -4,4 +4,11 @@
 set -eu
 command -v rt >/dev/null 2>&1 || { echo "bench/tree.sh: the kit's rt is not on the PATH" >&2; exit 1; }
 cd "$(dirname "$0")/../crates/bench_work"
-rt run -- tree 1000 10000 100000 1000000
+for leaves in 1000 10000 100000 1000000; do
+    rt run -- tree "$leaves"
+done
+for leaves in 32 256 8192; do
+    for workers in 1 2 4; do
+        rt run -- batch "$leaves" "$workers"
+    done
+done

@@ -1,22 +1,36 @@
-//! The calls whose time is taken, many times over.
+//! The calls of a core whose time is taken, many times over.
 
 use crate::prepared::{ReadyItem, prepare};
 use ct_codec::Refusal;
+use ct_core::{Query, Reply, Settled};
 use ct_sequencing::Core;
-use std::alloc::Global;
+use std::alloc::{AllocError, Global};
 
-// The items of `count` certificates, from the one with the number `first`.
-pub(crate) fn prepare_all(
-    heap: Global,
-    first: u64,
-    count: u64,
-    moment: u64,
-) -> Result<Vec<ReadyItem>, Refusal> {
-    let mut items = Vec::new(heap);
-    for k in 0..count {
-        items.push(prepare(heap, first.wrapping_add(k), moment)?)?;
-    }
-    Ok(items)
+// How many queries of a kind there are.
+const ASKED: u64 = 1_000;
+
+// How many records are read.
+const READ: u64 = 1_000_000;
+
+// How far the numbers asked for lie from one another, before they are brought below the number of all.
+const STEP: u64 = 7_919;
+
+// What a core is asked for.
+#[derive(Clone, Copy)]
+pub(crate) enum Kind {
+    Proof,
+    Receipt,
+    Entry,
+}
+
+// What is read of a core, many times over.
+#[derive(Clone, Copy)]
+pub(crate) enum Reading<'a> {
+    Queries(&'a [Query]),
+    // Records out of the settlement's list.
+    List,
+    // The same records out of a vector.
+    Vector(&'a [Settled]),
 }
 
 // Settles these items, and answers how many were firsts.
@@ -33,4 +47,99 @@ pub(crate) fn settle_all(
         }
     }
     Ok(firsts)
+}
+
+// The k-th of some numbers below `size` that lie apart.
+fn spread(k: u64, size: u64) -> u64 {
+    k.wrapping_mul(STEP).checked_rem(size).unwrap_or(0)
+}
+
+// The query for what is there of the certificate with a number, in a log of `size` entries.
+fn query(heap: Global, kind: Kind, size: u64, number: u64) -> Result<Query, Refusal> {
+    match kind {
+        Kind::Proof => Ok(Query::ProofByHash {
+            hash: prepare(heap, number, 1)?.hash,
+            tree_size: size,
+        }),
+        Kind::Receipt => Ok(Query::Receipt { ticket: number }),
+        Kind::Entry => Ok(Query::Entries {
+            start: number,
+            end: number,
+        }),
+    }
+}
+
+// Queries all over a log of `size` entries.
+pub(crate) fn queries(heap: Global, kind: Kind, size: u64) -> Result<Vec<Query>, Refusal> {
+    let mut queries = Vec::new(heap);
+    for k in 0..ASKED {
+        queries.push(query(heap, kind, size, spread(k, size))?)?;
+    }
+    Ok(queries)
+}
+
+// The leaf's index that a reply shows, or how many entries.
+fn number_in(reply: &Reply) -> u64 {
+    match reply {
+        Reply::ProofByHash { leaf_index, .. } | Reply::Receipt { leaf_index, .. } => *leaf_index,
+        Reply::Entries(found) => found.len() as u64,
+        _ => 0,
+    }
+}
+
+// Asks, and answers the sum of the numbers in the replies.
+fn ask_all(heap: Global, core: &Core, queries: &[Query]) -> Result<u64, Refusal> {
+    let mut sum = 0u64;
+    for query in queries {
+        let reply = core.published().answer(heap, query)?;
+        sum = sum.wrapping_add(number_in(&reply));
+    }
+    Ok(sum)
+}
+
+// Reads records one by one, all over the settlement's list, and answers the sum of their indexes.
+fn read_list(core: &Core) -> u64 {
+    let list = core.published().settlement();
+    let mut sum = 0u64;
+    for k in 0..READ {
+        let place = spread(k, list.len() as u64) as usize;
+        sum = sum.wrapping_add(list.get(place).map_or(0, |s| s.index));
+    }
+    sum
+}
+
+// The same of a slice.
+fn read_slice(records: &[Settled]) -> u64 {
+    let mut sum = 0u64;
+    for k in 0..READ {
+        let place = spread(k, records.len() as u64) as usize;
+        sum = sum.wrapping_add(records.get(place).map_or(0, |s| s.index));
+    }
+    sum
+}
+
+// The records of the settlement.
+pub(crate) fn all_records(heap: Global, core: &Core) -> Result<Vec<Settled>, AllocError> {
+    let mut records = Vec::new(heap);
+    for record in core.published().settlement().iter() {
+        records.push(*record)?;
+    }
+    Ok(records)
+}
+
+// Reads, and answers the sum of the numbers found.
+pub(crate) fn sum_of(heap: Global, core: &Core, reading: Reading) -> Result<u64, Refusal> {
+    match reading {
+        Reading::Queries(queries) => ask_all(heap, core, queries),
+        Reading::List => Ok(read_list(core)),
+        Reading::Vector(records) => Ok(read_slice(records)),
+    }
+}
+
+// How much is read.
+pub(crate) fn count_of(reading: Reading) -> u64 {
+    match reading {
+        Reading::Queries(queries) => queries.len() as u64,
+        _ => READ,
+    }
 }

@@ -1,11 +1,13 @@
 //! The tiles of a log: leaves taken in, and audit paths made of the tiles.
 
-ghost use Rattle.std.specs.Prelude.{◌<◌, length};
+ghost use Rattle.std.specs.Prelude.{◌<◌};
 
+use crate::report::show_root;
 use ct_tile_reader::{HandedFault, NeededTile, path_of_handed, tiles_for_path};
-use ct_tiles::{Edge, Row, take_in};
-use ct_tree::{Nodes, Sha256Hash, leaf_hash};
+use ct_tiles::{Advance, Edge, Row, take_in as take_leaves_in};
+use ct_tree::{Sha256Hash, leaf_hash};
 use std::alloc::{AllocError, Global};
+use std::io;
 
 // The hashes of so many leaves from an index on.
 fn hashes(heap: Global, first: u64, count: u64) -> Result<Vec<[u8; 32]>, AllocError> {
@@ -17,25 +19,31 @@ fn hashes(heap: Global, first: u64, count: u64) -> Result<Vec<[u8; 32]>, AllocEr
     Ok(hashes)
 }
 
-// The edge of a log of `count` leaves that were taken in so many at a time.
-pub(crate) fn grown(heap: Global, count: u64, batch: u64) -> Result<Edge, AllocError> {
-    let mut edge = Edge::empty(heap)?;
-    for _ in 0..count {
-        let left = count.saturating_sub(edge.size());
-        if left == 0 {
-            break;
-        }
-        let more = hashes(heap, edge.size(), left.min(batch))?;
-        edge = take_in(heap, &Sha256Hash, &edge, &more)?.edge;
-    }
-    Ok(edge)
+// What no leaves make of a log without leaves.
+fn begun(heap: Global) -> Result<Advance, AllocError> {
+    let edge = Edge::empty(heap)?;
+    take_leaves_in(heap, &Sha256Hash, &edge, &[])
 }
 
-// All tiles of a log of `count` leaves.
-pub(crate) fn tiles(heap: Global, count: u64) -> Result<Vec<Row>, AllocError> {
-    let edge = Edge::empty(heap)?;
-    let leaves = hashes(heap, 0, count)?;
-    Ok(take_in(heap, &Sha256Hash, &edge, &leaves)?.rows)
+// What the last leaves made of a log of `count` leaves that were taken in so many at a time.
+fn grown(heap: Global, count: u64, batch: u64) -> Result<Advance, AllocError> {
+    let mut advance = begun(heap)?;
+    for _ in 0..count {
+        let first = advance.edge.size();
+        if first >= count {
+            break;
+        }
+        let more = hashes(heap, first, (count - first).min(batch))?;
+        advance = take_leaves_in(heap, &Sha256Hash, &advance.edge, &more)?;
+    }
+    Ok(advance)
+}
+
+// Prints the root of a log that took in so many leaves at a time.
+pub(crate) fn take_in(rt: &HostRuntime, count: u64, batch: u64) -> io::Result<()> {
+    let advance = grown(rt.alloc(), count, batch)?;
+    let root = advance.edge.root(rt.alloc(), &Sha256Hash)?;
+    show_root(rt, &root)
 }
 
 // The bytes of a tile, and none where it isn't there.
@@ -51,48 +59,41 @@ fn content(heap: Global, rows: &[Row], tile: &NeededTile) -> Result<Vec<u8>, All
 }
 
 // The bytes of the tiles of which the path of the leaf at index `m` of `n` is made.
-fn contents(heap: Global, rows: &[Row], m: u64, n: u64) -> Result<Vec<Vec<u8>>, AllocError>
+fn contents(heap: Global, m: u64, n: u64) -> Result<Vec<Vec<u8>>, AllocError>
     requires { m < n }
 {
+    let rows = grown(heap, n, n)?.rows;
     let mut contents = Vec::new(heap);
     for tile in &tiles_for_path(heap, m, n)? {
-        contents.push(content(heap, rows, tile)?)?;
+        contents.push(content(heap, &rows, tile)?)?;
     }
     Ok(contents)
 }
 
 // How many hashes the path of the leaf at index `m` has, made so many times of the tiles of `n` leaves.
-pub(crate) fn tile_paths(
+fn in_paths(
     heap: Global,
-    rows: &[Row],
+    contents: &[Vec<u8>],
     m: u64,
     n: u64,
-    count: u64,
+    calls: u64,
 ) -> Result<u64, HandedFault>
     requires { m < n }
 {
-    let contents = contents(heap, rows, m, n)?;
     let mut hashes = 0u64;
-    for _ in 0..count {
-        let path = path_of_handed(heap, &Sha256Hash, m, n, &contents)?;
+    for _ in 0..calls {
+        let path = path_of_handed(heap, &Sha256Hash, m, n, contents)?;
         hashes = hashes.wrapping_add(path.len() as u64);
     }
     Ok(hashes)
 }
 
-// How many the same path has that is made of the nodes.
-pub(crate) fn paths(
-    heap: Global,
-    nodes: &Nodes<Sha256Hash>,
-    m: u64,
-    count: u64,
-) -> Result<u64, AllocError>
-    requires { m < length nodes.now }
-{
-    let mut hashes = 0u64;
-    for _ in 0..count {
-        let path = nodes.path(heap, m, nodes.size())?;
-        hashes = hashes.wrapping_add(path.len() as u64);
+// Prints how many hashes there are in so many paths of the leaf in a third of a log of `n` leaves.
+pub(crate) fn paths(rt: &HostRuntime, n: u64, calls: u64) -> anyhow::Result<()> {
+    if n > 0 {
+        let contents = contents(rt.alloc(), n / 3, n)?;
+        let hashes = in_paths(rt.alloc(), &contents, n / 3, n, calls)?;
+        println!(rt; "hashes in paths {hashes}")?;
     }
-    Ok(hashes)
+    Ok(())
 }

@@ -1,143 +1,178 @@
-//! Work over the tree of `ct_tree` and its tiles.
+//! Work over the tree of `ct_tree`.
 
-use crate::{tiles, tree_timing as timing, tree_work as work};
-use ct_tree::{Nodes, Sha256Hash};
-use std::alloc::AllocError;
+ghost use Rattle.std.specs.Prelude.{◌≡◌, ◌<◌, length};
+
+use crate::report::{report, show_root};
+use ct_tree::{Nodes, Sha256Hash, leaf_hash};
+use std::alloc::{AllocError, Global};
 use std::io;
-use std::thread::Threads;
+use std::time::{Duration, Instant};
 
-// Prints how many leaves a tree has, and its root.
-fn show_root(rt: &HostRuntime, nodes: &Nodes<Sha256Hash>) -> io::Result<()> {
-    println!(rt; "leaves {}", nodes.size())?;
-    show_digest(rt, &nodes.root_at(nodes.size()))
+// How many roots, paths and proofs are asked for.
+const CALLS: u64 = 10_000;
+
+// How far the places asked for lie from one another, before they are brought below the number of leaves.
+const STEP: u64 = 7_919;
+
+// What is done with a tree.
+#[derive(Clone, Copy)]
+pub(crate) enum Task {
+    // Print the times of appends, roots, paths, proofs and a copy.
+    Time,
+    // Print what a few calls give.
+    Show,
+    // Print the root.
+    Root,
+    // Make the path of the leaf in a third of the tree so many times.
+    Path { calls: u64 },
 }
 
-// Prints what calls over a tree gave.
-fn show_calls(rt: &HostRuntime, nodes: &Nodes<Sha256Hash>) -> io::Result<()> {
-    let differ = work::roots(nodes, 100);
-    let in_paths = work::paths(rt.alloc(), nodes, 100)?;
-    let in_proofs = work::proofs(rt.alloc(), nodes, 100)?;
-    println!(rt;
-        "roots that differ {differ}\nhashes in paths {in_paths}\nhashes in proofs {in_proofs}"
-    )
+// A call of a tree.
+#[derive(Clone, Copy)]
+enum Call {
+    Roots,
+    Path,
+    Proof,
+    Copy,
 }
 
-// Prints how many leaves of a batch were hashed.
-fn show_batch<R: Threads + Sync>(rt: &HostRuntime, threads: &R) -> io::Result<()> {
-    let leaves = work::leaves(rt.alloc(), 40)?;
-    let hashes = work::batch(threads, rt.alloc(), &leaves, 4)?;
-    println!(rt; "hashes in a batch {hashes}")
-}
-
-// A tree of some leaves.
-fn thousand(rt: &HostRuntime) -> Result<Nodes<Sha256Hash>, AllocError> {
-    let mut nodes = Nodes::new(rt.alloc(), Sha256Hash);
-    work::fill(&mut nodes, 1_000)?;
-    Ok(nodes)
-}
-
-// A fixed amount of work over a tree.
-fn show_tree(rt: &HostRuntime) -> io::Result<()> {
-    let nodes = thousand(rt)?;
-    show_root(rt, &nodes)?;
-    show_calls(rt, &nodes)
-}
-
-// What tiles give.
-fn show_tiles(rt: &HostRuntime) -> io::Result<()> {
-    take_in(rt, 1_000, 7)?;
-    tile_paths(rt, 1_000, 10)
-}
-
-// Prints a root.
-fn show_digest(rt: &HostRuntime, root: &[u8; 32]) -> io::Result<()> {
-    print!(rt; "root ")?;
-    for byte in root {
-        print!(rt; "{byte:02x}")?;
+// Makes a call at a place, and answers how many hashes it gave, or leaves, or whether the root there differs from the root of all.
+fn answer(
+    heap: Global,
+    nodes: &Nodes<Sha256Hash>,
+    call: Call,
+    place: u64,
+) -> Result<u64, AllocError> {
+    let n = nodes.size();
+    if n < 2 {
+        return Ok(0);
     }
-    println!(rt)
-}
-
-// Prints the root of nodes that were appended.
-fn append(rt: &HostRuntime, count: u64) -> io::Result<()> {
-    let mut nodes = Nodes::new(rt.alloc(), Sha256Hash);
-    work::fill(&mut nodes, count)?;
-    show_digest(rt, &nodes.root_at(nodes.size()))
-}
-
-// Prints the root of a log that took in so many leaves at a time.
-fn take_in(rt: &HostRuntime, count: u64, batch: u64) -> io::Result<()> {
-    let edge = tiles::grown(rt.alloc(), count, batch)?;
-    show_digest(rt, &edge.root(rt.alloc(), &Sha256Hash)?)
-}
-
-// Prints how many hashes there are in paths out of nodes.
-fn paths(rt: &HostRuntime, size: u64, count: u64) -> io::Result<()> {
-    let mut nodes = Nodes::new(rt.alloc(), Sha256Hash);
-    work::fill(&mut nodes, size)?;
-    if size / 3 < nodes.size() {
-        let hashes = tiles::paths(rt.alloc(), &nodes, size / 3, count)?;
-        println!(rt; "hashes in paths {hashes}")?;
+    match call {
+        Call::Roots => Ok(u64::from(nodes.root_at(place % n) != nodes.root_at(n))),
+        Call::Path => {
+            let path = nodes.path(heap, place % n, n)?;
+            Ok(path.len() as u64)
+        }
+        Call::Proof => {
+            let proof = nodes.proof(heap, place % (n - 1) + 1, n)?;
+            Ok(proof.len() as u64)
+        }
+        Call::Copy => {
+            let copy = nodes.copy(heap)?;
+            Ok(copy.size())
+        }
     }
+}
+
+// The sum of the answers to `count` calls at places from `first` on.
+fn answers(
+    heap: Global,
+    nodes: &Nodes<Sha256Hash>,
+    call: Call,
+    first: u64,
+    step: u64,
+    count: u64,
+) -> Result<u64, AllocError> {
+    let mut sum = 0u64;
+    for k in 0..count {
+        let place = first.wrapping_add(k.wrapping_mul(step));
+        sum = sum.wrapping_add(answer(heap, nodes, call, place)?);
+    }
+    Ok(sum)
+}
+
+// Makes so many calls, prints how long each of `parts` of them took, and answers the sum of the answers.
+fn time_calls(
+    rt: &HostRuntime,
+    nodes: &Nodes<Sha256Hash>,
+    what: &str,
+    call: Call,
+    count: u64,
+    parts: u64,
+) -> io::Result<u64> {
+    let start = Instant::now(rt)?;
+    let sum = answers(rt.alloc(), nodes, call, 0, STEP, count)?;
+    report(rt, what, parts, start.elapsed(rt)?)?;
+    Ok(sum)
+}
+
+// Prints how long roots, paths, proofs and a copy take.
+fn time_all(rt: &HostRuntime, nodes: &Nodes<Sha256Hash>) -> io::Result<()> {
+    let differ = time_calls(rt, nodes, "two roots", Call::Roots, CALLS, CALLS)?;
+    let in_paths = time_calls(rt, nodes, "path", Call::Path, CALLS, CALLS)?;
+    let in_proofs = time_calls(rt, nodes, "proof", Call::Proof, CALLS, CALLS)?;
+    println!(rt; "checks {differ} {in_paths} {in_proofs}")?;
+    time_calls(
+        rt,
+        nodes,
+        "copy, for each leaf",
+        Call::Copy,
+        1,
+        nodes.size(),
+    )?;
     Ok(())
 }
 
-// Prints how many hashes there are in paths out of tiles.
-fn tile_paths(rt: &HostRuntime, size: u64, count: u64) -> io::Result<()> {
-    let rows = tiles::tiles(rt.alloc(), size)?;
-    if size == 0 {
-        return Ok(());
-    }
-    match tiles::tile_paths(rt.alloc(), &rows, size / 3, size, count) {
-        Ok(hashes) => println!(rt; "hashes in paths {hashes}"),
-        Err(fault) => println!(rt; "{fault}"),
-    }
+// The same, and first how long appends took.
+fn time(rt: &HostRuntime, nodes: &Nodes<Sha256Hash>, appends: Duration) -> io::Result<()> {
+    println!(rt; "{} leaves", nodes.size())?;
+    report(rt, "leaf hash and append", nodes.size(), appends)?;
+    time_all(rt, nodes)
 }
 
-// Does what a word and two numbers ask for, and answers whether they are that.
-fn is_done(rt: &HostRuntime, words: &[String]) -> io::Result<bool> {
-    let [what, first, second] = words else {
-        return Ok(false);
-    };
-    let (Ok(first), Ok(second)) = (first.parse::<u64>(), second.parse::<u64>()) else {
-        return Ok(false);
-    };
-    match what.as_str() {
-        "append" => append(rt, first)?,
-        "take-in" => take_in(rt, first, second)?,
-        "path" => paths(rt, first, second)?,
-        "tile-path" => tile_paths(rt, first, second)?,
-        _ => return Ok(false),
-    }
-    Ok(true)
-}
-
-// What one argument asks for.
-fn take(rt: &HostRuntime, argument: &str) -> io::Result<()> {
-    match argument.parse::<u64>() {
-        Ok(size) => timing::tree(rt, size),
-        Err(_) => println!(rt; "no number of leaves: {argument}"),
-    }
-}
-
-// What the arguments ask for.
-pub(crate) fn take_all<R: Threads + Sync>(
+// Prints what a hundred calls of a kind give.
+fn show_hundred(
     rt: &HostRuntime,
-    threads: &R,
-    words: &[String],
+    nodes: &Nodes<Sha256Hash>,
+    what: &str,
+    call: Call,
 ) -> io::Result<()> {
-    if is_done(rt, words)? {
-        return Ok(());
-    }
-    for word in words {
-        take(rt, word)?;
-    }
-    timing::batches(rt, threads)
+    let sum = answers(rt.alloc(), nodes, call, 0, STEP, 100)?;
+    println!(rt; "{what} {sum}")
 }
 
-// A fixed amount of work.
-pub(crate) fn show<R: Threads + Sync>(rt: &HostRuntime, threads: &R) -> io::Result<()> {
-    show_tree(rt)?;
-    show_tiles(rt)?;
-    show_batch(rt, threads)
+// Prints the size, the root, and what a hundred calls of each kind give.
+fn show(rt: &HostRuntime, nodes: &Nodes<Sha256Hash>) -> io::Result<()> {
+    println!(rt; "leaves {}", nodes.size())?;
+    show_root(rt, &nodes.root_at(nodes.size()))?;
+    show_hundred(rt, nodes, "roots that differ", Call::Roots)?;
+    show_hundred(rt, nodes, "hashes in paths", Call::Path)?;
+    show_hundred(rt, nodes, "hashes in proofs", Call::Proof)
+}
+
+// Prints how many hashes there are in so many paths of one leaf.
+fn show_paths(rt: &HostRuntime, nodes: &Nodes<Sha256Hash>, calls: u64) -> io::Result<()> {
+    let hashes = answers(rt.alloc(), nodes, Call::Path, nodes.size() / 3, 0, calls)?;
+    println!(rt; "hashes in paths {hashes}")
+}
+
+// Appends the leaf hashes of `size` leaves, and answers how long it took.
+fn fill(rt: &HostRuntime, nodes: &mut Nodes<Sha256Hash>, size: u64) -> io::Result<Duration> {
+    let start = Instant::now(rt)?;
+    for k in 0..size {
+        nodes.push(&leaf_hash(&Sha256Hash, &k.to_be_bytes()))?;
+    }
+    start.elapsed(rt)
+}
+
+// A task over a tree that was filled, which took so long.
+fn perform(
+    rt: &HostRuntime,
+    nodes: &Nodes<Sha256Hash>,
+    task: Task,
+    appends: Duration,
+) -> io::Result<()> {
+    match task {
+        Task::Time => time(rt, nodes, appends),
+        Task::Show => show(rt, nodes),
+        Task::Root => show_root(rt, &nodes.root_at(nodes.size())),
+        Task::Path { calls } => show_paths(rt, nodes, calls),
+    }
+}
+
+// A task over a tree of `size` leaves.
+pub(crate) fn with_tree(rt: &HostRuntime, size: u64, task: Task) -> io::Result<()> {
+    let mut nodes = Nodes::new(rt.alloc(), Sha256Hash);
+    let appends = fill(rt, &mut nodes, size)?;
+    perform(rt, &nodes, task, appends)
 }
