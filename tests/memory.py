@@ -1,9 +1,9 @@
 #!/usr/bin/env python3
-"""Refuses each growth of the calls of the library in turn, over the tests of crates/memory_tests.
+"""Refuses each growth of the calls of the library in turn, over the tests of crates/house_tests in which one may be refused.
 
     memory.py [PROGRAM] [--from N] [--test NAME]
 
-PROGRAM is the built tests (`rt test` in crates/memory_tests builds them). Each test is run once with ample memory, and then with the first growth
+PROGRAM is the built tests (`rt test` in crates/house_tests builds them). Each test in `refused_growths` is run once with ample memory, and then with the first growth
 refused, the second, and so on, until a run makes fewer growths than that. `sweep/refuse.c`, which cc builds and the loader puts before the C
 library, refuses them, as for `sweep.py`.
 
@@ -21,7 +21,7 @@ import sys
 import tempfile
 
 HERE = pathlib.Path(__file__).resolve().parent
-PROGRAM = HERE.parent / "crates" / "memory_tests" / "out" / "memory_tests_tests"
+PROGRAM = HERE.parent / "crates" / "house_tests" / "out" / "house_tests_tests"
 LONGEST_RUN = 60
 NOTHING = "nothing"
 OWN = "a growth of the test's own"
@@ -30,8 +30,10 @@ CALLS = [
     *("open", "take", "succeed", "publish", "ask", "settle", "answer", "serve_frozen"),
     *("observe", "explain_inclusion", "explain_consistency", "decode_leaf", "decode_chain", "read_line"),
 ]
+# Where the tests stand whose growths may be refused.
+ROOM = "refused_growths::"
 # The test in which workers hash a batch: the start of one may be refused, and its part is hashed all the same.
-WITH_WORKERS = "large_batch::a_large_batch"
+WITH_WORKERS = f"{ROOM}large_batch::a_large_batch"
 
 
 class Wrong(Exception):
@@ -46,7 +48,8 @@ class Sweep:
 
     def tests(self):
         listed = subprocess.run([self.program, "--list"], capture_output=True, check=True, text=True)
-        return [line[: -len(": test")] for line in listed.stdout.splitlines() if line.endswith(": test")]
+        tests = [line[: -len(": test")] for line in listed.stdout.splitlines() if line.endswith(": test")]
+        return [test for test in tests if test.startswith(ROOM)]
 
     def run(self, test, refused):
         """The call that was refused, and how many growths there were."""
@@ -102,7 +105,7 @@ def main():
     parser.add_argument("--test")
     options = parser.parse_args()
     if not os.access(options.program, os.X_OK):
-        sys.exit(f"memory.py: {options.program} isn't built: rt test in crates/memory_tests builds it")
+        sys.exit(f"memory.py: {options.program} isn't built: rt test in crates/house_tests builds it")
     with tempfile.TemporaryDirectory() as folder:
         sweep = Sweep(options.program, pathlib.Path(folder))
         total = 0

@@ -126,7 +126,7 @@ def starts():
     heads = [{"size": size, "moment": moment} for size, moment in ((10, 7), (10, 6), (10, 8), (9, 6), (9, 7), (9, 8), (11, 6), (11, 7), (MOST, MOST), (0, 0))]
     yield {**flags, "register": text}
     yield from ({**flags, "register": text, "guarded": guarded, key: head} for head in heads for key in ("published", "listed") for guarded in (True, False))
-    rooted = [{**head, "root": of} for head in heads for of in (root, other, root[1:], root.upper())]
+    rooted = [{**head, "root": of} for head in heads for of in (root, other, root[1:], root[:-1], "", root.upper())]
     yield from ({**flags, "register": text, "guarded": guarded, key: head} for head in rooted for key in ("seen", "guard") for guarded in (True, False))
     yield from ({**flags, "register": text, "guard": {**guard, "root": root}, "listed": head} for guard in heads for head in heads)
     yield from ({**flags, "stands": stands, "creates": creates} for stands in (True, False) for creates in (True, False))

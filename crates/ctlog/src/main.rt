@@ -18,8 +18,6 @@ ghost use Rattle.ctlog.specs.Runs.{IsDone, IsBrokenOff};
 ghost use Rattle.json_lines.specs.Sends.{SendsSome};
 
 mod program;
-#[cfg(test)]
-mod tests;
 
 use ct_command::{Program, refuse_words, report, texts};
 use ct_tasks::Fault;

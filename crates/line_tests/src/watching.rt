@@ -119,6 +119,12 @@ const DAMAGED_TEXT: &str = "{\"error\":\"bad-state\"}
 {\"accepted\":null,\"all\":{\"size\":0,\"subtrees\":[]},\"check\":\"odjj0Uxz/rNZ7MX+bx16NxYyFH3pQKYEKRXhCQzS30w=\",\"state\":1,\"sure\":{\"size\":0,\"subtrees\":[]},\"waiting\":null}
 ";
 
+// The line of a state, with its right check, by which other leaves are accepted than were read, as many.
+const OTHER_ACCEPTED: &str =
+    "{\"accepted\":{\"sha256_root_hash\":\"dv3rKEarhKJfwvErnuGj1blcq4uE2dJxDJA464QuXLE=\",\"timestamp\":1000,\"tree_size\":3},\"all\":{\"size\":3,\"subtrees\":[\"Py/NFubB2mUOAIpXnoymxA6HZtecDWMEQ8n6bwOq56k=\",\"oFjqfYAK/lGj6hkUnsapTE3hV3XTYaK2y1tWfH0XeDI=\"]},\"check\":\"k5Xi2BnCB4XgProtfMUJvS17a9aag06BgAl4eTyDRLI=\",\"state\":1,\"sure\":{\"size\":3,\"subtrees\":[\"MCPTNOymA5hBWHp4+VlL3cPTpPxpAfp5R6Lbfr11p1E=\",\"oFjqfYAK/lGj6hkUnsapTE3hV3XTYaK2y1tWfH0XeDI=\"]},\"waiting\":null}
+{\"consistency\":[\"MCPTNOymA5hBWHp4+VlL3cPTpPxpAfp5R6Lbfr11p1E=\"]}
+";
+
 const MISPLACED: &str =
     "{\"sha256_root_hash\":\"dv3rKEarhKJfwvErnuGj1blcq4uE2dJxDJA464QuXLE=\",\"timestamp\":1000,\"tree_size\":3}
 {\"accepted\":{\"sha256_root_hash\":\"dv3rKEarhKJfwvErnuGj1blcq4uE2dJxDJA464QuXLE=\",\"timestamp\":1000,\"tree_size\":3},\"all\":{\"size\":3,\"subtrees\":[\"Py/NFubB2mUOAIpXnoymxA6HZtecDWMEQ8n6bwOq56k=\",\"oFjqfYAK/lGj6hkUnsapTE3hV3XTYaK2y1tWfH0XeDI=\"]},\"check\":\"KEr+k3cXzfILQGFzGwR2US4VmzfDVUBq8tk7ekcgvSs=\",\"state\":1,\"sure\":{\"size\":3,\"subtrees\":[\"Py/NFubB2mUOAIpXnoymxA6HZtecDWMEQ8n6bwOq56k=\",\"oFjqfYAK/lGj6hkUnsapTE3hV3XTYaK2y1tWfH0XeDI=\"]},\"waiting\":null}
@@ -357,7 +363,7 @@ fn answers<R: Read + Drop>(
 }
 
 // Inputs, what is written for each, and the status.
-const RUNS: [(&str, &str, u8); 14] = [
+const RUNS: [(&str, &str, u8); 15] = [
     (TO_THE_FIRST_HEAD, TO_THE_FIRST_HEAD_TEXT, 0),
     (TO_THE_MIDDLE_OF_A_HEAD, TO_THE_MIDDLE_OF_A_HEAD_TEXT, 0),
     (TO_ITS_END, TO_ITS_END_TEXT, 0),
@@ -366,6 +372,7 @@ const RUNS: [(&str, &str, u8); 14] = [
     (REWRITTEN, REWRITTEN_TEXT, 3),
     (GAPS, GAPS_TEXT, 0),
     (DAMAGED, DAMAGED_TEXT, 4),
+    (OTHER_ACCEPTED, DAMAGED_TEXT, 4),
     (MISPLACED, MISPLACED_TEXT, 4),
     (BAD_START, BAD_START_TEXT, 4),
     (LONG, LONG_TEXT, 0),
@@ -389,7 +396,7 @@ fn right_runs(alloc: Global) -> Result<usize, Fail> {
 // Each verdict, each status, and the state carried from run to run.
 #[test]
 fn runs(rt: HostRuntime) -> Result<(), Fail> {
-    assert!(rt; right_runs(rt.alloc())? == 14);
+    assert!(rt; right_runs(rt.alloc())? == 15);
     Ok(())
 }
 
