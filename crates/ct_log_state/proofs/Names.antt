@@ -1,8 +1,7 @@
 -- A tile's name is short, and the names at the edge.
-use Rattle.std.proofs.Common.{◌≡◌, ℕ, zero, suc, ◌+◌, ◌*◌, ◌/◌, ◌%◌, ◌<◌, ◌≤◌, ◌^◌, true, false, Bool, cond, List, [], ◌∷◌, ◌++◌, length, ap, arith, codes, nat_lt, add-one, refl, length-append, ⊎_elim, ◌∙◌, sym, Vec, Global}
+use Rattle.std.proofs.Common.{◌≡◌, ℕ, zero, suc, ◌+◌, ◌*◌, ◌/◌, ◌%◌, ◌<◌, ◌≤◌, ◌^◌, true, false, Bool, cond, List, [], ◌∷◌, ◌++◌, length, ap, arith, codes, nat_lt, add-one, refl, length-append, ◌∙◌, sym, Vec, Global}
 use Rattle.std.proofs.Math.Nat.{pow-suc, div-div-eq-div-mul}
-use Rattle.std.proofs.lemmas.Bool.{cases_Bool}
-use Rattle.ct_tile_names.specs.Names.{IsTile, three_digits, decimal, group, leading_groups, index_text, content_text, width_text, name_text}
+use Rattle.ct_tile_names.specs.Names.{three_digits, decimal, group, leading_groups, index_text, content_text, width_text, name_text}
 use Rattle.ct_tile_names.specs.declared.tile.Content.{Content}
 use Rattle.ct_tile_names.specs.declared.tile.Content.TheVariants.{Hashes, Entries}
 use Rattle.ct_tile_names.specs.declared.tile.Tile.{Tile}

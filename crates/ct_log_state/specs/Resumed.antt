@@ -1,9 +1,9 @@
 -- What a bundle is read as, and rolled out of. H is any hash function on byte lists.
-use Rattle.std.specs.Prelude.{◌≡◌, ◌≢◌, ◌⊎◌, ℕ, List, map, All, Result, Ok, Err, Vec}
+use Rattle.std.specs.Prelude.{◌≡◌, ◌≢◌, ◌⊎◌, ℕ, List, map, Result, Ok, Err, Vec}
 use Rattle.std.specs.Global.{Global}
 use Rattle.ct_log_state.specs.declared.line.StateLine.{StateLine}
 use Rattle.ct_verify.specs.Laws.{SomeCollide}
-use Rattle.ct_log_state.specs.Bundle.{IsObject, IsBundleOf, bundle_text}
+use Rattle.ct_log_state.specs.Bundle.{IsBundleOf}
 use Rattle.ct_log_state.specs.declared.bundle.Object.{Object}
 use Rattle.ct_log_state.specs.declared.rolling_out.ResumeFault.{ResumeFault}
 use Rattle.ct_log_state.specs.declared.rolling_out.ResumeFault.TheVariants.{Bundle, Memory}
@@ -16,11 +16,15 @@ object_parts o = (o.name.now, o.content.now)
 abbrev pub NoBundle : List ℕ → Type 0
 NoBundle bytes = (objects : List (List ℕ × List ℕ)) → IsBundleOf objects bytes → ⊥
 
+-- the bytes are the bundle of some objects
+abbrev pub IsSomeBundle : List ℕ → Type 0
+IsSomeBundle bytes = (objects : List (List ℕ × List ℕ)) × IsBundleOf objects bytes
+
 -- why no objects are rolled out. Bundle: the digest of the bytes isn't the line's, or they are the bundle of no objects. Memory: the digest is the
--- line's
+-- line's, and they are a bundle
 abbrev pub StopsResume : (List ℕ → List ℕ) → StateLine → List ℕ → ResumeFault → Type 0
 StopsResume H line bytes Bundle = (H bytes ≡ line.bundle → ⊥) ⊎ NoBundle bytes
-StopsResume H line bytes Memory = H bytes ≡ line.bundle
+StopsResume H line bytes Memory = (H bytes ≡ line.bundle) × IsSomeBundle bytes
 
 -- what `resume` answers of a line and bytes
 abbrev pub AnswersResume : (List ℕ → List ℕ) → StateLine → List ℕ → Result (Vec Object Global) ResumeFault → Type 0

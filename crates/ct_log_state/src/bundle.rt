@@ -1,9 +1,9 @@
 //! Objects as one byte string, written and read.
 
-ghost use Rattle.std.specs.Prelude.{◌≡◌, ◌<◌, ◌^◌, ◌++◌, ℕ, List, length, map, OnOk, IfSome, IfNone, IfOk, MatchOption};
+ghost use Rattle.std.specs.Prelude.{◌≡◌, ◌<◌, ◌^◌, ◌++◌, ℕ, List, length, map, OnOk, IfSome, IfNone, IfOk, MatchBool};
 ghost use Rattle.ct_codec.specs.Bytes.{num, vec};
 ghost use Rattle.ct_log_state.specs.Bundle.{IsObject, bundled_text, IsBundleOf};
-ghost use Rattle.ct_log_state.specs.Resumed.{object_parts, NoBundle};
+ghost use Rattle.ct_log_state.specs.Resumed.{object_parts, IsSomeBundle, NoBundle};
 
 use ct_codec::Reader;
 use ct_codec::numbers::{number_bytes_2, number_of_2};
@@ -103,20 +103,31 @@ fn object_at<'a>(reader: &mut Reader<'a>) -> Option<Object<'a>>
     Some(Object { name, content })
 }
 
-/// The objects of which the bytes are the bundle, or none where they are no bundle.
-pub(crate) fn objects_of<'a>(
-    alloc: Global,
-    bundle: &'a [u8],
-) -> Result<Option<Vec<Object<'a>>>, AllocError>
-    ensures { IfOk result (λ found. MatchOption found (NoBundle bundle.now) (λ objects. IsBundleOf (map object_parts objects.items) bundle.now)) }
+// Whether the bytes are a bundle. Takes no memory.
+pub(crate) fn is_bundle(bundle: &[u8]) -> bool
+    ensures { MatchBool result (IsSomeBundle bundle.now) (NoBundle bundle.now) }
+{
+    let mut reader = Reader::new(bundle);
+    'objects: while !reader.is_at_end() {
+        let Some(_object) = object_at(&mut reader) else {
+            return false;
+        };
+    }
+    true
+}
+
+// The objects of a bundle, where they stand in it. Takes memory for the list.
+pub(crate) fn objects_of<'a>(alloc: Global, bundle: &'a [u8]) -> Result<Vec<Object<'a>>, AllocError>
+    requires { IsSomeBundle bundle.now }
+    ensures { IfOk result (λ objects. IsBundleOf (map object_parts objects.items) bundle.now) }
 {
     let mut objects = Vec::new(alloc);
     let mut reader = Reader::new(bundle);
     'objects: while !reader.is_at_end() {
-        let Some(object) = object_at(&mut reader) else {
-            return Ok(None);
-        };
-        objects.push(object)?;
+        match object_at(&mut reader) {
+            Some(object) => objects.push(object)?,
+            None => unreachable!(),
+        }
     }
-    Ok(Some(objects))
+    Ok(objects)
 }

@@ -5,7 +5,7 @@ ghost use Rattle.ct_log_state.specs.Bundle.{IsBundleOf};
 ghost use Rattle.ct_log_state.specs.Resumed.{object_parts, StopsResume};
 ghost use Rattle.ct_log_state.specs.declared.rolling_out.ResumeFault.TheVariants.{Memory};
 
-use crate::bundle::{Object, objects_of};
+use crate::bundle::{Object, is_bundle, objects_of};
 use crate::line::StateLine;
 use ct_tree::{NodeHash, is_same_digest};
 use std::alloc::{AllocError, Global};
@@ -36,7 +36,7 @@ impl From<AllocError> for ResumeFault {
 /// Takes memory for the list alone.
 ///
 /// # Errors
-/// `Bundle` where the digest of the bytes isn't the line's, or they are no bundle; `Memory` where it is the line's, and a growth was refused.
+/// `Bundle` where the digest of the bytes isn't the line's, or they are no bundle; `Memory` where they are the line's bundle, and a growth was refused.
 pub fn resume<'a, H: NodeHash>(
     alloc: Global,
     h: &H,
@@ -49,8 +49,8 @@ pub fn resume<'a, H: NodeHash>(
     if !is_same_digest(&h.hash(&[bundle]), &line.bundle) {
         return Err(ResumeFault::Bundle);
     }
-    let Some(objects) = objects_of(alloc, bundle)? else {
+    if !is_bundle(bundle) {
         return Err(ResumeFault::Bundle);
-    };
-    Ok(objects)
+    }
+    Ok(objects_of(alloc, bundle)?)
 }

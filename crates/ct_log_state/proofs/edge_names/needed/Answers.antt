@@ -1,4 +1,4 @@
-use Rattle.std.proofs.Common.{◌≡◌, ◌∙◌, ◌/◌, ◌^◌, ◌++◌, ℕ, List, map, arith, sym, ap}
+use Rattle.std.proofs.Common.{◌∙◌, ◌++◌, ℕ, List, map, arith, sym, ap}
 use Rattle.ct_log_state.proofs.Names.{text_in}
 use Rattle.ct_log_state.proofs.Names.{rest-step}
 use Rattle.ct_tile_names.specs.declared.tile.Content.TheVariants.{Hashes}
