@@ -14,8 +14,8 @@ use std::alloc::Global;
 
 /// The audit path of the leaf at index `m` in the tree of the first `n` leaves, checked against a root before it is
 /// answered (RFC 6962, section 2.1.1; RFC 9162, section 2.1.3.2), so that tiles from anywhere may be used. Errors: the
-/// verifier's own refusal, IndexOutOfRange where `m` isn't below `n`, or want of memory. Out of the tiles of a list that
-/// has this leaf and this root no path is refused.
+/// verifier's own refusal, which is RootMismatch, since the path has the length that it should; IndexOutOfRange where `m`
+/// isn't below `n`; or want of memory. Out of the tiles of a list that has this leaf and this root no path is refused.
 pub fn checked_path<H: NodeHash, T: TileSource>(
     alloc: Global,
     h: &H,
@@ -42,8 +42,9 @@ pub fn checked_path<H: NodeHash, T: TileSource>(
 
 /// The consistency proof from the tree of the first `m` leaves to that of the first `n`, checked against the roots of both
 /// before it is answered (RFC 6962, section 2.1.2; RFC 9162, section 2.1.4.2), so that tiles from anywhere may be used.
-/// Errors: the verifier's own refusal, SizesOutOfRange unless 0 < `m` < `n`, or want of memory. Out of the tiles of a list
-/// that has these roots no proof is refused.
+/// Errors: the verifier's own refusal, which is FirstMismatch or RootMismatch, since the proof has the length that it
+/// should; SizesOutOfRange unless 0 < `m` < `n`; or want of memory. Out of the tiles of a list that has these roots no
+/// proof is refused.
 pub fn checked_proof<H: NodeHash, T: TileSource>(
     alloc: Global,
     h: &H,

@@ -1,6 +1,7 @@
 //! Roots, audit paths and consistency proofs out of tiles.
-ghost use Rattle.std.specs.Prelude.{◌≡◌, ◌<◌, ◌≤◌, ℕ, List, length, take, All, IfOk};
+ghost use Rattle.std.specs.Prelude.{◌≡◌, ◌<◌, ◌≤◌, ℕ, true, List, length, take, All, IfOk};
 ghost use Rattle.ct_tree.specs.Tree.{mth, path as path_of, proof as proof_of};
+ghost use Rattle.ct_tree.specs.Lengths.{path_length, subproof_length};
 ghost use Rattle.ct_tile_reader.specs.Given.{GivesTilesOf};
 ghost use Rattle.ct_tile_reader.specs.Needed.{root_tiles, path_tiles, proof_tiles, GivesTile};
 
@@ -30,6 +31,7 @@ pub fn path<H: NodeHash, T: TileSource>(
         → path.items ≡ path_of H.digest m (take n D)) }
     ensures needed { IfOk result (λ path. (D : List (List ℕ)) → All (GivesTile H.digest (T.given tiles.now) D) (path_tiles m n) → n ≤ length D
         → path.items ≡ path_of H.digest m (take n D)) }
+    ensures length { IfOk result (λ path. length path.items ≡ path_length m n) }
 {
     let path = walk::path(alloc, h, &TileNodes { tiles, size: n }, m, n)?;
     Ok(path)
@@ -50,6 +52,7 @@ pub fn proof<H: NodeHash, T: TileSource>(
         → proof.items ≡ proof_of H.digest m (take n D)) }
     ensures needed { IfOk result (λ proof. (D : List (List ℕ)) → All (GivesTile H.digest (T.given tiles.now) D) (proof_tiles m n) → n ≤ length D
         → proof.items ≡ proof_of H.digest m (take n D)) }
+    ensures length { IfOk result (λ proof. length proof.items ≡ subproof_length m n true) }
 {
     let proof = walk::proof(alloc, h, &TileNodes { tiles, size: n }, m, n)?;
     Ok(proof)

@@ -1,7 +1,7 @@
 //! The walk from the leaves to the root: roots, audit paths and consistency proofs of a tree, wherever its nodes are kept.
-ghost use Rattle.std.specs.Prelude.{◌≡◌, ◌+◌, ◌-◌, ◌*◌, ◌/◌, ◌%◌, ◌^◌, ◌<◌, ◌≤◌, ℕ, List, [], length, take, IfOk, MatchOption};
+ghost use Rattle.std.specs.Prelude.{◌≡◌, ◌+◌, ◌-◌, ◌*◌, ◌/◌, ◌%◌, ◌^◌, ◌<◌, ◌≤◌, ℕ, true, List, [], length, take, IfOk, MatchOption};
 ghost use Rattle.ct_tree.specs.Tree.{hash_node, mth, path as path_of, proof as proof_of};
-ghost use Rattle.ct_tree.specs.Lengths.{path_length as path_length_of};
+ghost use Rattle.ct_tree.specs.Lengths.{path_length as path_length_of, subproof_length};
 ghost use Rattle.ct_tree.specs.Levels.{subtree, beside, node_or_edge};
 ghost use Rattle.ct_tree.specs.Walk.{IsEdgeNode, IsPathNode, IsProofNode, AreNodesGiven};
 
@@ -124,8 +124,9 @@ pub fn path<A: Allocator, H: NodeHash, S: NodeSource<H>>(
 ) -> Result<Vec<[u8; 32], A>, AllocError>
     requires below { m < n }
     requires within { n ≤ S.covers source.now }
-    ensures { IfOk result (λ path. (D : List (List ℕ)) → AreNodesGiven (IsPathNode m n) (S.gives source.now D) → n ≤ length D
+    ensures hashes { IfOk result (λ path. (D : List (List ℕ)) → AreNodesGiven (IsPathNode m n) (S.gives source.now D) → n ≤ length D
         → path.items ≡ path_of H.digest m (take n D)) }
+    ensures length { IfOk result (λ path. length path.items ≡ path_length_of m n) }
 {
     let mut path = Vec::with_capacity(alloc, path_length(m, n - 1))?;
     let mut level = 0;
@@ -158,8 +159,9 @@ pub fn proof<A: Allocator, H: NodeHash, S: NodeSource<H>>(
     requires positive { 0 < m }
     requires below { m < n }
     requires within { n ≤ S.covers source.now }
-    ensures { IfOk result (λ proof. (D : List (List ℕ)) → AreNodesGiven (IsProofNode m n) (S.gives source.now D) → n ≤ length D
+    ensures hashes { IfOk result (λ proof. (D : List (List ℕ)) → AreNodesGiven (IsProofNode m n) (S.gives source.now D) → n ≤ length D
         → proof.items ≡ proof_of H.digest m (take n D)) }
+    ensures length { IfOk result (λ proof. length proof.items ≡ subproof_length m n true) }
 {
     let mut level = 0;
     let mut node = m - 1;

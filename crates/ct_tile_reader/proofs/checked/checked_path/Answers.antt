@@ -1,4 +1,4 @@
-use Rattle.std.proofs.Common.{◌∙◌}
+use Rattle.std.proofs.Common.{◌∙◌, ap, length}
 use Rattle.ct_tile_reader.proofs.NeverRefused.{never_of_tiles}
 use Rattle.ct_tile_reader.proofs.checked.checked_path.Goals as goal
 
@@ -8,4 +8,8 @@ returns-in-Err-clause-never_refused g c = λ D tiles inside below l r.
     (λ E t i. c.deref.ensures.value ∙ c.in_ok-path.ensures.all E t i) c.in-Err.ensures tiles inside below l r)
 
 pub returns-in-Err-clause-refused : goal.returns-in-Err-clause-refused
-returns-in-Err-clause-refused g c = (c.deref.result.now, (λ _ D t i. c.deref.ensures.value ∙ c.in_ok-path.ensures.all D t i), c.in-Err.ensures)
+returns-in-Err-clause-refused g c = (
+  c.deref.result.now,
+  (λ _. (ap length c.deref.ensures.value ∙ c.in_ok-path.ensures.length, λ D t i. c.deref.ensures.value ∙ c.in_ok-path.ensures.all D t i)),
+  c.in-Err.ensures,
+)

@@ -1,4 +1,4 @@
-use Rattle.std.proofs.Common.{◌∙◌}
+use Rattle.std.proofs.Common.{◌∙◌, ap, length}
 use Rattle.ct_tile_reader.proofs.NeverRefused.{proof_never_of_tiles}
 use Rattle.ct_tile_reader.proofs.checked.checked_proof.Goals as goal
 
@@ -8,4 +8,8 @@ returns-in-Err-clause-never_refused g c = λ D tiles inside z below f s.
     c.args.second_root.now c.in-Err.fault (λ E t i. c.deref.ensures.value ∙ c.in_ok-proof.ensures.all E t i) c.in-Err.ensures tiles inside z below f s)
 
 pub returns-in-Err-clause-refused : goal.returns-in-Err-clause-refused
-returns-in-Err-clause-refused g c = (c.deref.result.now, (λ _ _ D t i. c.deref.ensures.value ∙ c.in_ok-proof.ensures.all D t i), c.in-Err.ensures)
+returns-in-Err-clause-refused g c = (
+  c.deref.result.now,
+  (λ _ _. (ap length c.deref.ensures.value ∙ c.in_ok-proof.ensures.length, λ D t i. c.deref.ensures.value ∙ c.in_ok-proof.ensures.all D t i)),
+  c.in-Err.ensures,
+)

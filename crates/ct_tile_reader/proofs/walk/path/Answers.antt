@@ -6,7 +6,8 @@ pub returns : goal.returns
 returns g c =
     let given = g.T.TileSource.given c.args.tiles.now in
     record {
-      all = λ D s f. c.in_ok-path.ensures D (λ level i r. path_of_tiles g.H.NodeHash.digest given D c.args.m c.args.n level i s f r) f;
-      needed = λ D s f. c.in_ok-path.ensures D
+      all = λ D s f. c.in_ok-path.ensures.hashes D (λ level i r. path_of_tiles g.H.NodeHash.digest given D c.args.m c.args.n level i s f r) f;
+      needed = λ D s f. c.in_ok-path.ensures.hashes D
           (λ level i r. path_given g.H.NodeHash.digest given D c.args.m c.args.n level i c.ranges.n.fits f s r) f;
+      length = c.in_ok-path.ensures.length;
     }

@@ -1,9 +1,11 @@
 use Rattle.std.proofs.Common.{ℕ, List, ◌+◌, ◌-◌, ◌/◌, ◌++◌, length, take, inl, arith, sym, ◌∙◌, ap}
 use Rattle.std.proofs.lemmas.List.{length-take-le, append-nil}
 use Rattle.ct_tree.proofs.Path.{path-small}
+use Rattle.ct_tree.proofs.WalkLength.{count_begun, count_taken, count_passed, count_ended}
 use Rattle.ct_tree.proofs.Raised.{raised-zero, length-raised, edge_up, inside_up, sibling_is, joined_on, path-raised_lone}
 use Rattle.ct_tree.proofs.WalkReads.{over_zero, up_at, last_read, left_read, beside_read, last_leaf}
 use Rattle.ct_tree.specs.Tree.{path}
+use Rattle.ct_tree.specs.Lengths.{path_length}
 use Rattle.ct_tree.specs.Levels.{beside, raised}
 use Rattle.ct_tree.proofs.walk.path.Goals as goal
 use Rattle.ct_tree.proofs.walk.path.Goals.{in-Some+in_ok-push-in-Some, in-None}
@@ -13,6 +15,7 @@ loop-last-init g c =
     let H = g.H.NodeHash.digest in
     record {
       same = λ D s f. ap (path H c.args.m) (sym (raised-zero H (take c.args.n D))) ∙ sym (ap (λ (p : List (List ℕ)). p ++ path H c.args.m (raised H 0 (take c.args.n D))) c.in_ok-path.ensures.items);
+      count = count_begun c.args.m c.args.n c.in_ok-path.path.items (omega arith) c.in_ok-path.ensures.items;
       nodes = λ D f. ap length (raised-zero H (take c.args.n D)) ∙ length-take-le c.args.n D f ∙ omega arith;
       edge = λ D s f. last_leaf H c.args.n D c.leaf_at-edge.result (omega arith)
           (c.leaf_at-edge.ensures D (s 0 (c.args.n - 1) (inl (last_read c.args.n (omega arith)))));
@@ -24,12 +27,15 @@ loop-last-init g c =
     }
 
 pub returns : goal.returns
-returns g c = λ D s f.
+returns g c =
     let H = g.H.NodeHash.digest in
-    let R = raised H c.loop-last.level (take c.args.n D) in
-    sym ((c.loop-last.invariant.same D s f) ∙ ap (λ (q : List (List ℕ)). c.loop-last.path.items ++ q)
-    (path-small H c.loop-last.node R (omega (arith, c.loop-last.invariant.nodes D f, c.loop-last-test.false)))
-    ∙ append-nil c.loop-last.path.items)
+    let i = c.loop-last.invariant in
+    record {
+      hashes = λ D s f. sym ((i.same D s f) ∙ ap (λ (q : List (List ℕ)). c.loop-last.path.items ++ q)
+          (path-small H c.loop-last.node (raised H c.loop-last.level (take c.args.n D)) (omega (arith, i.nodes D f, c.loop-last-test.false)))
+          ∙ append-nil c.loop-last.path.items);
+      length = sym (i.count ∙ count_ended c.loop-last.path.items c.loop-last.node c.loop-last.last (omega (arith, c.loop-last-test.false)));
+    }
 
 pub loop-last-preserved : goal.loop-last-preserved
 loop-last-preserved g c =
@@ -52,6 +58,14 @@ loop-last-preserved g c =
             ∙ ap (λ (q : List (List ℕ)). c.loop-last.path.items ++ q)
             (path-raised_lone H c.loop-last.level c.loop-last.last c.loop-last.node c.args.n D (old.nodes D f) o.0 o.1 (omega (arith, c.loop-last-test.true)))
             ∙ sym (ap (λ v. v.items ++ rest D) w.path-is)
+      ];
+      count = elim c.match-sibling.branch [
+        | in-Some+in_ok-push-in-Some w ↦
+            count_taken c.loop-last.path.items c.match-sibling.path.items w.in-Some.sibling (path_length c.args.m c.args.n) c.loop-last.node c.loop-last.last old.count
+            w.in-Some.ensures.0 (ap (λ v. v.items) w.path-is ∙ w.in_ok-push-in-Some.ensures.items)
+        | in-None w ↦
+            count_passed c.loop-last.path.items c.match-sibling.path.items (path_length c.args.m c.args.n) c.loop-last.node c.loop-last.last old.count
+            w.in-None.ensures.0 w.in-None.ensures.1 (omega (arith, c.loop-last-test.true)) (ap (λ v. v.items) w.path-is)
       ];
       nodes = λ D f. length-raised H c.loop-last.level c.loop-last.last (take c.args.n D) (old.nodes D f);
       edge = λ D s f. edge_up H c.loop-last.level c.loop-last.last c.args.n D c.loop-last.edge c.edge_above-edge.result (old.nodes D f) (old.edge D s f)

@@ -1,11 +1,13 @@
 use Rattle.std.proofs.Common.{◌≡◌, ℕ, List, [], ◌+◌, ◌-◌, ◌/◌, ◌%◌, ◌++◌, ◌∷◌, length, take, true, inl, arith, sym, ◌∙◌, ap}
 use Rattle.std.proofs.lemmas.List.{length-take-le, append-nil}
 use Rattle.ct_tree.proofs.Path.{path-small}
+use Rattle.ct_tree.proofs.WalkLength.{count_taken, count_passed, count_ended, count_halved, count_known, count_node}
 use Rattle.ct_tree.proofs.Raised.{raised-zero, length-raised, edge_up, inside_up, sibling_is, joined_on, path-raised_lone}
 use Rattle.ct_tree.proofs.ProofWalk.{halve_same, begin_known, begin_node}
 use Rattle.ct_tree.proofs.Stored.{next_end}
 use Rattle.ct_tree.proofs.WalkReads.{over_zero, up_at, known_above, known_up, last_read, left_read, beside_read_known, begin_read, last_leaf}
 use Rattle.ct_tree.specs.Tree.{path, proof, subproof}
+use Rattle.ct_tree.specs.Lengths.{subproof_length}
 use Rattle.ct_tree.specs.Levels.{beside, raised}
 use Rattle.ct_tree.proofs.walk.proof.Goals as goal
 use Rattle.ct_tree.proofs.walk.proof.Goals.{then-node-gt0+in_ok-push, else-node-gt0, in-Some+in_ok-push-in-Some, in-None}
@@ -14,8 +16,10 @@ pub halve-init : goal.halve-init
 halve-init g c =
     let H = g.H.NodeHash.digest in
     let m : c.args.m ≡ c.args.m - 1 + 1 = omega arith in
+    let n : c.args.n ≡ c.args.n - 1 + 1 = omega arith in
     record {
       same = λ D f. ap (λ (u : ℕ). subproof H u (take c.args.n D) true) m ∙ ap (λ (q : List (List ℕ)). subproof H (c.args.m - 1 + 1) q true) (sym (raised-zero H (take c.args.n D)));
+      count = ap (λ (u : ℕ). subproof_length u c.args.n true) m ∙ ap (λ (u : ℕ). subproof_length (c.args.m - 1 + 1) u true) n;
       nodes = λ D f. ap length (raised-zero H (take c.args.n D)) ∙ length-take-le c.args.n D f ∙ omega arith;
       edge = λ D s f. last_leaf H c.args.n D c.leaf_at-edge.result (omega arith)
           (c.leaf_at-edge.ensures D (s 0 (c.args.n - 1) (inl (last_read c.args.n (omega arith)))));
@@ -33,6 +37,7 @@ halve-preserved g c =
     let old = c.halve.invariant in
     record {
       same = λ D f. (old.same D f) ∙ halve_same H c.halve.level c.halve.last c.halve.node c.args.n D (old.nodes D f) c.halve-test.true old.order;
+      count = old.count ∙ count_halved c.halve.node c.halve.last c.halve-test.true old.order;
       nodes = λ D f. length-raised H c.halve.level c.halve.last (take c.args.n D) (old.nodes D f);
       edge = λ D s f. edge_up H c.halve.level c.halve.last c.args.n D c.halve.edge c.edge_above-edge.result (old.nodes D f) (old.edge D s f)
           (λ o. c.edge_above-edge.ensures.joined o D (s c.halve.level (c.halve.last - 1) (inl (left_read c.args.n c.halve.level c.halve.last old.at o))))
@@ -66,6 +71,14 @@ climb-init g c =
             ∙ begin_known H c.halve.level c.halve.last c.halve.node c.args.n D (old.nodes D f) (omega (arith, w.if-node-gt0.false))
             ∙ sym (ap (λ (q : List (List ℕ)). q ++ path H c.halve.node (R D)) (ap (λ v. v.items) w.proof-is ∙ c.in_ok-proof.ensures.items))
       ];
+      count = elim c.if-node-gt0.branch [
+        | then-node-gt0+in_ok-push w ↦
+            old.count ∙ count_node c.if-node-gt0.proof.items w.node_at.result c.halve.node c.halve.last even w.if-node-gt0.true old.order
+            (ap (λ v. v.items) w.proof-is ∙ w.in_ok-push.ensures.items ∙ ap (λ (q : List (List ℕ)). q ++ w.node_at.result ∷ []) c.in_ok-proof.ensures.items)
+        | else-node-gt0 w ↦
+            old.count ∙ count_known c.if-node-gt0.proof.items c.halve.node c.halve.last (omega (arith, w.if-node-gt0.false))
+            (ap (λ v. v.items) w.proof-is ∙ c.in_ok-proof.ensures.items)
+      ];
       nodes = old.nodes;
       edge = old.edge;
       at = old.at;
@@ -77,12 +90,15 @@ climb-init g c =
     }
 
 pub returns : goal.returns
-returns g c = λ D s f.
+returns g c =
     let H = g.H.NodeHash.digest in
-    let R = raised H c.climb.level (take c.args.n D) in
-    sym ((c.climb.invariant.same D s f) ∙ ap (λ (q : List (List ℕ)). c.climb.proof.items ++ q)
-    (path-small H c.climb.node R (omega (arith, c.climb.invariant.nodes D f, c.climb-test.false)))
-    ∙ append-nil c.climb.proof.items)
+    let i = c.climb.invariant in
+    record {
+      hashes = λ D s f. sym ((i.same D s f) ∙ ap (λ (q : List (List ℕ)). c.climb.proof.items ++ q)
+          (path-small H c.climb.node (raised H c.climb.level (take c.args.n D)) (omega (arith, i.nodes D f, c.climb-test.false)))
+          ∙ append-nil c.climb.proof.items);
+      length = sym (i.count ∙ count_ended c.climb.proof.items c.climb.node c.climb.last (omega (arith, c.climb-test.false)));
+    }
 
 pub climb-preserved : goal.climb-preserved
 climb-preserved g c =
@@ -105,6 +121,14 @@ climb-preserved g c =
             ∙ ap (λ (q : List (List ℕ)). c.climb.proof.items ++ q)
             (path-raised_lone H c.climb.level c.climb.last c.climb.node c.args.n D (old.nodes D f) o.0 o.1 (omega (arith, c.climb-test.true)))
             ∙ sym (ap (λ v. v.items ++ rest D) w.proof-is)
+      ];
+      count = elim c.match-sibling.branch [
+        | in-Some+in_ok-push-in-Some w ↦
+            count_taken c.climb.proof.items c.match-sibling.proof.items w.in-Some.sibling (subproof_length c.args.m c.args.n true) c.climb.node c.climb.last old.count
+            w.in-Some.ensures.0 (ap (λ v. v.items) w.proof-is ∙ w.in_ok-push-in-Some.ensures.items)
+        | in-None w ↦
+            count_passed c.climb.proof.items c.match-sibling.proof.items (subproof_length c.args.m c.args.n true) c.climb.node c.climb.last old.count
+            w.in-None.ensures.0 w.in-None.ensures.1 (omega (arith, c.climb-test.true)) (ap (λ v. v.items) w.proof-is)
       ];
       nodes = λ D f. length-raised H c.climb.level c.climb.last (take c.args.n D) (old.nodes D f);
       edge = λ D s f. edge_up H c.climb.level c.climb.last c.args.n D c.climb.edge c.edge_above-edge-in-climb.result (old.nodes D f) (old.edge D s f)
