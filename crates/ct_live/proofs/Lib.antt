@@ -23,3 +23,5 @@ pub mod BrokenOff
 pub mod Runs
 pub mod Late
 pub mod Told
+pub mod Pieces
+pub mod PiecesRead
