@@ -147,8 +147,13 @@ class Watcher:
         value["check"] = answers.text(merkle.sha256(answers.line(value)[:-1].encode()))
         return answers.line(value)
 
+    def fits(self):
+        """Whether there are as many subtrees as leaves want, and the accepted leaves are fewer than all, or have the same subtrees."""
+        whole = all(len(each.roots) == f"{each.size:b}".count("1") for each in (self.sure, self.all))
+        return whole and (self.sure.size < self.all.size or self.sure.told() == self.all.told())
+
     def take_up(self, line):
-        """Whether the line is a state, byte for byte; it is taken up then."""
+        """Whether the line is a state whose parts fit, byte for byte; it is taken up then."""
         other = Watcher(self.names)
         try:
             value = json.loads(line)
@@ -156,7 +161,7 @@ class Watcher:
             other.sure, other.all = subtrees_of(value["sure"]), subtrees_of(value["all"])
         except (ValueError, KeyError, TypeError):
             return False
-        if other.state().encode() != line + b"\n":
+        if not other.fits() or other.state().encode() != line + b"\n":
             return False
         self.accepted, self.waiting, self.sure, self.all = other.accepted, other.waiting, other.sure, other.all
         return True

@@ -182,6 +182,8 @@ def runs():
     yield "gaps", 0, [after_one, entries(LOG, 8, 10), two, entries(LOG, 9, 11), entries(LOG, 7, 9), proof(8, LOG), head(LOG, MOMENT + 2009)], [gap(8), pending(8, 20), gap(8), gap(8), {"verdict": "consistent"}, again, state(one, two, LOG[:8], LOG[:8])]
     yield "bad", 4, [{"entries": []}, {"hello": 1}, dict(after_one, state=2), after_one, proof(1, LOG[:3])], [gap(0), bad_line, bad_state, bad_state, gap(0), nothing]
     yield "damaged", 4, [dict(after_one, sure=peaks(LOG[:7])), two], [bad_state, pending(0, 20), state(None, two, [], [])]
+    yield "other-accepted", 4, [state(one, None, LOG[6:14], LOG[:8]), two], [bad_state, pending(0, 20), state(None, two, [], [])]
+    yield "more-accepted", 4, [state(one, None, LOG[:9], LOG[:8]), two], [bad_state, pending(0, 20), state(None, two, [], [])]
     yield "no-check", 4, [{k: v for k, v in after_one.items() if k != "check"}], [bad_state, nothing]
     yield "no-start", 0, [one, {"entries": entries(LOG, 0, 20)["entries"]}], [pending(0, 8), *found(0, 8), accepted(8), after_one]
     yield "bad-start", 4, [one, dict(entries(LOG, 0, 8), start="0")], [pending(0, 8), bad_line, state(None, one, [], [])]

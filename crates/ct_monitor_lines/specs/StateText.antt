@@ -1,5 +1,6 @@
 -- The line of a state.
-use Rattle.std.specs.Prelude.{◌≡◌, ◌<◌, ◌≤◌, ◌^◌, ◌==◌, ◌&&◌, nat_le, count_ones, ⊤, ℕ, Bool, true, List, length, All, Some, None, if◌then◌else◌, option_map, option_and_then, codes}
+use Rattle.std.specs.Prelude.{◌≡◌, ◌<◌, ◌≤◌, ◌^◌, ◌==◌, ◌&&◌, ◌||◌, nat_le, nat_lt, bytes_eq, count_ones, ⊤, ℕ, Bool, true, List, length, All, Some, None, if◌then◌else◌, option_map, option_and_then, codes}
+use Rattle.std.specs.Cmp.Lexicographic.{pointwise}
 use Rattle.base64.specs.GeneralPurpose.{IsBytes}
 use Rattle.std.specs.declared.option.Option.{Option}
 use Rattle.serde_json.specs.Data.{Data, null, object, member, no_members}
@@ -81,12 +82,16 @@ state_in d = option_and_then (λ sure. option_map (λ all. state_with (head_at (
 abbrev pub has_peaks : ℕ × List (List ℕ) → Bool
 has_peaks p = length p.1 == count_ones p.0
 
--- Whether the numbers of a state fit one another: there are as many subtrees as leaves want, and no more leaves are accepted than were read. So
--- it is of each state that stands for what a log handed out.
-abbrev pub fits_together : WatcherState → Bool
-fits_together s = (has_peaks s.sure && has_peaks s.all) && nat_le s.sure.0 s.all.0
+-- whether fewer leaves are accepted than were read, or all of them: then the subtrees are the same
+abbrev pub are_accepted_of : ℕ × List (List ℕ) → ℕ × List (List ℕ) → Bool
+are_accepted_of sure all = nat_le sure.0 all.0 && (nat_lt sure.0 all.0 || pointwise bytes_eq sure.1 all.1)
 
--- the line is that of this state, which the code can have, whose numbers fit one another, and has at most 16,777,216 bytes
+-- Whether the parts of a state fit one another: there are as many subtrees as leaves want, no more leaves are accepted than were read, and where all
+-- are accepted, the subtrees are the same. So it is of each state that stands for what a log handed out.
+abbrev pub fits_together : WatcherState → Bool
+fits_together s = (has_peaks s.sure && has_peaks s.all) && are_accepted_of s.sure s.all
+
+-- the line is that of this state, which the code can have, whose parts fit one another, and has at most 16,777,216 bytes
 abbrev pub IsLineOfState : List ℕ → WatcherState → Type 0
 IsLineOfState line s = IsOfBytes s × (length line ≤ 16777216) × (line ≡ state_text s) × (fits_together s ≡ true)
 
@@ -103,7 +108,7 @@ ReadsState line (Some s) = IsLineOfState line s
 abbrev pub LinesOfStatesDiffer : Type 0
 LinesOfStatesDiffer = (s t : WatcherState) → IsOfBytes s → IsOfBytes t → state_text s ≡ state_text t → s ≡ t
 
--- what is written of a state is read as that state where its numbers fit one another, and else as none, where its line has at most 16,777,216 bytes
+-- what is written of a state is read as that state where its parts fit one another, and else as none, where its line has at most 16,777,216 bytes
 abbrev pub StatesReadBack : Type 0
 StatesReadBack = (s : WatcherState) (o : Option WatcherState) → IsOfBytes s → length (state_text s) ≤ 16777216
     → ReadsState (state_text s) o → o ≡ (if fits_together s then Some s else None)

@@ -40,13 +40,13 @@ pub fn state_lines_differ()
     ensures { LinesOfStatesDiffer }
 {}
 
-/// The numbers of a state fit one another, where it stands for what a log handed out.
+/// The parts of a state fit one another, where it stands for what a log handed out.
 #[tactic(auto, using(crate::proofs::Fitting::states_fit))]
 pub fn states_fit()
     ensures { StatesFit }
 {}
 
-/// What is written of a state is read as that state where its numbers fit one another, and else as none, where it has at most 16,777,216 bytes.
+/// What is written of a state is read as that state where its parts fit one another, and else as none, where it has at most 16,777,216 bytes.
 #[tactic(auto, using(crate::proofs::StateTexts::states_read_back))]
 pub fn states_read_back()
     ensures { StatesReadBack }

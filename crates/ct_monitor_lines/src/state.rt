@@ -8,7 +8,7 @@ ghost use Rattle.serde_json.specs.View.{view};
 ghost use Rattle.serde_json.specs.Written.{compact_text};
 ghost use Rattle.sha2.specs.Sha256.{sha256};
 ghost use Rattle.ct_monitor_lines.specs.StateText.{peaks_data, state_data, check_data, state_text, IsRootHash, ArePeaksOfBytes, IsNoneOrOfBytes, IsOfBytes};
-ghost use Rattle.ct_monitor_lines.specs.StateText.{has_peaks, fits_together, peaks_in, peaks_at, head_at, state_in, ReadsState};
+ghost use Rattle.ct_monitor_lines.specs.StateText.{has_peaks, are_accepted_of, fits_together, peaks_in, peaks_at, head_at, state_in, ReadsState};
 
 use crate::answer::LONGEST;
 use ct_fields::{head_of, head_value};
@@ -194,13 +194,20 @@ fn has_peaks(peaks: &Peaks) -> bool
     peaks.subtrees().len() == peaks.size().count_ones() as usize
 }
 
-// Whether the numbers of a state fit one another.
+// Whether fewer leaves are accepted than were read, or all of them: then the subtrees are the same.
+fn are_accepted_of(sure: &Peaks, all: &Peaks) -> bool
+    ensures { result ≡ are_accepted_of sure.now all.now }
+{
+    sure.size() <= all.size() && (sure.size() < all.size() || sure.subtrees() == all.subtrees())
+}
+
+// Whether the parts of a state fit one another.
 fn fits_together(watcher: &Watcher<Sha256Hash>) -> bool
     ensures { result ≡ fits_together watcher.now }
 {
     let sure = watcher.sure();
     let all = watcher.all();
-    has_peaks(sure) && has_peaks(all) && sure.size() <= all.size()
+    has_peaks(sure) && has_peaks(all) && are_accepted_of(sure, all)
 }
 
 // The watcher whose state the line is, byte for byte, where the line was read as this value.
