@@ -23,7 +23,7 @@ demo: ## proves ctlog and ctmonitor, and shows something of each layer as soon a
 	@checks/needs.sh demo
 	@examples/demo.sh
 
-# TURN=0 to 5 says of which sixth of the crates it tries the wrong bodies that every sixth gate tries.
+# TURN=0 to 8 says of which ninth of the crates it tries the wrong bodies that every ninth gate tries.
 # GO=no leaves the Go part out, SETUP=no installs no packages of Debian's for it. The file COUNT gets how many of its tests passed.
 test: ## the gate: proves every crate from nothing, and runs the tests and the program
 	@checks/needs.sh test
@@ -150,7 +150,7 @@ load: ## runs the tests with sixteen threads and a shutdown among them 50 times,
 	@PYTHONDONTWRITEBYTECODE=1 python3 tests/load.py --runs $(RUNS) --shifts 3
 	@PYTHONDONTWRITEBYTECODE=1 python3 tests/live_load.py
 
-# After `rt run -- --help` in crates/ctlog and crates/ctlogd and `rt test` in crates/memory_tests, which build what is swept.
+# After `rt run -- --help` in crates/ctlog and crates/ctlogd and `rt test` in crates/house_tests, which build what is swept.
 sweep: ## refuses each growth of ctlog, of ctlogd and of the library's calls in turn, and judges what they then do; adds up ctlog's, and shortens reads and writes
 	@PYTHONDONTWRITEBYTECODE=1 python3 tests/memory.py
 	@PYTHONDONTWRITEBYTECODE=1 python3 tests/sweep.py

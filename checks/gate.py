@@ -1,17 +1,17 @@
 #!/usr/bin/env python3
 """Runs `rt ci`, the merge gate, and prints each of its lines behind the time so far. Its last line, 'N passed, M failed', is printed once
 more, with the tests of the Go part in it, of which the file COUNT in the environment has how many passed and failed, and with what is run over the
-programs once `rt ci` has built them: those over lines by words of their own (tests/command_lines.py), all while some growths of memory are refused
-(tests/sweep.py) and ctlogd while it is broken off (tests/live_break.py), and the parts of the demo (examples/demo.sh). The status is that of `rt ci`, or
-1 where one of these failed.
+programs once `rt ci` has built them: all by words of their own (tests/command_lines.py), ctlog over sessions (tests/sessions.py), all while some growths
+of memory are refused (tests/sweep.py) and ctlogd while it is broken off (tests/live_break.py), and the parts of the demo (examples/demo.sh). The status is
+that of `rt ci`, or 1 where one of these failed.
 
 `rt ci` tells of a crate when it is done, and not how many of its functions are proved so far; while it tells nothing, a line a minute says
 how long it has been at work. Behind it a line says how many processor minutes it took.
 
-It has `rt ci` try those edits of crates/NAME/wrong-bodies whose first line is 'tried: by each gate', and those where it is 'tried: by every sixth
-gate', of a sixth of the crates that have such: the commit's hash says which, or TURN=0 to 5 in the environment. They stand in must-fail, which
+It has `rt ci` try those edits of crates/NAME/wrong-bodies whose first line is 'tried: by each gate', and those where it is 'tried: by every ninth
+gate', of a ninth of the crates that have such: the commit's hash says which, or TURN=0 to 8 in the environment. They stand in must-fail, which
 `rt ci` reads, while it runs; what a run that was killed has left there wrong_bodies.py takes away. What a crate's edits cost is one more proof of
-the crate, and about a sixth of that for each; so the sixths are made of whole crates, of about the same cost.
+the crate, and about a sixth of that for each; so the ninths are made of whole crates, of about the same cost.
 
 `rt ci` guesses what memory a proof needs, at two to three times what was seen, and lets a large crate wait while smaller ones have that: so ct_live, in
 the longest chain of crates, waited. Where each processor has memory for a proof, it is told to use them all, by RT_JOBS.
@@ -29,10 +29,10 @@ import threading
 import time
 
 ROOT = pathlib.Path(__file__).resolve().parent.parent
-PARTS = 6
+PARTS = 9
 
 # What the first line of an edit of wrong-bodies says of when it is tried; where it is another, `make wrong` alone tries it.
-EACH, IN_TURN = "tried: by each gate", "tried: by every sixth gate"
+EACH, IN_TURN = "tried: by each gate", "tried: by every ninth gate"
 
 # What it says of what it doesn't try.
 SKIPPED = """It leaves out {} others (make wrong CRATE=..), the service under the race detector, over engines, with kills and with other programs (make
@@ -195,12 +195,22 @@ def with_go(last):
     return f"{passed} passed, {failed} failed"
 
 
+def count_sessions(ran):
+    """How many sessions were as due, and how many weren't: one at least where the script failed, which it does too where it can't read one."""
+    counts = re.findall(r"^\w+: (\d+) sessions as due(?:, (\d+) not)?", ran.stdout, re.M)
+    return sum(int(due) for due, _ in counts), max(sum(int(others or 0) for _, others in counts), 1 if ran.returncode else 0)
+
+
 def run_programs():
     """Runs what goes over the programs that `rt ci` has built: how many passed, and how many failed."""
     how = {"stdout": subprocess.PIPE, "stderr": subprocess.STDOUT, "text": True, "errors": "replace"}
     words = subprocess.run([sys.executable, ROOT / "tests" / "command_lines.py"], **how)
     print(words.stdout, end="", flush=True)
     passed, failed = len(re.findall(r" as due$", words.stdout, re.M)), 1 if words.returncode else 0
+    sessions = subprocess.run([sys.executable, ROOT / "tests" / "sessions.py"], **how)
+    print(sessions.stdout, end="", flush=True)
+    due, others = count_sessions(sessions)
+    passed, failed = passed + due, failed + others
     for script, *given in BROKEN_OFF:
         broken = subprocess.run([sys.executable, ROOT / "tests" / script, *given], **how)
         print(broken.stdout if broken.returncode else f"{' '.join([script, *given])}: as due", flush=True)

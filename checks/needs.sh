@@ -10,17 +10,17 @@ missing=0
 
 # The processor minutes that a target takes where nothing was proved before: test by a run of the gate, demo and serve by runs of their own, from
 # which serve-ctlogd and link are reckoned. After another run: put its figures into this line, and let `needs.sh write` put the times into README.md.
-work_of() { local demo=50 serve=42 ctlogd=39 link=10 test=200 name=${1#serve-} && echo "${!name}"; }
+work_of() { local demo=50 serve=42 ctlogd=39 link=10 test=180 name=${1#serve-} && echo "${!name}"; }
 
 # The minutes that target $1 takes on $2 processors, rounded up to five. Crates are proved side by side: where processors share them a third is added, or
-# a fifteenth to the gate's, and more than eight gain little, of a program's own crates more than four.
+# a fifth to the gate's, and more than eight gain little, of a program's own crates more than four.
 minutes() {
   python3 - "$1" "$(work_of "$1")" "$2" <<'END'
 import math
 import sys
 
 what, work, processors = sys.argv[1], int(sys.argv[2]), int(sys.argv[3])
-taken = work if processors == 1 else work * (16 / 15 if what == "test" else 4 / 3) / min(processors, 8 if what == "test" else 4)
+taken = work if processors == 1 else work * (6 / 5 if what == "test" else 4 / 3) / min(processors, 8 if what == "test" else 4)
 print(max(5, math.ceil(round(taken, 3) / 5) * 5))
 END
 }

@@ -7,14 +7,15 @@ into an error, or a conversion that passes on an error which tells of one; every
 enum, a signature, an `impl`'s head, behind `let x:` or in angle brackets), imports and patterns may name it. The library for C has a number for
 it, 8, which stands only behind a pattern that names it. No growth is asked for that may be more than a machine has room for: how many places it
 asks for is a sum of lengths, of parameters, and of literals below 2^20, by way of `let`s of its function and constants, and so is what each call
-gives for such a parameter (`capacity.py`); only shared/src/count.rt asks for all places that there are, behind the last number. No array has 2^20 items or more. And none
+gives for such a parameter (`capacity.py`); only shared/src/count.rt asks for all places that there are, behind the last number. No array has 2^20 items or more, and
+nothing but a process's words is collected from an iterator, which may say that it has any number of items. And none
 names `forget`, `leak` or `ManuallyDrop`. The script prints each place that breaks this, and ends with status 1 where there is one. Before that
 it tries itself on lines of its own, wrong ones and right ones.
 """
 import re
 import sys
 
-from capacity import arrays, calls, constants, growths
+from capacity import arrays, calls, constants, function_around, growths
 from source import ROOT, blanked, closing, crates, is_for_tests, line_of, sources, without_clauses
 
 NAMES = re.compile(r"\b(?:Memory|OutOfMemory|AllocError|AllocFailed)\b")
@@ -27,6 +28,10 @@ BEHIND = re.compile(r"^(?:\([^()]*\)|\{[^{}]*\})?\s*[)}]*\s*(?:if\b[^=]*)?(?:\|(
 NUMBERED, NUMBER = "libwagtenib", re.compile(r"(?<!; )\b8(?:_?[iu](?:\d+|size))?\b")
 # The one file that may ask for all places that there are.
 COUNT = "shared/src/count.rt"
+# A growth for as many items as an iterator says that it has: of a process's words alone, since a range says any number.
+ITEMS = re.compile(r"(?:\.(?:collect|extend)|\bfrom_iter)\s*(?:::<[^;()]*>)?\s*\(")
+WORDS = re.compile(r"\benv::args\(rt\)\?$")
+GIVEN_WORDS = re.compile(r"\w: io::Result<Args<\w+>>")
 
 
 def blocks(text, pattern):
@@ -118,6 +123,13 @@ def named_in_expressions(text):
         yield found.start()
 
 
+def collected(text):
+    """The places of growths for as many items as an iterator has that aren't a process's words."""
+    for found in ITEMS.finditer(text):
+        if not (WORDS.search(text[: found.start()]) or GIVEN_WORDS.search(function_around(text, found.start())[0])):
+            yield found.start()
+
+
 def numbers(text):
     """The places of the library's number for want of memory, where no pattern before it names it."""
     for found in NUMBER.finditer(text):
@@ -134,7 +146,7 @@ def made_up(text, crate, path, known, given=None):
     if crate == NUMBERED:
         found |= set(numbers(text))
     if not path.endswith(COUNT):
-        found |= set(growths(text, known, given)) | set(arrays(text, known))
+        found |= set(growths(text, known, given)) | set(arrays(text, known)) | set(collected(text))
     return sorted(found)
 
 
@@ -191,7 +203,11 @@ fn f(alloc: Global, head: &Head) -> Answer { let room: Vec<u8> = Vec::with_capac
 fn f(alloc: Global, head: &Head) -> Answer { let size = head.tree_size; let room: Vec<u8> = Vec::with_capacity(alloc, size)?; }
 fn f(items: &mut Vec<u8>, log: Log) -> Answer { items.reserve(log.state.size)?; }
 fn f(alloc: Global) -> Answer { let room: Vec<[u8; 1 << 46]> = Vec::with_capacity(alloc, 1)?; }
-fn f(items: &mut Vec<[u64; 4_294_967_296]>) -> Answer { items.reserve(1)?; }"""
+fn f(items: &mut Vec<[u64; 4_294_967_296]>) -> Answer { items.reserve(1)?; }
+fn f(alloc: Global) -> Answer { let room: BTreeSet<u64> = (0u64..1 << 60).collect(alloc)?; }
+fn f(alloc: Global) -> Answer { let room = (0..count).map(|_| 0u64).collect::<HashSet<u64>>(alloc)?; }
+fn f(alloc: Global) -> Answer { let room = BTreeSet::from_iter(alloc, 0u64..1 << 60)?; }
+fn f(items: &mut VecDeque<u64>) -> Answer { items.extend(0..1 << 60)?; }"""
 RIGHT = """impl From<AllocError> for Fault { fn from(_e: AllocError) -> Fault { Fault::Memory } }
 impl From<Held> for Fault { fn from(held: Held) -> Fault { match held { Held::Memory => Fault::Memory, Held::Read => Fault::Read } } }
 impl From<Held> for Fault { fn from(held: Held) -> Fault { let fault = match held { Held::Memory(_) => Fault::Memory, _ => Fault::Read }; fault } }
@@ -222,6 +238,9 @@ fn f(alloc: Global, options: Options) -> Answer { let room = Joined::with_room(a
 fn f(items: &mut Vec<u8>) -> Answer { items.reserve(1)?; }
 fn f(alloc: Global, row: &[u8]) -> Answer { let count = row.len() / 256; let room: Vec<u8> = Vec::with_capacity(alloc, count)?; }
 let input = BufReader::with_capacity(alloc, CAPACITY, input)?;
+fn f(rt: &H) -> Answer { let words = std::env::args(rt)?.collect(rt.alloc())?; }
+fn f(alloc: Global, read: io::Result<Args<Global>>) -> Answer { let mut all = read?; let words = all.collect(alloc)?; }
+fn f(items: &mut Vec<u8>, more: &[u8]) -> Answer { items.extend_from_slice(more)?; }
 Err(AllocError) => 8,
 DecodeFault::Memory => 8,
 let eight = [0u8; 8];

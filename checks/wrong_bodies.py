@@ -5,7 +5,7 @@
 
 crates/NAME/wrong-bodies/ has edits: a line 'file: PATH', and then pairs of lines 'old: TEXT' and 'new: TEXT', of which each old TEXT stands in
 that file exactly once. The gate (gate.py) tries those whose first line is 'tried: by each gate' each time, and those where it is 'tried: by every
-sixth gate' of a sixth of the crates, since one costs up to a minute of a processor, and a crate's first one a proof of the crate. Without a name
+ninth gate' of a ninth of the crates, since one costs up to a minute of a processor, and a crate's first one a proof of the crate. Without a name
 this script looks, in a moment, whether all edits can be applied. With names it has rt try all edits of the crates, over a copy of the repository
 with what is proved there. First it takes out of must-fail what a gate that was killed has left there; not while a gate is at work here.
 """
@@ -20,7 +20,7 @@ import tempfile
 import gate
 from source import CRATES, MADE, ROOT
 
-# (must-fail is rt's own, of a gate at work; by-turns is wrong-bodies that every sixth gate tries)
+# (must-fail is rt's own, of a gate at work; by-turns is wrong-bodies that every ninth gate tries)
 FOLDERS = ("must-fail", "by-turns", "wrong-bodies")
 
 
