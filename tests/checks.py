@@ -25,7 +25,7 @@ import documents  # noqa: E402
 import gate  # noqa: E402
 import wrong_bodies  # noqa: E402
 
-# Edits of the made-up crate as rt reads them: one that each gate tries, two of every sixth gate, and one that `make wrong` alone tries. A gate has
+# Edits of the made-up crate as rt reads them: one that each gate tries, two of every ninth gate, and one that `make wrong` alone tries. A gate has
 # left one of them whole, and one cut off; and one in must-fail is of another's.
 EDIT = "file: src/lib.rt\nold: one\nnew: {}\n"
 EACH, IN_TURN = {"each.edit": EDIT.format("each")}, {name: EDIT.format(name) for name in ("whole.edit", "cut.edit")}
@@ -95,7 +95,7 @@ def try_gate(repository):
         ("a gate of another turn", "5", f"{looks}; echo 1 passed, 0 failed", 0),
         ("a gate whose terminal ends", "", f"{looks}; kill -HUP $PPID", 1),
         ("a gate whose edits go meanwhile", "", f"{looks}; rm crates/made_up/must-fail/whole.edit; echo 1 passed, 0 failed", 1),
-        ("a gate", "6", f"{looks}; echo >crates/made_up/wrong-bodies/cut.edit; echo 1 passed, 0 failed", 0),
+        ("a gate", str(gate.PARTS), f"{looks}; echo >crates/made_up/wrong-bodies/cut.edit; echo 1 passed, 0 failed", 0),
     ):
         there = {**OWN, **EACH, **(IN_TURN if turn != "5" else {})}
         (repository.folder / "due").write_text("".join(there[name] for name in sorted(there)))
@@ -117,26 +117,32 @@ def try_counted(repository):
 
 
 def try_programs(repository):
-    """Behind a gate whose proofs passed the built programs are given words of their own, growths of memory are refused to them, and the demo's parts over
-    them are shown: its last line counts all of these, and its status tells."""
+    """Behind a gate whose proofs passed the built programs are given words of their own, and sessions, growths of memory are refused to them, and the
+    demo's parts over them are shown: its last line counts all of these, and its status tells."""
     words, demo = repository.folder / "tests" / "command_lines.py", repository.folder / "examples" / "demo.sh"
     words.parent.mkdir()
     shown = len(gate.DEMO) + len(gate.BROKEN_OFF)
-    for end, swept, part, rt, due, last in (
-        ("", "none", "none", "echo 3 passed, 0 failed", 0, f"{5 + shown} passed, 0 failed"),
-        ("sys.exit(1)", "none", "none", "echo 3 passed, 0 failed", 1, f"{5 + shown} passed, 1 failed"),
-        ("", "cttile", "none", "echo 3 passed, 0 failed", 1, f"{4 + shown} passed, 1 failed"),
-        ("", "none", "log", "echo 3 passed, 0 failed", 1, f"{4 + shown} passed, 1 failed"),
-        ("sys.exit(1)", "none", "tiles", "echo 3 passed, 0 failed", 1, f"{4 + shown} passed, 2 failed"),
-        ("", "none", "none", "echo 2 passed, 1 failed; exit 1", 1, "2 passed, 1 failed"),
+    good, bad, none = ("print('one: 9 sessions as due')", "print('one: 6 sessions as due, 3 not')\nsys.exit(1)", "sys.exit('no session')")
+    for end, sessions, swept, part, rt, due, last in (
+        ("", good, "none", "none", "echo 3 passed, 0 failed", 0, f"{14 + shown} passed, 0 failed"),
+        ("sys.exit(1)", good, "none", "none", "echo 3 passed, 0 failed", 1, f"{14 + shown} passed, 1 failed"),
+        ("", bad, "none", "none", "echo 3 passed, 0 failed", 1, f"{11 + shown} passed, 3 failed"),
+        ("", f"{good}\n{bad}", "none", "none", "echo 3 passed, 0 failed", 1, f"{20 + shown} passed, 3 failed"),
+        ("", none, "none", "none", "echo 3 passed, 0 failed", 1, f"{5 + shown} passed, 1 failed"),
+        ("", f"{good}\n{none}", "none", "none", "echo 3 passed, 0 failed", 1, f"{14 + shown} passed, 1 failed"),
+        ("", good, "cttile", "none", "echo 3 passed, 0 failed", 1, f"{13 + shown} passed, 1 failed"),
+        ("", good, "none", "log", "echo 3 passed, 0 failed", 1, f"{13 + shown} passed, 1 failed"),
+        ("sys.exit(1)", bad, "none", "tiles", "echo 3 passed, 0 failed", 1, f"{10 + shown} passed, 5 failed"),
+        ("", good, "none", "none", "echo 2 passed, 1 failed; exit 1", 1, "2 passed, 1 failed"),
     ):
         words.write_text(f"import sys\nprint('one: 7 command lines as due')\nprint('two: 8 command lines as due')\nprint('three: other')\n{end}\n")
+        (words.parent / "sessions.py").write_text(f"import sys\n{sessions}\n")
         for script in {script for script, *_ in gate.BROKEN_OFF}:
             (words.parent / script).write_text(f"import sys\nsys.exit('sweep: another reply' if {swept!r} in sys.argv else 0)\n")
         demo.write_text(f'#!/bin/sh\n[ "$1" != {part} ] || {{ echo "demo: other replies"; exit 1; }}\n')
         demo.chmod(0o755)
         ended, said = repository.run("checks/gate.py", rt=rt)
-        hold(f"a gate whose programs end with {end or 'status 0'}, whose sweep fails in {swept}, and demo in {part}", (ended, said.splitlines()[-1]), (due, last))
+        hold(f"a gate whose programs end with {end or 'status 0'}, whose sessions do {sessions}, whose sweep fails in {swept}, and demo in {part}", (ended, said.splitlines()[-1]), (due, last))
         hold(f"it says why {swept} failed", "sweep: another reply" in said, swept != "none")
         hold(f"it says why {part} failed", "demo: other replies" in said, part != "none")
     shutil.rmtree(words.parent)

@@ -1,12 +1,12 @@
 #!/usr/bin/env python3
-"""Gives the built programs over lines words of their own: command_lines.py [FOLDER]
+"""Gives the built programs words of their own: command_lines.py [FOLDER]
 
 Std's contracts don't say which words a process has, and what its standard streams hold, so no clause sees a program that passes over its words, or
 reads where it is asked for help. FOLDER has the built programs, each as NAME/out/NAME (crates, where it isn't given; `rt run -- --help` in
 crates/NAME builds one). Each that is there is given its stored lines, and then the same lines under words that ask for help, for the version, and for
 nothing that there is; a word that isn't UTF-8; an input that can't be read, and outputs that can't be written. What is due is what the program's page
 says, and its stored run. Where no lines are asked for, none are read. Those that aren't built are named. The status is 1 where something isn't so, and
-where none is built.
+where none is built. What ctlog does over lines, sessions.py has.
 """
 import os
 import pathlib
@@ -19,21 +19,37 @@ from sweep import CRATES
 VERSION = (CRATES.parent / "VERSION").read_text().strip()
 UNREADABLE = b"\xff"
 LIMIT = 60
-# Of each program: its page, its exit statuses, words that its options take, and words that ask for nothing that there is.
+# Of each program: its page, its exit statuses, words that its options take (5,000, so that one which stops before these is seen), and words that
+# ask for nothing that there is.
 OPTIONLESS = [["lines"], ["--origin", "log.example"], ["-"], [""], ["--Help"]]
+NO_LOG = ["--fronts 17 --ring 4", "--fronts 0 --ring 4", "--fronts 1 --ring 0", "--fronts 1 --ring 4097", "--fronts 1 --ring 4 --close-at 9007199254740992", "--fronts 1"]
+OF_A_LOG = ("docs/LINES.md", None, ["--fronts", "1", "--ring", "4"], [*map(str.split, NO_LOG), ["lines"], [""], ["a" * 3000]])
 PROGRAMS = {
-    "ctmonitor": ("docs/MONITOR.md", "01234", ["--name", "a.example"], [["lines"], ["--name"], ["--name", "a", "--name"], ["--names", "a"], [""], ["a" * 3000]]),
+    "ctlog": OF_A_LOG,
+    "ctlogd": OF_A_LOG,
+    "ctmonitor": ("docs/MONITOR.md", "01234", ["--name", "a.example"] * 2500, [["lines"], ["--name"], ["--name", "a", "--name"], ["--names", "a"], [""], ["a" * 3000]]),
     "ctguard": (
         "docs/GUARD.md",
         "0124",
-        ["--origin", "a", "--receipts", "promised", "--origin", "b", "--receipts", "in-head"],
+        ["--origin", "a", "--receipts", "promised", "--origin", "b", "--receipts", "in-head"] * 625,
         [["lines"], ["--origin"], ["--origin", ""], ["--origin", "a\nb"], ["--receipts", "some"], ["--origin", "a", "--origins", "b"], [""], ["a" * 3000]],
     ),
-    "cttile": ("docs/GROWTH.md", "0124", ["--origin", "a"] * 5, [["lines"], ["--origin"], ["--origin", ""], ["--origin", "a\nb"], ["--receipts", "promised"], [""]]),
+    "cttile": ("docs/GROWTH.md", "0124", ["--origin", "a"] * 2500, [["lines"], ["--origin"], ["--origin", ""], ["--origin", "a\nb"], ["--receipts", "promised"], [""]]),
     "ctproof": ("docs/TILES.md", "0124", [], OPTIONLESS),
     "ctwitness": ("docs/WITNESS.md", "0124", [], OPTIONLESS),
     "ctnode": ("docs/NODE.md", "0124", [], OPTIONLESS),
 }
+# What help is, of those whose help tells no exit statuses. Any text may stand for `...`.
+HELP = {
+    "ctlog": "Usage: ctlog [OPTIONS] --fronts <N> --ring <K>\n...The input is read whole before the log opens.\n",
+    "ctlogd": "Usage: ctlogd [OPTIONS] --fronts <N> --ring <K>\n...docs/LINES.md has their form.\n",
+}
+# What is told of words that ask for nothing that there is, where that isn't help. There a word that isn't UTF-8 is such a word; elsewhere it can't be read.
+REFUSED = "error: ...\n\nRequests come on standard input, a line of JSON each.\n"
+TOLD = {"ctlog": REFUSED, "ctlogd": REFUSED, "ctmonitor": "error: ..."}
+NOT_UTF_8 = "error: an argument isn't UTF-8\n..."
+# What a stored run tells.
+FAULTS = {"ctlog": b"ctlog: clock-back\n"}
 
 
 class Other(Exception):
@@ -53,11 +69,33 @@ def due(what, found, wanted):
         raise Other(f"{what}: {str(found)[:300]} and not {str(wanted)[:300]}")
 
 
+def fits(text, wanted):
+    """Whether a text is the one that is wanted, in which any text may stand for `...`."""
+    start, middle, end = (part.encode() for part in wanted.partition("..."))
+    return text.startswith(start) and text.endswith(end) and (len(text) >= len(start + end) if middle else text == start)
+
+
+def due_text(what, text, wanted):
+    if not fits(text, wanted):
+        due(what, text, wanted)
+
+
+def due_told(name, what, told, usage):
+    """What a program tells of words that ask for nothing that there is: help, or a text of its own."""
+    if name in TOLD:
+        due_text(what, told, TOLD[name])
+    else:
+        due(what, told, usage)
+
+
 def judge_help(name, page, statuses, text):
     """Whether help says how the program is called, where its page is, and what its exit statuses are."""
     lines = text.decode().splitlines()
     due("help begins", lines[0].lower().startswith(f"usage: {name}"), True)
     due(f"help names {page}", page in text.decode(), True)
+    if name in HELP:
+        due_text("help", text, HELP[name])
+        return
     due("exit statuses", "".join(line.split()[0] for line in lines[lines.index("Exit status:") + 1 :]), statuses)
 
 
@@ -70,18 +108,19 @@ def judge_words(name, program, lines):
     for words in (["-h"], [*options, "--help", "lines"], [*options, "-h", ""]):
         due(" ".join(words), ran(program, words, lines), (0, usage, b"", 0))
         runs += 1
-    for words in (["--version"], [*options, "--version", "--help"], *([["-V"]] if name == "ctmonitor" else [])):
+    for words in (["--version"], [*options, "--version", "--help"], *([["-V"]] if name in TOLD else [])):
         due(" ".join(words), ran(program, words, lines), (0, f"{name} {VERSION}\n".encode(), b"", 0))
         runs += 1
     for words in refused:
         status, written, told, read = ran(program, words, lines)
         due(repr(words)[:80], (status, written, read), (2, b"", 0))
-        due(f"{words!r:.80} told", told.startswith(b"error: ") if name == "ctmonitor" else told == usage, True)
+        due_told(name, f"{words!r:.80} told", told, usage)
         runs += 1
     for words in ([UNREADABLE], [*options, UNREADABLE], ["--help", UNREADABLE]):
         status, written, told, read = ran(program, words, lines)
-        if name == "ctmonitor":
-            due("a word that isn't UTF-8", (status, written, read, told.startswith(b"error: an argument isn't UTF-8\n")), (2, b"", 0, True))
+        if name in TOLD:
+            due("a word that isn't UTF-8", (status, written, read), (2, b"", 0))
+            due_text("a word that isn't UTF-8 told", told, NOT_UTF_8)
         else:
             due("a word that isn't UTF-8", (status, written, told, read), (1, b"", f"{name}: read\n".encode(), 0))
         runs += 1
@@ -93,7 +132,7 @@ def judge_streams(name, program, lines):
     own = CRATES / name
     words = (own / "args").read_text().splitlines() if (own / "args").exists() else []
     status = int((own / "status").read_text()) if (own / "status").exists() else 0
-    due("its stored run", ran(program, words, lines), (status, (own / "stdout").read_bytes(), b"", len(lines.read_bytes())))
+    due("its stored run", ran(program, words, lines), (status, (own / "stdout").read_bytes(), FAULTS.get(name, b""), len(lines.read_bytes())))
     with tempfile.TemporaryDirectory() as folder:
         source = os.open(folder, os.O_RDONLY)
         try:

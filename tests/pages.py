@@ -47,7 +47,7 @@ softhsm2-util --init-token --free --label ct-log --so-pin 12345678 --pin "$pin"
 pkcs11-tool --module "$(ls /usr/lib/softhsm/libsofthsm2.so /usr/lib/*-linux-gnu/softhsm/libsofthsm2.so 2>/dev/null | head -n 1)" --login --pin "$pin" --keypairgen --key-type EC:prime256v1 --id 01 --label log
 """
 BEFORE = {
-    "make load": ["(cd crates/house_tests && rt test)"], "make sweep": ["(cd crates/memory_tests && rt test)"], "examples/http/front.py --key": ["mkdir /etc/ct", TOKEN],
+    "make load": ["(cd crates/house_tests && rt test)"], "make sweep": ["(cd crates/house_tests && rt test)"], "examples/http/front.py --key": ["mkdir /etc/ct", TOKEN],
     # (what lies there is of a front with the token's key)
     "make serve-ctlogd": ["rm -rf ct-state"],
     "useradd --system ct-signer": ["(cd crates/ctguard && rt run -- --version)", "(cd crates/ctlogd && rt run -- --version)"],

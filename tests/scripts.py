@@ -1,10 +1,11 @@
 #!/usr/bin/env python3
 """Tries the scripts of examples/ and of this folder: bad_lines.py, pem_lines.py, expected.py, check.py, guard/model.py and those of tiles/ on
-stored input, tiles/step.py and node/explore.py on random histories, those of checks/ on a made-up repository, README.md's commands, release.py on
+stored input, sessions.py on its sessions, on damaged ones and on a program that stands in for ctlog, tiles/step.py and node/explore.py on random histories, those of checks/ on a made-up repository, README.md's commands, release.py on
 made-up builds, monitor/watch.sh on logs of its own, and service/cluster.sh over programs in the place of its own.
 
 It prints one line where all is as expected; else it says what isn't, and ends with status 1.
 """
+import argparse
 import json
 import os
 import pathlib
@@ -23,8 +24,9 @@ sys.path.append(str(EXAMPLES))
 from bad_lines import reason  # noqa: E402
 from check import LiveLines, Wrong, checked_live  # noqa: E402
 from damages import damages  # noqa: E402
-from expected import read_line  # noqa: E402
+from expected import outcome, read_line  # noqa: E402
 from mutations import mutated  # noqa: E402
+from sessions import Unreadable, read_sessions, sessions_of  # noqa: E402
 
 NO_REQUEST = b"this line is no request"
 # How many stored lines are damaged, and compared.
@@ -150,8 +152,8 @@ def try_models():
 
 def try_tiles():
     """tiles/growth.py, with tiles/expected.py behind it, writes the stored output of print_steps, and tiles/hostile.py the values of
-    tiled_log_tests; tiles/step.py answers two random histories, and a reader of tiles, as the leaves have it."""
-    stored = (("growth", "print_steps/stdout"), ("hostile", "tiled_log_tests/src/hostile.rt"))
+    line_tests; tiles/step.py answers two random histories, and a reader of tiles, as the leaves have it."""
+    stored = (("growth", "print_steps/stdout"), ("hostile", "line_tests/src/hostile.rt"))
     for script, file in stored:
         if run(f"tiles/{script}.py").stdout != (HERE.parent / "crates" / file).read_bytes():
             fail(f"tiles/{script}.py writes another text than crates/{file}")
@@ -191,6 +193,59 @@ def try_first_session():
     tickets = [f'{{"ticket":{number}}}' for number in range(100)]
     if ran.stdout.decode().splitlines()[:-1] != tickets or '"leaf_index":0' not in ran.stdout.decode():
         fail(f"by README.md's words a first try of a hundred lines is replied to with {ran.stdout.decode()[-200:]}{ran.stderr.decode()}")
+
+
+# A session with a line of each kind, and what isn't one: each damage is a part of its text, and another in its place.
+SESSION = "What it shows.\nWhy.\n$ ctlog --fronts 1\n> {}\n>\n>\\r x\n>9 x\n>| y\n<* b\n<* a\n<\n! c\n= 2\n"
+DAMAGES = (
+    *(("$ ctlog --fronts 1", other) for other in ("", "$", "$ ", "$ ctlog  --fronts 1", "$ ctlog --fronts 1 ", "$ ../ctlog", "$ ctlog\n$ ctlog", "ctlog --fronts 1")),
+    *(("> {}", other) for other in ("{}", ">{}", "> {} ", "> {}\r", "> ", ">| {}", ">|", ">1 {}", ">2 {}", ">-3 {}", "<< {}", "\n> {}", "?")),
+    *(("<* b", other) for other in ("<*b", "<| b", "b", "> b", "# b")),
+    *(("! c", other) for other in ("!c", "!* c", "< c\n! c\n< c", "= 1\n! c")),
+    *(("= 2", other) for other in ("=2", "= two", "= 2 3", "= 1\n= 2", "2")),
+    *((SESSION, other) for other in ("", "What it shows.\n", f"{SESSION}\n{SESSION}", SESSION[SESSION.index("$") :])),
+)
+BAD_LINES = "\n".join(['{"error":"bad-line"}'] * 3)
+
+
+def try_sessions(folder):
+    """What is due of the sessions of ctlog is what expected.py computes. Damaged sessions are refused. Of a program that replies with three bad lines to
+    each, those of this reply are as due, and each other one is named."""
+    options = argparse.ArgumentParser()
+    for name, value in (("--fronts", None), ("--ring", None), ("--open-at", 0), ("--close-at", (1 << 53) - 1)):
+        options.add_argument(name, type=int, default=value)
+    sessions = read_sessions()
+    for session in sessions:
+        words = options.parse_args(session.words[1:])
+        lines, fault = outcome(words.fronts, words.ring, words.open_at, words.close_at, session.given)
+        told = (1, f"ctlog: {fault}\n") if fault else (0, "")
+        output = re.sub(r'(?<={"ticket":)\d+', "_", session.output.decode()) if words.fronts > 1 else session.output.decode()
+        if (output, session.status, session.told.decode()) != ("".join(f"{line}\n" for line in lines), *told):
+            fail(f"of the session {session.name} in {session.file} another reply is due than expected.py computes: {lines}, {told}")
+    (session,) = sessions_of("made up", SESSION)
+    if session[1:] != ("What it shows.", ["ctlog", "--fronts", "1"], b"{}\n\nx\r\n        x\ny", ["*", "*", ""], b"b\na\n\n", b"c\n", 2):
+        fail(f"sessions.py reads a session otherwise: {session}")
+    if session.ordered(b"a\nb\n\n") != session.ordered(session.output) or session.ordered(b"a\n\nb\n") == session.ordered(session.output):
+        fail("sessions.py takes lines in another order than they may come in")
+    for part, other in DAMAGES:
+        try:
+            fail(f"sessions.py reads {sessions_of('made up', SESSION.replace(part, other))} where {part!r} is {other!r}")
+        except Unreadable:
+            continue
+    ran = run("sessions.py", folder)
+    if ran.returncode != 1 or ran.stdout.decode() != f"ctlog: 0 sessions as due, {len(sessions)} not: it isn't built\n":
+        fail(f"sessions.py without a program: status {ran.returncode}, {ran.stdout.decode()}{ran.stderr.decode()}")
+    program = folder / "ctlog" / "out" / "ctlog"
+    program.parent.mkdir(parents=True)
+    program.write_text(f"#!/bin/sh\ncat >/dev/null\necho '{BAD_LINES}'\n")
+    program.chmod(0o755)
+    due = [session.output.decode() == f"{BAD_LINES}\n" and not session.status for session in sessions]
+    ran = run("sessions.py", folder)
+    told = f"\n{ran.stdout.decode()}"
+    named = [f"\n{session.file}: {session.name} " in told for session in sessions]
+    if ran.returncode != 1 or named != [not is_due for is_due in due] or not told.endswith(f"\nctlog: {sum(due)} sessions as due, {len(due) - sum(due)} not\n"):
+        fail(f"sessions.py of a program with three replies: status {ran.returncode}, {told}")
+    return len(sessions)
 
 
 def try_install(folder):
@@ -431,6 +486,8 @@ def main():
     with tempfile.TemporaryDirectory() as folder:
         try_needs(pathlib.Path(folder))
         try_count(pathlib.Path(folder))
+    with tempfile.TemporaryDirectory() as folder:
+        sessions = try_sessions(pathlib.Path(folder))
     try_figures()
     quotations = try_quotations()
     try_waits()
@@ -463,7 +520,7 @@ def main():
             fail(f"names/{script}: {named.stderr.decode()}")
         sys.stdout.write(named.stdout.decode())
     stored = len(lines_of("bad-lines"))
-    rest = f"{chains} chains, {len(INPUTS)} inputs, {outputs} damaged outputs, {quotations} quotations, {files} installed files and a release ({released})"
+    rest = f"{chains} chains, {len(INPUTS)} inputs, {sessions} sessions, {outputs} damaged outputs, {quotations} quotations, {files} installed files and a release ({released})"
     print(f"tests/scripts.py: as expected, over {stored} stored lines, {DAMAGED} damaged ones, {rest}.")
 
 
