@@ -75,3 +75,10 @@ module _ {R : Type 0} where
 abbrev pub IsFromStart : {R I : Type 0} → I → Origin R I → Type 0
 IsFromStart input (Ahead reader) = (reader.has_ended ≡ false) × (pieces_of reader ≡ []) × (left_of_piece reader ≡ [])
 IsFromStart input (Here here) = here ≡ input
+
+-- another thread reads it before and after, and then this holds; or it is read in place before and after
+abbrev pub IfAhead : {R I : Type 0} → Origin R I → Origin R I → (PieceReader R → PieceReader R → Type 0) → Type 0
+IfAhead (Ahead old) (Ahead new) holds = holds old new
+IfAhead (Ahead old) (Here new) holds = ⊥
+IfAhead (Here old) (Ahead new) holds = ⊥
+IfAhead (Here old) (Here new) holds = ⊤

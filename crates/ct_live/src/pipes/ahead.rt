@@ -3,12 +3,12 @@
 ghost use Rattle.std.specs.Prelude.{◌≡◌, ◌⊎◌, ◌<◌, ◌++◌, ◌∷◌, [], true, length, take, Ok, Err, IfOk, IfErr, IfSome, IfNone, MatchResult};
 ghost use Rattle.std.specs.Bool.{MatchBool};
 ghost use Rattle.std.specs.Io.{ReadsAtMost};
-ghost use Rattle.std.specs.Io.KnownBytes.{Consumes, Keeps, IsAtEnd};
+ghost use Rattle.std.specs.Io.KnownBytes.{Consumes, Keeps, IsAtEnd, ReadConsumes};
 ghost use Rattle.std.specs.IoError.{error_kind};
 ghost use Rattle.std.specs.declared.io.ErrorKind.TheVariants.{Interrupted};
 ghost use Rattle.std.specs.Io.Cursor.{cursor_position, cursor_inner};
 ghost use Rattle.rtrb.specs.Ring.{sent, received};
-ghost use Rattle.ct_live.specs.ReadingAhead.{IsFromStart, MoreMayFollow, SendsFirst, PieceComes, EndComes, NoPieceComes, GivesWhatCame, EndsByPiece, left_of_piece, left_to_read};
+ghost use Rattle.ct_live.specs.ReadingAhead.{IsFromStart, MoreMayFollow, SendsFirst, PieceComes, EndComes, NoPieceComes, GivesWhatCame, EndsByPiece, IfAhead, left_of_piece, left_to_read};
 
 use crate::pipes::breaker::Breaker;
 use rtrb::{Consumer, Producer, PushError, RingBuffer};
@@ -235,7 +235,7 @@ enum Origin<R: Wait + Copy, I: Read + Copy> {
 /// can end its own wait: it goes on until the input or the process ends. Where no thread starts, the input is read here, and a
 /// read that waits for it isn't ended: it gives the input's bytes. What another thread hands on are the input's first bytes, in
 /// their order, and the end only where nothing is left (`pump_all`), and what reads give are the bytes of the pieces that came,
-/// in theirs (`PieceReader::read`).
+/// in theirs (`read`).
 #[derive(Drop)]
 pub struct ReadAhead<R: Wait + Copy, I: Read + Copy> {
     origin: Origin<R, I>,
@@ -281,7 +281,16 @@ pub fn read_ahead<R: Threads + Wait + Copy + Send + 'static, I: Read + Copy + Se
 impl<R: Wait + Copy, I: Read + Copy> Read for ReadAhead<R, I> {
     ghost remaining = { λ r. left_to_read I.remaining r.origin };
 
-    fn read(&mut self, buf: &mut [u8]) -> io::Result<usize> {
+    fn read(&mut self, buf: &mut [u8]) -> io::Result<usize>
+        ensures bound { ReadsAtMost result buf.new }
+        ensures bytes { ReadConsumes (left_to_read I.remaining self.old.origin) (left_to_read I.remaining self.new.origin) result buf.new }
+        ensures ahead { IfAhead self.old.origin self.new.origin
+            (λ old new. MatchResult result (λ n. GivesWhatCame old new (take n buf.new)) (λ _. GivesWhatCame old new [])) }
+        ensures told { IfAhead self.old.origin self.new.origin
+            (λ old new. IfOk result (λ n. n ≡ 0 → 0 < length buf.new → (old.has_ended ≡ true) ⊎ EndComes old new)) }
+        ensures err { IfAhead self.old.origin self.new.origin (λ old new. IfErr result (λ e. PieceComes old new (Err e) ⊎ NoPieceComes old new)) }
+        ensures behind { IfAhead self.old.origin self.new.origin (λ old new. old.has_ended ≡ true → NoPieceComes old new) }
+    {
         match &mut self.origin {
             Origin::Ahead(reader) => reader.read(buf),
             Origin::Here(input) => input.read(buf),
