@@ -1,6 +1,9 @@
 -- A path or proof out of the tiles of a list isn't refused.
-use Rattle.std.proofs.Common.{◌≡◌, ◌∙◌, ◌<◌, ◌≤◌, ℕ, List, [], length, take, get_or, sym, ap, arith}
-use Rattle.ct_tree.specs.Tree.{mth, path, proof}
+use Rattle.std.proofs.Common.{◌≡◌, ◌∙◌, ◌<◌, ◌≤◌, ℕ, true, List, [], length, take, get_or, sym, ap, arith, ⊎_elim}
+use Rattle.ct_tree.specs.Tree.{mth, path, proof, split}
+use Rattle.ct_tree.specs.Lengths.{subproof_length}
+use Rattle.ct_tree.proofs.SubproofLength.{subproof_length-left, subproof_length-right}
+use Rattle.std.proofs.lemmas.Bool.{cases_lt}
 use Rattle.std.proofs.lemmas.List.{length-take-le, take-take}
 use Rattle.ct_tile_reader.specs.Given.{GivesTilesOf}
 use Rattle.ct_verify.specs.Verdict.{AcceptsInclusion, RefusesInclusion, AcceptsConsistency, RefusesConsistency}
@@ -31,3 +34,11 @@ pub proof_never_of_tiles : (H : List ℕ → List ℕ) (given : ℕ → ℕ → 
 proof_never_of_tiles H given D m n p x y fault made refused tiles inside z below f s =
     let first : x ≡ mth H (take m (take n D)) = f ∙ ap (mth H) (sym (take-take m n D (omega arith))) in
     proof_never H (take n D) m n p x y fault (length-take-le n D inside) z below first s (made D tiles inside) refused
+
+-- a proof between two sizes has a hash at least
+pub has_a_hash : (m n : ℕ) → 0 < m → m < n → 0 < subproof_length m n true
+has_a_hash m n z l =
+    ⊎_elim
+    (λ (high : split n < m). omega (arith, subproof_length-right m n true z l high))
+    (λ (low : m ≤ split n). omega (arith, subproof_length-left m n true z l low))
+    (cases_lt (split n) m)

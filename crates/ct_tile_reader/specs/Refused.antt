@@ -12,11 +12,11 @@ abbrev pub IsPathOfGiven : (List ℕ → List ℕ) → (ℕ → ℕ → List ℕ
 IsPathOfGiven H given m n p =
     m < n → (length p ≡ path_length m n) × ((D : List (List ℕ)) → GivesTilesOf H given D → n ≤ length D → p ≡ path H m (take n D))
 
--- p is as long as PROOF(m, D[n]), and is that of each list whose tiles are given, where the sizes are in range
+-- p is as long as PROOF(m, D[n]), so not empty, and is that of each list whose tiles are given, where the sizes are in range
 abbrev pub IsProofOfGiven : (List ℕ → List ℕ) → (ℕ → ℕ → List ℕ) → ℕ → ℕ → List (List ℕ) → Type 0
 IsProofOfGiven H given m n p =
     0 < m → m < n
-    → (length p ≡ subproof_length m n true) × ((D : List (List ℕ)) → GivesTilesOf H given D → n ≤ length D → p ≡ proof H m (take n D))
+    → (0 < length p) × (length p ≡ subproof_length m n true) × ((D : List (List ℕ)) → GivesTilesOf H given D → n ≤ length D → p ≡ proof H m (take n D))
 
 -- why no path is answered: what the verifier says of the path that was made of the tiles; or a growth was refused, where the index is below the size
 abbrev pub RefusesPath : (List ℕ → List ℕ) → (ℕ → ℕ → List ℕ) → List ℕ → ℕ → ℕ → List ℕ → EvidenceFault → Type 0

@@ -1,5 +1,6 @@
-use Rattle.std.proofs.Common.{◌∙◌, ap, length}
-use Rattle.ct_tile_reader.proofs.NeverRefused.{proof_never_of_tiles}
+use Rattle.std.proofs.Common.{◌≡◌, ◌∙◌, ap, arith, length, true}
+use Rattle.ct_tree.specs.Lengths.{subproof_length}
+use Rattle.ct_tile_reader.proofs.NeverRefused.{proof_never_of_tiles, has_a_hash}
 use Rattle.ct_tile_reader.proofs.checked.checked_proof.Goals as goal
 
 pub returns-in-Err-clause-never_refused : goal.returns-in-Err-clause-never_refused
@@ -8,8 +9,9 @@ returns-in-Err-clause-never_refused g c = λ D tiles inside z below f s.
     c.args.second_root.now c.in-Err.fault (λ E t i. c.deref.ensures.value ∙ c.in_ok-proof.ensures.all E t i) c.in-Err.ensures tiles inside z below f s)
 
 pub returns-in-Err-clause-refused : goal.returns-in-Err-clause-refused
-returns-in-Err-clause-refused g c = (
-  c.deref.result.now,
-  (λ _ _. (ap length c.deref.ensures.value ∙ c.in_ok-proof.ensures.length, λ D t i. c.deref.ensures.value ∙ c.in_ok-proof.ensures.all D t i)),
-  c.in-Err.ensures,
-)
+returns-in-Err-clause-refused g c =
+    let same : length c.deref.result.now ≡ subproof_length c.args.m c.args.n true = ap length c.deref.ensures.value ∙ c.in_ok-proof.ensures.length in (
+      c.deref.result.now,
+      (λ z below. (omega (arith, same, has_a_hash c.args.m c.args.n z below), same, λ D t i. c.deref.ensures.value ∙ c.in_ok-proof.ensures.all D t i)),
+      c.in-Err.ensures,
+    )
