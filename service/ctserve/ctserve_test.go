@@ -789,14 +789,16 @@ func TestGuardStateAway(t *testing.T) {
 	defer listener.Close()
 	words := at.realWords("--signing-key", at.path("log.pem"), "--guard-state", "etcd://"+listener.Addr().String()+"/guard", "--create")
 	words = append(words, "--guard", at.guard)
-	// (a signer that says it too late for a busy machine is given more time)
-	for within := 10 * time.Second; ; within *= 4 {
+	// (a signer that says it too late for a busy machine is given more time: of 30 s it has 24 for the state, and 6 are left on both sides)
+	within := 10 * time.Second
+	for until := time.Now().Add(trial.Longest); ; within = 30 * time.Second {
 		var told strings.Builder
 		status := run(append(words, "--open-within", within.String()), &told, openNode)
 		if status == 1 && strings.Contains(told.String(), "the guard's state (guard-state, of etcd) isn't read") {
 			return
 		}
-		if status != 1 || within > trial.Longest/4 {
+		late := strings.Contains(told.String(), "gives no reply: none in ") || strings.Contains(told.String(), "gives no reply: context deadline exceeded")
+		if status != 1 || !late || time.Now().After(until) {
 			t.Fatalf("status %d: %s", status, told.String())
 		}
 	}

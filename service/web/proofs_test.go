@@ -281,7 +281,7 @@ func TestProofsThatAreLate(t *testing.T) {
 	comes := make(chan struct{})
 	f.heldReader(comes)
 	f.isHeld()
-	refused(t, "beside it", f.get("/ct/v1/get-sth-consistency?first=1&second=2"), 503, "busy")
+	refused(t, "beside it", f.isHeld(), 503, "busy")
 	close(comes)
 }
 
@@ -293,17 +293,18 @@ func (f *fixture) heldReader(comes chan struct{}) {
 	}, 1)
 }
 
-// isHeld asks for proofs, each of which is late, until one is being made.
-func (f *fixture) isHeld() {
+// isHeld asks for proofs, each of which is late, until one is being made, and gives what was answered beside it.
+func (f *fixture) isHeld() (w *httptest.ResponseRecorder) {
 	f.t.Helper()
 	eventually(f.t, "a proof is being made", func() bool {
-		w := f.get("/ct/v1/get-sth-consistency?first=1&second=2")
+		w = f.get("/ct/v1/get-sth-consistency?first=1&second=2")
 		if w.Code == 503 && strings.Contains(w.Body.String(), `"busy"`) {
 			return true
 		}
 		refused(f.t, "late", w, 503, "late")
 		return false
 	})
+	return w
 }
 
 // A partial tile that went since the head was read is no fault, where a newer head has the full one.
