@@ -127,24 +127,31 @@ func TestObjectsAway(t *testing.T) {
 	if err := os.Rename(objects, objects+".away"); err != nil {
 		t.Fatal(err)
 	}
-	start, said, ended := exec.Command(os.Args[0], words...), &strings.Builder{}, make(chan error, 1)
-	start.Env, start.Stdout, start.Stderr = append(os.Environ(), childKey+"=1"), said, said
-	if err := start.Start(); err != nil {
-		t.Fatal(err)
-	}
-	defer start.Process.Kill()
-	go func() { ended <- start.Wait() }()
-	for waits := true; waits; {
-		select {
-		case err := <-ended:
-			if waits = false; err == nil || !strings.Contains(said.String(), "the folder of the objects") {
-				t.Errorf("a start without the objects' folder: %v: %s", err, said)
-			}
-		case <-time.After(10 * time.Millisecond):
-			if isThere(objects) {
-				t.Fatal("a start makes another folder of objects")
+	starts := func() (told string, err error) {
+		start, said, ended := exec.Command(os.Args[0], words...), &strings.Builder{}, make(chan error, 1)
+		start.Env, start.Stdout, start.Stderr = append(os.Environ(), childKey+"=1"), said, said
+		if err := start.Start(); err != nil {
+			t.Fatal(err)
+		}
+		defer start.Process.Kill()
+		go func() { ended <- start.Wait() }()
+		for {
+			select {
+			case err := <-ended:
+				return said.String(), err
+			case <-time.After(10 * time.Millisecond):
+				if isThere(objects) {
+					t.Fatal("a start makes another folder of objects")
+				}
 			}
 		}
+	}
+	told, err := starts()
+	for until := time.Now().Add(trial.Longest); isLate(told) && time.Now().Before(until); {
+		told, err = starts()
+	}
+	if err == nil || !strings.Contains(told, "the folder of the objects") {
+		t.Errorf("a start without the objects' folder: %v: %s", err, told)
 	}
 	if status, told, faults := does(append([]string{"places"}, words...)...); status != 1 || !strings.Contains(faults, "the folder of the objects") {
 		t.Errorf("places: %d, %q, %q", status, told, faults)

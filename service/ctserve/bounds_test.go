@@ -9,8 +9,6 @@ import (
 	"strings"
 	"testing"
 	"time"
-
-	"wagtenib/service/trial"
 )
 
 // TestEachBound: each time and each bound that is a setting is refused by what it has to be where it is one below its least, and taken where it is that.
@@ -78,15 +76,8 @@ func TestWhatCantBeOpened(t *testing.T) {
 	} {
 		whole := at.realWords("--signing-key", at.path("log.pem"))
 		whole = append(append(whole, "--guard", at.guard, "--create"), words...)
-		var told bytes.Buffer
-		status := run(whole, &told, openNode)
-		// (a signer waits for its guard for some seconds alone)
-		for until := time.Now().Add(trial.Longest); strings.Contains(told.String(), "gives no reply: none in ") && time.Now().Before(until); {
-			told.Reset()
-			status = run(whole, &told, openNode)
-		}
-		if status != 1 || !strings.Contains(told.String(), what) {
-			t.Errorf("%s: status %d: %s", what, status, told.String())
+		if status, told := runs(whole); status != 1 || !strings.Contains(told, what) {
+			t.Errorf("%s: status %d: %s", what, status, told)
 		}
 		// What was opened before it is closed: no signer is left, whose words have this folder.
 		for _, left := range processesOf(t, at.folder) {

@@ -84,7 +84,7 @@ func TestWitnessedLog(t *testing.T) {
 	p := started(t, "", append(words, "--create")...)
 	submitted := func() { t.Helper(); at.comesIn(p) }
 	submitted()
-	_, checkpoint := get(p.clients, "/checkpoint")
+	_, checkpoint := read(p.clients, "/checkpoint")
 	if opened, err := note.Open([]byte(checkpoint), note.VerifierList(firstKey, secondKey)); err != nil || len(opened.Sigs) != 2 || len(opened.UnverifiedSigs) != 1 {
 		t.Errorf("%q: %v", checkpoint, err)
 	}
@@ -108,17 +108,29 @@ func TestWitnessedLog(t *testing.T) {
 	}
 	p.signal(syscall.SIGTERM)
 	p.ends()
-	for _, part := range parts {
-		if err := os.RemoveAll(at.path(part)); err != nil {
-			t.Fatal(err)
+	for until := time.Now().Add(trial.Longest); ; {
+		for _, part := range parts {
+			if err := os.RemoveAll(at.path(part)); err != nil {
+				t.Fatal(err)
+			}
+			if said, err := exec.Command("cp", "-a", at.path("old-"+part), at.path(part)).CombinedOutput(); err != nil {
+				t.Fatalf("%v: %s", err, said)
+			}
 		}
-		if err := os.Rename(at.path("old-"+part), at.path(part)); err != nil {
-			t.Fatal(err)
+		p, line := begun(t, "", words...)
+		serves, told := line["event"] == "serving", fmt.Sprint(line["fault"])
+		if serves {
+			p.signal(syscall.SIGKILL)
 		}
-	}
-	var told strings.Builder
-	if status := run(words, &told, openNode); status != statusSetBack || !strings.Contains(told.String(), "has seen 2 entries, and the head has 1") {
-		t.Errorf("all of it put back: status %d: %s", status, &told)
+		status := p.ends()
+		// (where both witnesses are late, which have some seconds alone, it serves, and takes nothing)
+		if (serves || isLate(told)) && time.Now().Before(until) {
+			continue
+		}
+		if status != statusSetBack || !strings.Contains(told, "has seen 2 entries, and the head has 1") {
+			t.Errorf("all of it put back: status %d: %v", status, line)
+		}
+		return
 	}
 }
 
