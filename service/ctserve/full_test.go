@@ -92,7 +92,8 @@ func TestFullDisk(t *testing.T) {
 			var status int
 			status, ready = get(p.clients, "/readyz")
 			_, metrics = get(p.operator, "/metrics")
-			return status == 503 && strings.Contains(metrics, "ctserve_fault 1\n")
+			// (the first write without room may be none of an object)
+			return status == 503 && strings.Contains(metrics, "ctserve_fault 1\n") && figure(t, p, failures) > before
 		}
 		for until := time.Now().Add(trial.Longest); ; {
 			status, text := submit()
@@ -101,13 +102,10 @@ func TestFullDisk(t *testing.T) {
 				break
 			}
 			if status != 200 && !refused || time.Now().After(until) {
-				t.Fatalf("with %d bytes: %d %s; /readyz: %s; /metrics: %s", but, status, text, ready, metrics)
+				t.Fatalf("with %d bytes, and %v puts that failed before: %d %s; /readyz: %s; /metrics: %s", but, before, status, text, ready, metrics)
 			}
 		}
 		readsAll(t, p, fmt.Sprintf("with %d bytes", but), answers)
-		if after := figure(t, p, failures); after <= before {
-			t.Errorf("with %d bytes: %v puts are said to have failed, and %v before", but, after, before)
-		}
 		room()
 		again()
 	}
@@ -195,18 +193,13 @@ func readsAll(t *testing.T, p *program, when string, answers []check.Answer) {
 	var head struct {
 		Size uint64 `json:"tree_size"`
 	}
-	if _, text := get(p.clients, "/ct/v1/get-sth"); json.Unmarshal([]byte(text), &head) != nil || head.Size < uint64(len(answers)) {
+	if _, text := read(p.clients, "/ct/v1/get-sth"); json.Unmarshal([]byte(text), &head) != nil || head.Size < uint64(len(answers)) {
 		t.Errorf("%s: get-sth: %s", when, text)
 	}
 	hash := standin.LeafHash(leafOf(answers[2]))
 	proof := fmt.Sprintf("/ct/v1/get-proof-by-hash?tree_size=%d&hash=%s", head.Size, url.QueryEscape(base64.StdEncoding.EncodeToString(hash[:])))
 	for _, path := range []string{"/checkpoint", fmt.Sprintf("/tile/0/000.p/%d", head.Size), fmt.Sprintf("/tile/data/000.p/%d", head.Size), "/ct/v1/get-entries?start=0&end=4", fmt.Sprint("/ct/v1/get-sth-consistency?first=3&second=", head.Size), proof, "/healthz"} {
-		status, text := get(p.clients, path)
-		// (a reading has some seconds alone, in which a busy machine doesn't start the program of proofs)
-		for until := time.Now().Add(trial.Longest); strings.Contains(text, `"late"`) && time.Now().Before(until); {
-			status, text = get(p.clients, path)
-		}
-		if status != 200 {
+		if status, text := read(p.clients, path); status != 200 {
 			t.Errorf("%s: %s: %d %s", when, path, status, text)
 		}
 	}

@@ -91,11 +91,12 @@ func TestLargeTileByMany(t *testing.T) {
 				mu.Unlock()
 			}(i)
 		}
-		if status, text := from(t, "127.0.0.9", p.clients, "/checkpoint"); status != 200 {
+		other := func() (int, string) { return from(t, "127.0.0.9", p.clients, "/checkpoint") }
+		if status, text := unlessLate(other); status != 200 {
 			t.Errorf("another address: %d %s", status, text)
 		}
 		open.Wait()
-		if status, text := from(t, "127.0.0.9", p.clients, "/checkpoint"); status != 200 {
+		if status, text := unlessLate(other); status != 200 {
 			t.Errorf("another address, while all wait: %d %s", status, text)
 		}
 		close(closes)
