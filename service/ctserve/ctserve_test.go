@@ -88,7 +88,7 @@ func isLate(told string) bool { return strings.Contains(told, "gives no reply: n
 // begun starts one, and gives the line by which it serves or ends.
 func begun(t *testing.T, every string, words ...string) (p *program, line map[string]any) {
 	t.Helper()
-	p = &program{t: t, command: exec.Command(os.Args[0], words...), lines: make(chan map[string]any, 1000), done: make(chan error, 1)}
+	p = &program{t: t, command: exec.Command(os.Args[0], words...), lines: make(chan map[string]any), done: make(chan error, 1)}
 	p.command.Env = append(os.Environ(), childKey+"=1", everyKey+"="+every)
 	errors, err := p.command.StderrPipe()
 	if err != nil {
@@ -97,14 +97,16 @@ func begun(t *testing.T, every string, words ...string) (p *program, line map[st
 	if err := p.command.Start(); err != nil {
 		t.Fatal(err)
 	}
+	come := make(chan map[string]any)
+	go trial.PassOn(come, p.lines)
 	go func() {
-		defer close(p.lines)
+		defer close(come)
 		for scanner := bufio.NewScanner(errors); scanner.Scan(); {
 			line := map[string]any{}
 			if err := json.Unmarshal(scanner.Bytes(), &line); err != nil {
 				line["text"] = scanner.Text()
 			}
-			p.lines <- line
+			come <- line
 		}
 		p.done <- p.command.Wait()
 	}()

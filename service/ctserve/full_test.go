@@ -95,7 +95,7 @@ func TestFullDisk(t *testing.T) {
 			// (the first write without room may be none of an object)
 			return status == 503 && strings.Contains(metrics, "ctserve_fault 1\n") && figure(t, p, failures) > before
 		}
-		for until := time.Now().Add(trial.Longest); ; {
+		for until := time.Now().Add(trial.Longest); ; time.Sleep(10 * time.Millisecond) {
 			status, text := submit()
 			refused := status == 503 && strings.Contains(text, `"store"`)
 			if refused && atFault() {

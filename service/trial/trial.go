@@ -35,6 +35,29 @@ func Eventually(t testing.TB, what string, holds func() bool) {
 	}
 }
 
+// PassOn gives on what comes, however much of it nobody has taken yet, and closes behind the last: who tells isn't kept waiting by who looks at something else.
+func PassOn[T any](from <-chan T, to chan<- T) {
+	defer close(to)
+	var waiting []T
+	for from != nil || len(waiting) > 0 {
+		var first T
+		var takes chan<- T
+		if len(waiting) > 0 {
+			first, takes = waiting[0], to
+		}
+		select {
+		case one, more := <-from:
+			if !more {
+				from = nil
+				continue
+			}
+			waiting = append(waiting, one)
+		case takes <- first:
+			waiting = waiting[1:]
+		}
+	}
+}
+
 // Wants sees that an error is all of these.
 func Wants(t testing.TB, err error, kinds ...error) {
 	t.Helper()
