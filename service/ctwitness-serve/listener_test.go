@@ -285,7 +285,7 @@ func TestEndAnswers(t *testing.T) {
 	if status := <-answered; status != 200 {
 		t.Errorf("who waited is answered %d", status)
 	}
-	for one.told.Scan() {
+	for range one.told {
 	}
 	if status := <-one.status; status != 0 {
 		t.Errorf("the end: status %d", status)
@@ -310,8 +310,8 @@ func TestEndIsLate(t *testing.T) {
 	began := time.Now()
 	one.signals <- syscall.SIGTERM
 	var end string
-	for one.told.Scan() {
-		if text := one.told.Text(); strings.Contains(text, `"event":"end"`) {
+	for text := range one.told {
+		if strings.Contains(text, `"event":"end"`) {
 			end = text
 		}
 	}

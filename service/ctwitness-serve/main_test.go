@@ -18,6 +18,7 @@ import (
 	"strings"
 	"syscall"
 	"testing"
+	"time"
 
 	"golang.org/x/mod/sumdb/note"
 
@@ -85,7 +86,7 @@ func (p place) log(origin string) (line string, signed func(size int) []byte) {
 type process struct {
 	t       testing.TB
 	signals chan os.Signal
-	told    *bufio.Scanner
+	told    chan string
 	status  chan int
 	at      map[string]string
 }
@@ -98,10 +99,18 @@ func (p place) started(more ...string) *process {
 	}
 	words = append(words, more...)
 	from, to := io.Pipe()
-	one := &process{p.t, make(chan os.Signal, 4), bufio.NewScanner(from), make(chan int, 1), map[string]string{}}
+	one := &process{p.t, make(chan os.Signal, 4), make(chan string), make(chan int, 1), map[string]string{}}
 	go func() {
 		one.status <- run(words, io.Discard, to, one.signals)
 		to.Close()
+	}()
+	come := make(chan string)
+	go trial.PassOn(come, one.told)
+	go func() {
+		defer close(come)
+		for lines := bufio.NewScanner(from); lines.Scan(); {
+			come <- lines.Text()
+		}
 	}()
 	for {
 		line := one.next()
@@ -117,10 +126,11 @@ func (p place) started(more ...string) *process {
 // next is the next line that is told.
 func (p *process) next() (line map[string]any) {
 	p.t.Helper()
-	if !p.told.Scan() {
+	text, more := <-p.told
+	if !more {
 		p.t.Fatalf("it ended: status %d", <-p.status)
 	}
-	must(p.t, json.Unmarshal(p.told.Bytes(), &line))
+	must(p.t, json.Unmarshal([]byte(text), &line))
 	return line
 }
 
@@ -135,7 +145,7 @@ func (p *process) reloaded() map[string]any {
 
 func (p *process) ends() int {
 	p.signals <- syscall.SIGTERM
-	for p.told.Scan() {
+	for range p.told {
 	}
 	return <-p.status
 }
@@ -152,7 +162,12 @@ func (p *process) post(signed []byte) (int, string) {
 
 func (p *process) wants(status int, signed []byte) {
 	p.t.Helper()
-	if came, text := p.post(signed); came != status {
+	came, text := p.post(signed)
+	// (a request has some seconds alone, in which a busy machine doesn't start the program)
+	for until := time.Now().Add(trial.Longest); came == 503 && text == "program\n" && time.Now().Before(until); {
+		came, text = p.post(signed)
+	}
+	if came != status {
 		p.t.Errorf("%d, and not %d: %s", came, status, text)
 	}
 }
