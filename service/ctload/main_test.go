@@ -279,7 +279,7 @@ func TestAll(t *testing.T) {
 		right(nth, w)
 	})
 	l, _ = loadOf(t, refuses)
-	asks := time.AfterFunc(time.Minute, func() { l.mu.Lock(); defer l.mu.Unlock(); l.most = 1 })
+	asks := time.AfterFunc(trial.Longest, func() { l.mu.Lock(); defer l.mu.Unlock(); l.most = 1 })
 	defer asks.Stop()
 	err := l.all(limited(t), 3, time.Minute)
 	if err == nil || !strings.Contains(err.Error(), ": 400: ") {

@@ -219,7 +219,7 @@ func (f *fixture) statusOf(client, call string) int {
 // empties has a client ask until its bucket is empty, however slow that is.
 func (f *fixture) empties(client, call string) {
 	f.t.Helper()
-	for until := time.Now().Add(time.Minute); f.statusOf(client, call) != 429; {
+	for until := time.Now().Add(trial.Longest); f.statusOf(client, call) != 429; {
 		if time.Now().After(until) {
 			f.t.Fatalf("%s of %s is always taken", call, client)
 		}
@@ -264,25 +264,26 @@ func TestTooOften(t *testing.T) {
 	f := rated(t, 1, 1)
 	f.fill(3)
 	const entries = "/ct/v1/get-entries?start=0&end=1"
-	// again asks by its words alone, each time by another address of one /64, until it is refused, and says how many were taken.
-	again := func(call string) (w *httptest.ResponseRecorder, taken int) {
+	// again asks by its words alone, each time by another address of one /64, until it is refused, and says how many were taken, and when it hadn't asked yet what
+	// was refused.
+	again := func(call string) (w *httptest.ResponseRecorder, taken int, before time.Time) {
 		t.Helper()
 		method, path, _ := strings.Cut(call, " ")
-		for until := time.Now().Add(time.Minute); time.Now().Before(until); taken++ {
+		for until := time.Now().Add(trial.Longest); time.Now().Before(until); taken++ {
+			before = time.Now()
 			if w := f.askedBy(fmt.Sprintf("2001:db8::%x", taken+1), method, path, nil); w.Code == 429 {
-				return w, taken
+				return w, taken, before
 			}
 		}
 		t.Fatalf("%s is always taken", call)
-		return nil, 0
+		return nil, 0, before
 	}
-	w, _ := again("GET /ct/v1/get-entries")
-	since := time.Now()
+	w, _, since := again("GET /ct/v1/get-entries")
 	refused(t, "a read", w, 429, "too-often")
 	if w.Header().Get("Retry-After") != "1" || !strings.Contains(w.Body.String(), "of one address so many are taken a second") || w.Header().Get("Connection") != "" {
 		t.Errorf("%v %s", w.Header(), w.Body)
 	}
-	if _, taken := again("GET /ct/v1/get-sth-consistency"); time.Duration(taken) > time.Since(since)/time.Second+1 {
+	if _, taken, _ := again("GET /ct/v1/get-sth-consistency"); time.Duration(taken) > time.Since(since)/time.Second+1 {
 		t.Errorf("%d proofs are taken %v behind where a read was refused", taken, time.Since(since))
 	}
 	if w := f.askedBy("2001:db8:0:1::1", "GET", entries, nil); w.Code != 200 {
@@ -295,7 +296,7 @@ func TestTooOften(t *testing.T) {
 	if w := f.askedBy("2001:db8::1", "POST", "/ct/v1/add-chain", submission); w.Code != 200 {
 		t.Errorf("a submission beside its reads: %d %s", w.Code, w.Body)
 	}
-	w, _ = again("POST /ct/v1/add-chain")
+	w, _, _ = again("POST /ct/v1/add-chain")
 	refused(t, "a submission", w, 429, "too-often")
 	// (as Retry-After has it)
 	time.Sleep(time.Second)
