@@ -23,6 +23,7 @@ var statuses = map[int]bool{200: true, 400: true, 404: true, 405: true, 411: tru
 // Whatever is asked, a refusal has a name and none is internal; what is served under a name is what stands there.
 func FuzzHandlers(f *testing.F) {
 	x := newFixture(f, time.Millisecond, nil)
+	x.running()
 	x.fill(260)
 	for path := range calls {
 		f.Add("GET", path, "", []byte{})
@@ -37,12 +38,19 @@ func FuzzHandlers(f *testing.F) {
 	f.Add("GET", "/ct/v1/get-proof-by-hash", "tree_size=257&hash=AAAAAAAAAAAAAAAAAAAAAAAAAAAAAAAAAAAAAAAAAAA=", []byte{})
 	f.Add("GET", "/ct/v1/get-entry-and-proof", "leaf_index=256&tree_size=257", []byte{})
 	f.Fuzz(func(t *testing.T, method, path, query string, body []byte) {
-		r := &http.Request{
-			Method: method, URL: &url.URL{Path: path, RawQuery: query}, Header: http.Header{}, Host: "log", RemoteAddr: "192.0.2.1:1",
-			Body: io.NopCloser(bytes.NewReader(body)), ContentLength: int64(len(body)), ProtoMajor: 1, ProtoMinor: 1,
+		asks := func() *httptest.ResponseRecorder {
+			r := &http.Request{
+				Method: method, URL: &url.URL{Path: path, RawQuery: query}, Header: http.Header{}, Host: "log", RemoteAddr: "192.0.2.1:1",
+				Body: io.NopCloser(bytes.NewReader(body)), ContentLength: int64(len(body)), ProtoMajor: 1, ProtoMinor: 1,
+			}
+			w := httptest.NewRecorder()
+			x.front.ServeHTTP(w, r)
+			return w
 		}
-		w := httptest.NewRecorder()
-		x.front.ServeHTTP(w, r)
+		w := asks()
+		if path == "/readyz" && w.Code == 503 {
+			w = unlessLate(asks)
+		}
 		if !statuses[w.Code] {
 			t.Fatalf("%s %q?%q: %d %s", method, path, query, w.Code, w.Body)
 		}

@@ -106,6 +106,7 @@ func sizesOf(size int) (sizes []int) {
 // TestProofs compares all three calls with the recursions of RFC 6962 over all leaves, also for sizes that no head had.
 func TestProofs(t *testing.T) {
 	f := newFixture(t, 0, nil)
+	f.running()
 	size := 0
 	for _, more := range []int{1, 3, 252, 1, 300} {
 		f.fill(more)
@@ -163,6 +164,7 @@ func (e elsewhere) IndexOf(context.Context, [32]byte) (uint64, error) { return e
 
 func TestProofsThatAreRefused(t *testing.T) {
 	f := newFixture(t, 0, nil)
+	f.running()
 	f.fill(5)
 	leaves, _ := f.leaves()
 	hash := func(leaf [32]byte) string { return url.QueryEscape(base64.StdEncoding.EncodeToString(leaf[:])) }
@@ -235,6 +237,7 @@ func TestProofsThatAreRefused(t *testing.T) {
 // TestProofsByAddress: one address has some of the proofs that are made at once, and keeps no other one waiting.
 func TestProofsByAddress(t *testing.T) {
 	f := newFixture(t, 0, func(o *Options) { o.Limits.ProofsByAddress = 2 })
+	f.running()
 	f.fill(3)
 	const call = "/ct/v1/get-sth-consistency?first=1&second=2"
 	from := func(peer string) *httptest.ResponseRecorder {
@@ -277,6 +280,7 @@ func TestProofsByAddress(t *testing.T) {
 // TestProofsThatAreLate: who waits too long is told, and what was begun doesn't end the program.
 func TestProofsThatAreLate(t *testing.T) {
 	f := newFixture(t, 0, func(o *Options) { o.Limits.Reading = 20 * time.Millisecond })
+	f.running()
 	f.fill(3)
 	comes := make(chan struct{})
 	f.heldReader(comes)
@@ -310,6 +314,7 @@ func (f *fixture) isHeld() (w *httptest.ResponseRecorder) {
 // A partial tile that went since the head was read is no fault, where a newer head has the full one.
 func TestProofOverAPartialTileThatWent(t *testing.T) {
 	f := newFixture(t, 0, nil)
+	f.running()
 	f.fill(3)
 	head, _ := f.log.Checkpoint(context.Background())
 	f.fill(257)
@@ -323,6 +328,7 @@ func TestProofOverAPartialTileThatWent(t *testing.T) {
 // TestPlaceForAProofIsGivenBack: who goes away while a proof is made, over a tile that doesn't come, gives its place back once it is made.
 func TestPlaceForAProofIsGivenBack(t *testing.T) {
 	f := newFixture(t, 0, func(o *Options) { o.Limits.Reading = 100 * time.Millisecond })
+	f.running()
 	f.fill(3)
 	comes := make(chan struct{})
 	f.heldReader(comes)

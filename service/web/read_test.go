@@ -100,6 +100,7 @@ func TestDamagedObjectsAreNotServed(t *testing.T) {
 // its answer, nor what wasn't there.
 func TestAnswersAreBounded(t *testing.T) {
 	f := newFixture(t, 0, func(o *Options) { o.Limits.AnswerBytes = 2 << 20 })
+	f.running()
 	f.fill(260)
 	leaves, _ := f.leaves()
 	objects := []string{
@@ -343,6 +344,7 @@ func TestEntriesAreTheHeads(t *testing.T) {
 
 func TestPrecertificatesEntry(t *testing.T) {
 	f := newFixture(t, 5*time.Millisecond, nil)
+	f.running()
 	precertificate := f.issue(true)
 	if w := f.do("POST", "/ct/v1/add-pre-chain", standin.Submission(precertificate)); w.Code != 200 {
 		t.Fatal(w.Body)
@@ -605,6 +607,7 @@ func (u *unasked) HeadOf(ctx context.Context, entries uint64) (log.Head, error) 
 // more waits for that.
 func TestReadersAskForNoNewerHead(t *testing.T) {
 	f := newFixture(t, 0, func(o *Options) { o.Limits.Reading = time.Minute })
+	f.running()
 	f.fill(300)
 	head, err := f.log.Checkpoint(context.Background())
 	if err != nil {
@@ -691,6 +694,7 @@ func TestAnswersComeLast(t *testing.T) {
 	f := newFixture(t, 5*time.Millisecond, func(o *Options) {
 		o.Limits.ConnectionsByAddress, o.Limits.ProofsByAddress, o.LogRequests = 1, 1, true
 	})
+	f.running()
 	f.fill(300)
 	body := standin.Submission(f.issue(false))
 	for _, test := range []struct {

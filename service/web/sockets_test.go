@@ -342,17 +342,22 @@ func TestOperatorCountsApart(t *testing.T) {
 	operator := f.listeningBy(f.front.ServeOthers(f.front.Operator()), nil)
 	status := func(address, path string) int {
 		t.Helper()
-		connection := dial(t, address)
-		fmt.Fprintf(connection, "GET %s HTTP/1.1\r\nHost: log\r\nConnection: close\r\n\r\n", path)
-		reader := bufio.NewReader(connection)
-		answer, err := http.ReadResponse(reader, nil)
-		// (until the other side closes, by when its place is free)
-		io.Copy(io.Discard, reader)
-		connection.Close()
-		if err != nil {
-			return 0
+		for until := time.Now().Add(trial.Longest); ; {
+			connection := dial(t, address)
+			fmt.Fprintf(connection, "GET %s HTTP/1.1\r\nHost: log\r\nConnection: close\r\n\r\n", path)
+			reader := bufio.NewReader(connection)
+			answer, err := http.ReadResponse(reader, nil)
+			// (until the other side closes, by when its place is free)
+			text, _ := io.ReadAll(reader)
+			connection.Close()
+			if err != nil {
+				return 0
+			}
+			// (/readyz has two seconds alone)
+			if answer.StatusCode != 503 || !bytes.Contains(text, []byte(`"late"`)) || time.Now().After(until) {
+				return answer.StatusCode
+			}
 		}
-		return answer.StatusCode
 	}
 	var open []net.Conn
 	for i := 0; i < 3; i++ {
@@ -648,10 +653,17 @@ func TestTLS(t *testing.T) {
 	silently, _ := brief.listening(kept.Config())
 	closed(t, "a handshake that doesn't come", dial(t, silently))
 	for _, one := range []*fixture{f, brief} {
-		measured := httptest.NewRecorder()
-		one.front.Operator().ServeHTTP(measured, httptest.NewRequest("GET", "/metrics", nil))
-		if !strings.Contains(measured.Body.String(), "\nctserve_tls_handshakes_failed_total 1\n") || strings.Contains(one.lines.String(), "handshake") {
-			t.Errorf("handshakes that failed are to be counted, and not told: %s", one.lines)
+		failed := func() string {
+			measured := httptest.NewRecorder()
+			one.front.Operator().ServeHTTP(measured, httptest.NewRequest("GET", "/metrics", nil))
+			_, text, _ := strings.Cut(measured.Body.String(), "\nctserve_tls_handshakes_failed_total ")
+			count, _, _ := strings.Cut(text, "\n")
+			return count
+		}
+		// (a client has its alert before the server counts)
+		eventually(t, "a handshake that failed is counted", func() bool { return failed() != "0" })
+		if count := failed(); count != "1" || strings.Contains(one.lines.String(), "handshake") {
+			t.Errorf("handshakes that failed are to be counted, and not told: %s, %s", count, one.lines)
 		}
 	}
 	// A reload takes the new pair, and keeps the old one where that isn't one.

@@ -94,6 +94,28 @@ func newFixture(t testing.TB, every time.Duration, change func(*Options)) *fixtu
 	return f
 }
 
+// running has the program reply, before anybody asks for a proof or a precertificate who waits for some seconds alone.
+func (f *fixture) running() {
+	f.t.Helper()
+	if _, err := f.program.Begin(trial.Limited(f.t, trial.Longest), 1); err != nil {
+		f.t.Fatal(err)
+	}
+}
+
+// unlessLate asks until what is answered isn't that it is late: /readyz has two seconds alone.
+func unlessLate(ask func() *httptest.ResponseRecorder) (w *httptest.ResponseRecorder) {
+	for until := time.Now().Add(trial.Longest); ; {
+		if w = ask(); w.Code != 503 || !strings.Contains(w.Body.String(), `"late"`) || time.Now().After(until) {
+			return w
+		}
+	}
+}
+
+// ready is what /readyz answers.
+func (f *fixture) ready() *httptest.ResponseRecorder {
+	return unlessLate(func() *httptest.ResponseRecorder { return f.get("/readyz") })
+}
+
 // eventually waits until something holds.
 var eventually = trial.Eventually
 
@@ -174,6 +196,7 @@ func TestPrecertificatesWithoutCutter(t *testing.T) {
 
 func TestSubmissionsAreAnsweredWithTimestamps(t *testing.T) {
 	f := newFixture(t, 10*time.Millisecond, nil)
+	f.running()
 	for number, test := range []struct {
 		path string
 		der  []byte
@@ -209,6 +232,7 @@ func TestSubmissionsAreAnsweredWithTimestamps(t *testing.T) {
 
 func TestChainsAreRefusedByName(t *testing.T) {
 	f := newFixture(t, 10*time.Millisecond, nil)
+	f.running()
 	other, err := standin.NewAuthority("Another root")
 	if err != nil {
 		t.Fatal(err)
@@ -333,7 +357,7 @@ func TestErrorsOfTheLog(t *testing.T) {
 		t.Error("the operator isn't told it")
 	}
 	f.log.Break(nil)
-	if w := f.get("/readyz"); w.Code != 200 || w.Body.String() != "ready\n" {
+	if w := f.ready(); w.Code != 200 || w.Body.String() != "ready\n" {
 		t.Errorf("/readyz: %d %s", w.Code, w.Body)
 	}
 }
@@ -531,7 +555,8 @@ func TestMetricsAndHealth(t *testing.T) {
 		t.Errorf("/metrics has %q for the head's age", text)
 	}
 	for path, text := range map[string]string{"/healthz": "ok\n", "/readyz": "ready\n"} {
-		if w := ask(path); w.Code != 200 || w.Body.String() != text {
+		path := path
+		if w := unlessLate(func() *httptest.ResponseRecorder { return ask(path) }); w.Code != 200 || w.Body.String() != text {
 			t.Errorf("%s: %d %s", path, w.Code, w.Body)
 		}
 	}
@@ -581,7 +606,7 @@ func TestFaultsAndDamageAreTold(t *testing.T) {
 	tells(`"level":"warn","event":"tend","failures":13,"detail":"nothing is deleted"}`)
 	tells(`"level":"error","event":"witness-seen-more","witness":"w.example","detail":"it has seen 7 entries"}`)
 	tells(`"level":"warn","event":"made-again","objects":10,"last":"issuer/07"}`)
-	if w := f.get("/readyz"); w.Code != 200 {
+	if w := f.ready(); w.Code != 200 {
 		t.Errorf("/readyz with a damaged tile: %d %s", w.Code, w.Body)
 	}
 	measures("ctserve_fault 0")
@@ -810,9 +835,12 @@ func TestReadOnly(t *testing.T) {
 	if queue := f.log.Figures().Queue; queue != 0 {
 		t.Errorf("%d submissions wait", queue)
 	}
-	for _, path := range []string{"/checkpoint", "/ct/v1/get-entries?start=0&end=1", "/readyz"} {
+	for _, path := range []string{"/checkpoint", "/ct/v1/get-entries?start=0&end=1"} {
 		if w := f.get(path); w.Code != 200 {
 			t.Errorf("%s: %d", path, w.Code)
 		}
+	}
+	if w := f.ready(); w.Code != 200 {
+		t.Errorf("/readyz: %d", w.Code)
 	}
 }
