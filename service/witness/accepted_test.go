@@ -42,6 +42,7 @@ func TestAccepted(t *testing.T) {
 	s, err := New(Options{Name: "w.example", Key: newKey(t), Program: decider(), Within: trial.Longest, Tell: func(event string, words ...any) { told = append(told, event) }})
 	must(t, err)
 	defer s.Close()
+	decidesNow(t, s)
 	log := Log{Origin: origin, Keys: []note.Verifier{by.key}, State: stateIn(t, folder), Accepted: func() (uint64, [32]byte, error) { return AcceptedBy(state) }}
 	must(t, log.Create(limited(t)))
 	s.SetLogs([]Log{log})

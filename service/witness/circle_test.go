@@ -5,6 +5,7 @@ import (
 	"crypto/ed25519"
 	"errors"
 	"fmt"
+	"io"
 	"net/http"
 	"net/http/httptest"
 	"strings"
@@ -47,11 +48,7 @@ func witnessNamed(t testing.TB, name string, key ed25519.PrivateKey, by signing)
 	s, err := New(Options{Name: name, Key: key, Program: decider(), Within: trial.Longest})
 	must(t, err)
 	t.Cleanup(func() { s.Close() })
-	// (a request has some seconds alone, in which a busy machine doesn't start the program)
-	empty, err := ParseRequest(request(0, nil, by.sign(checkpoint(origin, 0, *(*[32]byte)(emptyRoot[:])))))
-	must(t, err)
-	_, err = s.ask(limited(t), tree{Root: emptyRoot[:]}, empty, s.now())
-	must(t, err)
+	decidesNow(t, s)
 	log := Log{Origin: origin, Keys: []note.Verifier{by.key}, State: stateIn(t, t.TempDir())}
 	must(t, log.Create(limited(t)))
 	s.SetLogs([]Log{log})
@@ -242,6 +239,8 @@ func TestEnough(t *testing.T) {
 	}
 	// A context that ends ends the waiting, and a circle that is closed asks nobody.
 	all[1].before.Store(before(func(_ http.ResponseWriter, q *http.Request) bool {
+		// (that who asked is gone is seen behind the body alone)
+		_, _ = io.Copy(io.Discard, q.Body)
 		<-q.Context().Done()
 		return true
 	}))

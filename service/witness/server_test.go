@@ -169,6 +169,9 @@ func witnessOver(t testing.TB, state stores.Register, key ed25519.PrivateKey, pr
 	s, err := New(Options{Name: "w.example", Key: key, Program: program, Within: trial.Longest})
 	must(t, err)
 	t.Cleanup(func() { s.Close() })
+	if strings.Join(program, " ") == strings.Join(decider(), " ") {
+		decidesNow(t, s)
+	}
 	log := Log{Origin: origin, Keys: []note.Verifier{by.key}, State: state}
 	if err := log.Create(limited(t)); err != nil && !errors.Is(err, stores.ErrExists) {
 		t.Fatal(err)
@@ -176,6 +179,14 @@ func witnessOver(t testing.TB, state stores.Register, key ed25519.PrivateKey, pr
 	must(t, s.Check(limited(t), log))
 	s.SetLogs([]Log{log})
 	return s
+}
+
+// decidesNow has a witness's program decide on the empty tree, of no state: a request has some seconds alone, in which a busy machine doesn't start it.
+func decidesNow(t testing.TB, s *Server) {
+	empty, err := ParseRequest(request(0, nil, plainKey(t, origin).sign(checkpoint(origin, 0, emptyRoot))))
+	must(t, err)
+	_, err = s.ask(limited(t), tree{Root: emptyRoot[:]}, empty, s.now())
+	must(t, err)
 }
 
 // posted posts a body over HTTP.
@@ -586,6 +597,7 @@ func TestSeveralLogs(t *testing.T) {
 	s, err := New(Options{Name: "w.example", Key: newKey(t), Program: decider(), Within: trial.Longest})
 	must(t, err)
 	defer s.Close()
+	decidesNow(t, s)
 	logs := []Log{
 		{Origin: "a.example", Keys: []note.Verifier{first.key}, State: stateIn(t, t.TempDir())},
 		{Origin: "b.example", Keys: []note.Verifier{second.key, headKey(t, "b.example").key}, State: stateIn(t, t.TempDir())},
