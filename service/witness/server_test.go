@@ -169,8 +169,11 @@ func witnessOver(t testing.TB, state stores.Register, key ed25519.PrivateKey, pr
 	s, err := New(Options{Name: "w.example", Key: key, Program: program, Within: trial.Longest})
 	must(t, err)
 	t.Cleanup(func() { s.Close() })
-	if strings.Join(program, " ") == strings.Join(decider(), " ") {
-		decidesNow(t, s)
+	for _, right := range programs() {
+		// (what stands in its place doesn't decide)
+		if strings.Join(program, " ") == strings.Join(right, " ") {
+			decidesNow(t, s)
+		}
 	}
 	log := Log{Origin: origin, Keys: []note.Verifier{by.key}, State: state}
 	if err := log.Create(limited(t)); err != nil && !errors.Is(err, stores.ErrExists) {
