@@ -334,6 +334,8 @@ func TestClockFarAhead(t *testing.T) {
 			p, got := stood(t, 0)
 			heads, config, clock := headsOf(t, p), p.config(t), newAhead(by)
 			config.Clock, config.NamedDay, config.Refresh = clock, filepath.Join(t.TempDir(), "day"), time.Second
+			// (it takes no heads away, whose names are compared)
+			config.TendEvery = time.Hour
 			if by > 48*time.Hour {
 				must(t, NameDay(config.NamedDay, time.Now().UTC().Format(dayForm), time.Now()))
 				wants(t, NameDay(config.NamedDay, time.Now().UTC().Format(dayForm), clock.Now()), log.ErrClock)
@@ -466,7 +468,7 @@ func TestRanAhead(t *testing.T) {
 	must(t, s.End(ctx))
 	heads := headsOf(t, p)
 	config = p.config(t)
-	config.Objects = timed{config.Objects, 0}
+	config.Objects, config.TendEvery = timed{config.Objects, 0}, time.Hour
 	s = started(t, config, hooks{})
 	const why = "the log's newest head, which is in the future by another clock, too"
 	eventually(t, "it says so", func() bool { return strings.Contains(s.Figures().Fault, why) })

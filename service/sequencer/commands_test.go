@@ -130,7 +130,7 @@ func TestNames(t *testing.T) {
 // TestBundleOfAPastState: where the bundle is gone of a state that was read, and the register has gone on, nothing is damaged: the next round looks again.
 func TestBundleOfAPastState(t *testing.T) {
 	t.Parallel()
-	p, ctx, got, s := begun(t, 5, 5)
+	p, ctx, got, s := untended(t, 5, 5)
 	past := s.newestKnown()
 	must(t, got.submitAll(ctx, s, 5, 9, 4))
 	must(t, os.Remove(filepath.Join(p.objects(), headName(past.state))))

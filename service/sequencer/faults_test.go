@@ -556,7 +556,7 @@ func TestHeadsWithoutEntries(t *testing.T) {
 	t.Parallel()
 	p, ctx, got := newPlace(t), limited(t), &answers{}
 	config := p.config(t)
-	config.Refresh = time.Millisecond
+	config.Refresh, config.TendEvery = time.Millisecond, time.Hour
 	s := started(t, config, hooks{})
 	must(t, got.submitAll(ctx, s, 0, 3, 1))
 	first, err := s.Checkpoint(ctx)

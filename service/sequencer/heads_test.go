@@ -234,7 +234,7 @@ func TestHeadOfAVersionBefore(t *testing.T) {
 // of it is damaged or made again.
 func TestPastState(t *testing.T) {
 	t.Parallel()
-	p, ctx, got, s := begun(t, 5, 5)
+	p, ctx, got, s := untended(t, 5, 5)
 	past := s.newestKnown()
 	must(t, got.submitAll(ctx, s, 5, 9, 4))
 	must(t, os.Remove(filepath.Join(p.objects(), headName(past.state))))

@@ -44,7 +44,8 @@ func (p place) partedNodes(ctx context.Context, t *testing.T, got *answers) (her
 	t.Helper()
 	here, config := started(t, p.notHere(t), hooks{}), p.notHere(t)
 	register = &parted{Register: config.Register}
-	config.Register, config.Patience = register, time.Second
+	// (it takes no heads away, whose names are compared)
+	config.Register, config.Patience, config.TendEvery = register, time.Second, time.Hour
 	there = started(t, config, hooks{})
 	must(t, got.submitAll(ctx, here, 0, 10, 4))
 	must(t, got.submitAll(ctx, there, 10, 20, 4))
@@ -170,7 +171,7 @@ func TestPausedNode(t *testing.T) {
 		var stops atomic.Bool
 		var once sync.Once
 		config := p.notHere(t)
-		config.Patience = time.Second
+		config.Patience, config.TendEvery = time.Second, time.Hour
 		there := started(t, config, hooks{phase: func(name string) {
 			if name == "bundle put" && stops.Load() {
 				once.Do(func() { close(stopped); <-goes })
@@ -207,7 +208,8 @@ func TestOutgrown(t *testing.T) {
 	p, ctx, got := newPlace(t), limited(t), &answers{}
 	config := p.config(t)
 	register := &parted{Register: config.Register}
-	config.Register = register
+	// (no node here takes heads away, whose names are compared)
+	config.Register, config.TendEvery = register, time.Hour
 	here := started(t, config, hooks{})
 	must(t, got.submitAll(ctx, here, 0, 20, 4))
 	// (one that goes while it is copied ends that)
@@ -230,7 +232,7 @@ func TestOutgrown(t *testing.T) {
 	must(t, here.End(ctx))
 	for what, config := range map[string]Config{"its file": p.config(t), "no file": p.notHere(t)} {
 		// (those have the second one's places)
-		config.Places = other.config(t).Places
+		config.Places, config.TendEvery = other.config(t).Places, time.Hour
 		again := started(t, config, hooks{})
 		if _, err = again.Submit(ctx, entryOf(100)); !errors.Is(err, ErrSetBack) {
 			t.Errorf("with %s: %v", what, err)
@@ -539,7 +541,7 @@ func TestOutgrownOnEach(t *testing.T) {
 		p.standsWithPlaces(t, on)
 		config := p.config(t)
 		register := &parted{Register: config.Register}
-		config.Register, config.Patience = register, time.Second
+		config.Register, config.Patience, config.TendEvery = register, time.Second, time.Hour
 		here := started(t, config, hooks{})
 		must(t, got.submitAll(ctx, here, 0, 20, 4))
 		old, other := p.keeps(t), p.copied(t, "places.db", "guard")
@@ -569,7 +571,7 @@ func TestOutgrownOnEach(t *testing.T) {
 		wants(t, err, log.ErrStore, ErrSetBack)
 		must(t, here.End(ctx))
 		for what, config := range map[string]Config{"its file": p.config(t), "no file": p.notHere(t)} {
-			config.Places, config.Patience = other.config(t).Places, time.Second
+			config.Places, config.Patience, config.TendEvery = other.config(t).Places, time.Second, time.Hour
 			again, err := start(limited(t), config, hooks{})
 			if err == nil {
 				_, err = again.Submit(ctx, entryOf(100))

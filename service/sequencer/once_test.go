@@ -421,7 +421,7 @@ func TestBackFromASecondHistory(t *testing.T) {
 // TestHeadBetweenThatIsntRead: a state isn't believed where the store doesn't give the head before it, and where that is bent or gone it is.
 func TestHeadBetweenThatIsntRead(t *testing.T) {
 	t.Parallel()
-	_, ctx, got, s := begun(t, 5, 5)
+	_, ctx, got, s := untended(t, 5, 5)
 	before := headName(s.newestKnown().state)
 	// (one, so one step)
 	must(t, got.submitAll(ctx, s, 5, 6, 1))
@@ -447,7 +447,7 @@ func TestHeadBetweenThatIsntRead(t *testing.T) {
 // TestLookingBack: a node that hands over what it has says so where the register has a state before the one that it saw.
 func TestLookingBack(t *testing.T) {
 	t.Parallel()
-	_, ctx, got, s := begun(t, 5, 5)
+	_, ctx, got, s := untended(t, 5, 5)
 	earlier := s.newestKnown()
 	must(t, got.submitAll(ctx, s, 5, 9, 4))
 	node := readingNode(s)

@@ -4,6 +4,7 @@ import (
 	"context"
 	"encoding/json"
 	"errors"
+	"fmt"
 	"net"
 	"os"
 	"os/exec"
@@ -180,7 +181,7 @@ func (p *postgresWithStandby) copies() {
 
 func (p *postgresWithStandby) back() {
 	p.serves("second")
-	p.does("pg_ctl", "promote", "-w", "-t", "60", "-D", "second")
+	p.does("pg_ctl", "promote", "-w", "-t", fmt.Sprint(longest.Seconds()), "-D", "second")
 }
 
 func (p *postgresWithStandby) forth() { p.serves("first") }

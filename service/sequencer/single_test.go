@@ -131,21 +131,32 @@ func TestQueueBytes(t *testing.T) {
 	}
 }
 
-// TestNothingIsSweptEarly: nothing goes before it has stood for SweepAfter, however often the tender looks.
+// TestNothingIsSweptEarly: nothing goes before it has stood for SweepAfter, however often the tender looks, and no head before it has for thinsAfter.
 func TestNothingIsSweptEarly(t *testing.T) {
 	t.Parallel()
-	p, got := newPlace(t), &answers{}
+	p, ctx, got := newPlace(t), limited(t), &answers{}
 	config := p.config(t)
-	config.SweepAfter, config.TendEvery = time.Hour, time.Millisecond
+	config.TendEvery = time.Hour
 	s := started(t, config, hooks{})
 	for at := 0; at < 300; at += 100 {
-		must(t, got.submitAll(limited(t), s, at, at+100, 100))
+		must(t, got.submitAll(ctx, s, at, at+100, 100))
 	}
-	// (each turn reads a tile again)
-	before := s.Figures().Scrubbed
-	eventually(t, "thirty turns", func() bool { return s.Figures().Scrubbed > before+30 })
-	if f := s.Figures(); f.Swept+f.SweptHeads > 0 {
-		t.Errorf("%d tiles and %d heads went at once", f.Swept, f.SweptHeads)
+	must(t, s.End(ctx))
+	// (where its turns take so long that heads go, as they may by then, another node begins)
+	for early := false; !early; {
+		must(t, ctx.Err())
+		config = p.config(t)
+		config.SweepAfter, config.TendEvery = time.Hour, time.Millisecond
+		began := time.Now()
+		s = started(t, config, hooks{})
+		// (each turn reads a tile again)
+		eventually(t, "thirty turns", func() bool { return s.Figures().Scrubbed > 30 })
+		f := s.Figures()
+		early = time.Since(began) < thinsAfter
+		if f.Swept > 0 || early && f.SweptHeads > 0 {
+			t.Errorf("%d tiles and %d heads went at once", f.Swept, f.SweptHeads)
+		}
+		must(t, s.End(ctx))
 	}
 }
 

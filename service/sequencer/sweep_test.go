@@ -170,21 +170,16 @@ func TestManyBundles(t *testing.T) {
 	p.right(t, got)
 }
 
-// untended is a log of four full tiles and a partial one, and its node, which tends it an hour later.
-func untended(t *testing.T) (p place, ctx context.Context, got *answers, s *Sequencer) {
+// fiveTiles is a log of four full tiles and a partial one, and its node, which doesn't tend it.
+func fiveTiles(t *testing.T) (p place, ctx context.Context, got *answers, s *Sequencer) {
 	t.Helper()
-	p, ctx, got = newPlace(t), limited(t), &answers{}
-	config := p.config(t)
-	config.TendEvery = time.Hour
-	s = started(t, config, hooks{})
-	must(t, got.submitAll(ctx, s, 0, 1100, 550))
-	return p, ctx, got, s
+	return untended(t, 1100, 550)
 }
 
 // TestReadingBeginsByChance: a node that is started again and again, and reads one old tile each time, reads more than one.
 func TestReadingBeginsByChance(t *testing.T) {
 	t.Parallel()
-	_, ctx, _, s := untended(t)
+	_, ctx, _, s := fiveTiles(t)
 	read := map[uint64]bool{}
 	for start := 0; start < 64; start++ {
 		tender := &tender{s: s}
@@ -250,7 +245,7 @@ func TestWhatTendingFailsBy(t *testing.T) {
 		what, test := what, test
 		t.Run(what, func(t *testing.T) {
 			t.Parallel()
-			p, ctx, _, s := untended(t)
+			p, ctx, _, s := fiveTiles(t)
 			must(t, s.End(ctx))
 			moment := s.isStepping().Seen.Moment
 			past := fmt.Sprintf("%s%016x%016x%016x", stagingPrefix, moment-1, moment-2, 7)
@@ -287,7 +282,7 @@ func (l *listed) List(ctx context.Context, prefix, after string, most int) ([]st
 // TestSweepingBeginsAtTheEdge: what is newest is swept first, and behind many tiles without partial ones a turn looks at one of a level.
 func TestSweepingBeginsAtTheEdge(t *testing.T) {
 	t.Parallel()
-	p, ctx, got, s := untended(t)
+	p, ctx, got, s := fiveTiles(t)
 	oldest := filepath.Join(p.objects(), "tile", "data", "000.p", "7")
 	must(t, os.MkdirAll(filepath.Dir(oldest), 0o755))
 	must(t, os.WriteFile(oldest, []byte("partial"), 0o644))
@@ -321,7 +316,7 @@ func TestSweepingBeginsAtTheEdge(t *testing.T) {
 // TestTilesOfATurn: a turn reads as many old tiles as all of them need to be read in time, one by one from where it stands.
 func TestTilesOfATurn(t *testing.T) {
 	t.Parallel()
-	_, ctx, _, s := untended(t)
+	_, ctx, _, s := fiveTiles(t)
 	must(t, s.End(ctx))
 	for within, want := range map[time.Duration]uint64{time.Hour: 4, 2 * time.Hour: 2, 100 * time.Hour: 1} {
 		// (it has ended, so nobody else tends it)

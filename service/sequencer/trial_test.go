@@ -235,8 +235,21 @@ func started(t testing.TB, config Config, test hooks) *Sequencer {
 // begun is a new log, with a node that runs over it and was handed so many entries, so many of them at once.
 func begun(t testing.TB, entries, atOnce int) (place, context.Context, *answers, *Sequencer) {
 	t.Helper()
+	return begunTended(t, 0, entries, atOnce)
+}
+
+// untended is begun with a node that tends its log an hour later: until then it takes no older heads away.
+func untended(t testing.TB, entries, atOnce int) (place, context.Context, *answers, *Sequencer) {
+	t.Helper()
+	return begunTended(t, time.Hour, entries, atOnce)
+}
+
+func begunTended(t testing.TB, every time.Duration, entries, atOnce int) (place, context.Context, *answers, *Sequencer) {
+	t.Helper()
 	p, ctx, got := newPlace(t), limited(t), &answers{}
-	s := started(t, p.config(t), hooks{})
+	config := p.config(t)
+	config.TendEvery = every
+	s := started(t, config, hooks{})
 	must(t, got.submitAll(ctx, s, 0, entries, atOnce))
 	return p, ctx, got, s
 }
