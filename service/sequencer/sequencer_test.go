@@ -53,12 +53,13 @@ func TestRepeatsInABatch(t *testing.T) {
 	}})
 	done := make(chan error, 31)
 	submit := func(n int) { go func() { done <- got.submitAll(ctx, s, n, n+1, 1) }() }
-	submit(0)
+	// (the log's first step, which has no entries)
 	<-wait
+	submit(0)
 	for n := 0; n < 30; n++ {
 		submit(1 + n%10)
 	}
-	eventually(t, "all wait", func() bool { return inQueue(s) == 30 })
+	eventually(t, "all wait", func() bool { return inQueue(s) == 31 })
 	close(release)
 	for range make([]int, 31) {
 		must(t, <-done)
