@@ -171,5 +171,7 @@ func TestWhereTheTenderStands(t *testing.T) {
 			t.Errorf("of two full tiles %d is said to be read next", next)
 		}
 	}
+	// (what goes while all is looked at would be missing)
+	must(t, s.End(ctx))
 	p.right(t, got)
 }

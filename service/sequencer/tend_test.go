@@ -520,5 +520,7 @@ func TestPartialTilesGoBeforeOldHeads(t *testing.T) {
 	if heads := headsOf(t, p); heads[0] != first {
 		t.Errorf("%s is gone, and %s is there", first, heads[0])
 	}
+	// (what goes while all is looked at would be missing)
+	must(t, s.End(ctx))
 	isOf(t, p.right(t, got), 300)
 }
