@@ -36,9 +36,10 @@ func TestLastHeadIsRemembered(t *testing.T) {
 	if asked := of.times.Load() - before; asked != 0 {
 		t.Errorf("asked %d times in three steps", asked)
 	}
+	// (where the other one is slow, this node helps it, and asks by then)
+	before = of.times.Load()
 	other := started(t, p.config(t), hooks{})
 	must(t, got.submitAll(ctx, other, 4, 6, 1))
-	before = of.times.Load()
 	// (a new entry, and a repeat of one behind this node's last head)
 	must(t, got.submitAll(ctx, s, 5, 7, 1))
 	if asked := of.times.Load() - before; asked == 0 {
