@@ -41,6 +41,15 @@ func (h holdingPlaces) Add(ctx context.Context, placed []stores.Placed) error {
 
 func (h holdingPlaces) Close() error { return h.Places.Close() }
 
+// phasesOf are a node's phases by their names.
+func phasesOf(s *Sequencer) map[string]log.Phase {
+	found := map[string]log.Phase{}
+	for _, one := range s.Figures().Phases {
+		found[one.Name] = one
+	}
+	return found
+}
+
 // TestPhases has a call stand still in one part of a step, for each of them: it is that part of which the figures say that it took so long.
 func TestPhases(t *testing.T) {
 	t.Parallel()
@@ -65,19 +74,20 @@ func TestPhases(t *testing.T) {
 			told := make(chan error, 1)
 			go func() { told <- got.submitAll(ctx, s, 5, 6, 1) }()
 			<-held.reached
+			// (which are done beside one another: this one takes long, and it alone)
+			beside, took := map[string]string{"put": "place", "place": "put"}[phase], log.Phase{}
+			if beside != "" {
+				eventually(t, beside+" is counted while "+phase+" stands still", func() bool { took = phasesOf(s)[beside]; return took.Count == 1 })
+			}
 			time.Sleep(stands)
 			close(held.released)
 			must(t, <-told)
 			must(t, s.End(ctx))
-			found := map[string]log.Phase{}
-			for _, one := range s.Figures().Phases {
-				found[one.Name] = one
-			}
+			found := phasesOf(s)
 			if one := found[phase]; one.Count != 1 || one.Took < stands {
 				t.Errorf("%+v", found)
 			}
-			// (which are done beside one another)
-			if phase == "put" && found["place"].Took >= stands || phase == "place" && found["put"].Took >= stands {
+			if beside != "" && found[beside] != took {
 				t.Errorf("%s takes long, and not it alone: %+v", phase, found)
 			}
 			for _, name := range phaseNames {
