@@ -264,9 +264,10 @@ func TestSideBySide(t *testing.T) {
 }
 
 // slow is a store of objects each of whose calls takes half a second. It counts how many calls stand behind one another: a call is one more than the
-// longest row of those that ended before it began.
+// longest row of those that ended before it began. Deletions wait as long as nobody lets them.
 type slow struct {
 	stores.Objects
+	deletes     sync.RWMutex
 	mu          sync.Mutex
 	row, atWork int
 }
@@ -313,6 +314,11 @@ func (s *slow) Get(ctx context.Context, name string, most int64) (content []byte
 }
 
 func (s *slow) List(ctx context.Context, prefix, after string, most int) (names []string, err error) {
+	if most == 1 {
+		// (what a node looks for that didn't read its register for a while, as on a busy machine: it isn't a step's)
+		time.Sleep(slowCall)
+		return s.Objects.List(ctx, prefix, after, most)
+	}
 	err = s.call(func() error {
 		names, err = s.Objects.List(ctx, prefix, after, most)
 		return err
@@ -321,6 +327,8 @@ func (s *slow) List(ctx context.Context, prefix, after string, most int) (names 
 }
 
 func (s *slow) Delete(ctx context.Context, name string) error {
+	s.deletes.RLock()
+	defer s.deletes.RUnlock()
 	return s.call(func() error { return s.Objects.Delete(ctx, name) })
 }
 
@@ -350,8 +358,10 @@ func TestSlowObjects(t *testing.T) {
 			_, rests := objects.rows()
 			return rests && len(bundles) == 1
 		})
+		// (no step waits for a deletion, and none is counted)
+		objects.deletes.Lock()
 		began := time.Now()
-		must(t, got.submitAll(ctx, s, c.from, c.to, c.of))
+		failed := got.submitAll(ctx, s, c.from, c.to, c.of)
 		took := time.Since(began)
 		if head, err := s.Checkpoint(ctx); err != nil || head.TreeSize != uint64(c.to) {
 			t.Errorf("%s: a head of %d entries, %v", c.what, head.TreeSize, err)
@@ -359,6 +369,8 @@ func TestSlowObjects(t *testing.T) {
 		objects.mu.Lock()
 		row := objects.row
 		objects.mu.Unlock()
+		objects.deletes.Unlock()
+		must(t, failed)
 		t.Logf("%s: %v, %d calls behind one another", c.what, took, row)
 		if row > c.made {
 			t.Errorf("%s: %d calls stand behind one another, and not %d", c.what, row, c.made)
