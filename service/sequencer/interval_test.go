@@ -2,6 +2,8 @@ package sequencer
 
 import (
 	"context"
+	"errors"
+	"io/fs"
 	"os"
 	"path/filepath"
 	"sync/atomic"
@@ -324,6 +326,9 @@ func TestLargeEdge(t *testing.T) {
 	put, newest := int64(0), time.Time{}
 	for _, one := range bundles {
 		info, err := one.Info()
+		if errors.Is(err, fs.ErrNotExist) {
+			continue
+		}
 		must(t, err)
 		if info.ModTime().After(newest) {
 			put, newest = 2*info.Size(), info.ModTime()
