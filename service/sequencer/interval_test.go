@@ -157,42 +157,71 @@ func TestWaitForBack(t *testing.T) {
 func TestStepOnceAllAreBack(t *testing.T) {
 	t.Parallel()
 	for _, of := range []struct{ behindSwap, rests bool }{{false, false}, {true, false}, {false, true}} {
-		behindSwap := of.behindSwap
-		p, ctx, got := newPlace(t), limited(t), &answers{}
-		config := p.config(t)
-		config.Interval, config.TendEvery, config.BehindSwap, config.Rests = 0, time.Hour, behindSwap, of.rests
-		if behindSwap {
-			p.signedBy(t, &config, signer.Promised)
-		}
-		let, holds := make(chan struct{}), atomic.Bool{}
-		// (a pause that nobody lives to see the end of)
-		s := started(t, config, hooks{pause: time.Hour, phase: func(name string) {
-			if name == "stepped" && holds.Swap(false) {
-				<-let
-			}
-		}})
-		must(t, got.submitAll(ctx, s, 0, 1, 1))
-		before := s.Figures().Steps
-		holds.Store(true)
-		answered := make(chan error, 3)
-		submits := func(from, to int) { go func() { answered <- got.submitAll(ctx, s, from, to, to-from) }() }
-		submits(1, 2)
-		eventually(t, "a step is made", func() bool { return !holds.Load() })
-		submits(2, 4)
-		eventually(t, "two wait behind it", func() bool { return inQueue(s) == 2 })
-		close(let)
-		must(t, <-answered)
-		submits(4, 5)
-		must(t, <-answered)
-		must(t, <-answered)
-		if steps := s.Figures().Steps - before; steps != 2 {
-			t.Errorf("%d steps took them in", steps)
-		}
-		eventually(t, "the head is out", func() bool { head, err := s.Checkpoint(ctx); return err == nil && head.TreeSize == 5 })
-		if report := p.right(t, got); report.Leaves != 5 {
-			t.Fatalf("%+v", report)
+		// (where the loop gets to its pause once that is over, it makes none: then it is looked at once more)
+		for all := limited(t); !stepsOnceAllAreBack(t, of.behindSwap, of.rests); {
+			must(t, all.Err())
 		}
 	}
+}
+
+// What the loop does behind a step that was held: nothing yet, a pause, or the next step at once.
+const (
+	isHeld = iota + 1
+	hasPaused
+	wentOn
+)
+
+// stepsOnceAllAreBack looks at it with a log of its own, where the loop makes a pause behind a step, and says whether it did.
+func stepsOnceAllAreBack(t *testing.T, behindSwap, rests bool) (paused bool) {
+	p, ctx, got := newPlace(t), limited(t), &answers{}
+	config := p.config(t)
+	config.Interval, config.TendEvery, config.BehindSwap, config.Rests = 0, time.Hour, behindSwap, rests
+	if behindSwap {
+		p.signedBy(t, &config, signer.Promised)
+	}
+	let, holds, behind := make(chan struct{}), atomic.Bool{}, atomic.Int64{}
+	// (a pause that nobody lives to see the end of)
+	s := started(t, config, hooks{pause: time.Hour, phase: func(name string) {
+		if name != "stepped" {
+			return
+		}
+		behind.CompareAndSwap(isHeld, wentOn)
+		if holds.Load() {
+			behind.Store(isHeld)
+			holds.Store(false)
+			<-let
+		}
+	}, rests: func(time.Duration) { behind.CompareAndSwap(isHeld, hasPaused) }})
+	must(t, got.submitAll(ctx, s, 0, 1, 1))
+	before := s.Figures().Steps
+	holds.Store(true)
+	answered := make(chan error, 3)
+	submits := func(from, to int) { go func() { answered <- got.submitAll(ctx, s, from, to, to-from) }() }
+	submits(1, 2)
+	eventually(t, "a step is made", func() bool { return !holds.Load() })
+	submits(2, 4)
+	eventually(t, "two wait behind it", func() bool { return inQueue(s) == 2 })
+	close(let)
+	must(t, <-answered)
+	submits(4, 5)
+	eventually(t, "it makes a pause, or the next step", func() bool { return behind.Load() != isHeld })
+	if behind.Load() == wentOn {
+		// (who still waits is taken in at the end, or refused)
+		must(t, s.End(ctx))
+		<-answered
+		<-answered
+		return false
+	}
+	must(t, <-answered)
+	must(t, <-answered)
+	if steps := s.Figures().Steps - before; steps != 2 {
+		t.Errorf("%d steps took them in", steps)
+	}
+	eventually(t, "the head is out", func() bool { head, err := s.Checkpoint(ctx); return err == nil && head.TreeSize == 5 })
+	if report := p.right(t, got); report.Leaves != 5 {
+		t.Fatalf("%+v", report)
+	}
+	return true
 }
 
 // TestIntervalThatNobodySet: it is 50 ms over stores that rest and where witnesses are asked for each head, and none elsewhere.
