@@ -508,11 +508,16 @@ func TestClockOfOneNode(t *testing.T) {
 			defer nodes[1].clock.mu.Unlock()
 			return len(nodes[1].clock.node) > 0
 		})
+		const beside = "the node that makes the steps"
+		if !skew.within {
+			// (a round that began before says something else)
+			eventually(t, "its fault is that it is off beside that one", func() bool { return strings.Contains(nodes[1].Figures().Fault, beside) })
+		}
 		_, err := nodes[1].Submit(ctx, entryOf(10))
 		if skew.within {
 			must(t, err)
 		} else {
-			isSaid(t, err, skew.by, "the node that makes the steps")
+			isSaid(t, err, skew.by, beside)
 		}
 		must(t, got.submitAll(ctx, nodes[0], 20, 25, 5))
 		clocks[1].set(0, false)
