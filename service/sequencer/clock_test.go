@@ -269,7 +269,7 @@ func stood(t *testing.T, by time.Duration) (place, *answers) {
 func TestOldLog(t *testing.T) {
 	t.Parallel()
 	const beside, week = "the log's newest head", 7 * 24 * time.Hour
-	today := func() string { return time.Now().UTC().Format(dayForm) }
+	today, earlier := func() string { return time.Now().UTC().Format(dayForm) }, time.Now().Add(-week)
 	for name, test := range map[string]struct {
 		by time.Duration
 		// before and while are what is done before the start, and once it is refused; none is refused where the latter is nil.
@@ -282,7 +282,6 @@ func TestOldLog(t *testing.T) {
 		"the day":    {by: week, while: func(t *testing.T, config *Config) { must(t, NameDay(config.NamedDay, today(), time.Now())) }},
 		"before":     {by: week, before: func(t *testing.T, config *Config) { must(t, NameDay(config.NamedDay, today(), time.Now())) }},
 		"another day": {by: 2 * week, before: func(t *testing.T, config *Config) {
-			earlier := time.Now().Add(-week)
 			must(t, NameDay(config.NamedDay, earlier.UTC().Format(dayForm), earlier))
 		}, while: func(t *testing.T, config *Config) { must(t, NameDay(config.NamedDay, today(), time.Now())) }},
 		"a bent file": {by: week, before: func(t *testing.T, config *Config) {
@@ -306,7 +305,7 @@ func TestOldLog(t *testing.T) {
 					_, err := s.Submit(limited(t), entryOf(50))
 					isSaid(t, err, test.by, beside)
 					switch {
-					case name == "another day" && !strings.Contains(err.Error(), "the day that the operator named is "+time.Now().Add(-week).UTC().Format(dayForm)),
+					case name == "another day" && !strings.Contains(err.Error(), "the day that the operator named is "+earlier.UTC().Format(dayForm)),
 						name == "a bent file" && !strings.Contains(err.Error(), config.NamedDay+" names no day: \"tomorrow"):
 						t.Error(err)
 					}
