@@ -288,7 +288,7 @@ func TestLongReplies(t *testing.T) {
 	t.Parallel()
 	e := script(t, "while read -r n; do head -c $n /dev/zero | tr '\\0' x; echo; done", 1<<22)
 	for i, of := range []struct{ bytes, most int }{{1 << 20, 0}, {1 << 20, 1<<20 + 1<<18}, {1<<20 + 1<<16, 1<<20 + 1<<18}, {10, 4096}, {1 << 20, 0}} {
-		replies, err := e.Exchange(limited(t), time.Minute, []byte(strconv.Itoa(of.bytes)+"\n"), 1)
+		replies, err := e.Exchange(limited(t), trial.Longest, []byte(strconv.Itoa(of.bytes)+"\n"), 1)
 		if err != nil || string(replies[0]) != strings.Repeat("x", of.bytes) {
 			t.Fatalf("%d: %d bytes, %v", i, len(replies[0]), err)
 		}
