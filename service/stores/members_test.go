@@ -79,8 +79,8 @@ func TestPartedMember(t *testing.T) {
 	defer opened.Close()
 	register := opened.(*inEtcd)
 	register.client.leftOutFor = time.Hour
-	// (connections to both are made in a while of the client's own)
-	for parted.calls.Load() == 0 {
+	// (connections to both are made in a while of the client's own, and a whole member that says late that it knows a leader has none left out yet)
+	for parted.calls.Load() == 0 || len(register.client.Endpoints()) != 1 {
 		if text, err := register.Read(limited(t)); err != nil || text != "text" {
 			t.Fatalf("read: %q, %v", text, err)
 		}
