@@ -3,10 +3,8 @@
 package sequencer
 
 import (
-	"context"
 	"strings"
 	"testing"
-	"time"
 
 	"wagtenib/service/check"
 	"wagtenib/service/signer"
@@ -57,10 +55,9 @@ func wrongOrders(t *testing.T, on ground) {
 		setOrder(noWait)
 		defer setOrder("")
 		s := started(t, p.unguarded(t), hooks{})
-		short, cancel := context.WithTimeout(limited(t), 30*time.Second)
-		defer cancel()
-		for n := 0; n < 600 && short.Err() == nil; n += 37 {
-			_ = got.submitAll(short, s, n, n+37, 37)
+		ctx := limited(t)
+		for n := 0; n < 600 && ctx.Err() == nil; n += 37 {
+			_ = got.submitAll(ctx, s, n, n+37, 37)
 		}
 		report, err := p.judged(got.all)
 		sees(t, report, err, "is missing")
