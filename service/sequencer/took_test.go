@@ -264,10 +264,10 @@ func TestSideBySide(t *testing.T) {
 }
 
 // slow is a store of objects each of whose calls takes half a second. It counts how many calls stand behind one another: a call is one more than the
-// longest row of those that ended before it began. Deletions wait as long as nobody lets them.
+// longest row of those that ended before it began. Deletions wait while their gate is full.
 type slow struct {
 	stores.Objects
-	deletes     sync.RWMutex
+	gate        chan struct{}
 	mu          sync.Mutex
 	row, atWork int
 }
@@ -327,8 +327,12 @@ func (s *slow) List(ctx context.Context, prefix, after string, most int) (names 
 }
 
 func (s *slow) Delete(ctx context.Context, name string) error {
-	s.deletes.RLock()
-	defer s.deletes.RUnlock()
+	select {
+	case s.gate <- struct{}{}:
+		<-s.gate
+	case <-ctx.Done():
+		return ctx.Err()
+	}
 	return s.call(func() error { return s.Objects.Delete(ctx, name) })
 }
 
@@ -342,9 +346,14 @@ func TestSlowObjects(t *testing.T) {
 	must(t, got.submitAll(ctx, first, 0, 250, 250))
 	must(t, first.End(ctx))
 	config := p.config(t)
-	objects := &slow{Objects: config.Objects}
+	objects := &slow{Objects: config.Objects, gate: make(chan struct{}, 1)}
 	config.Objects, config.TendEvery, config.Patience, config.Rests, config.Interval = objects, time.Hour, longest, true, 0
-	s := started(t, config, hooks{})
+	let, holds := make(chan struct{}), atomic.Bool{}
+	s := started(t, config, hooks{phase: func(name string) {
+		if name == "stepped" && holds.Swap(false) {
+			<-let
+		}
+	}})
 	// (all issuers but one, and the edge)
 	must(t, got.submitAll(ctx, s, 250, 254, 4))
 	for _, c := range []struct {
@@ -359,9 +368,18 @@ func TestSlowObjects(t *testing.T) {
 			return rests && len(bundles) == 1
 		})
 		// (no step waits for a deletion, and none is counted)
-		objects.deletes.Lock()
+		objects.gate <- struct{}{}
+		holds.Store(true)
+		told := make(chan error, 2)
+		submits := func(from, to int) { go func() { told <- got.submitAll(ctx, s, from, to, c.of) }() }
+		submits(c.from, c.from+1)
+		eventually(t, "a step is made", func() bool { return !holds.Load() })
+		submits(c.from+1, c.to)
+		eventually(t, "the others wait behind it", func() bool { return inQueue(s) == c.to-c.from-1 })
 		began := time.Now()
-		failed := got.submitAll(ctx, s, c.from, c.to, c.of)
+		let <- struct{}{}
+		must(t, <-told)
+		must(t, <-told)
 		took := time.Since(began)
 		if head, err := s.Checkpoint(ctx); err != nil || head.TreeSize != uint64(c.to) {
 			t.Errorf("%s: a head of %d entries, %v", c.what, head.TreeSize, err)
@@ -369,8 +387,7 @@ func TestSlowObjects(t *testing.T) {
 		objects.mu.Lock()
 		row := objects.row
 		objects.mu.Unlock()
-		objects.deletes.Unlock()
-		must(t, failed)
+		<-objects.gate
 		t.Logf("%s: %v, %d calls behind one another", c.what, took, row)
 		if row > c.made {
 			t.Errorf("%s: %d calls stand behind one another, and not %d", c.what, row, c.made)
