@@ -118,12 +118,13 @@ func (p place) holds(t testing.TB, on ground, register stores.Register) held {
 // goesBack puts them back to that: the register's text alone, as what is published only rises; in a folder that, too, as one that restores it does.
 func (p place) goesBack(t testing.TB, on ground, register stores.Register, to held) {
 	t.Helper()
+	// (the guard's state first: with the register back a node makes a step, and has it signed)
+	p.putBack(t, to.files, p.restored(on)...)
 	if on.register != nil {
 		text, err := register.Read(limited(t))
 		must(t, err)
 		must(t, register.Swap(limited(t), text, to.text))
 	}
-	p.putBack(t, to.files, p.restored(on)...)
 }
 
 // TestPartedNode has one of two nodes not reach the register while the other one goes on, and the register with the guard's state put back
