@@ -13,30 +13,43 @@ import (
 // pause is the command that stops an engine's process (SIGSTOP) for some seconds, as service/engines.sh tells it.
 var pause = os.Getenv("STORES_PAUSE")
 
-// paused is how long an engine is stopped; patience is how long a call that may take a second may take by then.
-const (
-	paused   = "4"
-	patience = 2500 * time.Millisecond
-)
+// paused is how long an engine is stopped.
+const paused = "4"
 
-// whilePaused makes a call of a second on an engine that is stopped: it ends with its context, and says so. Once the engine
-// goes on, the call is made again until it is done.
-func whilePaused(t *testing.T, engine string, call func(ctx context.Context) error) {
+// stop stops an engine, makes calls of a second until one fails, and gives that one's error; nil where the engine went on before.
+func stop(t *testing.T, engine string, call func(ctx context.Context) error) (err error) {
 	t.Helper()
 	all := processes[engine]
 	command := exec.Command("sh", "-c", pause+" "+all[len(all)-1]+" "+paused)
 	command.Stderr = os.Stderr
-	must(t, call(limited(t)))
 	must(t, command.Start())
-	time.Sleep(700 * time.Millisecond)
-	start := time.Now()
-	ctx, cancel := context.WithTimeout(context.Background(), time.Second)
-	defer cancel()
-	err := call(ctx)
-	if taken := time.Since(start); err == nil || taken > patience {
-		t.Errorf("%s: a call on a silent engine: %v, behind %v", engine, err, taken)
+	ended := make(chan error, 1)
+	go func() { ended <- command.Wait() }()
+	for err == nil && len(ended) == 0 {
+		ctx, cancel := context.WithTimeout(context.Background(), time.Second)
+		err = call(ctx)
+		cancel()
 	}
-	must(t, command.Wait())
+	goesOn := len(ended) > 0
+	must(t, <-ended)
+	if goesOn {
+		return nil
+	}
+	return err
+}
+
+// whilePaused makes a call of a second on an engine that is stopped: it ends with its context, before the engine goes on, and says so. Once that goes
+// on, the call is made again until it is done.
+func whilePaused(t *testing.T, engine string, call func(ctx context.Context) error) {
+	t.Helper()
+	must(t, call(limited(t)))
+	// (on a machine that has much else to do none may begin, or be heard of, in that time)
+	for all := limited(t); stop(t, engine, call) == nil; {
+		if all.Err() != nil {
+			t.Fatalf("%s: no call on a silent engine fails before it goes on", engine)
+		}
+	}
+	start := time.Now()
 	for {
 		short, cancel := context.WithTimeout(limited(t), 5*time.Second)
 		err := call(short)
