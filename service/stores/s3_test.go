@@ -364,14 +364,18 @@ func TestPostgresWithoutItsStandby(t *testing.T) {
 		return register.Swap(ctx, fmt.Sprint(from), fmt.Sprint(from+1))
 	}
 	stands := 0
-	for ; ; stands++ {
+	for waits, all := false, limited(t); !waits; {
 		// (the server takes the setting up by and by)
-		if err := swap(stands); err != nil {
-			if !errors.Is(err, ErrUnknown) {
-				t.Fatal(err)
-			}
-			break
+		err := swap(stands)
+		if err == nil {
+			stands++
+			continue
 		}
+		// (where it has much else to do, a swap may take so long without a standby: then it is made again until it is done)
+		if must(t, all.Err()); !errors.Is(err, ErrUnknown) && !errors.Is(err, context.DeadlineExceeded) {
+			t.Fatal(err)
+		}
+		must(t, server.QueryRowContext(all, "select count(*) > 0 from pg_stat_activity where wait_event = 'SyncRep'").Scan(&waits))
 	}
 	for i := 0; i < 3; i++ {
 		if text, err := register.Read(limited(t)); err != nil || text != fmt.Sprint(stands) {
