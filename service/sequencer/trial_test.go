@@ -11,6 +11,7 @@ import (
 	"encoding/pem"
 	"errors"
 	"fmt"
+	"io/fs"
 	"net"
 	"net/http"
 	"os"
@@ -393,11 +394,17 @@ func (p place) judged(answers []check.Answer) (check.Report, error) {
 	if err != nil {
 		return check.Report{}, err
 	}
-	folder, err := p.published()
-	if err != nil {
-		return check.Report{}, err
+	for try := 1; ; try++ {
+		var report check.Report
+		folder, err := p.published()
+		if err == nil {
+			report, err = check.Folder(folder, s.Key(), answers)
+		}
+		// (where a node took a head away while all was read, all is read anew)
+		if isGone := errors.Is(err, fs.ErrNotExist) || errors.Is(err, stores.ErrAbsent); !isGone || try == 100 {
+			return report, err
+		}
 	}
-	return check.Folder(folder, s.Key(), answers)
 }
 
 // published is the folder of what was published, or a copy of the bucket.
