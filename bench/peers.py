@@ -4,7 +4,7 @@
     peers.py fetch FOLDER                  has apt fetch what is needed of Debian 13 and of this machine's Debian, and builds it in FOLDER
     peers.py FOLDER [--turns 2] [--seconds 12] [--clients 16,64,256,1024] [--crates CRATES] [--settle 0] [--before OUT]
 
-Nothing is installed: all lies in FOLDER. With FOLDER alone it makes three logs, of CTFE, of ctserve, and of ctserve with answer-behind-swap, and has ctload submit
+Nothing is installed: all lies in FOLDER. With FOLDER alone it makes a log of CTFE and one of ctserve, and has ctload submit
 to each in turn, in each turn with so many clients for so many seconds. CRATES has the builds of the log's programs; what isn't built there a program in Python
 stands in for, which it says. It prints timestamps a second, the median and 99th percentile of the time to one, the processor time of the log's processes an entry
 until a signed head has all of them, and how many processors others had meanwhile; then what each log's files and processes take. With --settle it looks at the
@@ -228,7 +228,6 @@ def measure(folder, words):
         try:
             logs["CTFE over Trillian"] = Ctfe(work / "ctfe", folder)
             logs["ctserve"] = Log(work / "one", words.crates)
-            logs["ctserve, answer-behind-swap"] = Log(work / "two", words.crates, answer_behind_swap="true")
             if words.before:
                 logs["ctserve before"] = Log(work / "three", words.crates, out=pathlib.Path(words.before))
             began = {name: (size_of(log), disk_used(log.stored())) for name, log in logs.items()}

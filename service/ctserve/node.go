@@ -28,7 +28,7 @@ func openNode(ctx context.Context, n node) (of *opened, err error) {
 	calls := &stores.Calls{}
 	config := sequencer.Config{
 		Origin: n.origin, Create: n.create, Interval: n.interval, Refresh: n.refresh, MostQueue: n.mostQueue, MostBatch: n.mostBatch, MostWritten: n.mostWritten,
-		SweepAfter: n.sweepAfter, SweepTilesAfter: n.sweepTilesAfter, TendEvery: n.readEvery, ReadAllWithin: n.readAllWithin, BehindSwap: n.behindSwap, Address: n.address, Secret: n.secret,
+		SweepAfter: n.sweepAfter, SweepTilesAfter: n.sweepTilesAfter, TendEvery: n.readEvery, ReadAllWithin: n.readAllWithin, Address: n.address, Secret: n.secret,
 		Rests: n.rests(), LatestHead: n.latestHead, MostSkew: n.mostSkew, Synchronized: n.synchronized, NamedDay: n.namedDay,
 	}
 	if n.makesFolder {

@@ -51,7 +51,7 @@ type node struct {
 	readEvery, readAllWithin                  time.Duration
 	mostQueue, mostBatch, mostProofs          int
 	mostWritten                               int
-	behindSwap, create, makesFolder           bool
+	create, makesFolder                       bool
 	address, secret                           string
 	witnesses                                 []witness.One
 	quorums                                   witness.Quorums
@@ -135,7 +135,6 @@ func parse(words []string, help io.Writer) (*settings, error) {
 	flags.IntVar(&n.mostWritten, "most-written", 16<<20, "bytes a second that steps write at most, over a while: where they have large certificates to write again, heads are farther apart")
 	flags.IntVar(&n.mostBatch, "most-batch", 1024, "entries of one step")
 	flags.IntVar(&n.mostProofs, "most-proofs", 64, "proofs for readers that are made, or wait to be")
-	flags.BoolVar(&n.behindSwap, "answer-behind-swap", false, "answer once an entry is decided, and not once its head is published: a merge is owed until then")
 	flags.BoolVar(&n.create, "create", false, "make a log where there is none; without it, an empty register ends the start")
 	flags.Func("witnesses", "`witnesses` that cosign the log's heads, with spaces between them: of each its URL, a comma, and its verifier key", func(text string) error {
 		n.witnesses = nil
@@ -248,9 +247,6 @@ func (n *node) settleWitnesses() error {
 			return errors.New("--publish-with, --start-with and --witness-faults are of --witnesses")
 		}
 		return nil
-	}
-	if n.behindSwap {
-		return errors.New("--answer-behind-swap: what is answered so stands under no head that --witnesses cosigned")
 	}
 	for _, of := range []*int{&q.Publish, &q.Start} {
 		if *of == 0 {

@@ -35,11 +35,7 @@ func askSigner(ctx context.Context, n node) (*signer.Client, error) {
 		if err != nil {
 			return nil, fmt.Errorf("ctserve: %w", err)
 		}
-		receipts := signer.InHead
-		if n.behindSwap {
-			receipts = signer.Promised
-		}
-		words := []string{self, "signer", "--signing-key", n.signingKey, "--guard", strings.Join(n.guard, " "), "--receipts", string(receipts)}
+		words := []string{self, "signer", "--signing-key", n.signingKey, "--guard", strings.Join(n.guard, " ")}
 		if n.openWithin > 0 {
 			// (so that it says why before it is given up)
 			words = append(words, "--open-within", (n.openWithin * 4 / 5).String())
@@ -62,7 +58,6 @@ func runSigner(given []string, from io.Reader, answers, to io.Writer) int {
 	guard := []string{"ctguard"}
 	flags.Func("guard", "the `command` of the guard, with its words (default \"ctguard\"); none signs without one", command(&guard))
 	state := flags.String("guard-state", os.Getenv(guardStateKey), "`address` of the register with the guard's state: file:PATH, etcd://.. or postgres://..")
-	receipts := flags.String("receipts", string(signer.InHead), "in-head: a timestamp's leaf has to be in the last head's tree; promised: for nodes that answer behind the swap")
 	create := flags.Bool("create", false, "make the guard's state where there is none")
 	openWithin := flags.Duration("open-within", signsWithin, "how long the guard's state may take to open")
 	listen := flags.String("listen", "", "`path` of a socket, for nodes of this user or group; without it, lines come by the standard input")
@@ -74,14 +69,14 @@ func runSigner(given []string, from io.Reader, answers, to io.Writer) int {
 		fmt.Fprintln(to, "ctserve signer: --signing-key is needed, and only words that --help names")
 		return 2
 	}
-	if err := serveSigner(*key, guard, *state, signer.Receipts(*receipts), *create, *openWithin, *listen, from, answers); err != nil {
+	if err := serveSigner(*key, guard, *state, *create, *openWithin, *listen, from, answers); err != nil {
 		fmt.Fprintln(to, err)
 		return 1
 	}
 	return 0
 }
 
-func serveSigner(keyAt string, guard []string, stateAt string, receipts signer.Receipts, create bool, openWithin time.Duration, listen string, from io.Reader, answers io.Writer) error {
+func serveSigner(keyAt string, guard []string, stateAt string, create bool, openWithin time.Duration, listen string, from io.Reader, answers io.Writer) error {
 	ctx := context.Background()
 	key, err := signer.OpenKey(keyAt)
 	if err != nil {
@@ -95,7 +90,7 @@ func serveSigner(keyAt string, guard []string, stateAt string, receipts signer.R
 		}
 		defer state.Close()
 		opening, cancel := context.WithTimeout(ctx, openWithin)
-		guarded, err := signer.Behind(opening, key, signer.Guard{Command: guard, State: state, Create: create, Receipts: receipts})
+		guarded, err := signer.Behind(opening, key, signer.Guard{Command: guard, State: state, Create: create})
 		late := opening.Err()
 		cancel()
 		if err != nil && late != nil {

@@ -212,7 +212,6 @@ func TestWitnessesSettings(t *testing.T) {
 		{[]string{"--witnesses", three, "--publish-with", "4"}, "no such quorums"},
 		{[]string{"--witnesses", three, "--witness-faults", "3"}, "no such quorums"},
 		{[]string{"--witnesses", three, "--witness-faults", "-1"}, "no such quorums"},
-		{[]string{"--witnesses", three, "--answer-behind-swap"}, "--answer-behind-swap"},
 	} {
 		if _, err := parse(at.words(test.words...), io.Discard); !errors.Is(err, errUsage) || !strings.Contains(err.Error(), test.why) {
 			t.Errorf("%q: %v", test.words, err)

@@ -33,17 +33,16 @@ var (
 
 // The commands.
 const (
-	Read    = "read"
-	Look    = "look"
-	Step    = "step"
-	Stage   = "stage"
-	Swap    = "swap"
-	Promise = "promise"
-	Put     = "put"
-	Place   = "place"
-	Head    = "head"
-	Answer  = "answer"
-	Delete  = "delete"
+	Read   = "read"
+	Look   = "look"
+	Step   = "step"
+	Stage  = "stage"
+	Swap   = "swap"
+	Put    = "put"
+	Place  = "place"
+	Head   = "head"
+	Answer = "answer"
+	Delete = "delete"
 )
 
 // Held is a register's text, and what it says.
@@ -78,9 +77,6 @@ type Told map[string]any
 
 // Done: it is done.
 func Done() Told { return Told{"came": "done"} }
-
-// Promised: it is done, and the log promises what the register took.
-func Promised() Told { return Told{"came": "promise"} }
 
 // Lost: it isn't done, or isn't known to be and isn't tried any more.
 func Lost() Told { return Told{"came": "lost"} }
@@ -249,7 +245,7 @@ func (c *Command) isWhole() bool {
 		return seen
 	case Stage, Swap:
 		return seen && new && c.Objects != nil
-	case Promise, Put:
+	case Put:
 		return new && c.Objects != nil
 	case Place, Head, Answer:
 		return new

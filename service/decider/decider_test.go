@@ -59,7 +59,6 @@ func TestWay(t *testing.T) {
 		{Stepped(line(4, 7), "-", 2, objects), Command{Do: Step, Seen: seen}},
 		{Stepped(line(4, 9), "-", 2, objects), Command{Do: Stage, Seen: seen, New: new, Objects: objects}},
 		{Done(), Command{Do: Swap, Seen: seen, New: new, Objects: objects}},
-		{Promised(), Command{Do: Promise, New: new, Objects: objects}},
 		{Done(), Command{Do: Put, New: new, Objects: objects}},
 		{Done(), Command{Do: Place, New: new}},
 		{Done(), Command{Do: Head, New: new}},

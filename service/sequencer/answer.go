@@ -4,7 +4,6 @@ import (
 	"context"
 
 	"wagtenib/service/log"
-	"wagtenib/service/signer"
 )
 
 // signing is what a step's timestamps come to, which are signed beside something else.
@@ -46,7 +45,7 @@ func (s *Sequencer) sign(ctx context.Context, t *turn) *signing {
 
 // pathsOf makes the paths of a step's receipts in its own head's tree, which the signer wants where that head is its last.
 func (s *Sequencer) pathsOf(ctx context.Context, t *turn) ([][][32]byte, error) {
-	if len(t.batch) == 0 || s.config.Signer.Receipts() != signer.InHead {
+	if len(t.batch) == 0 || !s.isGuarded() {
 		return nil, nil
 	}
 	indexes := make([]uint64, len(t.receipts))

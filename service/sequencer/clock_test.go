@@ -447,7 +447,7 @@ func TestMomentTooFar(t *testing.T) {
 	state, err := stores.OpenFile(p.guardState())
 	must(t, err)
 	guard := strict(`s/"most_ahead":[0-9]*/"most_ahead":0/`, "python3", guardFile)
-	config.Signer, err = signer.Behind(ctx, key, signer.Guard{Command: guard, State: state, Receipts: signer.InHead, Within: longest})
+	config.Signer, err = signer.Behind(ctx, key, signer.Guard{Command: guard, State: state, Within: longest})
 	must(t, err)
 	t.Cleanup(func() { closeAll(Config{Signer: config.Signer}) })
 	refuses(config, "the signer's last head")

@@ -53,7 +53,7 @@ func (s *Sequencer) goOn(ctx context.Context, t *turn, told decider.Told) (err e
 // carryOut carries the turn's command out, and asks what comes behind it. It says no where the round is to end there.
 func (s *Sequencer) carryOut(ctx context.Context, t *turn) (bool, error) {
 	carry := map[string]func(context.Context, *turn) (decider.Told, error){
-		decider.Look: s.doLook, decider.Stage: s.doStage, decider.Swap: s.doSwap, decider.Promise: s.doAnswer, decider.Put: s.doPut,
+		decider.Look: s.doLook, decider.Stage: s.doStage, decider.Swap: s.doSwap, decider.Put: s.doPut,
 		decider.Place: s.doPlace, decider.Head: s.doHead, decider.Answer: s.doAnswer, decider.Delete: s.doDelete,
 	}[t.command.Do]
 	if carry == nil {
@@ -278,10 +278,7 @@ func (s *Sequencer) doSwap(ctx context.Context, t *turn) (decider.Told, error) {
 	if err := s.comesBehind(ctx, t.k, t.fresh()); err != nil {
 		return nil, err
 	}
-	if !s.config.BehindSwap {
-		return decider.Done(), nil
-	}
-	return decider.Promised(), s.keepLatest(t.k)
+	return decider.Done(), nil
 }
 
 // doPut puts a state's objects under their public names, and beside that adds the places of its entries.
@@ -366,12 +363,8 @@ func (s *Sequencer) doAnswer(ctx context.Context, t *turn) (decider.Told, error)
 	if err := s.tell(t.signing); err != nil {
 		return nil, err
 	}
-	// (who was answered by a promise isn't answered, or counted as such, by the head again)
-	t.signing = nil
-	if t.command.Do == decider.Answer {
-		t.answered = true
-		s.phase("answered")
-	}
+	t.answered = true
+	s.phase("answered")
 	return decider.Done(), nil
 }
 

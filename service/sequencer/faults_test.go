@@ -12,7 +12,6 @@ import (
 	"time"
 
 	"wagtenib/service/log"
-	"wagtenib/service/signer"
 	"wagtenib/service/step"
 	"wagtenib/service/stores"
 	"wagtenib/service/trial/unsure"
@@ -633,6 +632,6 @@ func TestEndInTime(t *testing.T) {
 func (p place) unguarded(t testing.TB) Config {
 	t.Helper()
 	config := p.config(t)
-	p.signedBy(t, &config, signer.Unguarded)
+	p.signedByKey(t, &config)
 	return config
 }

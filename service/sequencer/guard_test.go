@@ -101,7 +101,7 @@ func TestUnreadGuardState(t *testing.T) {
 	state, err := stores.OpenFile(p.guardState())
 	must(t, err)
 	closeAll(Config{Signer: config.Signer})
-	config.Signer, err = guardedOver(ctx, key, faultyRegister{state, faults}, signer.InHead)
+	config.Signer, err = guardedOver(ctx, key, faultyRegister{state, faults})
 	must(t, err)
 	t.Cleanup(func() { closeAll(Config{Signer: config.Signer}) })
 	s := started(t, config, hooks{})

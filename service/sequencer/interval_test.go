@@ -11,7 +11,6 @@ import (
 	"time"
 
 	"wagtenib/service/log"
-	"wagtenib/service/signer"
 )
 
 // TestInterval: where a node rests, a step has half of the time, as long as the next one begins within mostRest, and behind that two thirds, as long as the rest
@@ -156,9 +155,9 @@ func TestWaitForBack(t *testing.T) {
 // TestStepOnceAllAreBack: the next step begins once all wait who were answered, or waited beside them, whatever the pause, or the rest; and takes all of them in.
 func TestStepOnceAllAreBack(t *testing.T) {
 	t.Parallel()
-	for _, of := range []struct{ behindSwap, rests bool }{{false, false}, {true, false}, {false, true}} {
+	for _, rests := range []bool{false, true} {
 		// (where the loop gets to its pause once that is over, it makes none: then it is looked at once more)
-		for all := limited(t); !stepsOnceAllAreBack(t, of.behindSwap, of.rests); {
+		for all := limited(t); !stepsOnceAllAreBack(t, rests); {
 			must(t, all.Err())
 		}
 	}
@@ -172,13 +171,10 @@ const (
 )
 
 // stepsOnceAllAreBack looks at it with a log of its own, where the loop makes a pause behind a step, and says whether it did.
-func stepsOnceAllAreBack(t *testing.T, behindSwap, rests bool) (paused bool) {
+func stepsOnceAllAreBack(t *testing.T, rests bool) (paused bool) {
 	p, ctx, got := newPlace(t), limited(t), &answers{}
 	config := p.config(t)
-	config.Interval, config.TendEvery, config.BehindSwap, config.Rests = 0, time.Hour, behindSwap, rests
-	if behindSwap {
-		p.signedBy(t, &config, signer.Promised)
-	}
+	config.Interval, config.TendEvery, config.Rests = 0, time.Hour, rests
 	let, holds, behind := make(chan struct{}), atomic.Bool{}, atomic.Int64{}
 	// (a pause that nobody lives to see the end of)
 	s := started(t, config, hooks{pause: time.Hour, phase: func(name string) {

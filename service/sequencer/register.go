@@ -212,7 +212,7 @@ func (s *Sequencer) anyOf(ctx context.Context) (string, error) {
 }
 
 // isGuarded says whether a guard stands before the key.
-func (s *Sequencer) isGuarded() bool { return s.config.Signer.Receipts() != signer.Unguarded }
+func (s *Sequencer) isGuarded() bool { return s.config.Signer.IsGuarded() }
 
 // lastSigned is the last head that the guard let through, nil where it let none through, or there is no guard.
 func (s *Sequencer) lastSigned(ctx context.Context) (*signer.Head, error) {

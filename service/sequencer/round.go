@@ -50,12 +50,12 @@ func (s *Sequencer) achieved() achieved {
 func (s *Sequencer) loop(ctx context.Context) {
 	defer close(s.ended)
 	defer s.deleteLast(ctx)
-	backoff, owes := longer(s.config.Interval, leastApart), s.config.BehindSwap
+	backoff := longer(s.config.Interval, leastApart)
 	var least, next time.Time
 	for ctx.Err() == nil {
 		some, ending := s.queue.state()
 		s.deleteBundles(ctx)
-		if !some && ending && !owes && s.queue.length() == 0 {
+		if !some && ending && s.queue.length() == 0 {
 			return
 		}
 		if !some {
@@ -74,8 +74,6 @@ func (s *Sequencer) loop(ctx context.Context) {
 			err = nil
 		}
 		s.settle(err)
-		// What was answered behind a swap is published before the end, unless that can't be: by this node, or by another one that goes on.
-		owes = s.config.BehindSwap && !isNamed(err) && (err != nil || !s.isOut())
 		if err == nil || s.achieved() != before {
 			backoff = longer(s.config.Interval, leastApart)
 		}
@@ -146,14 +144,6 @@ func shorter(one, other time.Duration) time.Duration {
 		return one
 	}
 	return other
-}
-
-// isOut says whether this node's newest state is known to be rolled out. One that another node set stands behind it: that one rolled it out first.
-func (s *Sequencer) isOut() bool {
-	s.mu.Lock()
-	defer s.mu.Unlock()
-	ofAnother := s.config.Address != "" && s.newest.node != "" && s.newest.node != s.config.Address
-	return s.newest.state.IsBegin() || s.newest.line == s.rolled || ofAnother
 }
 
 // idle waits for a submission, or until the register is looked at anyway.

@@ -72,8 +72,6 @@ type Config struct {
 	MostBatch int
 	// Patience is how long something may fail before who waits is told; 5 s where it is 0.
 	Patience time.Duration
-	// BehindSwap answers behind the swap, and not once the head is published: sooner, but a merge is owed until then.
-	BehindSwap bool
 	// SweepAfter is how long a head stands before the heads of older states go, at least, and twice as long at most; an hour where it is 0.
 	// SweepTilesAfter is how long a full tile does before the partial tiles below its name go: SweepAfter, and at most 5 minutes, where it is 0. Of heads
 	// that have stood for 10 s no more than one in 5 s is left, sooner where SweepTilesAfter is shorter.
@@ -110,12 +108,6 @@ func (c *Config) settle() error {
 		return fmt.Errorf("%w: an origin has neither spaces nor a plus sign", ErrConfig)
 	case c.Interval < 0 || c.Refresh < 0 || c.Patience < 0 || c.SweepAfter < 0 || c.SweepTilesAfter < 0 || c.TendEvery < 0 || c.ReadAllWithin < 0 || c.MostWritten < 0 || c.MostSkew < 0 || c.MostQueue < 0 || c.MostQueueBytes < 0 || c.MostBatch < 0 || c.MostBatch > MostBatch:
 		return fmt.Errorf("%w: a bound is below 0, or a batch above %d", ErrConfig, MostBatch)
-	}
-	if c.BehindSwap && c.Witnesses != nil {
-		return fmt.Errorf("%w: what is answered behind the swap stands under no cosigned head", ErrConfig)
-	}
-	if c.BehindSwap && c.Signer.Receipts() == signer.InHead {
-		return fmt.Errorf("%w: answers behind the swap want a signer of %s receipts", ErrConfig, signer.Promised)
 	}
 	if c.Rests || c.Witnesses != nil {
 		orElse(&c.Interval, 50*time.Millisecond)

@@ -1,14 +1,11 @@
 package sequencer
 
 import (
-	"context"
 	"fmt"
 	"sync"
 	"testing"
-	"time"
 
 	"wagtenib/service/log"
-	"wagtenib/service/signer"
 	"wagtenib/service/stores"
 )
 
@@ -85,85 +82,33 @@ func TestRepeatsInABatch(t *testing.T) {
 	leavesAreKnown(t, s, 11)
 }
 
-// TestBehindSwap has a node answer while its roll-out stands still; the head comes behind that. Without the option nothing is
-// answered then.
-func TestBehindSwap(t *testing.T) {
-	t.Parallel()
-	for _, behind := range []bool{true, false} {
-		p, ctx, got := newPlace(t), limited(t), &answers{}
-		config := p.config(t)
-		if config.BehindSwap = behind; behind {
-			_, err := New(ctx, config)
-			wants(t, err, ErrConfig)
-			p.signedBy(t, &config, signer.Promised)
-		}
-		release := make(chan struct{})
-		s := started(t, config, hooks{phase: func(name string) {
-			if name == "tiles out" {
-				<-release
-			}
-		}})
-		// (the head of no entries, with which a log begins, waits too)
-		release <- struct{}{}
-		eventually(t, "it is out", func() bool { head, err := s.Checkpoint(ctx); return err == nil && head.TreeSize == 0 })
-		long := longest
-		if !behind {
-			long = time.Second
-		}
-		short, cancel := context.WithTimeout(ctx, long)
-		err := got.submitAll(short, s, 0, 1, 1)
-		cancel()
-		if behind != (err == nil) {
-			t.Errorf("answers behind the swap %v: %v", behind, err)
-		}
-		if head, err := s.Checkpoint(ctx); err != nil || head.TreeSize != 0 {
-			t.Errorf("%+v, %v", head, err)
-		}
-		close(release)
-		must(t, got.submitAll(ctx, s, 0, 2, 2))
-		must(t, s.End(ctx))
-		isOf(t, p.right(t, got), 2)
-	}
-}
-
-// halting is a store of places that fails once, when it is let.
-type halting struct {
-	stores.Places
-	reached, release chan struct{}
-}
-
-func (h *halting) Add(ctx context.Context, placed []stores.Placed) error {
-	// (at a start the places get their id)
-	if h.reached != nil && placed[0].Identity != placesIdentity {
-		close(h.reached)
-		h.reached = nil
-		<-h.release
-		return errTried
-	}
-	return h.Places.Add(ctx, placed)
-}
-
-// TestEndOwesAHead ends a node that answered behind its swap, and whose roll-out fails then: it ends in order once the head is out.
-func TestEndOwesAHead(t *testing.T) {
+// TestAnswersBehindTheHead has a node's publication stand still after its swap: nobody is answered before the head is published.
+func TestAnswersBehindTheHead(t *testing.T) {
 	t.Parallel()
 	p, ctx, got := newPlace(t), limited(t), &answers{}
 	config := p.config(t)
-	config.BehindSwap = true
-	p.signedBy(t, &config, signer.Promised)
 	reached, release := make(chan struct{}), make(chan struct{})
-	config.Places = &halting{config.Places, reached, release}
-	s := started(t, config, hooks{})
-	must(t, got.submitAll(ctx, s, 0, 1, 1))
+	s := started(t, config, hooks{phase: func(name string) {
+		if name == "tiles out" {
+			reached <- struct{}{}
+			<-release
+		}
+	}})
+	// (the head of no entries, with which a log begins, waits too)
 	<-reached
-	done := make(chan error, 1)
-	go func() { done <- s.End(ctx) }()
-	for _, ending := s.queue.state(); !ending; _, ending = s.queue.state() {
-		time.Sleep(time.Millisecond)
+	release <- struct{}{}
+	eventually(t, "it is out", func() bool { head, err := s.Checkpoint(ctx); return err == nil && head.TreeSize == 0 })
+	answered, before := make(chan error, 1), s.Figures().Steps
+	go func() { answered <- got.submitAll(ctx, s, 0, 1, 1) }()
+	<-reached
+	if head, err := s.Checkpoint(ctx); err != nil || head.TreeSize != 0 {
+		t.Errorf("%+v, %v", head, err)
+	}
+	if steps, waiting := s.Figures().Steps-before, s.queue.length(); steps != 1 || waiting != 1 {
+		t.Errorf("%d steps are decided, and %d submissions wait", steps, waiting)
 	}
 	close(release)
-	must(t, <-done)
-	if head, err := s.Checkpoint(ctx); err != nil || head.TreeSize != 1 {
-		t.Errorf("it ended with the head %+v, %v", head, err)
-	}
+	must(t, <-answered)
+	must(t, s.End(ctx))
 	isOf(t, p.right(t, got), 1)
 }

@@ -122,7 +122,7 @@ func (s *Sequencer) signTimestamps(ctx context.Context, all []timestamp, objects
 	var signatures [][]byte
 	for try := 0; try < mostAsked; try++ {
 		var last *signer.Head
-		if s.config.Signer.Receipts() == signer.InHead {
+		if s.isGuarded() {
 			if last, err = s.addPaths(ctx, try, all, receipts, objects); err != nil {
 				return nil, err
 			}

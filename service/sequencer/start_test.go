@@ -96,7 +96,7 @@ func TestStartRefusals(t *testing.T) {
 			must(t, c.Register.Raise(ctx, stores.Published{Size: state.Size, Moment: state.Moment + 1}))
 		}, ErrSetBack, "are published"},
 		"a later head is listed": {func(p place, c *Config) {
-			p.signedBy(t, c, signer.Unguarded)
+			p.signedByKey(t, c)
 			must(t, c.Objects.Put(ctx, headName(step.State{Size: state.Size + 1, Moment: state.Moment + 1}), []byte("a head")))
 		}, ErrSetBack, "the store has a head of 6"},
 		"a head's name is none": {func(_ place, c *Config) {

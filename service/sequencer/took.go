@@ -16,7 +16,7 @@ const (
 
 var phaseOf = map[string]string{
 	decider.Look: "look", decider.Stage: "stage", decider.Swap: "swap", decider.Put: "put", decider.Place: "place", decider.Head: "sign",
-	decider.Promise: "answer", decider.Answer: "answer", decider.Delete: "delete",
+	decider.Answer: "answer", decider.Delete: "delete",
 }
 
 // phaseNames are those that a step has, in their order.

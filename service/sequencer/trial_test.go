@@ -117,7 +117,7 @@ func (p place) openOnce(ctx context.Context) (config Config, err error) {
 	if config.Places, err = stores.PlacesAt(ctx, at.Places); err != nil {
 		return config, err
 	}
-	if config.Signer, err = p.guarded(ctx, signer.InHead); err != nil {
+	if config.Signer, err = p.guarded(ctx); err != nil {
 		return config, err
 	}
 	steps, err := step.NewClient([]string{"python3", stepsFile, "--origin", origin}, longest)
@@ -152,26 +152,31 @@ func decided() (*decider.Client, error) {
 	return decider.NewClient(command, longest)
 }
 
+// bareKey is the log's key alone.
+func (p place) bareKey() (signer.Signer, error) {
+	return signer.OpenKey(filepath.Join(string(p), "key.pem"))
+}
+
 // guarded puts a guard before the log's key. Each node has one of its own, over one state.
-func (p place) guarded(ctx context.Context, receipts signer.Receipts) (signer.Signer, error) {
+func (p place) guarded(ctx context.Context) (signer.Signer, error) {
 	key, err := signer.OpenKey(filepath.Join(string(p), "key.pem"))
-	if err != nil || receipts == signer.Unguarded {
-		return key, err
+	if err != nil {
+		return nil, err
 	}
 	state, err := stores.OpenFile(p.guardState())
 	if err != nil {
 		return nil, err
 	}
-	return guardedOver(ctx, key, state, receipts)
+	return guardedOver(ctx, key, state)
 }
 
 // guardedOver puts a guard before a key, whose state is in a register.
-func guardedOver(ctx context.Context, key *signer.Key, state stores.Register, receipts signer.Receipts) (signer.Signer, error) {
+func guardedOver(ctx context.Context, key *signer.Key, state stores.Register) (signer.Signer, error) {
 	guard := []string{guardBuilt}
 	if _, err := os.Stat(guardBuilt); err != nil {
 		guard = []string{"python3", guardFile}
 	}
-	guarded, err := signer.Behind(ctx, key, signer.Guard{Command: guard, State: state, Create: true, Receipts: receipts, Within: longest})
+	guarded, err := signer.Behind(ctx, key, signer.Guard{Command: guard, State: state, Create: true, Within: longest})
 	if err != nil {
 		return nil, err
 	}
@@ -183,10 +188,10 @@ func (p place) latestHead() string { return filepath.Join(string(p), "latest-hea
 
 func (p place) guardState() string { return filepath.Join(string(p), "guard") }
 
-// signedBy has the log's key behind a guard with receipts of another kind, or behind none.
-func (p place) signedBy(t testing.TB, config *Config, receipts signer.Receipts) {
+// signedByKey has the log's key behind no guard.
+func (p place) signedByKey(t testing.TB, config *Config) {
 	t.Helper()
-	s, err := p.guarded(limited(t), receipts)
+	s, err := p.bareKey()
 	must(t, err)
 	closeAll(Config{Signer: config.Signer})
 	config.Signer = s
@@ -545,7 +550,7 @@ func beNode(words string) error {
 	defer closeAll(config)
 	if c.Order != "" {
 		// (that the checker sees what a guard wouldn't let through)
-		if config.Signer, err = place(c.Place).guarded(ctx, signer.Unguarded); err != nil {
+		if config.Signer, err = place(c.Place).bareKey(); err != nil {
 			return err
 		}
 	}

@@ -432,16 +432,6 @@ func TestWitnessedNodes(t *testing.T) {
 	}
 }
 
-// TestWitnessesAndBehindSwap: what is answered behind the swap stands under no cosigned head, so the two don't go together.
-func TestWitnessesAndBehindSwap(t *testing.T) {
-	p := newPlace(t)
-	config := p.config(t)
-	p.signedBy(t, &config, signer.Promised)
-	config.BehindSwap, config.Witnesses = true, newWitnessed(t, p, 3).circle(t)
-	_, err := start(limited(t), config, hooks{})
-	wants(t, err, ErrConfig)
-}
-
 // counted are objects of which each reading is counted.
 type counted struct {
 	stores.Objects

@@ -57,8 +57,6 @@ type Guard struct {
 	State stores.Register
 	// Create says that a state that was never created is to be.
 	Create bool
-	// Receipts is InHead or Promised.
-	Receipts Receipts
 	// Within is how long the guard may take; 20 s where it is 0.
 	Within time.Duration
 }
@@ -84,9 +82,6 @@ func Behind(ctx context.Context, key *Key, of Guard) (*Guarded, error) {
 	}
 	if _, err := exec.LookPath(of.Command[0]); err != nil {
 		return nil, fmt.Errorf("signer: the guard: %w", err)
-	}
-	if of.Receipts != InHead && of.Receipts != Promised {
-		return nil, fmt.Errorf("%w: receipts are %s or %s", ErrState, InHead, Promised)
 	}
 	if of.Within == 0 {
 		of.Within = 20 * time.Second
@@ -228,7 +223,7 @@ func (g *Guarded) ask(ctx context.Context, requests []guardRequest) ([]guardRepl
 // askLines sends the guard so many lines, each with its end.
 func (g *Guarded) askLines(ctx context.Context, lines []byte, many int) ([]guardReply, error) {
 	if g.end == nil {
-		end, err := pipe.Start(append(append([]string{}, g.of.Command...), "--receipts", string(g.of.Receipts)), mostReply)
+		end, err := pipe.Start(g.of.Command, mostReply)
 		if err != nil {
 			return nil, fmt.Errorf("signer: the guard: %w", err)
 		}
@@ -293,8 +288,8 @@ func (g *Guarded) swap(ctx context.Context, old, new string) (err error) {
 // Key is Signer's.
 func (g *Guarded) Key() []byte { return g.key.Key() }
 
-// Receipts is Signer's.
-func (g *Guarded) Receipts() Receipts { return g.of.Receipts }
+// IsGuarded returns true.
+func (g *Guarded) IsGuarded() bool { return true }
 
 // Last is Signer's: what stands in the register now.
 func (g *Guarded) Last(ctx context.Context) (*Head, error) {
@@ -351,7 +346,7 @@ func (g *Guarded) SignTimestamps(ctx context.Context, receipts []Receipt) ([][]b
 	}
 	var lines []byte
 	for _, receipt := range receipts {
-		lines = appendGuarded(lines, quoted, receipt, g.of.Receipts)
+		lines = appendGuarded(lines, quoted, receipt)
 	}
 	replies, err := g.askLines(ctx, lines, len(receipts))
 	if err != nil {

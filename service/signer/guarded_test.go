@@ -166,26 +166,26 @@ func (l *list) receipt(t testing.TB, index, size int) Receipt {
 }
 
 // behind puts a guard before a key, with a state in a folder.
-func behind(t testing.TB, key *Key, folder string, guard []string, receipts Receipts) *Guarded {
+func behind(t testing.TB, key *Key, folder string, guard []string) *Guarded {
 	t.Helper()
-	g, err := Behind(limited(t), key, Guard{Command: guard, State: register(t, folder), Create: true, Receipts: receipts, Within: trial.Longest})
+	g, err := Behind(limited(t), key, Guard{Command: guard, State: register(t, folder), Create: true, Within: trial.Longest})
 	must(t, err)
 	t.Cleanup(func() { g.Close() })
 	return g
 }
 
 // through runs a test of a signer over each guard: in this process, and one that is asked by lines.
-func through(t *testing.T, receipts Receipts, test func(t *testing.T, s Signer, key *Key)) {
+func through(t *testing.T, test func(t *testing.T, s Signer, key *Key)) {
 	for name, guard := range guards() {
 		guard := guard
 		t.Run(name, func(t *testing.T) {
 			key := newKey(t)
-			test(t, behind(t, key, t.TempDir(), guard, receipts), key)
+			test(t, behind(t, key, t.TempDir(), guard), key)
 		})
 		t.Run(name+" at a socket", func(t *testing.T) {
 			folder, key := t.TempDir(), newKey(t)
 			path, ctx := filepath.Join(folder, "socket"), limited(t)
-			g := behind(t, key, folder, guard, receipts)
+			g := behind(t, key, folder, guard)
 			go func() { _ = Listen(ctx, g, path) }()
 			for i := 0; ; i++ {
 				if info, err := os.Stat(path); err == nil {
@@ -278,10 +278,10 @@ func TestWrongSigner(t *testing.T) {
 // signed, and none changes what may be signed.
 func TestHeads(t *testing.T) {
 	t.Parallel()
-	through(t, InHead, func(t *testing.T, s Signer, key *Key) {
+	through(t, func(t *testing.T, s Signer, key *Key) {
 		ctx, right, fork := limited(t), listOf(t, 20, 20), listOf(t, 20, 3)
-		if last, err := s.Last(ctx); err != nil || last != nil || s.Receipts() != InHead {
-			t.Fatalf("%v, %v, %s", last, err, s.Receipts())
+		if last, err := s.Last(ctx); err != nil || last != nil || !s.IsGuarded() {
+			t.Fatalf("%v, %v, %v", last, err, s.IsGuarded())
 		}
 		before := 0
 		for at, size := range []int{0, 5, 5, 7, 20} {
@@ -323,7 +323,7 @@ func TestHeads(t *testing.T) {
 // of this machine's time of day, whatever else it is.
 func TestMomentTooFar(t *testing.T) {
 	t.Parallel()
-	through(t, InHead, func(t *testing.T, s Signer, key *Key) {
+	through(t, func(t *testing.T, s Signer, key *Key) {
 		ctx, right, fork := limited(t), listOf(t, 20, 20), listOf(t, 20, 3)
 		const hour = 3_600_000
 		now := uint64(time.Now().UnixMilli())
@@ -355,7 +355,7 @@ func TestMomentTooFar(t *testing.T) {
 // TestTimestamps asks for those of leaves that are in the last head's tree, and of others.
 func TestTimestamps(t *testing.T) {
 	t.Parallel()
-	through(t, InHead, func(t *testing.T, s Signer, key *Key) {
+	through(t, func(t *testing.T, s Signer, key *Key) {
 		ctx, right, fork := limited(t), listOf(t, 300, 300), listOf(t, 300, 3)
 		_, err := s.SignTimestamps(ctx, []Receipt{right.receipt(t, 0, 1)})
 		refused(t, "no-head", err)
@@ -401,7 +401,7 @@ func TestTimestamps(t *testing.T) {
 // one whose extension names another leaf's place.
 func TestPlaces(t *testing.T) {
 	t.Parallel()
-	through(t, InHead, func(t *testing.T, s Signer, key *Key) {
+	through(t, func(t *testing.T, s Signer, key *Key) {
 		ctx, l, later := limited(t), &list{}, leaf("later")
 		later[9] = 11
 		for _, leaf := range [][]byte{leaf("first"), later, naming("third", 3), naming("fourth", 3)} {
@@ -423,43 +423,26 @@ func TestPlaces(t *testing.T) {
 	})
 }
 
-// TestPromised wants no head, but a leaf.
-func TestPromised(t *testing.T) {
-	t.Parallel()
-	through(t, Promised, func(t *testing.T, s Signer, key *Key) {
-		ctx, right := limited(t), listOf(t, 3, 3)
-		signatures, err := s.SignTimestamps(ctx, []Receipt{{Leaf: right.leaves[2]}})
-		must(t, err)
-		must(t, Check(key.Key(), right.leaves[2], signatures[0]))
-		_, err = s.SignTimestamps(ctx, []Receipt{{Leaf: right.head(t, 3, 7).message()}})
-		refused(t, "no-leaf", err)
-		// (a place isn't looked at: the guard isn't told one)
-		signatures, err = s.SignTimestamps(ctx, []Receipt{right.receipt(t, 1, 3)})
-		must(t, err)
-		must(t, Check(key.Key(), right.leaves[1], signatures[0]))
-	})
-}
-
 // TestStates begins with states that are missing, or none.
 func TestStates(t *testing.T) {
 	t.Parallel()
 	ctx, key, right := limited(t), newKey(t), listOf(t, 9, 9)
 	first := right.head(t, 5, 100)
 	for name, guard := range guards() {
-		of := Guard{Command: guard, State: register(t, t.TempDir()), Receipts: InHead, Within: trial.Longest}
+		of := Guard{Command: guard, State: register(t, t.TempDir()), Within: trial.Longest}
 		_, err := Behind(ctx, key, of)
 		wants(t, err, ErrState)
 		for _, text := range []string{"x", `{"guard":2,"last":null}`, `{"guard":1,"last":{}}`, `{"last":null,"guard":1}`, `{"guard": 1, "last": null}`, stateOf(&first)[1:],
 			strings.ReplaceAll(stateOf(&first), ":", ": "),
 			strings.Replace(stateOf(&first), `"tree_size":5`, `"tree_size":05`, 1), strings.Replace(stateOf(&first), `"timestamp"`, `"x":1,"timestamp"`, 1)} {
-			of := Guard{Command: guard, State: register(t, t.TempDir()), Receipts: InHead, Within: trial.Longest}
+			of := Guard{Command: guard, State: register(t, t.TempDir()), Within: trial.Longest}
 			must(t, of.State.Create(ctx, text))
 			if _, err := Behind(ctx, key, of); !errors.Is(err, ErrState) {
 				t.Errorf("%s: %s: %v", name, text, err)
 			}
 		}
 		// With a line's end, as an operator writes it, and what is no state stays as it stands.
-		of = Guard{Command: guard, State: register(t, t.TempDir()), Receipts: InHead, Within: trial.Longest}
+		of = Guard{Command: guard, State: register(t, t.TempDir()), Within: trial.Longest}
 		must(t, of.State.Create(ctx, "x\n"))
 		_, err = Behind(ctx, key, of)
 		wants(t, err, ErrState)
@@ -474,17 +457,15 @@ func TestStates(t *testing.T) {
 		_, err = g.SignHead(ctx, right.head(t, 9, 101), right.proof(t, 5, 9))
 		must(t, err)
 	}
-	_, err := Behind(ctx, key, Guard{Command: []string{"nowhere-is-it"}, State: register(t, t.TempDir()), Create: true, Receipts: InHead, Within: trial.Longest})
+	_, err := Behind(ctx, key, Guard{Command: []string{"nowhere-is-it"}, State: register(t, t.TempDir()), Create: true, Within: trial.Longest})
 	wants(t, err, exec.ErrNotFound)
-	_, err = Behind(ctx, key, Guard{State: register(t, t.TempDir()), Create: true, Receipts: InHead, Within: trial.Longest})
-	wants(t, err, ErrState)
-	_, err = Behind(ctx, key, Guard{Command: model, State: register(t, t.TempDir()), Create: true, Receipts: "none", Within: trial.Longest})
+	_, err = Behind(ctx, key, Guard{State: register(t, t.TempDir()), Create: true, Within: trial.Longest})
 	wants(t, err, ErrState)
 	full := &unsure.Register{Register: register(t, t.TempDir()), Every: 3, Fails: errors.New("a disk is full")}
-	_, err = Behind(ctx, key, Guard{Command: model, State: full, Create: true, Receipts: InHead, Within: trial.Longest})
+	_, err = Behind(ctx, key, Guard{Command: model, State: full, Create: true, Within: trial.Longest})
 	wants(t, err, full.Fails)
 	must(t, full.Register.Create(ctx, stateOf(&first)+"\n"))
-	_, err = Behind(ctx, key, Guard{Command: model, State: full, Receipts: InHead, Within: trial.Longest})
+	_, err = Behind(ctx, key, Guard{Command: model, State: full, Within: trial.Longest})
 	wants(t, err, full.Fails)
 }
 
@@ -494,7 +475,7 @@ func TestStateSetBack(t *testing.T) {
 	for name, command := range guards() {
 		folder, l, ctx := t.TempDir(), listOf(t, 8, 8), limited(t)
 		text := filepath.Join(folder, "guard", "text")
-		g, err := Behind(ctx, newKey(t), Guard{Command: command, State: register(t, folder), Create: true, Receipts: InHead, Within: trial.Longest})
+		g, err := Behind(ctx, newKey(t), Guard{Command: command, State: register(t, folder), Create: true, Within: trial.Longest})
 		must(t, err)
 		defer g.Close()
 		_, err = g.SignHead(ctx, l.head(t, 3, 30), nil)
@@ -516,7 +497,7 @@ func TestStateSetBack(t *testing.T) {
 		}
 		must(t, stores.KeepFile(text, newest))
 		// One that has only looked at the newest knows it too.
-		other, err := Behind(ctx, newKey(t), Guard{Command: command, State: register(t, folder), Receipts: InHead, Within: trial.Longest})
+		other, err := Behind(ctx, newKey(t), Guard{Command: command, State: register(t, folder), Within: trial.Longest})
 		must(t, err)
 		defer other.Close()
 		must(t, stores.KeepFile(text, old))
@@ -532,7 +513,7 @@ func TestStateSetBack(t *testing.T) {
 func TestTwoSigners(t *testing.T) {
 	t.Parallel()
 	ctx, key, folder, right, fork := limited(t), newKey(t), t.TempDir(), listOf(t, 20, 20), listOf(t, 20, 4)
-	one, two := behind(t, key, folder, model, InHead), behind(t, key, folder, model, InHead)
+	one, two := behind(t, key, folder, model), behind(t, key, folder, model)
 	_, err := one.SignHead(ctx, right.head(t, 5, 100), nil)
 	must(t, err)
 	// The same head, of which the second didn't know: it isn't another one.
@@ -557,7 +538,7 @@ func TestTwoSigners(t *testing.T) {
 	apart := listOf(t, 20, 13)
 	for moment := uint64(200); moment < 230; moment++ {
 		folder := t.TempDir()
-		a, b := behind(t, key, folder, model, InHead), behind(t, key, folder, model, InHead)
+		a, b := behind(t, key, folder, model), behind(t, key, folder, model)
 		failed := make(chan error, 2)
 		go func() {
 			_, err := a.SignHead(ctx, right.head(t, 20, moment), nil)
@@ -590,7 +571,7 @@ func TestUnkept(t *testing.T) {
 	t.Parallel()
 	ctx, key, right, fork := limited(t), newKey(t), listOf(t, 20, 20), listOf(t, 20, 3)
 	state := &unsure.Register{Register: register(t, t.TempDir()), Every: 3}
-	g, err := Behind(ctx, key, Guard{Command: model, State: state, Create: true, Receipts: InHead, Within: trial.Longest})
+	g, err := Behind(ctx, key, Guard{Command: model, State: state, Create: true, Within: trial.Longest})
 	must(t, err)
 	defer g.Close()
 	_, err = g.SignHead(ctx, right.head(t, 4, 100), nil)
@@ -635,7 +616,7 @@ func TestLyingRegister(t *testing.T) {
 		older, other, later := right.head(t, 5, 100), fork.head(t, 9, 101), right.head(t, 12, 103)
 		for _, reads := range []string{none, stateOf(&older), stateOf(&other), stateOf(&later)} {
 			state := &lying{Register: register(t, t.TempDir())}
-			g, err := Behind(ctx, key, Guard{Command: guard, State: state, Create: true, Receipts: InHead, Within: trial.Longest})
+			g, err := Behind(ctx, key, Guard{Command: guard, State: state, Create: true, Within: trial.Longest})
 			must(t, err)
 			_, err = g.SignHead(ctx, older, nil)
 			must(t, err)
@@ -645,7 +626,7 @@ func TestLyingRegister(t *testing.T) {
 			stood, err := state.Read(ctx)
 			must(t, err)
 			state.reads = reads
-			g, err = Behind(ctx, key, Guard{Command: guard, State: state, Receipts: InHead, Within: trial.Longest})
+			g, err = Behind(ctx, key, Guard{Command: guard, State: state, Within: trial.Longest})
 			must(t, err)
 			last, err := g.Last(ctx)
 			must(t, err)
@@ -702,7 +683,7 @@ func TestUnreadStates(t *testing.T) {
 	t.Parallel()
 	ctx, key, right := limited(t), newKey(t), listOf(t, 20, 20)
 	state := &failing{Register: register(t, t.TempDir())}
-	g, err := Behind(ctx, key, Guard{Command: model, State: state, Create: true, Receipts: InHead, Within: trial.Longest})
+	g, err := Behind(ctx, key, Guard{Command: model, State: state, Create: true, Within: trial.Longest})
 	must(t, err)
 	defer g.Close()
 	path := filepath.Join(t.TempDir(), "socket")
@@ -746,7 +727,7 @@ func TestGuardThatEnds(t *testing.T) {
 	ends := filepath.Join(folder, "ends")
 	script := filepath.Join(folder, "guard.sh")
 	must(t, os.WriteFile(script, []byte(fmt.Sprintf("rm '%s' 2>/dev/null && exit 1; exec python3 '%s' \"$@\"", ends, model[1])), 0o700))
-	g := behind(t, key, folder, []string{"sh", script}, InHead)
+	g := behind(t, key, folder, []string{"sh", script})
 	_, err := g.SignHead(ctx, right.head(t, 5, 100), nil)
 	must(t, err)
 	must(t, g.Close())
@@ -766,7 +747,7 @@ func TestGuardThatRepliesNoJSON(t *testing.T) {
 	wrong := filepath.Join(folder, "wrong")
 	script := filepath.Join(folder, "guard.sh")
 	must(t, os.WriteFile(script, []byte(fmt.Sprintf("rm '%s' 2>/dev/null && { read x; echo no; exec sleep 600; }; exec python3 '%s' \"$@\"", wrong, model[1])), 0o700))
-	g := behind(t, key, folder, []string{"sh", script}, InHead)
+	g := behind(t, key, folder, []string{"sh", script})
 	_, err := g.SignHead(ctx, right.head(t, 5, 100), nil)
 	must(t, err)
 	must(t, g.Close())
@@ -804,7 +785,7 @@ func TestWrongGuards(t *testing.T) {
 	} {
 		path := filepath.Join(t.TempDir(), "guard")
 		must(t, os.WriteFile(path, []byte(script), 0o700))
-		g, err := Behind(ctx, key, Guard{Command: []string{"sh", path}, State: register(t, t.TempDir()), Create: true, Receipts: InHead, Within: 300 * time.Millisecond})
+		g, err := Behind(ctx, key, Guard{Command: []string{"sh", path}, State: register(t, t.TempDir()), Create: true, Within: 300 * time.Millisecond})
 		must(t, err)
 		if signed, err := g.SignHead(ctx, head, nil); !errors.Is(err, ErrReply) && !errors.Is(err, pipe.ErrGone) || signed != nil {
 			t.Errorf("a guard that %s: %v", what, err)
@@ -825,7 +806,7 @@ func TestWrongLast(t *testing.T) {
 		path, state := filepath.Join(t.TempDir(), "guard"), register(t, t.TempDir())
 		must(t, os.WriteFile(path, []byte("read x; echo '"+says+"'; exec sleep 60"), 0o700))
 		must(t, state.Create(ctx, stateOf(&head)))
-		_, err := Behind(ctx, key, Guard{Command: []string{"sh", path}, State: state, Receipts: InHead, Within: trial.Longest})
+		_, err := Behind(ctx, key, Guard{Command: []string{"sh", path}, State: state, Within: trial.Longest})
 		wants(t, err, ErrReply)
 	}
 }
@@ -840,7 +821,7 @@ func TestGuardComesBack(t *testing.T) {
 		once, path := filepath.Join(folder, "once"), filepath.Join(folder, "guard.sh")
 		must(t, os.WriteFile(once, nil, 0o600))
 		must(t, os.WriteFile(path, []byte(fmt.Sprintf("#!/bin/sh\nif rm '%s' 2>/dev/null; then %s; fi; exec python3 '%s' \"$@\"", once, wrong, model[1])), 0o700))
-		g := behind(t, key, folder, []string{path}, InHead)
+		g := behind(t, key, folder, []string{path})
 		if _, err := g.SignHead(ctx, head, nil); !errors.Is(err, ErrReply) && !errors.Is(err, pipe.ErrGone) {
 			t.Errorf("%s: %v", wrong, err)
 		}
@@ -860,7 +841,7 @@ func TestManyAsk(t *testing.T) {
 	ctx, right := limited(t), listOf(t, 8, 8)
 	for name, guard := range guards() {
 		key := newKey(t)
-		g := behind(t, key, t.TempDir(), guard, InHead)
+		g := behind(t, key, t.TempDir(), guard)
 		head := right.head(t, 8, 100)
 		_, err := g.SignHead(ctx, head, nil)
 		must(t, err)
@@ -933,7 +914,7 @@ func beChild(words string) error {
 	if _, err := os.Stat(built); err == nil {
 		guard = []string{built}
 	}
-	g, err := Behind(ctx, key, Guard{Command: guard, State: state, Create: true, Receipts: InHead, Within: trial.Longest})
+	g, err := Behind(ctx, key, Guard{Command: guard, State: state, Create: true, Within: trial.Longest})
 	if err != nil {
 		return err
 	}
@@ -1033,17 +1014,17 @@ func TestKilled(t *testing.T) {
 	}
 }
 
-// otherReceipts is a signer that says that it looks at something else before a timestamp is signed.
-type otherReceipts struct{ Signer }
+// otherGuard is a signer that reports a guard where there is none.
+type otherGuard struct{ Signer }
 
-func (otherReceipts) Receipts() Receipts { return Promised }
+func (o otherGuard) IsGuarded() bool { return !o.Signer.IsGuarded() }
 
-// TestOtherKey has a client whose signer comes back with another key, or looks at something else before it signs timestamps: that one isn't asked, and where the first
+// TestOtherKey has a client whose signer comes back with another key, or has a guard that it did not have: that one isn't asked, and where the first
 // one is back, it is.
 func TestOtherKey(t *testing.T) {
 	t.Parallel()
 	ctx, key := limited(t), newKey(t)
-	for what, other := range map[string]Signer{"another key": newKey(t), "other receipts": otherReceipts{key}} {
+	for what, other := range map[string]Signer{"another key": newKey(t), "a guard": otherGuard{key}} {
 		signers, opened := []Signer{key, other}, 0
 		c, err := Ask(ctx, func(ctx context.Context) (*pipe.End, error) {
 			path, next := filepath.Join(t.TempDir(), "socket"), signers[opened%2]
@@ -1228,7 +1209,7 @@ func TestHalfLines(t *testing.T) {
 // TestLines sends a signer lines that ask for nothing, or for what can't be: each is replied to, and nothing is signed.
 func TestLines(t *testing.T) {
 	t.Parallel()
-	g, right := behind(t, newKey(t), t.TempDir(), model, InHead), listOf(t, 2, 2)
+	g, right := behind(t, newKey(t), t.TempDir(), model), listOf(t, 2, 2)
 	head := lineOf(&Head{2, 5, right.head(t, 2, 5).Root})
 	short := *head
 	short.Root = short.Root[1:]

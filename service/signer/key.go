@@ -131,8 +131,8 @@ func (k *Key) sign(message []byte) ([]byte, error) {
 // Key is Signer's.
 func (k *Key) Key() []byte { return append([]byte{}, k.public...) }
 
-// Receipts is Signer's.
-func (k *Key) Receipts() Receipts { return Unguarded }
+// IsGuarded returns false: a key signs whatever it is asked for.
+func (k *Key) IsGuarded() bool { return false }
 
 // Last is Signer's.
 func (k *Key) Last(context.Context) (*Head, error) { return nil, nil }

@@ -45,7 +45,7 @@ type receiptLine struct {
 // reply has what was asked for, or why not.
 type reply struct {
 	Key        []byte    `json:"key,omitempty"`
-	Receipts   Receipts  `json:"receipts,omitempty"`
+	Guarded    bool      `json:"guarded,omitempty"`
 	Last       *headLine `json:"last,omitempty"`
 	Signatures [][]byte  `json:"signatures,omitempty"`
 	Refused    string    `json:"refused,omitempty"`
@@ -77,7 +77,7 @@ func answer(ctx context.Context, s Signer, line []byte) (came reply, err error) 
 	}
 	switch {
 	case asked.Open:
-		return reply{Key: s.Key(), Receipts: s.Receipts()}, nil
+		return reply{Key: s.Key(), Guarded: s.IsGuarded()}, nil
 	case asked.Last:
 		last, err := s.Last(ctx)
 		return reply{Last: lineOf(last)}, err
@@ -340,9 +340,9 @@ func (c *client) Write(from []byte) (int, error) {
 
 // Client asks a signer in another process.
 type Client struct {
-	asked    *pipe.Client
-	key      []byte
-	receipts Receipts
+	asked   *pipe.Client
+	key     []byte
+	guarded bool
 }
 
 // Ask has a signer found by open (pipe.Start or pipe.Dial), whose key stays the same however often it is opened again. A request takes at
@@ -368,12 +368,16 @@ func Ask(ctx context.Context, open func(context.Context) (*pipe.End, error), wit
 			end.Close()
 			return nil, fmt.Errorf("%w: the signer gives no key: %.200q", ErrReply, came[0])
 		}
-		if c.key != nil && (string(c.key) != string(opened.Key) || c.receipts != opened.Receipts) {
+		if c.key != nil && string(c.key) != string(opened.Key) {
 			end.Close()
 			return nil, fmt.Errorf("%w: the signer has another key than before", ErrKey)
 		}
+		if c.key != nil && c.guarded != opened.Guarded {
+			end.Close()
+			return nil, fmt.Errorf("%w: the signer now has a guard, and had none before, or the other way round", ErrKey)
+		}
 		if c.key == nil {
-			c.key, c.receipts = opened.Key, opened.Receipts
+			c.key, c.guarded = opened.Key, opened.Guarded
 		}
 		return end, nil
 	}, within)
@@ -427,8 +431,8 @@ func (c *Client) askLine(ctx context.Context, line []byte) (came reply, err erro
 // Key is Signer's.
 func (c *Client) Key() []byte { return append([]byte{}, c.key...) }
 
-// Receipts is Signer's.
-func (c *Client) Receipts() Receipts { return c.receipts }
+// IsGuarded is Signer's.
+func (c *Client) IsGuarded() bool { return c.guarded }
 
 // Last is Signer's.
 func (c *Client) Last(ctx context.Context) (*Head, error) {

@@ -50,7 +50,7 @@ func replying(t *testing.T, replies ...string) (open func(context.Context) (*pip
 
 // opened is what a signer replies to who opens it.
 func opened(t *testing.T, key *Key) string {
-	line, err := json.Marshal(reply{Key: key.Key(), Receipts: InHead})
+	line, err := json.Marshal(reply{Key: key.Key(), Guarded: true})
 	must(t, err)
 	return string(line)
 }

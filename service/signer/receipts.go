@@ -55,13 +55,11 @@ func readReceipts(line []byte) (receipts []Receipt, ok bool) {
 }
 
 // appendGuarded writes the guard's line of a receipt over a register's text, which is quoted already.
-func appendGuarded(line, quoted []byte, one Receipt, receipts Receipts) []byte {
+func appendGuarded(line, quoted []byte, one Receipt) []byte {
 	line = append(append(line, `{"text":`...), quoted...)
 	line = jsonline.AppendBytes(append(line, `,"leaf_input":`...), one.Leaf)
-	if receipts == InHead {
-		line = strconv.AppendUint(append(line, `,"leaf_index":`...), one.Index, 10)
-		line = jsonline.AppendHashes(append(line, `,"audit_path":`...), one.Path)
-	}
+	line = strconv.AppendUint(append(line, `,"leaf_index":`...), one.Index, 10)
+	line = jsonline.AppendHashes(append(line, `,"audit_path":`...), one.Path)
 	return append(line, "}\n"...)
 }
 

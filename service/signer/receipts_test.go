@@ -99,22 +99,20 @@ func TestHashesOfAnotherLength(t *testing.T) {
 	}
 }
 
-// TestGuardedLine: the guard's line of a receipt has its text, and where receipts are in the head its index and path.
+// TestGuardedLine: the guard's line of a receipt has its text, index and path.
 func TestGuardedLine(t *testing.T) {
 	one := someReceipts()[0]
 	quoted, err := json.Marshal("a \"text\"")
 	must(t, err)
-	for receipts, with := range map[Receipts]bool{InHead: true, Promised: false} {
-		line := appendGuarded([]byte("before\n"), quoted, one, receipts)
-		var read struct {
-			Text  string   `json:"text"`
-			Leaf  []byte   `json:"leaf_input"`
-			Index *uint64  `json:"leaf_index"`
-			Path  [][]byte `json:"audit_path"`
-		}
-		must(t, json.Unmarshal(bytes.TrimPrefix(line, []byte("before\n")), &read))
-		if read.Text != "a \"text\"" || string(read.Leaf) != "a leaf" || (read.Index != nil) != with || with && (*read.Index != 7 || !reflect.DeepEqual(read.Path, hashesOf(one.Path))) || !with && read.Path != nil || line[len(line)-1] != '\n' {
-			t.Errorf("%s: %s", receipts, line)
-		}
+	line := appendGuarded([]byte("before\n"), quoted, one)
+	var read struct {
+		Text  string   `json:"text"`
+		Leaf  []byte   `json:"leaf_input"`
+		Index *uint64  `json:"leaf_index"`
+		Path  [][]byte `json:"audit_path"`
+	}
+	must(t, json.Unmarshal(bytes.TrimPrefix(line, []byte("before\n")), &read))
+	if read.Text != "a \"text\"" || string(read.Leaf) != "a leaf" || read.Index == nil || *read.Index != 7 || !reflect.DeepEqual(read.Path, hashesOf(one.Path)) || line[len(line)-1] != '\n' {
+		t.Errorf("%s", line)
 	}
 }

@@ -67,7 +67,7 @@ func TestFaultyState(t *testing.T) {
 	t.Parallel()
 	ctx, key, l := limited(t), newKey(t), listOf(t, 20, 20)
 	state := &asked{Register: register(t, t.TempDir())}
-	g, err := Behind(ctx, key, Guard{Command: model, State: state, Create: true, Receipts: InHead, Within: trial.Longest})
+	g, err := Behind(ctx, key, Guard{Command: model, State: state, Create: true, Within: trial.Longest})
 	must(t, err)
 	defer g.Close()
 	size, moment := 0, uint64(100)
@@ -124,7 +124,7 @@ func TestFaultyStart(t *testing.T) {
 	path := filepath.Join(t.TempDir(), "guard")
 	must(t, os.WriteFile(path, []byte("while read x; do echo '"+string(line)+"'; done"), 0o700))
 	guard := func(state stores.Register, creates bool) Guard {
-		return Guard{Command: []string{"sh", path}, State: state, Create: creates, Receipts: InHead, Within: trial.Longest}
+		return Guard{Command: []string{"sh", path}, State: state, Create: creates, Within: trial.Longest}
 	}
 	for what, of := range map[string]struct {
 		text, call string
@@ -167,7 +167,7 @@ func TestFaultyStart(t *testing.T) {
 func TestTurn(t *testing.T) {
 	t.Parallel()
 	ctx, l := limited(t), listOf(t, 2, 2)
-	g := behind(t, newKey(t), t.TempDir(), model, InHead)
+	g := behind(t, newKey(t), t.TempDir(), model)
 	gone, cancel := context.WithCancel(ctx)
 	cancel()
 	must(t, g.take(ctx))
@@ -193,7 +193,7 @@ func TestCloseBetween(t *testing.T) {
 	t.Parallel()
 	ctx, path := limited(t), filepath.Join(t.TempDir(), "guard")
 	must(t, os.WriteFile(path, []byte("while read x; do echo '{\"last\":null}'; done"), 0o700))
-	g, err := Behind(ctx, newKey(t), Guard{Command: []string{"sh", path}, State: register(t, t.TempDir()), Create: true, Receipts: InHead, Within: trial.Longest})
+	g, err := Behind(ctx, newKey(t), Guard{Command: []string{"sh", path}, State: register(t, t.TempDir()), Create: true, Within: trial.Longest})
 	must(t, err)
 	_, err = g.Last(ctx)
 	must(t, err)
@@ -236,13 +236,13 @@ func TestGuardWithin(t *testing.T) {
 	t.Parallel()
 	ctx, path := limited(t), filepath.Join(t.TempDir(), "guard")
 	must(t, os.WriteFile(path, []byte("exec sleep 600"), 0o700))
-	silent := Guard{Command: []string{"sh", path}, State: register(t, t.TempDir()), Create: true, Receipts: InHead, Within: 1}
+	silent := Guard{Command: []string{"sh", path}, State: register(t, t.TempDir()), Create: true, Within: 1}
 	g, err := Behind(ctx, newKey(t), silent)
 	must(t, err)
 	_, err = g.Last(ctx)
 	wants(t, err, pipe.ErrGone)
 	must(t, g.Close())
-	g = behind(t, newKey(t), t.TempDir(), model, InHead)
+	g = behind(t, newKey(t), t.TempDir(), model)
 	last, err := g.Last(ctx)
 	if must(t, err); last != nil {
 		t.Errorf("%+v", last)

@@ -17,8 +17,8 @@ import (
 type Signer interface {
 	// Key is the log's public key: its SubjectPublicKeyInfo in DER.
 	Key() []byte
-	// Receipts says what is looked at before a timestamp is signed.
-	Receipts() Receipts
+	// IsGuarded reports whether a guard approves each head, and each timestamp's leaf by its path in the last head's tree, before it is signed.
+	IsGuarded() bool
 	// Last is the head that was let through last; nil where none was, or nobody looks.
 	Last(ctx context.Context) (*Head, error)
 	// SignHead gives the DigitallySigned of a head (RFC 6962, section 3.5): two bytes of the algorithms, two of length, and the
@@ -28,18 +28,6 @@ type Signer interface {
 	// SignTimestamps gives those of timestamps (section 3.2), all or none.
 	SignTimestamps(ctx context.Context, receipts []Receipt) ([][]byte, error)
 }
-
-// Receipts says what is looked at before a timestamp is signed.
-type Receipts string
-
-const (
-	// Unguarded: nothing, and before a head neither.
-	Unguarded Receipts = "unguarded"
-	// InHead: that its leaf is in the tree of the last head.
-	InHead Receipts = "in-head"
-	// Promised: that it is one, for a log that promises a merge within a delay.
-	Promised Receipts = "promised"
-)
 
 // Head is a tree head; its moment is in milliseconds since 1970.
 type Head struct {
