@@ -214,7 +214,7 @@ func (s *settings) settle() error {
 		}
 	}
 	if n.guardState == "" && n.signerAt == "" {
-		n.guardState = "file:" + guardBeside(n.folder)
+		n.guardState = "file:" + beside(n.folder, ".guard")
 	}
 	if n.latestHead == "" {
 		n.latestHead = beside(n.folder, ".latest-head")
@@ -267,20 +267,6 @@ func beside(folder, kind string) string {
 		folder = whole
 	}
 	return filepath.Clean(folder) + kind
-}
-
-// guardBeside is where the guard's state is: beside the folder, or in it, where an earlier version made it and there is none beside it.
-func guardBeside(folder string) string {
-	outside, inside := beside(folder, ".guard"), filepath.Join(folder, "guard")
-	if !isThere(outside) && isThere(inside) {
-		return inside
-	}
-	return outside
-}
-
-func isThere(path string) bool {
-	_, err := os.Stat(path)
-	return err == nil
 }
 
 // mostSecret is how many bytes of the nodes' secret are read.

@@ -25,7 +25,7 @@ func TestRegisterSetBack(t *testing.T) {
 	s := started(t, p.config(t), hooks{})
 	must(t, got.submitAll(ctx, s, 0, 20, 8))
 	old := map[string][]byte{}
-	for _, name := range []string{"text", "published"} {
+	for _, name := range []string{"text", "head"} {
 		content, err := os.ReadFile(filepath.Join(register, name))
 		must(t, err)
 		old[name] = content
@@ -53,7 +53,7 @@ func TestRegisterEmptied(t *testing.T) {
 		p, ctx, got := newPlace(t), limited(t), &answers{}
 		s := started(t, p.config(t), hooks{})
 		must(t, got.submitAll(ctx, s, 0, 5, 1))
-		for _, name := range []string{"text", "published"} {
+		for _, name := range []string{"text", "head"} {
 			must(t, os.Remove(filepath.Join(string(p), "register", name)))
 		}
 		_, err := s.Submit(ctx, entryOf(50))

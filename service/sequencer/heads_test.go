@@ -100,8 +100,8 @@ func TestHeadsByTurns(t *testing.T) {
 	}
 }
 
-// TestOlderHeadInItsPlace starts a node where an older head's file stands under the newest one's name, or the published size is that of an
-// older head: nothing older is ever given.
+// TestOlderHeadInItsPlace starts a node where an older head's file stands under the newest one's name, or the published head is an
+// older one: nothing older is ever given.
 func TestOlderHeadInItsPlace(t *testing.T) {
 	t.Parallel()
 	for what, setBack := range map[string]func(t *testing.T, p place, heads []string){
@@ -112,14 +112,9 @@ func TestOlderHeadInItsPlace(t *testing.T) {
 			must(t, os.Remove(newest))
 			must(t, os.WriteFile(newest, content, 0o644))
 		},
-		"an older size": func(t *testing.T, p place, _ []string) {
-			must(t, os.Remove(filepath.Join(string(p), "register", "head")))
-			must(t, os.WriteFile(filepath.Join(string(p), "register", "published"), []byte("6"), 0o644))
-		},
 		"an older size and moment": func(t *testing.T, p place, heads []string) {
 			text := strings.ReplaceAll(strings.TrimLeft(strings.TrimPrefix(heads[1], headsPrefix), "0"), "-0000000", " ")
 			must(t, os.WriteFile(filepath.Join(string(p), "register", "head"), []byte(text), 0o644))
-			must(t, os.WriteFile(filepath.Join(string(p), "register", "published"), []byte("6"), 0o644))
 		},
 	} {
 		what, setBack := what, setBack
@@ -203,31 +198,6 @@ type unreadRegister struct {
 
 func (r unreadRegister) Published(ctx context.Context) (stores.Published, error) {
 	return stores.Published{}, r.fails(ctx)
-}
-
-// TestHeadOfAVersionBefore starts a node over a register that has the published size alone.
-func TestHeadOfAVersionBefore(t *testing.T) {
-	t.Parallel()
-	p, ctx, got, s := begun(t, 10, 10)
-	newest, err := s.Checkpoint(ctx)
-	must(t, err)
-	must(t, s.End(ctx))
-	asBefore := func() {
-		must(t, os.Remove(filepath.Join(string(p), "register", "head")))
-		must(t, os.WriteFile(filepath.Join(string(p), "register", "published"), []byte("10"), 0o644))
-	}
-	asBefore()
-	reader := readingNode(s)
-	if head, err := reader.Checkpoint(ctx); err != nil || head.TreeSize != newest.TreeSize || head.Timestamp != newest.Timestamp {
-		t.Errorf("%+v, %v", head, err)
-	}
-	asBefore()
-	s = started(t, p.config(t), hooks{})
-	if head, err := s.Checkpoint(ctx); err != nil || head.TreeSize != newest.TreeSize || head.Timestamp != newest.Timestamp {
-		t.Errorf("%+v, %v", head, err)
-	}
-	must(t, got.submitAll(ctx, s, 10, 20, 10))
-	p.right(t, got)
 }
 
 // TestPastState asks whether a state is rolled out that another node went on from, and whose head and bundle were swept: it is past, and nothing

@@ -56,7 +56,7 @@ func (p place) partedNodes(ctx context.Context, t *testing.T, got *answers) (her
 func (p place) putBack(t testing.TB, from place, folders ...string) {
 	t.Helper()
 	for _, folder := range folders {
-		for _, name := range []string{"published", "text"} {
+		for _, name := range []string{"head", "text"} {
 			content, err := os.ReadFile(filepath.Join(string(from), folder, name))
 			must(t, err)
 			must(t, stores.KeepFile(filepath.Join(string(p), folder, name), content))

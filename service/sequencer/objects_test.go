@@ -187,27 +187,6 @@ func TestNewestHeadIsMadeAgain(t *testing.T) {
 	p.right(t, got)
 }
 
-// TestHeadOfAnOldBundle: a head that was lost is made again also out of a bundle of the name that versions before gave it.
-func TestHeadOfAnOldBundle(t *testing.T) {
-	t.Parallel()
-	p, ctx, got := newPlace(t), limited(t), &answers{}
-	s := started(t, p.config(t), hooks{})
-	must(t, got.submitAll(ctx, s, 0, 5, 5))
-	newest, err := s.Checkpoint(ctx)
-	must(t, err)
-	must(t, s.End(ctx))
-	k := s.newestKnown()
-	must(t, os.Rename(filepath.Join(p.objects(), k.look.Seen.Bundle), filepath.Join(p.objects(), oldBundleName(step.Digest(k.line)))))
-	must(t, os.Remove(filepath.Join(p.objects(), nameOf(&newest))))
-	s = started(t, p.config(t), hooks{})
-	eventually(t, "the newest head is given", func() bool {
-		head, err := readingNode(s).Checkpoint(ctx)
-		return err == nil && head.TreeSize == newest.TreeSize && head.Timestamp == newest.Timestamp
-	})
-	must(t, s.End(ctx))
-	p.right(t, got)
-}
-
 // TestIssuersAreMadeAgain damages an issuer while no node runs: the next submission with it is taken, and puts it right.
 func TestIssuersAreMadeAgain(t *testing.T) {
 	t.Parallel()

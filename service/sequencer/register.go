@@ -91,9 +91,6 @@ func readText(text string) (known, error) {
 	return k, nil
 }
 
-// oldBundleName is where versions before put the bundle of a state's line.
-func oldBundleName(line [32]byte) string { return stagingPrefix + hex.EncodeToString(line[:]) }
-
 // headName is where the head of a state is. Names are in the order of states.
 func headName(s step.State) string {
 	return fmt.Sprintf("%s%020d-%020d", headsPrefix, s.Size, s.Moment)

@@ -113,9 +113,6 @@ func (s *Sequencer) resume(ctx context.Context, k known) (*step.Resumed, error) 
 	name := k.look.Seen.Bundle
 	bundle, err := s.config.Objects.Get(ctx, name, stores.MostObject)
 	if errors.Is(err, stores.ErrAbsent) {
-		bundle, err = s.config.Objects.Get(ctx, oldBundleName(step.Digest(k.line)), stores.MostObject)
-	}
-	if errors.Is(err, stores.ErrAbsent) {
 		return nil, fault{errNoBundle, fmt.Errorf("%w: %s, the newest state's bundle, is missing", ErrDamaged, name)}
 	}
 	if err != nil {
@@ -403,8 +400,7 @@ func (s *Sequencer) published(ctx context.Context, briefly bool) (stores.Publish
 	return s.config.Register.Published(ctx)
 }
 
-// headAt reads the head that is published. Where the register has its size alone, as versions before wrote it, it is the newest one of this
-// size, whose moment is published now.
+// headAt reads the head that is published. If no head has that timestamp, it is the newest one of that size, whose timestamp is published now.
 func (s *Sequencer) headAt(ctx context.Context, published stores.Published) (log.Head, error) {
 	name := headName(step.State{Size: published.Size, Moment: published.Moment})
 	head, err := log.Head{}, stores.ErrAbsent

@@ -4,7 +4,6 @@ import (
 	"context"
 	"encoding/json"
 	"errors"
-	"fmt"
 	"os"
 	"path/filepath"
 	"strings"
@@ -157,13 +156,10 @@ func TestNotCreated(t *testing.T) {
 	must(t, config.Register.Create(ctx, "no log's"))
 	gone := config
 	gone.Register = &unwellRegister{Register: config.Register, gone: true}
-	// (versions before published a size alone)
-	for _, moment := range []uint64{0, 7} {
-		must(t, config.Register.Raise(ctx, stores.Published{Size: 5, Moment: moment}))
-		_, err := New(ctx, gone)
-		if wants(t, err, ErrSetBack); !strings.Contains(err.Error(), fmt.Sprintf("5 entries at %d ms are published", moment)) {
-			t.Error(err)
-		}
+	must(t, config.Register.Raise(ctx, stores.Published{Size: 5, Moment: 7}))
+	_, err := New(ctx, gone)
+	if wants(t, err, ErrSetBack); !strings.Contains(err.Error(), "5 entries at 7 ms are published") {
+		t.Error(err)
 	}
 }
 

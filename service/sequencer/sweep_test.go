@@ -2,7 +2,6 @@ package sequencer
 
 import (
 	"context"
-	"crypto/sha256"
 	"fmt"
 	"os"
 	"path/filepath"
@@ -12,7 +11,6 @@ import (
 	"time"
 
 	"wagtenib/service/log"
-	"wagtenib/service/step"
 	"wagtenib/service/stores"
 )
 
@@ -87,8 +85,8 @@ func oneBundle(t *testing.T, sweepAfter time.Duration) (p place, ctx context.Con
 	return p, ctx, got, s, staged(t, p)[0]
 }
 
-// TestBundleThatMayBeDecided: as long as the text stands that a step was made from, its bundle stays, however old it is; and the newest state's
-// stays always. What was made from an earlier text goes. So it is of the names that versions before gave, as far as they say anything.
+// TestBundleThatMayBeDecided: as long as the register has the text that a step was made from, its bundle stays, however old it is. The newest state's
+// bundle always stays, and so does an object whose name is not a bundle's. A bundle that was made from an earlier text goes.
 func TestBundleThatMayBeDecided(t *testing.T) {
 	t.Parallel()
 	p, ctx, got, s, newest := oneBundle(t, time.Nanosecond)
@@ -96,8 +94,8 @@ func TestBundleThatMayBeDecided(t *testing.T) {
 	named := func(moment, before uint64) string {
 		return fmt.Sprintf("%s%016x%016x%016x", stagingPrefix, moment, before, 7)
 	}
-	waits, old, past := named(moment+9, moment), oldBundleName(sha256.Sum256([]byte("a step that isn't decided yet"))), named(moment+9, moment-1)
-	for _, name := range []string{waits, old, past} {
+	waits, other, past := named(moment+9, moment), stagingPrefix+"an-object-that-no-node-put", named(moment+9, moment-1)
+	for _, name := range []string{waits, other, past} {
 		must(t, os.WriteFile(filepath.Join(p.objects(), name), []byte("bundle"), 0o644))
 	}
 	tender := &tender{s: s}
@@ -108,26 +106,17 @@ func TestBundleThatMayBeDecided(t *testing.T) {
 		}
 	}
 	sweep()
-	if left := strings.Join(staged(t, p), " "); !strings.Contains(left, waits) || !strings.Contains(left, old) || !strings.Contains(left, newest) || strings.Contains(left, past) {
+	if left := strings.Join(staged(t, p), " "); !strings.Contains(left, waits) || !strings.Contains(left, other) || !strings.Contains(left, newest) || strings.Contains(left, past) {
 		t.Errorf("%s are left", left)
 	}
 	must(t, got.submitAll(ctx, s, 5, 6, 1))
 	eventually(t, "a step may be made from the new state", func() bool { return s.isStepping().Seen.Moment > moment })
 	sweep()
-	if left := staged(t, p); len(left) != 1 || left[0] == waits || left[0] == old {
-		t.Errorf("%v are left", left)
-	}
-	newestBundle(t, p)
-	// (of a version before, that put it before its state was decided)
-	own := oldBundleName(step.Digest(s.newestKnown().line))
-	for _, name := range []string{own, old} {
-		must(t, os.WriteFile(filepath.Join(p.objects(), name), []byte("bundle"), 0o644))
-	}
-	tender.staged, tender.text, tender.listed = map[string]bool{own: true, old: true}, "an earlier one", time.Time{}
-	must(t, tender.sweepBundles(ctx))
-	if left := strings.Join(staged(t, p), " "); !strings.Contains(left, own) || strings.Contains(left, old) {
+	if left := strings.Join(staged(t, p), " "); strings.Count(left, " ") != 1 || strings.Contains(left, waits) || !strings.Contains(left, other) {
 		t.Errorf("%s are left", left)
 	}
+	must(t, os.Remove(filepath.Join(p.objects(), other)))
+	newestBundle(t, p)
 }
 
 // TestManyBundles: of more bundles than a turn deletes that nobody needs, each turn deletes so many, until none is left; then staging/ is listed again

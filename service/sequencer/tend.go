@@ -38,9 +38,7 @@ var errUnread = errors.New("sequencer: an object can't be read")
 // tender takes partial tiles, heads and bundles away that nobody needs any more, and reads old tiles again.
 type tender struct {
 	s *Sequencer
-	// staged are bundles that were there when staging/ was listed last, at listed, and text what the register had behind that.
-	staged map[string]bool
-	text   string
+	// listed is when staging/ was last listed to its end.
 	listed time.Time
 	// begun says that reading began: at a tile of chance, so that a log that is started often is read all the same.
 	begun bool
@@ -157,9 +155,8 @@ func (s *Sequencer) failed(what string, err error) {
 // mostBundles is how many bundles one turn deletes.
 const mostBundles = 64
 
-// sweepBundles lists staging/ every SweepAfter, and deletes what the program says is of no use any more. Of a name that isn't one of its own, as versions
-// before had them, that is what was there at the listing before, but for the newest state's, where the register has moved since: a step is decided only
-// as long as the text stands that it was made from, and that was there before its bundle.
+// sweepBundles lists staging/ every SweepAfter, and deletes the bundles that the program says no step needs any more. It leaves an object whose name is not
+// that of a bundle: no node put it.
 func (t *tender) sweepBundles(ctx context.Context) error {
 	stepping := t.s.isStepping()
 	if stepping == nil || !t.listed.IsZero() && time.Since(t.listed) < t.s.config.SweepAfter {
@@ -173,26 +170,14 @@ func (t *tender) sweepBundles(ctx context.Context) error {
 	if err != nil {
 		return err
 	}
-	var text string
-	if err = t.s.briefly(ctx, func(ctx context.Context) (err error) { text, err = t.s.config.Register.Read(ctx); return err }); err != nil {
-		return err
-	}
-	newest, err := readText(text)
-	if err != nil {
-		return err
-	}
-	staged, left := map[string]bool{}, mostBundles
+	staged, left := 0, mostBundles
 	for _, name := range names {
 		next, err := t.s.config.Decider.Next(ctx, stepping, decider.Listed(name))
-		goes := err == nil && next.Do == decider.Delete && next.Bundle == name
-		if errors.Is(err, decider.ErrRefused) {
-			goes, err = t.staged[name] && text != t.text && name != oldBundleName(step.Digest(newest.line)), nil
-		}
-		if err != nil {
+		if err != nil && !errors.Is(err, decider.ErrRefused) {
 			return err
 		}
-		if !goes || left == 0 {
-			staged[name] = true
+		if goes := err == nil && next.Do == decider.Delete && next.Bundle == name; !goes || left == 0 {
+			staged++
 			continue
 		}
 		left--
@@ -202,12 +187,11 @@ func (t *tender) sweepBundles(ctx context.Context) error {
 		}
 		t.s.sweptBundles.Add(1)
 	}
-	t.s.staged.Store(uint64(len(staged)))
-	if left == 0 {
-		// There are more: the next turn goes on.
-		return nil
+	t.s.staged.Store(uint64(staged))
+	if left > 0 {
+		// (if there are more, the next turn goes on)
+		t.listed = time.Now()
 	}
-	t.staged, t.text, t.listed = staged, text, time.Now()
 	return nil
 }
 

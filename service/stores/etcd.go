@@ -4,7 +4,6 @@ import (
 	"context"
 	"encoding/binary"
 	"fmt"
-	"strconv"
 	"sync"
 	"time"
 
@@ -70,16 +69,15 @@ func eachBeside(ctx context.Context, n int, each func(ctx context.Context, from,
 	return all.Wait()
 }
 
-// inEtcd keeps the register in three keys: the text; the published size, which is all that versions before the third read; and the size and the
-// moment of the published head.
+// inEtcd keeps the register in two keys: the text, and the size and the timestamp of the published head.
 //
 // It asks of the cluster: transactions and reads are linearizable (reads are, unless they are said to be serializable, which
 // none here is), and what a majority acknowledged stays: members keep their data folders, and fsync is left on
 // (--unsafe-no-fsync isn't given). A restore from a backup sets the register back, and isn't to be done to a log. Old revisions, which nobody
 // reads, are compacted (--auto-compaction-retention): each swap and each place leaves one, and they fill the cluster's quota.
 type inEtcd struct {
-	client                *members
-	text, published, head string
+	client     *members
+	text, head string
 }
 
 // OpenEtcd opens the register below a prefix.
@@ -88,7 +86,7 @@ func OpenEtcd(at Etcd) (Register, error) {
 	if err != nil {
 		return nil, err
 	}
-	return &inEtcd{client, at.Prefix + "/text", at.Prefix + "/published", at.Prefix + "/head"}, nil
+	return &inEtcd{client, at.Prefix + "/text", at.Prefix + "/head"}, nil
 }
 
 // isAbsent is true of a key that isn't there.
@@ -109,8 +107,8 @@ func (e *inEtcd) Create(ctx context.Context, text string) error {
 	if err := checkText(text); err != nil {
 		return err
 	}
-	answer, err := e.client.Txn(ctx).If(isAbsent(e.text), isAbsent(e.published)).
-		Then(clientv3.OpPut(e.text, text), clientv3.OpPut(e.published, inOrder(0)), clientv3.OpPut(e.head, headInOrder(Published{}))).Commit()
+	answer, err := e.client.Txn(ctx).If(isAbsent(e.text), isAbsent(e.head)).
+		Then(clientv3.OpPut(e.text, text), clientv3.OpPut(e.head, headInOrder(Published{}))).Commit()
 	if err != nil {
 		return sent("create", err)
 	}
@@ -163,48 +161,28 @@ func headInOrder(p Published) string { return inOrder(p.Size) + "-" + inOrder(p.
 // headFormInOrder reads what headInOrder wrote.
 const headFormInOrder = "%020d-%020d"
 
-// Published reads both keys at once. The first alone is larger where a version raised it that doesn't know the other.
-func (e *inEtcd) Published(ctx context.Context) (Published, error) {
-	answer, err := e.client.commit(ctx, func(read clientv3.Txn) clientv3.Txn {
-		return read.Then(clientv3.OpGet(e.published), clientv3.OpGet(e.head))
-	})
+// Published is Register's.
+func (e *inEtcd) Published(ctx context.Context) (published Published, err error) {
+	head, err := e.get(ctx, e.head)
 	if err != nil {
-		return Published{}, fmt.Errorf("stores: etcd: read: %w", err)
+		return published, err
 	}
-	size, head := answer.Responses[0].GetResponseRange().Kvs, answer.Responses[1].GetResponseRange().Kvs
-	if len(size) == 0 {
-		return Published{}, ErrAbsent
-	}
-	number, err := strconv.ParseUint(string(size[0].Value), 10, 63)
-	if err != nil {
-		return Published{}, fmt.Errorf("stores: etcd: %s has %.40q, and not how far the log is published", e.published, size[0].Value)
-	}
-	published := Published{Size: number}
-	if len(head) == 0 {
-		return published, nil
-	}
-	var later Published
-	if n, err := fmt.Sscanf(string(head[0].Value), headFormInOrder, &later.Size, &later.Moment); n != 2 || err != nil {
-		return Published{}, fmt.Errorf("stores: etcd: %s has %.60q, and not how far the log is published", e.head, head[0].Value)
-	}
-	if published.Before(later) {
-		return later, nil
+	if n, err := fmt.Sscanf(head, headFormInOrder, &published.Size, &published.Moment); n != 2 || err != nil {
+		return Published{}, fmt.Errorf("stores: etcd: %s has %.60q, and not how far the log is published", e.head, head)
 	}
 	return published, nil
 }
 
+// Raise is Register's.
 func (e *inEtcd) Raise(ctx context.Context, published Published) error {
 	if err := checkNumbers(published.Size, published.Moment); err != nil {
 		return err
 	}
-	raise := func(key, value string) clientv3.Op {
-		return clientv3.OpTxn([]clientv3.Cmp{clientv3.Compare(clientv3.Value(key), "<", value)}, []clientv3.Op{clientv3.OpPut(key, value)}, nil)
-	}
 	head := headInOrder(published)
-	// (of a key that isn't there each comparison of values is false)
-	first := clientv3.OpTxn([]clientv3.Cmp{isAbsent(e.head)}, []clientv3.Op{clientv3.OpPut(e.head, head)}, []clientv3.Op{raise(e.head, head)})
 	answer, err := e.client.commit(ctx, func(txn clientv3.Txn) clientv3.Txn {
-		return txn.If(isAbsent(e.published)).Else(raise(e.published, inOrder(published.Size)), first)
+		// (of a key that isn't there each comparison of values is false)
+		raise := clientv3.OpTxn([]clientv3.Cmp{clientv3.Compare(clientv3.Value(e.head), "<", head)}, []clientv3.Op{clientv3.OpPut(e.head, head)}, nil)
+		return txn.If(isAbsent(e.head)).Else(raise)
 	})
 	if err != nil {
 		return sent("raise", err)

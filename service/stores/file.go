@@ -7,7 +7,6 @@ import (
 	"io/fs"
 	"os"
 	"path/filepath"
-	"strconv"
 	"sync"
 	"syscall"
 	"time"
@@ -17,13 +16,11 @@ import (
 const (
 	lockFile = "lock"
 	textFile = "text"
-	// publishedFile has the published size, which is all that versions before headFile read; that has the size and the moment. Each is
-	// replaced as a whole, and the later of the two is what is published.
-	publishedFile = "published"
-	headFile      = "head"
+	// headFile has the size and the timestamp of the published head. It is replaced as a whole.
+	headFile = "head"
 )
 
-// file keeps the register in a folder: a file with the text, two with what is published, and a file that who changes one of them
+// file keeps the register in a folder: a file with the text, one with what is published, and a file that whoever changes one of them
 // has locked. Several processes may use it at once, on one machine. Who reads waits for nobody.
 //
 // It asks of the file system: flock(2) excludes, and ends with its process; rename(2) is atomic; what fsync(2) of a file and
@@ -149,41 +146,19 @@ func (f *file) knowRaised(published Published) {
 	f.raised = published
 }
 
-// named is a file's content.
-type named struct{ name, content string }
-
-// set gives files another content each, in this order, and is what comes of all: they are written to the disk side by side before the first has its name.
-// Its errors before that are plain; behind it, ErrUnknown.
-func (f *file) set(files ...named) error {
-	whole, failed := make([]string, len(files)), make(chan error, len(files))
-	for i := range files {
-		go func(i int) {
-			var err error
-			whole[i], err = f.disk.write([]byte(files[i].content))
-			failed <- err
-		}(i)
-	}
-	var err error
-	for range files {
-		if one := <-failed; err == nil {
-			err = one
-		}
-	}
-	for i := range files {
-		// (who has its name already has none to be removed)
-		defer os.Remove(whole[i])
-	}
+// set gives a file another content, which is on the disk before the file gets its name. Errors before that are plain; after it they are
+// ErrUnknown.
+func (f *file) set(name, content string) error {
+	whole, err := f.disk.write([]byte(content))
 	if err != nil {
 		return err
 	}
-	for i, one := range files {
-		let := hold(f.path(one.name))
-		defer let()
-		if err := os.Rename(whole[i], f.path(one.name)); err != nil && i == 0 {
-			return fmt.Errorf("stores: register: %w", err)
-		} else if err != nil {
-			return fmt.Errorf("%w: %v", ErrUnknown, err)
-		}
+	// (a file that has its name is no longer there to be removed)
+	defer os.Remove(whole)
+	let := hold(f.path(name))
+	defer let()
+	if err := os.Rename(whole, f.path(name)); err != nil {
+		return fmt.Errorf("stores: register: %w", err)
 	}
 	if err := syncFolder(f.disk.root); err != nil {
 		return fmt.Errorf("%w: %v", ErrUnknown, err)
@@ -201,7 +176,7 @@ func (f *file) Create(ctx context.Context, text string) error {
 		} else if !errors.Is(err, ErrAbsent) {
 			return err
 		}
-		// A published size without a text was left by who was killed here, or the text was lost.
+		// A published head without a text was left by a process that was killed here, or the text was lost.
 		published, err := f.published()
 		if err == nil && published != (Published{}) {
 			return fmt.Errorf("%w: its text is gone, and %d is published", ErrExists, published.Size)
@@ -209,10 +184,10 @@ func (f *file) Create(ctx context.Context, text string) error {
 		if err != nil && !errors.Is(err, ErrAbsent) {
 			return err
 		}
-		if err := f.set(named{publishedFile, "0"}); err != nil {
+		if err := f.set(headFile, fmt.Sprintf(headForm, 0, 0)); err != nil {
 			return err
 		}
-		return f.set(named{textFile, text})
+		return f.set(textFile, text)
 	})
 }
 
@@ -238,7 +213,7 @@ func (f *file) Swap(ctx context.Context, old, new string) error {
 		case standing != old:
 			return ErrLost
 		}
-		if err := f.set(named{textFile, new}); err != nil {
+		if err := f.set(textFile, new); err != nil {
 			return err
 		}
 		f.knowText(new)
@@ -246,32 +221,20 @@ func (f *file) Swap(ctx context.Context, old, new string) error {
 	})
 }
 
-// published gives the later of what the two files have. One of them may be there alone.
-func (f *file) published() (Published, error) {
-	text, err := f.raw(publishedFile)
-	if err != nil && !errors.Is(err, ErrAbsent) {
-		return Published{}, err
-	}
-	size, wrong := strconv.ParseUint(text, 10, 63)
-	if head, err := f.raw(headFile); err == nil {
-		var p Published
-		if n, err := fmt.Sscanf(head, headForm, &p.Size, &p.Moment); n == 2 && err == nil && fmt.Sprintf(headForm, p.Size, p.Moment) == head {
-			if (Published{Size: size}).Before(p) {
-				return p, nil
-			}
-			return Published{Size: size}, nil
-		}
-		return Published{}, fmt.Errorf("stores: register: %s has %.40q, and not how far the log is published", f.path(headFile), head)
-	} else if !errors.Is(err, ErrAbsent) {
-		return Published{}, err
+// published returns what headFile says; ErrAbsent if that is not there.
+func (f *file) published() (p Published, err error) {
+	head, err := f.raw(headFile)
+	if errors.Is(err, ErrAbsent) {
+		return p, fmt.Errorf("stores: register: %s, which says how far the log is published, is gone: %w", f.path(headFile), err)
 	}
 	if err != nil {
-		return Published{}, fmt.Errorf("stores: register: %s, which says how far the log is published, is gone: %w", f.path(publishedFile), err)
+		return p, err
 	}
-	if wrong != nil {
-		return Published{}, fmt.Errorf("stores: register: %s has %.40q, and not how far the log is published", f.path(publishedFile), text)
+	n, err := fmt.Sscanf(head, headForm, &p.Size, &p.Moment)
+	if n != 2 || err != nil || fmt.Sprintf(headForm, p.Size, p.Moment) != head {
+		return Published{}, fmt.Errorf("stores: register: %s has %.40q, and not how far the log is published", f.path(headFile), head)
 	}
-	return Published{Size: size}, nil
+	return p, nil
 }
 
 // headForm is how headFile has a size and a moment.
@@ -316,11 +279,7 @@ func (f *file) Raise(ctx context.Context, published Published) error {
 		if !standing.Before(published) {
 			return f.keepRaised(standing)
 		}
-		files := []named{{headFile, fmt.Sprintf(headForm, published.Size, published.Moment)}}
-		if standing.Size != published.Size {
-			files = append(files, named{publishedFile, strconv.FormatUint(published.Size, 10)})
-		}
-		if err := f.set(files...); err != nil {
+		if err := f.set(headFile, fmt.Sprintf(headForm, published.Size, published.Moment)); err != nil {
 			return err
 		}
 		f.knowRaised(published)

@@ -19,14 +19,9 @@ type Postgres struct {
 // mostConnections is how many connections to a database one store opens.
 const mostConnections = 4
 
-// tables are made where they aren't there, and so is the column that versions before it don't know. Two who make them at once would fail on one another, but for the lock.
+// tables makes the tables that are missing. Without the lock, two processes that make them at the same time would fail.
 const tables = `select pg_advisory_xact_lock(4957128866342178);
-create table if not exists ct_register (log text primary key, text bytea not null, published bigint not null);
-do $$ begin
-	if not exists (select from pg_attribute where attrelid = 'ct_register'::regclass and attname = 'moment' and not attisdropped) then
-		alter table ct_register add column moment bigint not null default 0;
-	end if;
-end $$;
+create table if not exists ct_register (log text primary key, text bytea not null, published bigint not null, moment bigint not null);
 create table if not exists ct_places (log text, identity bytea, index bigint not null, timestamp bigint not null, primary key (log, identity));
 create table if not exists ct_leaves (like ct_places including all)`
 
@@ -180,7 +175,7 @@ func (p *inPostgres) Create(ctx context.Context, text string) error {
 	if err := checkText(text); err != nil {
 		return err
 	}
-	done, err := p.changed(ctx, "create", "insert into ct_register (log, text, published) values ($1, $2, 0) on conflict do nothing", p.log, []byte(text))
+	done, err := p.changed(ctx, "create", "insert into ct_register (log, text, published, moment) values ($1, $2, 0, 0) on conflict do nothing", p.log, []byte(text))
 	if err == nil && !done {
 		return ErrExists
 	}

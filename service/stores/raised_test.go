@@ -4,46 +4,8 @@ import (
 	"errors"
 	"os"
 	"path/filepath"
-	"sync"
-	"sync/atomic"
 	"testing"
 )
-
-// TestRaisedInPart: of the two files of what is published, the one with size and moment has its name first. Where the other can't have its own then, it isn't
-// known what stands, and what was raised is read; nothing that was written is left.
-func TestRaisedInPart(t *testing.T) {
-	root, ctx := t.TempDir(), limited(t)
-	register, err := OpenFile(root)
-	must(t, err)
-	must(t, register.Create(ctx, "a"))
-	must(t, register.Raise(ctx, Published{5, 1}))
-	size, before := filepath.Join(root, publishedFile), filepath.Join(root, "before")
-	var once sync.Once
-	fsync = func(file *os.File) error {
-		once.Do(func() {
-			// (a folder that isn't empty leaves its name to no file)
-			if err := os.Rename(size, before); err != nil {
-				t.Error(err)
-			}
-			if err := os.MkdirAll(filepath.Join(size, "x"), 0o700); err != nil {
-				t.Error(err)
-			}
-		})
-		return file.Sync()
-	}
-	defer func() { fsync = (*os.File).Sync }()
-	if err := register.Raise(ctx, Published{6, 2}); !errors.Is(err, ErrUnknown) {
-		t.Errorf("raised in part: %v", err)
-	}
-	must(t, os.RemoveAll(size))
-	must(t, os.Rename(before, size))
-	if published, err := register.Published(ctx); err != nil || published != (Published{6, 2}) {
-		t.Errorf("%+v is published, %v", published, err)
-	}
-	if left, err := os.ReadDir(filepath.Join(root, temporary)); err != nil || len(left) > 0 {
-		t.Errorf("files are left: %v, %v", left, err)
-	}
-}
 
 // TestOnTheDisk: a process that knows one text, or one head, to be on the disk doesn't take another one to be there, which another process set; nor one that
 // it set itself, or read, where the disk didn't take that.
@@ -99,32 +61,22 @@ func TestOnTheDisk(t *testing.T) {
 	}
 }
 
-// TestOneOfTwoFiles: where one of the two files of what is published isn't written, whichever, nothing is raised.
-func TestOneOfTwoFiles(t *testing.T) {
+// TestRaiseThatIsNotWritten: if the disk takes no file, nothing is raised, and nothing is left.
+func TestRaiseThatIsNotWritten(t *testing.T) {
 	root, ctx := t.TempDir(), limited(t)
 	register, err := OpenFile(root)
 	must(t, err)
 	must(t, register.Create(ctx, "a"))
 	must(t, register.Raise(ctx, Published{5, 1}))
-	fault := errors.New("the disk takes no more than one")
+	fault := errors.New("the disk takes nothing")
+	fsync = func(*os.File) error { return fault }
 	defer func() { fsync = (*os.File).Sync }()
-	for size := uint64(6); size < 56; size++ {
-		var calls atomic.Int64
-		fsync = func(file *os.File) error {
-			if calls.Add(1) == 1 {
-				return fault
-			}
-			return file.Sync()
-		}
-		if err := register.Raise(ctx, Published{size, 2}); !errors.Is(err, fault) || errors.Is(err, ErrUnknown) {
-			t.Fatalf("to %d: %v", size, err)
-		}
-		fsync = (*os.File).Sync
-		if at, err := register.Published(ctx); err != nil || at != (Published{5, 1}) {
-			t.Fatalf("%+v is published, %v", at, err)
-		}
-		if left, err := os.ReadDir(filepath.Join(root, temporary)); err != nil || len(left) > 0 {
-			t.Fatalf("files are left: %v, %v", left, err)
-		}
+	if err := register.Raise(ctx, Published{6, 2}); !errors.Is(err, fault) || errors.Is(err, ErrUnknown) {
+		t.Fatal(err)
+	}
+	fsync = (*os.File).Sync
+	isPublished(t, register, Published{5, 1})
+	if left, err := os.ReadDir(filepath.Join(root, temporary)); err != nil || len(left) > 0 {
+		t.Fatalf("files are left: %v, %v", left, err)
 	}
 }

@@ -90,48 +90,22 @@ func TestFileWhoseTextIsLost(t *testing.T) {
 		t.Errorf("Swap: %v", err)
 	}
 	must(t, os.WriteFile(filepath.Join(root, textFile), []byte("a"), 0o644))
-	must(t, os.WriteFile(filepath.Join(root, publishedFile), []byte("-5"), 0o644))
 	isPublished(t, register, Published{Size: 5})
-	must(t, os.Remove(filepath.Join(root, headFile)))
 	for what, bend := range map[string]func() error{
-		"a number below 0": func() error { return nil },
-		"nothing":          func() error { return os.WriteFile(filepath.Join(root, publishedFile), nil, 0o644) },
-		"no file":          func() error { return os.Remove(filepath.Join(root, publishedFile)) },
+		"a number below 0": func() error { return os.WriteFile(filepath.Join(root, headFile), []byte("-5 1"), 0o644) },
+		"a size alone":     func() error { return os.WriteFile(filepath.Join(root, headFile), []byte("6"), 0o644) },
+		"nothing":          func() error { return os.WriteFile(filepath.Join(root, headFile), nil, 0o644) },
+		"no file":          func() error { return os.Remove(filepath.Join(root, headFile)) },
 	} {
 		must(t, bend())
 		err := register.Raise(ctx, Published{Size: 6})
-		if err == nil || errors.Is(err, ErrAbsent) || !strings.Contains(err.Error(), filepath.Join(root, publishedFile)) {
+		if err == nil || errors.Is(err, ErrAbsent) || !strings.Contains(err.Error(), filepath.Join(root, headFile)) {
 			t.Errorf("Raise over %s: %v", what, err)
 		}
+		if _, err := register.Published(ctx); err == nil || !strings.Contains(err.Error(), filepath.Join(root, headFile)) {
+			t.Errorf("Published over %s: %v", what, err)
+		}
 	}
-	must(t, os.WriteFile(filepath.Join(root, headFile), []byte("6"), 0o644))
-	if _, err := register.Published(ctx); err == nil || !strings.Contains(err.Error(), filepath.Join(root, headFile)) {
-		t.Errorf("what is published is of a file that is bent: %v", err)
-	}
-}
-
-// TestFileOfAVersionBefore: one that knows the published size alone is read, and goes on.
-func TestFileOfAVersionBefore(t *testing.T) {
-	root, ctx := t.TempDir(), limited(t)
-	register, err := OpenFile(root)
-	must(t, err)
-	before := func(size string) {
-		t.Helper()
-		must(t, os.WriteFile(filepath.Join(root, publishedFile), []byte(size), 0o644))
-	}
-	must(t, os.WriteFile(filepath.Join(root, textFile), []byte("a"), 0o644))
-	before("26")
-	isPublished(t, register, Published{Size: 26})
-	must(t, register.Raise(ctx, Published{26, 1700000000001}))
-	isPublished(t, register, Published{26, 1700000000001})
-	must(t, register.Raise(ctx, Published{30, 1700000000002}))
-	if text, err := os.ReadFile(filepath.Join(root, publishedFile)); err != nil || string(text) != "30" {
-		t.Errorf("who reads the size alone reads %q, %v", text, err)
-	}
-	before("31")
-	isPublished(t, register, Published{Size: 31})
-	must(t, register.Raise(ctx, Published{30, 1700000000003}))
-	isPublished(t, register, Published{Size: 31})
 }
 
 // TestReadingWaitsForNobody: who has the register locked, or a file system that isn't written, keeps no reader waiting; and nobody else of
@@ -431,60 +405,4 @@ func TestFileWaitsForItsLock(t *testing.T) {
 	time.AfterFunc(50*time.Millisecond, func() { lock.Close() })
 	must(t, register.Swap(limited(t), "text", "another"))
 	standsAs(t, register, "another", 0)
-}
-
-// TestEngineOfAVersionBefore: what a version wrote that knows the published size alone is read, in etcd and in PostgreSQL, and goes on; what that
-// version raises meanwhile counts.
-func TestEngineOfAVersionBefore(t *testing.T) {
-	goesOn := func(t *testing.T, register Register, before func(size uint64) error) {
-		t.Helper()
-		ctx := limited(t)
-		isPublished(t, register, Published{Size: 26})
-		must(t, register.Raise(ctx, Published{26, 1700000000001}))
-		isPublished(t, register, Published{26, 1700000000001})
-		must(t, before(30))
-		if now, err := register.Published(ctx); err != nil || now.Size != 30 || now.Moment > 1700000000001 {
-			t.Errorf("%v is published, %v, where 30 entries are, of an unknown moment", now, err)
-		}
-		must(t, register.Raise(ctx, Published{30, 1700000000002}))
-		isPublished(t, register, Published{30, 1700000000002})
-	}
-	t.Run("etcd", func(t *testing.T) {
-		if etcdMembers == "" {
-			t.Skip(wants("", "etcd-server"))
-		}
-		at := etcdAt("suite-" + chance())
-		client, err := at.open()
-		must(t, err)
-		defer client.Close()
-		put := func(key, value string) error {
-			_, err := client.Put(limited(t), at.Prefix+key, value)
-			return err
-		}
-		before := func(size uint64) error { return put("/published", inOrder(size)) }
-		must(t, put("/text", "a"))
-		must(t, before(26))
-		register, err := OpenEtcd(at)
-		must(t, err)
-		defer register.Close()
-		goesOn(t, register, before)
-	})
-	t.Run("postgres", func(t *testing.T) {
-		if postgresURL == "" {
-			t.Skip(wants("", "postgresql"))
-		}
-		at := Postgres{postgresURL, "suite-" + chance()}
-		db, err := at.open(limited(t))
-		must(t, err)
-		defer db.Close()
-		_, err = db.Exec("insert into ct_register values ($1, 'a', 26)", at.Log)
-		must(t, err)
-		register, err := OpenPostgres(limited(t), at)
-		must(t, err)
-		defer register.Close()
-		goesOn(t, register, func(size uint64) error {
-			_, err := db.Exec("update ct_register set published = $2 where log = $1 and published < $2", at.Log, int64(size))
-			return err
-		})
-	})
 }

@@ -110,8 +110,7 @@ type Register interface {
 	Close() error
 }
 
-// Published is how far a log is published: by a head of so many entries, of a moment in milliseconds since 1970. The moment is at most the
-// head's where a version set it that kept the size alone: such a one knows none, or leaves that of an earlier head.
+// Published is how far a log is published: by a head of so many entries, with a timestamp in milliseconds since 1970.
 type Published struct{ Size, Moment uint64 }
 
 // Before says whether p is before another one: of fewer entries, or of as many and an earlier moment.

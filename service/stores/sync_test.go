@@ -92,8 +92,7 @@ func TestFileSyncs(t *testing.T) {
 	syncedAs(t, "the same Swap", syncs(t, root, "none", swap), nil)
 	syncedAs(t, "Read of what was swapped", syncs(t, root, "none", read), nil)
 	raise := func() error { return register.Raise(ctx, Published{Size: 5}) }
-	// (two files)
-	syncedAs(t, "Raise", syncs(t, root, "none", raise), []string{"file", "file", "."})
+	syncedAs(t, "Raise", syncs(t, root, "none", raise), []string{"file", "."})
 	same := func() error { return register.Raise(ctx, Published{5, 1}) }
 	syncedAs(t, "Raise of one size", syncs(t, root, "none", same), []string{"file", "."})
 	published := func() error { _, err := register.Published(ctx); return err }
