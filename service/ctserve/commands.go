@@ -33,7 +33,6 @@ var commands = map[string]func(words []string, answers, faults io.Writer) error{
 	"key":        runKey,
 	"list-entry": runListEntry,
 	"check":      runCheck,
-	"shards":     runShards,
 	"nginx":      runNginx,
 	"places":     runPlaces,
 	"clock":      runClock,

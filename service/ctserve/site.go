@@ -136,7 +136,7 @@ func (s *site) add(file string, faults io.Writer) error {
 		return err
 	}
 	one := &siteLog{
-		Name:   notInVariables.ReplaceAllString(strings.TrimSuffix(filepath.Base(file), shardFile), "_"),
+		Name:   notInVariables.ReplaceAllString(strings.TrimSuffix(filepath.Base(file), ".conf"), "_"),
 		Origin: of.node.origin, Listen: of.listen, Path: parts[2], Pattern: regexp.QuoteMeta(parts[2]), host: parts[1],
 		Most: of.limits.ConnectionsByAddress, window: of.window, readOnly: of.readOnly,
 		Leaves: fmt.Sprintf("%ds", int(leavesBefore(of.limits.Idle).Seconds())),
