@@ -42,7 +42,7 @@ def files():
 
 
 def pages():
-    return [ROOT / "README.md", *sorted((ROOT / "docs").glob("*.md")), *(ROOT / folder / "README.md" for folder in ("bench", "checks", "examples", "examples/http", "examples/link", "release", "service", "tests"))]
+    return [ROOT / "README.md", *sorted((ROOT / "docs").glob("**/*.md")), *(ROOT / folder / "README.md" for folder in ("bench", "checks", "examples", "examples/http", "examples/link", "release", "service", "tests"))]
 
 
 def words_of_code(paths):

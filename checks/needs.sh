@@ -26,7 +26,7 @@ END
 }
 
 # The sentence of README.md that says whose times these are.
-whose() { echo "Times are reckoned from earlier runs."; }
+whose() { echo "The times are estimates from earlier runs."; }
 
 time_of() { echo "$(minutes "$1" 4) minutes ($(work_of "$1") of one processor)"; }
 
@@ -41,7 +41,7 @@ if [ "$what" = write ]; then
   for target in demo serve test; do
     sed -i -E "s/^(\| \`make $target\` \|.*\| )[^|]+ \|\$/\1$(time_of $target) |/" README.md
   done
-  sed -i "s/^Times are reckoned .*/$(whose)/" README.md
+  sed -i "s/^The times are estimates .*/$(whose)/" README.md
   exit
 fi
 

@@ -1,6 +1,6 @@
 #!/usr/bin/env bash
 # Proves the crates below the programs, and shows something of each layer as soon as it is proved: an audit path as long as a real log's, and
-# forged ones; a log that forks, is rewritten, and shrinks, watched by ctmonitor; ctlog on the first session of README.md and on real certificate
+# forged ones; a log that forks, is rewritten, and shrinks, watched by ctmonitor; ctlog on the first session of docs/LINES.md and on real certificate
 # chains, through one front and through four at once; its answers watched; the steps of a log on tiles; and that log watched by ctmonitor, and
 # what is false of it. Each part quotes what is proved of it, and compares what is written with what is expected.
 #
@@ -136,7 +136,7 @@ END
 }
 
 show_log() {
-  echo "== The first session of README.md: $program --fronts 1 --ring 4096 --close-at 7 < examples/first-session.jsonl =="
+  echo "== The first session of docs/LINES.md: $program --fronts 1 --ring 4096 --close-at 7 < examples/first-session.jsonl =="
   proved crates/ctlog/src/main.rt "where the exit status is 0, what is written is what a log replies to all that was read, in some order between its fronts" <<'END'
 ensures done { result ≡ 0 → IsDone (asked_of (name_of Program.Ctlog) words.now) (R.remaining input.old) (W.contents output.old) (W.contents output.new) }
 END

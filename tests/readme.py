@@ -2,8 +2,8 @@
 """Runs the commands of README.md in the order of the page, in a copy of the repository in which nothing is built, without the kit; and says of each
 command of the other pages what runs it.
 
-`make serve` stays until the end, at a port that is free. What each command prints is looked at. Where ctlog is built, its first session is run, and
-else that of expected.py. A command of README.md that this script doesn't know is a fault. It prints one line, and ends with status 1 at the first thing
+`make serve` runs until the end, at a port that is free. The script looks at what each command prints. It also runs the first session of docs/LINES.md, by
+ctlog if that is built and otherwise by expected.py. A command of README.md that this script doesn't know is a fault. It prints one line, and ends with status 1 at the first thing
 that isn't as README.md has it. Where Go or one of its packages isn't installed, it says so, and runs none that needs them.
 
 A command of another page stands in ELSEWHERE, and a target of the Makefile that a page names in its text in TARGETS, each with what runs it: this
@@ -109,12 +109,12 @@ class Page:
             fail(f"{command} ends with status {ran.returncode} where {status} is due, and prints {ran.stdout}{ran.stderr}")
 
     def first_session(self, command):
-        """ctlog's, where it is built, or expected.py's by its words."""
+        """Runs the session of docs/LINES.md by ctlog if it is built, and otherwise by expected.py."""
         if os.access(ROOT / command.split()[0], os.X_OK):
             ran = subprocess.run(["sh", "-c", command], cwd=ROOT, stdout=subprocess.PIPE)
         else:
-            program = re.search(r"`(tests/expected\.py [\d ]+)`", (ROOT / "README.md").read_text())[1]
-            ran = subprocess.run(["sh", "-c", f"{program} < examples/first-session.jsonl"], cwd=self.copy, stdout=subprocess.PIPE)
+            program = re.search(r"`(tests/expected\.py [^`]+)`", (ROOT / "docs" / "LINES.md").read_text())[1]
+            ran = subprocess.run(["sh", "-c", program], cwd=self.copy, stdout=subprocess.PIPE)
         if ran.returncode or ran.stdout != (ROOT / "examples" / "first-session.expected.jsonl").read_bytes():
             fail(f"{command}: status {ran.returncode}: {ran.stdout.decode()}")
 
@@ -127,6 +127,7 @@ class Page:
 HERE, BARE, PAGES, LONG, GATE = "readme.py", "make bare", "make pages", "pages.py --long", "make test"
 # The commands of the other pages, each by how it begins, and what runs it.
 ELSEWHERE = {
+    "docs/LINES.md": {"crates/ctlog/out/ctlog": HERE},
     "docs/OPERATING.md": {"": BARE},
     "docs/MONITOR.md": {"apt-get": BARE, "LOG=tiled+": BARE, "ctmonitor-watch --logs https://": BARE, "ctmonitor-log-list https://": BARE, "ctmonitor-audit": BARE, "cat > /etc/ctmonitor-watch.conf": BARE, "systemctl": BARE, "mkdir -p ct-watch": BARE},
     "docs/TILES.md": {"(cd crates/print_steps && rt run)": PAGES, "make tiles": PAGES},
@@ -205,7 +206,6 @@ KNOWN = [
     ("curl -s -d @ct-log/chain.json", lambda page, command: page.run(command, 0, SIGNED)),
     ("curl -s 127.0.0.1:8618/checkpoint", lambda page, command: page.run(command, 0, CHECKPOINT)),
     ("LOG=tiled+", lambda page, command: page.run(command, 8, FOUND)),
-    ("crates/ctlog/out/ctlog", lambda page, command: page.first_session(command)),
 ]
 
 
@@ -220,10 +220,12 @@ def main():
         page = Page(pathlib.Path(folder))
         try:
             for command in given:
-                beginning, does = next(known for known in KNOWN if command.startswith(known[0]))
-                if not missing or beginning == "crates/ctlog/out/ctlog":
+                does = next(known[1] for known in KNOWN if command.startswith(known[0]))
+                if not missing:
                     does(page, command)
                     page.count += 1
+            for command in commands(ROOT / "docs" / "LINES.md"):
+                page.first_session(command)
             if not missing:
                 # (README's make serve built it, in this copy)
                 page.run("make service", 0, "")

@@ -182,17 +182,17 @@ def try_waits():
 
 
 def try_first_session():
-    """README.md's commands of ctlog name the moment of the closing, and by the words of its first session a hundred submissions are in the log."""
-    commands = re.findall(r"out/ctlog (--.*) <", (HERE.parent / "README.md").read_text())
+    """The command of ctlog in docs/LINES.md names the time of the closing, and with its arguments a hundred submissions are in the log."""
+    commands = re.findall(r"out/ctlog (--.*) <", (HERE.parent / "docs" / "LINES.md").read_text())
     words = [re.fullmatch(r"--fronts (\d+) --ring (\d+) --close-at (\d+)", command) for command in commands]
     if not words or not all(words):
-        fail(f"README.md runs ctlog by {commands}")
+        fail(f"docs/LINES.md runs ctlog by {commands}")
     fronts, ring, close_at = words[0].groups()
     lines = [json.dumps({"who": 0, "op": "add-chain", "chain": [text]}) for text in ["QQ=="] * 100]
     ran = run("expected.py", fronts, ring, 0, close_at, given="\n".join([*lines, '{"who":"frozen","op":"receipt","ticket":99}']).encode())
     tickets = [f'{{"ticket":{number}}}' for number in range(100)]
     if ran.stdout.decode().splitlines()[:-1] != tickets or '"leaf_index":0' not in ran.stdout.decode():
-        fail(f"by README.md's words a first try of a hundred lines is replied to with {ran.stdout.decode()[-200:]}{ran.stderr.decode()}")
+        fail(f"by the arguments of docs/LINES.md a first try of a hundred lines is replied to with {ran.stdout.decode()[-200:]}{ran.stderr.decode()}")
 
 
 # A session with a line of each kind, and what isn't one: each damage is a part of its text, and another in its place.
