@@ -1,4 +1,4 @@
-.PHONY: help demo test check service service-test service-race service-engines service-faults service-soak service-clients cluster cluster-status cluster-stop link install install-library install-ctlog install-ctlogd install-ctmonitor install-ctguard install-cttile install-ctproof install-ctnode install-ctwitness fuzz load sweep wrong sources serve serve-ctlogd serve-witness tiles interop programs release reproduce bare container pages
+.PHONY: help demo test check service service-test service-race service-engines service-faults service-soak service-clients cluster cluster-status cluster-stop link install install-library install-ctlog install-ctmonitor install-ctguard install-cttile install-ctproof install-ctnode install-ctwitness fuzz load sweep wrong sources serve serve-witness tiles programs release reproduce bare container pages
 
 SECONDS ?= 60
 RUNS ?= 20
@@ -10,7 +10,7 @@ FOLDER ?= ct-log
 WITNESS ?= ct-witness
 WITNESS_PORT ?= 8640
 
-PROGRAMS := ctlog ctlogd ctmonitor ctguard cttile ctproof ctnode ctwitness
+PROGRAMS := ctlog ctmonitor ctguard cttile ctproof ctnode ctwitness
 LIBRARY = $(BUILT)/libwagtenib/out/link/libwagtenib
 VERSION = $(shell cat VERSION)
 # (a shell expands no ~ in quotes)
@@ -88,13 +88,13 @@ link: ## builds libwagtenib, the proof checkers for C, and runs programs in C, R
 WATCHING := audit=audit.py cosign=cosign.py cosignatures=cosignatures.sh from-end=from_end.py keep=keep.py log-list=log_list.py mail=mail.sh show=show.py signature=signature.sh watch=watch.sh
 
 # BUILT is the folder in which the crates' builds lie.
-install: $(PROGRAMS:%=install-%) install-library ## installs what is built, below PREFIX=/usr/local: ctlog, ctlogd, ctmonitor, ctguard, cttile, ctproof, ctnode, ctwitness, with ctmonitor its scripts as ctmonitor-watch and so on, and libwagtenib
+install: $(PROGRAMS:%=install-%) install-library ## installs what is built, below PREFIX=/usr/local: ctlog, ctmonitor, ctguard, cttile, ctproof, ctnode, ctwitness, with ctmonitor its scripts as ctmonitor-watch and so on, and libwagtenib
 	@for program in $(PROGRAMS); do [ ! -e "$(BUILT)/$$program/out/$$program" ] || exit 0; done; \
 	[ -e "$(LIBRARY).a" ] || { echo "make install: nothing is built" >&2; exit 1; }
 
 $(PROGRAMS:%=install-%): install-%:
 	@if [ -x "$(BUILT)/$*/out/$*" ]; then install -d "$(TO)/bin" && install -m 755 "$(BUILT)/$*/out/$*" "$(TO)/bin" && echo "$(PREFIX)/bin/$*"; \
-	else echo "$* isn't built: make demo builds ctlog and ctmonitor, make serve cttile, ctnode, ctguard and ctproof, make serve-ctlogd ctlogd, make serve-witness ctwitness, and rt run in its folder any other"; fi
+	else echo "$* isn't built: make demo builds ctlog and ctmonitor, make serve cttile, ctnode, ctguard and ctproof, make serve-witness ctwitness, and rt run in its folder any other"; fi
 	@if [ $* = ctmonitor ] && [ -x "$(BUILT)/$*/out/$*" ]; then for script in $(WATCHING); do \
 	  install -m 755 "examples/monitor/$${script#*=}" "$(TO)/bin/ctmonitor-$${script%=*}" && echo "$(PREFIX)/bin/ctmonitor-$${script%=*}" || exit 1; done; fi
 
@@ -143,18 +143,16 @@ reproduce: ## builds the programs of the Go part, and those of the crates that a
 fuzz: ## runs ctlog on random and damaged lines for SECONDS=60, and compares it with an independent program
 	@PYTHONDONTWRITEBYTECODE=1 python3 tests/fuzz.py --seconds $(SECONDS)
 
-# After the same, and in crates/ctlogd too, and after `rt test` in crates/house_tests.
-load: ## runs the tests with sixteen threads and a shutdown among them 50 times, ctlog so RUNS=20 times, and ctlogd, and judges each output
+# After the same, and after `rt test` in crates/house_tests.
+load: ## runs the tests with sixteen threads and a shutdown among them 50 times and ctlog so RUNS=20 times, and judges each output
 	@PYTHONDONTWRITEBYTECODE=1 python3 tests/repeat.py
 	@PYTHONDONTWRITEBYTECODE=1 python3 tests/load.py --runs $(RUNS)
 	@PYTHONDONTWRITEBYTECODE=1 python3 tests/load.py --runs $(RUNS) --shifts 3
-	@PYTHONDONTWRITEBYTECODE=1 python3 tests/live_load.py
 
-# After `rt run -- --help` in crates/ctlog and crates/ctlogd and `rt test` in crates/house_tests, which build what is swept.
-sweep: ## refuses each growth of ctlog, of ctlogd and of the library's calls in turn, and judges what they then do; adds up ctlog's, and shortens reads and writes
+# After `rt run -- --help` in crates/ctlog and `rt test` in crates/house_tests, which build what is swept.
+sweep: ## refuses each growth of ctlog and of the library's calls in turn, and judges what they then do; adds up ctlog's, and shortens reads and writes
 	@PYTHONDONTWRITEBYTECODE=1 python3 tests/memory.py
 	@PYTHONDONTWRITEBYTECODE=1 python3 tests/sweep.py
-	@PYTHONDONTWRITEBYTECODE=1 python3 tests/sweep.py --live
 	@PYTHONDONTWRITEBYTECODE=1 python3 tests/growths.py
 	@PYTHONDONTWRITEBYTECODE=1 python3 tests/short_calls.py
 
@@ -172,13 +170,6 @@ sources: ## looks through the sources, the documents and the scripts of examples
 	@PYTHONDONTWRITEBYTECODE=1 python3 checks/layout.py
 	@docs/check.sh
 	@PYTHONDONTWRITEBYTECODE=1 python3 tests/scripts.py
-
-# LOG="python3 examples/http/stand_in.py" serves a plain log in its place, without the kit.
-serve-ctlogd: ## serves ctlogd over HTTP at PORT=8618 (RFC 6962, section 4) by an example in Python, with its journal in ct-state; builds it where it isn't built
-	@LOG="$(LOG)" examples/http/serve.sh --port $(PORT)
-
-interop: ## has certspotter follow a log over HTTP to verified heads, and a client in Go submit to it and check what it answers
-	@LOG="$(LOG)" tests/http/interop.sh
 
 # After `rt run` in crates/print_steps, which builds it.
 tiles: ## has golang.org/x/mod/sumdb/tlog read the tiles of logs of eight sizes and check their proofs; without Go, hashlib compares the lines

@@ -2,8 +2,7 @@
 """Runs `rt ci`, the merge gate, and prints each of its lines behind the time so far. Its last line, 'N passed, M failed', is printed once
 more, with the tests of the Go part in it, of which the file COUNT in the environment has how many passed and failed, and with what is run over the
 programs once `rt ci` has built them: all by words of their own (tests/command_lines.py), ctlog over sessions (tests/sessions.py), all while some growths
-of memory are refused (tests/sweep.py) and ctlogd while it is broken off (tests/live_break.py), and the parts of the demo (examples/demo.sh). The status is
-that of `rt ci`, or 1 where one of these failed.
+of memory are refused (tests/sweep.py), and the parts of the demo (examples/demo.sh). The status is that of `rt ci`, or 1 where one of these failed.
 
 `rt ci` tells of a crate when it is done, and not how many of its functions are proved so far; while it tells nothing, a line a minute says
 how long it has been at work. Behind it a line says how many processor minutes it took.
@@ -13,8 +12,8 @@ gate', of a ninth of the crates that have such: the commit's hash says which, or
 `rt ci` reads, while it runs; what a run that was killed has left there wrong_bodies.py takes away. What a crate's edits cost is one more proof of
 the crate, and about a sixth of that for each; so the ninths are made of whole crates, of about the same cost.
 
-`rt ci` guesses what memory a proof needs, at two to three times what was seen, and lets a large crate wait while smaller ones have that: so ct_live, in
-the longest chain of crates, waited. Where each processor has memory for a proof, it is told to use them all, by RT_JOBS.
+`rt ci` guesses what memory a proof needs, at two to three times what was seen, and lets a large crate wait while smaller ones have that, although it may be in
+the longest chain of crates. If each processor has memory for a proof, `rt ci` is told to use them all, by RT_JOBS.
 """
 import contextlib
 import fcntl
@@ -36,7 +35,7 @@ EACH, IN_TURN = "tried: by each gate", "tried: by every ninth gate"
 
 # What it says of what it doesn't try.
 SKIPPED = """It leaves out {} others (make wrong CRATE=..), the service under the race detector, over engines, with kills and with other programs (make
-service-race, service-engines, service-faults, service-clients, interop), and what runs longer (make fuzz, load, sweep, link, tiles)."""
+service-race, service-engines, service-faults, service-clients), and what runs longer (make fuzz, load, sweep, link, tiles)."""
 
 # About the most memory that a proof was seen to take, in bytes.
 MEMORY = 4_000_000_000
@@ -44,11 +43,9 @@ MEMORY = 4_000_000_000
 # The parts of the demo over programs that `rt ci` builds. The other one, path, is over libwagtenib, of which `rt ci` leaves no archive.
 DEMO = ("monitor", "log", "watched", "tiles", "followed")
 
-# How the programs are broken off: each so many-th growth of memory is refused (make sweep refuses every one), or a run ends whose input is open.
+# How the programs are broken off: each so many-th growth of memory is refused (make sweep refuses every one).
 BROKEN_OFF = (
-    ("live_break.py", "--step", "60"),
     ("sweep.py", "--step", "40"),
-    ("sweep.py", "--live", "--step", "40"),
     *(("sweep.py", "--stored", name, "--step", "40") for name in ("ctguard", "ctmonitor", "ctnode", "ctproof", "cttile")),
 )
 

@@ -42,7 +42,6 @@ SOURCE = re.compile(r"From<(?:.*\b)?(?:\w*(?:Fault|Failed|Error|ErrorKind|Refuse
 STREAM = re.compile(r"(?<!fn )(?<![.\w])(?:send|write_whole|write_bytes|tell|next_line)\(\s*(&mut )?(\w+)")
 # How long a line waits.
 WAITS = {
-    "ct_live/src/live.rt": {"TURNS": "50_000_000"},
     "ctlog/src/program.rt": {"TURNS": "50_000_000"},
     "ct_parties/src/operator_work.rt": {"ENOUGH": "16"},
     "ct_parties/src/waiting.rt": {
@@ -65,22 +64,6 @@ TOLD = {
         "Endless": (1, "behind the last turn over the reader's calls"),
         **dict.fromkeys(("ReadFailed", "WriteFailed"), (1, "with the reader's, or the writer's, error")),
     },
-    "ct_live/src/closed.rt": {"Read": (1, "behind the last turn over the lines")},
-    "ct_live/src/ending.rt": {
-        "Write": (2, "the writer's thread, or the last head's writing, failed"),
-        "Threads": (1, "not every party was handed back"),
-    },
-    "ct_live/src/giving.rt": {"Stopped": (1, "all are to end")},
-    "ct_live/src/live.rt": {"Threads": (1, "in place of Read, where all were to end")},
-    "ct_live/src/threads.rt": {"Threads": (1, "the reader's thread didn't start")},
-    "ct_live/src/pipes/ahead.rt": {
-        "Error": (2, "there was no memory to read into; all are to end"),
-        "ErrorKind::Interrupted": (1, "a call that was interrupted"),
-        "ErrorKind::BrokenPipe": (1, "all are to end"),
-    },
-    "ct_live/src/pipes/answering.rt": {"Stopped": (1, "all are to end")},
-    "ct_live/src/pipes/post.rt": {"Stopped": (1, "all are to end")},
-    "ct_live/src/pipes/workers.rt": {"Threads": (1, "a party's thread didn't start"), **dict.fromkeys(("Read", "Stopped"), (1, "a thread's own is handed on"))},
     "ct_command/src/command.rt": dict.fromkeys(("ErrorKind::ValueValidation", "ErrorKind::InvalidValue"), (1, "clap's kind of a refusal, which a clause pins")),
     "ct_parties/src/front_work.rt": {"Late": (1, "behind the last turn of a line that waits")},
     "ct_parties/src/operator_work.rt": {"Late": (1, "behind the last turn of a line that waits")},

@@ -1,6 +1,6 @@
 #!/usr/bin/env bash
-# Looks through the documents, in seconds: links, names of files and functions, commands, quotations, the contracts of PROMISES.md, pictures, and their length.
-# make test runs it before the proofs, and make check behind them.
+# Checks the documents, in seconds: links, names of files and functions, commands, quotations, the contracts of PROMISES.md, and pictures.
+# make test runs it before the proofs, and make check after them.
 set -u
 cd "$(dirname "$0")/.."
 export PYTHONDONTWRITEBYTECODE=1
@@ -9,5 +9,4 @@ python3 checks/documents.py || status=1
 python3 checks/promises.py || status=1
 python3 checks/architecture.py || status=1
 python3 checks/pictures.py || status=1
-python3 checks/words.py --quiet || status=1
 exit $status

@@ -25,7 +25,7 @@ import textwrap
 import time
 
 ROOT = pathlib.Path(__file__).resolve().parent.parent
-PROGRAMS = {"ctlog": "make demo", "ctmonitor": "make demo", "ctlogd": "make serve-ctlogd", "cttile": "make serve", "ctguard": "make serve", "ctproof": "make serve", "ctnode": "make serve", "ctwitness": "make serve-witness"}
+PROGRAMS = {"ctlog": "make demo", "ctmonitor": "make demo", "cttile": "make serve", "ctguard": "make serve", "ctproof": "make serve", "ctnode": "make serve", "ctwitness": "make serve-witness"}
 SERVICE = ("ctserve", "ctcheck", "ctread", "ctload", "ctwitness-serve")
 UNITS = ("ctserve@.service", "ctwitness-serve@.service")
 # Those of ctmonitor's package, and the file by which what it keeps is turned over.
@@ -42,7 +42,7 @@ PAGES = ("OPERATING", "MONITOR", "GUARD", "GROWTH", "TILES", "LINES", "PROMISES"
 PACKAGES = {
     "wagtenib": (
         "Certificate Transparency log with proved steps, guard and proofs",
-        "ctserve serves a log over HTTP (RFC 6962, C2SP static-ct-api). cttile makes its steps, ctnode says in which order, ctguard what its key may sign, ctproof makes its readers' proofs, ctwitness what a witness cosigns: these are proved to meet their contracts, ctserve, ctwitness-serve and what judges, reads and loads a log are not. ctlog and ctlogd are a log in memory, proved.",
+        "ctserve serves a log over HTTP (RFC 6962, C2SP static-ct-api). cttile makes its steps, ctnode says in which order, ctguard what its key may sign, ctproof makes its readers' proofs, ctwitness what a witness cosigns: these are proved to meet their contracts, ctserve, ctwitness-serve and what judges, reads and loads a log are not. ctlog is a log in memory, proved.",
         "adduser, libsqlite3-0, procps",
         "ca-certificates, nginx | httpd, openssl",
     ),

@@ -1,6 +1,6 @@
 #!/usr/bin/env bash
 # Has clients of others use a log of ctserve over HTTP: certspotter follows it by RFC 6962's calls to verified heads of 30 and, from there,
-# of 50 entries; tests/http/client.go submits five more by Google's client library, and checks what is answered; and meanwhile ctread
+# of 50 entries; tests/clients/client.go submits five more by Google's client library, and checks what is answered; and meanwhile ctread
 # follows its tiles, which golang.org/x/mod/sumdb/tlog reads, to the last leaf and head. ctmonitor (where it isn't built, its stand-in) watches it by
 # its tiles and by its calls, at 30 entries and at the end, and openssl checks the signatures of the checkpoints that are kept. Which certificates
 # certspotter and watch.sh tell an owner of is compared with examples/monitor/CERTSPOTTER.md, over a log of tests/names/table.py's. At the end ctcheck
@@ -68,7 +68,7 @@ make_certificate() {
       -outform DER -out "$work/certificate.$1" 2>/dev/null
 }
 
-. "$here/../tests/http/certspotter.sh"
+. "$here/../tests/clients/certspotter.sh"
 
 # Has ctmonitor watch the log's head of $1 entries, for the name of the precertificate and of entry 7.
 mkdir "$work/bin"
@@ -102,7 +102,7 @@ END
   follow 30
   submit 31 50
   follow 50
-  told ""
+  told
   "$here/../tests/names/table.py" --certspotter || fail "certspotter or watch.sh tells of others than their table has"
 else
   echo "certspotter isn't installed, and wasn't tried."
@@ -116,7 +116,7 @@ if [ -n "$packages" ]; then
     make_certificate "$number"
   done
   # The library's C++ code calls functions that OpenSSL 3 calls old: -w has the compiler say nothing of it.
-  CGO_CXXFLAGS=-w GO111MODULE=off GOPATH=$packages GOCACHE=$work/go go run "$here/../tests/http/client.go" -key "$work/log.pem" "$base" "$work"/certificate.5[1-5] ||
+  CGO_CXXFLAGS=-w GO111MODULE=off GOPATH=$packages GOCACHE=$work/go go run "$here/../tests/clients/client.go" -key "$work/log.pem" "$base" "$work"/certificate.5[1-5] ||
     fail "Google's client library doesn't take what is answered"
   size=55
 else

@@ -1,16 +1,12 @@
 #!/usr/bin/env python3
-"""Checks what ctlog or ctlogd wrote for an input, with hashlib alone, and prints what was found to hold.
+"""Checks what ctlog wrote for an input, with hashlib only, and prints what was found to hold.
 
-    check.py [--live] FRONTS INPUT OUTPUT
+    check.py FRONTS INPUT OUTPUT
 
 It takes the log at its word in nothing: roots are computed from the entries that `get-entries` returns, proofs are checked
 by the steps of RFC 9162, section 2.1.3, receipts against the entries and the submissions, and the order of the entries
 against the operator's settlements. What it prints doesn't depend on how the threads ran. The input asks the frozen log for
 all entries, page by page, and for its tree head at the end.
-
-With --live the output is ctlogd's: each line has to have one reply, by its number, and those of a party have to stand in its
-order; the lines that are no request, or come too early or too late, are told so, and no others; and the line that closes
-the log is replied to with the tree head that the closed log then shows.
 """
 import argparse
 import base64
@@ -20,7 +16,6 @@ import json
 import sys
 
 import merkle
-from expected import LIVE_OPS, read_line
 
 X509_ENTRY, PRECERT_ENTRY = b"\x00\x00", b"\x00\x01"
 
@@ -59,8 +54,8 @@ def requests_of(lines, fronts):
 class Checker:
     """Checks the replies to the requests, one kind after the other."""
 
-    def __init__(self, pairs, is_live=False):
-        self.pairs, self.is_live = pairs, is_live
+    def __init__(self, pairs):
+        self.pairs = pairs
         self.submissions = [(request, reply["ticket"]) for request, reply in self.replies_to("add-chain", "add-pre-chain")]
         self.heads = [reply["tree_size"] for _, reply in self.replies_to("publish")]
         self.entries = []
@@ -86,7 +81,7 @@ class Checker:
             own = [ticket for request, ticket in self.submissions if request["who"] == who]
             claim(own == sorted(own), f"the tickets of front {who} don't rise")
         accepted = [reply["accepted"] for _, reply in self.replies_to("shutdown")]
-        claim(accepted == [len(numbers)] or (self.is_live and not accepted), "the shutdown counted other submissions")
+        claim(accepted == [len(numbers)], "the shutdown counted other submissions")
         fronts = len({request["who"] for request, _ in self.submissions})
         return f"{len(numbers)} submissions of {fronts} fronts: the tickets are 0 to {len(numbers) - 1}, each once, and rise at each front"
 
@@ -243,99 +238,15 @@ def checked(fronts, given, written):
     return found_by(Checker(list(zip(requests, replies))))
 
 
-class LiveLines:
-    """The lines of a live log: whose each is, and what it asks."""
-
-    def __init__(self, given, fronts):
-        self.fronts = fronts
-        self.requests = {}  # from a line's number to who does it and what is asked
-        self.closing = None  # the number of the line that closes the log
-        for number, line in enumerate(given.encode().split(b"\n")):
-            if not line:
-                continue
-            who, request = read_line(line, fronts, LIVE_OPS)
-            if self.closing is not None:
-                request = request if who == "frozen" else None
-                who = "frozen"
-            elif request and request[0] == "close":
-                self.closing, who = number, "frozen"
-            self.requests[number] = who, request
-
-    def is_early(self, number):
-        """Whether the line asks the closed log before it is closed."""
-        return self.requests[number][0] == "frozen" and not self.is_behind(number)
-
-    def is_behind(self, number):
-        return self.closing is not None and number >= self.closing
-
-    def refusal(self, number):
-        """What a line is told that asks nothing, or too early or too late."""
-        if self.requests[number][1] is None:
-            return "bad-line"
-        return "not-yet" if self.is_early(number) else None
-
-    def party(self, number):
-        """Whose line it is: a front's, the operator's, or the closed log's, as all are from the closing on."""
-        return self.requests[number][0]
-
-    def request(self, number):
-        who, request = self.requests[number]
-        op, keys = request or ("no request", {})
-        return {"who": who, "op": op, "line": number, **keys}
-
-
-def tagged(written):
-    """The line's number and the reply of each line of an output, in its order."""
-    claim(not written or written.endswith("\n"), "the output ends within a reply")
-    found = []
-    for line in written.split("\n")[:-1]:
-        value = json.loads(line)
-        claim(list(value) == ["line", "reply"] and isinstance(value["reply"], dict), f"no reply: {line[:100]}")
-        claim(json.dumps(value, separators=(",", ":")) == line, f"a reply in another form: {line[:100]}")
-        found.append((value["line"], value["reply"]))
-    return found
-
-
-def claim_order(lines, replies):
-    """The replies of a party stand in the order of its lines, and those behind the closing behind all others."""
-    last, closed = collections.defaultdict(lambda: -1), False
-    for number, _ in replies:
-        party = lines.party(number)
-        claim(last[party] < number, f"the reply to line {number} stands behind that to line {last[party]} of the same party")
-        last[party], behind = number, lines.is_behind(number)
-        claim(behind or not closed, f"the reply to line {number} stands behind one of the closed log")
-        closed = behind
-
-
-def checked_live(fronts, given, written):
-    """The same of a live log, which a line closes."""
-    lines, replies = LiveLines(given, fronts), tagged(written)
-    counts = collections.Counter(number for number, _ in replies)
-    claim(set(counts.values()) <= {1}, f"a line has several replies: {[number for number in counts if counts[number] > 1][:9]}")
-    claim(counts.keys() == lines.requests.keys(), f"lines without a reply, or replies without a line: {sorted(counts.keys() ^ lines.requests.keys())[:9]}")
-    claim_order(lines, replies)
-    for number, reply in replies:
-        wanted = lines.refusal(number)
-        claim(reply.get("error") == wanted if wanted else reply.get("error") != "bad-line", f"line {number} is replied to with {reply}")
-    places = {**{front: front for front in range(fronts)}, "operator": fronts, "frozen": fronts + 1}
-    by_party = sorted(replies, key=lambda pair: (places[lines.party(pair[0])], pair[0]))
-    checker = Checker([(lines.request(number), reply) for number, reply in by_party], is_live=True)
-    closing = [(reply["timestamp"], reply["tree_size"]) for _, reply in checker.replies_to("close")]
-    claim(closing == [(checker.final["timestamp"], checker.final["tree_size"])], "the closed log's head isn't the one that closed it")
-    return [f"{len(replies)} replies, one for each line, in the order of each party's lines", *found_by(checker)]
-
-
 def main():
     words = argparse.ArgumentParser()
-    words.add_argument("--live", action="store_true")
     words.add_argument("fronts", type=int)
     words.add_argument("input")
     words.add_argument("output")
     words = words.parse_args()
-    judge = checked_live if words.live else checked
     with open(words.input, encoding="utf-8") as given, open(words.output, encoding="utf-8") as written:
         try:
-            for found in judge(words.fronts, given.read(), written.read()):
+            for found in checked(words.fronts, given.read(), written.read()):
                 print(f"  {found}")
         except (Wrong, KeyError, IndexError, ValueError) as fault:
             sys.exit(f"check.py: {fault!r}")

@@ -23,10 +23,8 @@ LIMIT = 60
 # ask for nothing that there is.
 OPTIONLESS = [["lines"], ["--origin", "log.example"], ["-"], [""], ["--Help"]]
 NO_LOG = ["--fronts 17 --ring 4", "--fronts 0 --ring 4", "--fronts 1 --ring 0", "--fronts 1 --ring 4097", "--fronts 1 --ring 4 --close-at 9007199254740992", "--fronts 1"]
-OF_A_LOG = ("docs/LINES.md", None, ["--fronts", "1", "--ring", "4"], [*map(str.split, NO_LOG), ["lines"], [""], ["a" * 3000]])
 PROGRAMS = {
-    "ctlog": OF_A_LOG,
-    "ctlogd": OF_A_LOG,
+    "ctlog": ("docs/LINES.md", None, ["--fronts", "1", "--ring", "4"], [*map(str.split, NO_LOG), ["lines"], [""], ["a" * 3000]]),
     "ctmonitor": ("docs/MONITOR.md", "01234", ["--name", "a.example"] * 2500, [["lines"], ["--name"], ["--name", "a", "--name"], ["--names", "a"], [""], ["a" * 3000]]),
     "ctguard": (
         "docs/GUARD.md",
@@ -42,11 +40,10 @@ PROGRAMS = {
 # What help is, of those whose help tells no exit statuses. Any text may stand for `...`.
 HELP = {
     "ctlog": "Usage: ctlog [OPTIONS] --fronts <N> --ring <K>\n...The input is read whole before the log opens.\n",
-    "ctlogd": "Usage: ctlogd [OPTIONS] --fronts <N> --ring <K>\n...docs/LINES.md has their form.\n",
 }
 # What is told of words that ask for nothing that there is, where that isn't help. There a word that isn't UTF-8 is such a word; elsewhere it can't be read.
 REFUSED = "error: ...\n\nRequests come on standard input, a line of JSON each.\n"
-TOLD = {"ctlog": REFUSED, "ctlogd": REFUSED, "ctmonitor": "error: ..."}
+TOLD = {"ctlog": REFUSED, "ctmonitor": "error: ..."}
 NOT_UTF_8 = "error: an argument isn't UTF-8\n..."
 # What a stored run tells.
 FAULTS = {"ctlog": b"ctlog: clock-back\n"}

@@ -253,25 +253,14 @@ OTHER_OPS = {
     },
     "frozen": {"audit": AUDIT, **QUERIES},
 }
-# A live log has no shifts; its operator has four more ops.
-LIVE_OPS = {
-    "operator": {
-        **{op: keys for op, keys in OTHER_OPS["operator"].items() if op != "shift"},
-        "take": {"from": is_number, "max": is_number, "now": is_number},
-        "close": {"now": is_number},
-        "tree-head-signature-input": {},
-        "certificate-timestamp-signature-input": {"ticket": is_number},
-    },
-    "frozen": OTHER_OPS["frozen"],
-}
 
 
-def read_line(line, fronts, other_ops=OTHER_OPS):
+def read_line(line, fronts):
     """Who does the line, and the request. What is no request is the operator's, as None."""
     try:
         value = json_of(line)
         who = value["who"]
-        keys = (FRONT_OPS if is_number(who) else other_ops[who])[value["op"]]
+        keys = (FRONT_OPS if is_number(who) else OTHER_OPS[who])[value["op"]]
         request = {key: value[key] for key in keys}
     except (ValueError, KeyError, TypeError):
         return "operator", None

@@ -1,7 +1,7 @@
 #!/usr/bin/env python3
 """Gives the built programs a line of 400 MB, and looks that they hold little of it: long_lines.py [NAME..]
 
-A log or a client that is mistrusted may never end its line. ctlog, ctlogd, ctmonitor, ctguard, cttile, ctproof, ctnode and ctwitness, or those that are named, are
+A log or a client that is mistrusted may never end its line. ctlog, ctmonitor, ctguard, cttile, ctproof, ctnode and ctwitness, or those that are named, are
 given such a line and a good one behind it: the first is replied to with `bad-line`, the second as if it stood alone, and no program takes more than
 64 MB of memory, its own and this script's, but for cttile and ctproof, whose longest good line has 64 MB: twice that. Those that aren't built are
 named. The status is 1 where something isn't so.
@@ -27,7 +27,6 @@ COSIGNED = base64.b64encode(f"cosignature/v1\ntime 7\nlog.example\n0\n{ROOT}\n".
 # The words, the good line, how an output begins, and the status.
 PROGRAMS = {
     "ctlog": (LOG, FROZEN, f"{BAD}\n{HEAD}\n", 0),
-    "ctlogd": (LOG, b'{"who":"operator","op":"close","now":7}', f'{{"line":0,"reply":{BAD}}}\n{{"line":1,"reply":{{"timestamp":7,"tree_size":0}}}}\n', 0),
     "ctmonitor": ([], HEAD.encode(), f'{BAD}\n{{"tree_size":0,"verdict":"accepted"}}\n', 4),
     "ctguard": ([], f'{{"consistency":[],{HEAD[1:]}'.encode(), f'{REFUSED}\n{{"sign":"{SIGNED}","state":{{"guard":1,"last":{HEAD}}}}}\n', 4),
     "cttile": ([], b'{"begin":7}', f'{REFUSED}\n{{"state":"{STATE}"}}\n', 4),

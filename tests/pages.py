@@ -5,9 +5,8 @@ the kit: all of README.md's but the gate, of the other pages those that readme.p
     pages.py [--only WORD].. [--long] [--anew] [--keep]
 
 As root: it runs in a network of its own, which has loopback alone, so that ports are as typed, and over /usr/local, /etc and others lies what goes at the
-end, so that `make install`, `ldconfig` and `useradd` are, too. What a command serves stays until its page ends, or another one serves that doesn't stand
-on it; then it is interrupted, as by Ctrl-C. The token whose key a page names is softhsm's, made here (Debian's softhsm2, opensc and
-libengine-pkcs11-openssl). What is proved in this checkout goes along, and rt looks whether it is of these sources; with --anew it doesn't, and all is
+end, so that `make install` and `ldconfig` are, too. What a command serves stays until its page ends, or another one serves; then it is interrupted, as by
+Ctrl-C. What is proved in this checkout goes along, and rt looks whether it is of these sources; with --anew it doesn't, and all is
 proved, in hours. With --long it runs those that take a quarter of an hour and more, too; with --only the commands that have one of these words. It prints
 each command with its seconds, and by what the others are run, and ends with status 1 at the first that does something else than its page says.
 """
@@ -35,23 +34,10 @@ NEW_MOUNTS = 0x00020000
 # How long a command may take, in seconds, that proves; and one that doesn't.
 PROVES, WITHIN = 4 * 3600, 1800
 PROVING = ("make demo", "make programs", "make serve", "make link", "make check", "make wrong", "(cd crates", "make reproduce", "make service-", "make load", "make sweep")
-# What serves until it is interrupted, by what it says once it does.
-FRONT = "http://127.0.0.1:8618/ with "
-SERVING = {"make serve-ctlogd": FRONT, "make serve-witness": '"event":"serving"', "make serve": '"event":"serving"', "runuser -u ct-front": FRONT, "examples/http/front.py": FRONT}
-# What listens at a socket until it is interrupted, and what serves over that.
-LISTENING, OVER = {"runuser -u ct-signer": "/run/ct/signer"}, "runuser -u ct-front"
-# What a page says is built or there before a command, and what ends what goes on behind one.
-TOKEN = """set -e
-pin=$(printf 8765 | tee /etc/ct/pin)
-softhsm2-util --init-token --free --label ct-log --so-pin 12345678 --pin "$pin"
-pkcs11-tool --module "$(ls /usr/lib/softhsm/libsofthsm2.so /usr/lib/*-linux-gnu/softhsm/libsofthsm2.so 2>/dev/null | head -n 1)" --login --pin "$pin" --keypairgen --key-type EC:prime256v1 --id 01 --label log
-"""
-BEFORE = {
-    "make load": ["(cd crates/house_tests && rt test)"], "make sweep": ["(cd crates/house_tests && rt test)"], "examples/http/front.py --key": ["mkdir /etc/ct", TOKEN],
-    # (what lies there is of a front with the token's key)
-    "make serve-ctlogd": ["rm -rf ct-state"],
-    "useradd --system ct-signer": ["(cd crates/ctguard && rt run -- --version)", "(cd crates/ctlogd && rt run -- --version)"],
-}
+# What serves until it is interrupted, and what it says once it does.
+SERVING, SERVES = ("make serve-witness", "make serve"), '"event":"serving"'
+# What has to be built before a command, and what ends a command that leaves something running.
+BEFORE = {"make load": ["(cd crates/house_tests && rt test)"], "make sweep": ["(cd crates/house_tests && rt test)"]}
 ENDS = {"make cluster": "make cluster-stop"}
 # The status and the form of what others print, by how they begin; else any with status 0.
 DUE = {
@@ -75,7 +61,7 @@ def own_mounts(work):
     over = work / "over"
     over.mkdir()
     subprocess.run(["mount", "-t", "tmpfs", "tmpfs", over], check=True)
-    for folder in filter(os.path.isdir, ("/usr/local", "/etc", "/var/cache", "/var/lib/softhsm", "/srv", "/run")):
+    for folder in filter(os.path.isdir, ("/usr/local", "/etc", "/var/cache", "/srv", "/run")):
         upper, use = over / folder.replace("/", "_"), over / f"{folder.replace('/', '_')}.work"
         upper.mkdir()
         use.mkdir()
@@ -127,12 +113,8 @@ class Clone:
         begun = time.monotonic()
         if command.startswith("cc program.c"):
             self.program_in_c()
-        serves = next((says for beginning, says in SERVING.items() if re.match(rf"{beginning}( *#| -|$)", command)), None)
-        listens = next((path for beginning, path in LISTENING.items() if command.startswith(beginning)), None)
-        if serves:
-            self.serve(command, lambda: serves in self.told())
-        elif listens:
-            self.serve(command, lambda: os.path.exists(listens))
+        if any(re.match(rf"{beginning}( *#| -|$)", command) for beginning in SERVING):
+            self.serve(command)
         else:
             self.await_end(command)
         if command.startswith("cc program.c"):
@@ -155,12 +137,11 @@ class Clone:
         if ended != status or not re.fullmatch(form, said):
             fail(f"{command}: status {ended} where {status} is due: {self.told()[-6000:]}")
 
-    def serve(self, command, does):
-        if not command.startswith(OVER):
-            self.end()
+    def serve(self, command):
+        self.end()
         self.serving.append(self.start(command))
         last = time.monotonic() + PROVES
-        while not does():
+        while SERVES not in self.told():
             if self.serving[-1].poll() is not None or time.monotonic() > last:
                 fail(f"{command} doesn't serve: {self.told()[-6000:]}")
             time.sleep(0.3)

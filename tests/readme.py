@@ -132,7 +132,6 @@ ELSEWHERE = {
     "docs/MONITOR.md": {"apt-get": BARE, "LOG=tiled+": BARE, "ctmonitor-watch --logs https://": BARE, "ctmonitor-log-list https://": BARE, "ctmonitor-audit": BARE, "cat > /etc/ctmonitor-watch.conf": BARE, "systemctl": BARE, "mkdir -p ct-watch": BARE},
     "docs/TILES.md": {"(cd crates/print_steps && rt run)": PAGES, "make tiles": PAGES},
     "examples/README.md": {"examples/pem_lines.py": HERE, "examples/bad_lines.py": HERE},
-    "examples/http/README.md": {"useradd": PAGES, "install -d": PAGES, "runuser": PAGES, "examples/http/front.py --key": PAGES},
     "examples/link/README.md": {"make link": PAGES, "make install": PAGES, "ldconfig": PAGES, "cc program.c": PAGES},
     "release/README.md": {"make programs release": PAGES, "cd release/out && sha256sum": PAGES, "apt-get install": BARE},
     "service/README.md": {"make service-engines": PAGES, "make service-test": GATE, "make service": HERE, "openssl genpkey": BARE, "cp 2027h1.pem": BARE, "cat > /etc/ctwitness/a.conf": BARE,
@@ -143,7 +142,7 @@ TARGETS = {
     "make test": GATE, "make test TURN=0": GATE, "make sources": GATE, "make service-test": GATE, "make bare": "itself", "make container": "itself", "make pages": "itself",
     **dict.fromkeys(("make check", "make wrong CRATE=ct_guard", "make service-race", "make service-faults", "make service-soak", "make load", "make sweep", "make fuzz SECONDS=180"), LONG),
     **dict.fromkeys(("make serve", "make demo", "make install", "make release", "make programs", "make link", "make service", "make service-clients",
-                     "make service-engines", "make serve-witness", "make serve-ctlogd", "make interop", "make cluster", "make fuzz", "make reproduce", "make demo install"), PAGES),
+                     "make service-engines", "make serve-witness", "make cluster", "make fuzz", "make reproduce", "make demo install"), PAGES),
 }
 
 

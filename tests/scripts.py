@@ -6,6 +6,7 @@ made-up builds, monitor/watch.sh on logs of its own, and service/cluster.sh over
 It prints one line where all is as expected; else it says what isn't, and ends with status 1.
 """
 import argparse
+import itertools
 import json
 import os
 import pathlib
@@ -22,8 +23,7 @@ EXAMPLES = HERE.parent / "examples"
 sys.path.append(str(EXAMPLES))
 
 from bad_lines import reason  # noqa: E402
-from check import LiveLines, Wrong, checked_live  # noqa: E402
-from damages import damages  # noqa: E402
+from check import Wrong, checked  # noqa: E402
 from expected import outcome, read_line  # noqa: E402
 from mutations import mutated  # noqa: E402
 from sessions import Unreadable, read_sessions, sessions_of  # noqa: E402
@@ -31,8 +31,6 @@ from sessions import Unreadable, read_sessions, sessions_of  # noqa: E402
 NO_REQUEST = b"this line is no request"
 # How many stored lines are damaged, and compared.
 DAMAGED = 1000
-# The stored run of ctlogd, and its fronts.
-LIVE, LIVE_FRONTS = HERE.parent / "crates" / "ctlogd", 2
 # The stored inputs, each with the fronts, ring and moments under which its replies are expected.
 INPUTS = {
     "first-session": "1 4096 0 7",
@@ -111,19 +109,33 @@ def try_pem(folder):
     return len(chains)
 
 
-def try_live():
-    """check.py takes the stored run of ctlogd, and refuses each damaged output."""
-    given, written = (LIVE / "stdin").read_text(), (LIVE / "stdout").read_text()
-    checked_live(LIVE_FRONTS, given, written)
+def damages(replies):
+    """Ways to damage the replies of a log, each with what the damage is: a reply dropped, twice, or cut in half, a number raised, a letter of base64 changed."""
+    for place, reply in enumerate(replies):
+        before, behind = replies[:place], replies[place + 1 :]
+        yield f"{reply[:60]} dropped", before + behind
+        yield f"{reply[:60]} twice", [*before, reply, reply, *behind]
+        yield f"{reply[:60]} cut in half", [*before, reply[: len(reply) // 2], *behind]
+        for key in re.findall(r'"(ticket|settled|accepted|leaf_index|tree_size)":\d', reply):
+            yield f"{key} of {reply[:60]} raised", [*before, re.sub(rf'(?<="{key}":)\d+', lambda found: str(int(found[0]) + 1), reply), *behind]
+        for key in re.findall(r'"(audit_path|consistency|leaf_input|sha256_root_hash)":\[?"', reply):
+            yield f"{key} of {reply[:60]} changed", [*before, re.sub(rf'("{key}":\[?")(.)', lambda found: found[1] + ("B" if found[2] != "B" else "C"), reply, count=1), *behind]
+
+
+def try_check():
+    """check.py takes the replies that are expected of four fronts, with their tickets in order, and refuses each damaged output."""
+    given, numbers = (EXAMPLES / "four-fronts.jsonl").read_text(), itertools.count()
+    expected = (EXAMPLES / "four-fronts.expected.jsonl").read_text()
+    written = re.sub(r'(?<="ticket":)_', lambda _: str(next(numbers)), expected)
+    checked(4, given, written)
     count = 0
-    for seed in range(DAMAGED // 100):
-        for what, output in damages(random.Random(seed), LiveLines(given, LIVE_FRONTS), written):
-            try:
-                checked_live(LIVE_FRONTS, given, output)
-            except (Wrong, KeyError, IndexError, ValueError, TypeError):
-                count += 1
-                continue
-            fail(f"check.py doesn't refuse {what}: {output}")
+    for what, replies in damages(written.splitlines()):
+        try:
+            checked(4, given, "\n".join(replies) + "\n")
+        except (Wrong, KeyError, IndexError, ValueError):
+            count += 1
+            continue
+        fail(f"check.py doesn't refuse an output with {what}")
     return count
 
 
@@ -274,7 +286,7 @@ def try_install(folder):
     due["include/wagtenib.h"] = (HERE.parent / "include" / "wagtenib.h").read_text()
     due["lib/pkgconfig/wagtenib.pc"] = (HERE.parent / "include" / "wagtenib.pc.in").read_text().replace("@PREFIX@", "/opt/log").replace("@VERSION@", "0.1.0")
     to = folder / "to" / "opt" / "log"
-    if ran.returncode or "ctlogd isn't built" not in ran.stdout or "ctlog isn't built" in ran.stdout:
+    if ran.returncode or "ctguard isn't built" not in ran.stdout or "ctlog isn't built" in ran.stdout:
         fail(f"make install: status {ran.returncode}: {ran.stdout}{ran.stderr}")
     if installed(to) != due or installed(folder / "to") != {f"opt/log/{path}": text for path, text in due.items()}:
         fail(f"make install: it installed {sorted(installed(folder / 'to'))}, or another text")
@@ -298,7 +310,7 @@ def try_release(folder):
         fail(f"release.py, with nothing built: status {ran.returncode}: {ran.stdout}{ran.stderr}")
     if (folder / "none").exists():
         fail("release.py makes something of nothing")
-    programs = {name: folder / "built" / name / "out" / name for name in ("ctlog", "ctlogd", "ctmonitor", "ctguard", "cttile", "ctproof", "ctnode", "ctwitness")}
+    programs = {name: folder / "built" / name / "out" / name for name in ("ctlog", "ctmonitor", "ctguard", "cttile", "ctproof", "ctnode", "ctwitness")}
     programs.update({name: folder / "service" / name for name in ("ctserve", "ctcheck", "ctread", "ctload", "ctwitness-serve")})
     library = {f"libwagtenib.{end}": folder / "built" / "libwagtenib" / "out" / "link" / f"libwagtenib.{end}" for end in ("a", "so")}
     commit = subprocess.run(["git", "log", "-1", "--format=%H"], cwd=HERE, capture_output=True, text=True).stdout[:12]
@@ -476,7 +488,7 @@ def try_nodes():
 def main():
     try_reasons()
     try_agreement()
-    outputs = try_live()
+    outputs = try_check()
     with tempfile.TemporaryDirectory() as folder:
         chains = try_pem(pathlib.Path(folder))
     with tempfile.TemporaryDirectory(prefix="two words ") as folder:

@@ -1,7 +1,7 @@
 #!/usr/bin/env python3
-"""Refuses each growth of ctlog, or with --live of ctlogd, in turn, and judges what it then does.
+"""Refuses each growth of ctlog in turn, and judges what it then does.
 
-    sweep.py [--live | --stored NAME] [PROGRAM] [--from N] [--most N] [--step N]
+    sweep.py [--stored NAME] [PROGRAM] [--from N] [--most N] [--step N]
 
 The script of lines has two fronts and three shifts: A, B, A on front 0 and A on front 1, each kind of question and two publications; B and C on
 front 0, which settle as the second shift ends; then a question of each front, a shutdown, and the closed log's answers with an audit. It is run once with ample memory, and then with the first growth refused, the second, and so on, until a run makes
@@ -15,10 +15,6 @@ Each run has to end by itself within a minute, and in one of these ways:
 - status 0, where one line has the reply `memory`: what its party was told before is the ample run's, and the whole output is judged by
   tests/check.py, which recomputes tickets, settlement, entries, heads, proofs and receipts from what the replies say was done. (A line that then waits in
   vain is told `late`.)
-
-ctlogd has the same lines but for the shifts, and a `take` and a `close`. Its replies are compared by their lines' numbers, since parties don't
-wait for one another to write, and the whole is judged by check.py --live. With status 1, what was written before is whole replies, of each party
-without one left out, and those of the ample run up to the party's first line that waited in vain.
 
 --step refuses each N-th of them, and else every one. --stored takes a program that answers line by line (ctguard, ctmonitor, cttile, ctproof, ctnode) over the run that is stored in crates/NAME. With ample memory its
 output and status have to be the stored ones; with a growth refused, too, or the status 1, with `NAME: memory` or a beginning of that line, and whole replies.
@@ -37,7 +33,7 @@ import subprocess
 import sys
 import tempfile
 
-from check import LiveLines, Wrong, checked, checked_live, claim, claim_order, requests_of, tagged
+from check import Wrong, checked, claim, requests_of
 
 HERE = pathlib.Path(__file__).resolve().parent
 
@@ -46,7 +42,6 @@ OPTIONS = ["--fronts", "2", "--ring", "8", "--open-at", "0", "--close-at", "7"]
 LONGEST_RUN = 60
 FAULTS = ("memory", "threads")
 MEMORY = '{"error":"memory"}'
-TOLD_MEMORY, TOLD_LATE = {"error": "memory"}, {"error": "late"}
 
 
 def line(who, op, **keys):
@@ -98,24 +93,8 @@ def script():
     yield line("frozen", "audit", leaf_input=base64.b64encode(b"leaf").decode(), leaf_index=0, tree_size=2, audit_path=[])
 
 
-def live_script():
-    """The lines for ctlogd: those of the first shift and of the last. Front 0 has no submission left when the operator takes."""
-    shifts = 0
-    for text in script():
-        request = json.loads(text) if text != "no request" else {}
-        if request.get("op") == "shift":
-            shifts += 1
-            yield line("operator", "take", **{"from": 0}, max=9, now=6)
-            continue
-        if shifts == 1:
-            continue
-        if request.get("who") == "frozen" and request["op"] == "get-sth":
-            yield line("operator", "close", now=7)
-        yield text
-
-
 class Sweep:
-    NAME, SCRIPT, JUDGE = "ctlog", staticmethod(script), staticmethod(checked)
+    NAME = "ctlog"
 
     def __init__(self, program, folder):
         self.program, self.folder = program or CRATES / self.NAME / "out" / self.NAME, folder
@@ -132,13 +111,13 @@ class Sweep:
 
     def asked(self):
         """The words and the input."""
-        self.lines = list(self.SCRIPT())
+        self.lines = list(script())
         return OPTIONS, ("\n".join(self.lines) + "\n").encode()
 
     def judge_ample(self, status, said):
         if status or said:
             sys.exit(f"sweep.py: with ample memory the status is {status}: {said}")
-        self.JUDGE(2, self.given.decode(), self.ample)
+        checked(2, self.given.decode(), self.ample)
         self.parties = requests_of(self.lines, 2)
 
     def run(self, refused):
@@ -163,12 +142,9 @@ class Sweep:
             return f"status 1, {said.strip() or 'without its line'}, {'no' if not output else 'some'} output", growths
         claim(status == 0, f"the status is {status}: {said}")
         claim(not said, f"standard error is {said!r}")
-        if self.is_ample(output):
+        if output == self.ample:
             return "status 0, all as with ample memory", growths
         return self.judge_replies(output), growths
-
-    def is_ample(self, output):
-        return output == self.ample
 
     def claim_beginning(self, output):
         claim(self.ample.startswith(output), "standard output is no beginning of the ample one")
@@ -182,38 +158,6 @@ class Sweep:
         claim(all(r == a for r, a, p in zip(replies[:at], ample[:at], self.parties) if p["who"] == who), "a reply before the refused one differs")
         checked(2, self.given.decode(), output.replace('"late"', '"memory"'))
         return f"status 0, {self.parties[at]['op']} of {who} is told memory"
-
-
-class LiveSweep(Sweep):
-    NAME, SCRIPT, JUDGE = "ctlogd", staticmethod(live_script), staticmethod(checked_live)
-
-    def is_ample(self, output):
-        """Whether it has the ample run's replies, in any order that the parties' allow."""
-        if sorted(output.splitlines()) != sorted(self.ample.splitlines()):
-            return False
-        claim_order(LiveLines(self.given.decode(), 2), tagged(output))
-        return True
-
-    def claim_beginning(self, output):
-        """The replies of a party stand in order, without one left out, and are the ample run's up to the first that is `late`."""
-        lines, replies, ample, late = LiveLines(self.given.decode(), 2), tagged(output), dict(tagged(self.ample)), set()
-        claim_order(lines, replies)
-        for number, reply in replies:
-            if reply == TOLD_LATE:
-                late.add(lines.party(number))
-            claim(reply == ample[number] or lines.party(number) in late, f"line {number} is replied to with {reply}")
-            left_out = set(before for before in ample if before < number and lines.party(before) == lines.party(number)) - {n for n, _ in replies}
-            claim(not left_out, f"line {number} is replied to, and {left_out} of its party are not")
-
-    def judge_replies(self, output):
-        lines, replies, ample = LiveLines(self.given.decode(), 2), tagged(output), dict(tagged(self.ample))
-        told = [number for number, reply in replies if reply == TOLD_MEMORY]
-        claim(len(told) == 1, "not one reply is memory")
-        party = lines.party(told[0])
-        before = [pair for pair in replies if pair[0] < told[0] and lines.party(pair[0]) == party]
-        claim(all(reply == ample[number] for number, reply in before), "a reply before the refused one differs")
-        checked_live(2, self.given.decode(), output.replace('"late"', '"memory"'))
-        return f"status 0, {lines.request(told[0])['op']} of {party} is told memory"
 
 
 class StoredSweep(Sweep):
@@ -253,7 +197,6 @@ class StoredSweep(Sweep):
 def main():
     parser = argparse.ArgumentParser()
     parser.add_argument("program", nargs="?")
-    parser.add_argument("--live", action="store_true")
     parser.add_argument("--stored", metavar="NAME")
     parser.add_argument("--from", type=int, default=1, dest="first")
     parser.add_argument("--most", type=int, default=1_000_000)
@@ -261,8 +204,7 @@ def main():
     options = parser.parse_args()
     with tempfile.TemporaryDirectory() as folder:
         place = pathlib.Path(folder)
-        kind = LiveSweep if options.live else Sweep
-        sweep = StoredSweep(options.stored, options.program, place) if options.stored else kind(options.program, place)
+        sweep = StoredSweep(options.stored, options.program, place) if options.stored else Sweep(options.program, place)
         print(f"with ample memory {sweep.growths} growths and {len(sweep.ample.splitlines())} replies", flush=True)
         refused = options.first
         while refused < options.first + options.most:

@@ -95,8 +95,8 @@ func unhex(t *testing.T, text string) []byte {
 	return bytes
 }
 
-// example is the program's side in Python: examples/http/der.py, which stands on no library for X.509.
-const example = "../../examples/http"
+// inPythonAt is the folder of tests/der.py, which makes the same in Python, without a library for X.509.
+const inPythonAt = "../../tests"
 
 // inPython is what der.py makes of a chain: the issuer's key hash and the TBSCertificate, or its refusal.
 type inPython struct {
@@ -129,7 +129,7 @@ print(json.dumps([made(decoded(chain), decoded(given["Roots"])) for chain in giv
 	if err != nil {
 		t.Fatal(err)
 	}
-	command := exec.Command("python3", "-B", "-c", program, example)
+	command := exec.Command("python3", "-B", "-c", program, inPythonAt)
 	command.Stdin, command.Stderr = bytes.NewReader(given), os.Stderr
 	output, err := command.Output()
 	if err != nil {
@@ -147,8 +147,8 @@ func wantsPython(t testing.TB) {
 	}
 }
 
-// TestPrecertificatesAgreeWithTheExample: both make the same of a chain, or refuse it.
-func TestPrecertificatesAgreeWithTheExample(t *testing.T) {
+// TestPrecertificatesAgreeWithPython: both make the same of a chain, or refuse it.
+func TestPrecertificatesAgreeWithPython(t *testing.T) {
 	wantsPython(t)
 	a := madeByOpenssl(t)
 	roots := a.roots(t, "root")
@@ -183,11 +183,11 @@ func TestPrecertificatesAgreeWithTheExample(t *testing.T) {
 	}
 }
 
-// realPrecertificates reads those of the example's real chains, with what stands beside them there: the issuer's key hash and the
+// realPrecertificates reads those of examples/real-chains.jsonl, with what stands beside them there: the issuer's key hash and the
 // TBSCertificate, which came from elsewhere.
 func realPrecertificates(t testing.TB) (found []real) {
 	t.Helper()
-	file, err := os.Open(example + "/../real-chains.jsonl")
+	file, err := os.Open("../../examples/real-chains.jsonl")
 	if err != nil {
 		t.Fatal(err)
 	}

@@ -47,7 +47,7 @@ LOG, SITE = "http://127.0.0.1:8618", f"https://{HOST}"
 WITHIN = 900
 MADE = "# Ctrl-C once it says serving"
 # The programs that stand in where one isn't built: Python's, of tests/.
-MODELS = {"cttile": "tiles/step.py", "ctproof": "tiles/step.py", "ctnode": "node/ctnode.py", "ctguard": "guard/model.py", "ctwitness": "witness/model.py", "ctlog": "expected.py", "ctlogd": "expected.py", "ctmonitor": "../examples/monitor/stand_in.py"}
+MODELS = {"cttile": "tiles/step.py", "ctproof": "tiles/step.py", "ctnode": "node/ctnode.py", "ctguard": "guard/model.py", "ctwitness": "witness/model.py", "ctlog": "expected.py", "ctmonitor": "../examples/monitor/stand_in.py"}
 NEW_NETWORK = 0x40000000
 
 
@@ -400,7 +400,7 @@ class Trial:
         def verified():
             if watcher.poll() is not None:
                 fail(f"certspotter ended: {told.read_text()[-2000:]}")
-            words = [sys.executable, ROOT / "tests/http/verified.py", self.bare.folder / "root/spotted", f"{LOG}/", str(self.size)]
+            words = [sys.executable, ROOT / "tests/clients/verified.py", self.bare.folder / "root/spotted", f"{LOG}/", str(self.size)]
             return subprocess.run(words, capture_output=True).returncode == 0
 
         until(verified, "certspotter verifies no head")

@@ -27,7 +27,7 @@ import urllib.parse
 
 HERE = pathlib.Path(__file__).resolve().parent
 ROOT = HERE.parent.parent
-sys.path += [str(HERE), str(HERE.parent), str(HERE.parent / "monitor"), str(ROOT / "examples" / "http")]
+sys.path += [str(HERE), str(HERE.parent), str(HERE.parent / "monitor")]
 
 import answers  # noqa: E402
 import compare  # noqa: E402
@@ -307,7 +307,7 @@ def spotted(log, url, folder, size):
         words = ["certspotter", "-verbose", "-stdout", "-no_save", "-logs", folder / "logs.json", "-state_dir", state, "-watchlist", folder / f"watchlist.{place}"]
         with said.open("w") as file:
             running = subprocess.Popen(words, stdout=file, stderr=subprocess.STDOUT)
-        verified = [sys.executable, HERE.parent / "http" / "verified.py", state, url, str(size)]
+        verified = [sys.executable, HERE.parent / "clients" / "verified.py", state, url, str(size)]
         ends = time.monotonic() + PATIENCE
         while subprocess.run(verified, capture_output=True).returncode:
             if running.poll() is not None or time.monotonic() > ends:

@@ -1,6 +1,6 @@
-//! The command line of the programs that run a log, `ctlog` and `ctlogd`: the same options, exit statuses and lines of faults.
+//! The command line of the program that runs a log, `ctlog`: its options, exit statuses and lines of faults.
 //!
-//! - `program` has the programs, and what each says of itself.
+//! - `program` has the program's name, and what it says of itself.
 //! - `words` has the texts of the words.
 //! - `command` reads the numbers of a log from them.
 //! - `answer` is what a command line is answered that gives no numbers.
