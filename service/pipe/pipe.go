@@ -11,6 +11,7 @@ import (
 	"io"
 	"net"
 	"os/exec"
+	"sync"
 	"sync/atomic"
 	"syscall"
 	"time"
@@ -110,12 +111,14 @@ func Dial(ctx context.Context, path string, most int) (*End, error) {
 // Close kills the process, or closes the connection, and gives what it said last.
 func (e *End) Close() string { return e.close() }
 
+// outcome is what an exchange ends with.
+type outcome struct {
+	replies [][]byte
+	err     error
+}
+
 // Exchange sends lines, each with its end, and gives so many replies, without theirs. Behind an error the end is closed.
 func (e *End) Exchange(ctx context.Context, limit time.Duration, lines []byte, replies int) ([][]byte, error) {
-	type outcome struct {
-		replies [][]byte
-		err     error
-	}
 	done := make(chan outcome, 1)
 	go func() {
 		replies, err := e.exchange(lines, replies)
@@ -188,6 +191,9 @@ type Client struct {
 	opens atomic.Uint64
 	// turn holds the end, or nil where none is open; who took it asks.
 	turn chan *End
+	mu   sync.Mutex
+	// stop ends the exchange that runs; nil before the first.
+	stop context.CancelFunc
 }
 
 // NewClient takes what opens an end, and how long an exchange may take. The first exchange opens it.
@@ -200,8 +206,13 @@ func NewClient(open func(context.Context) (*End, error), limit time.Duration) *C
 // Opens is how often an end was opened.
 func (c *Client) Opens() uint64 { return c.opens.Load() }
 
-// Close closes the end.
+// Close closes the end, and doesn't wait for an exchange that runs.
 func (c *Client) Close() error {
+	c.mu.Lock()
+	if c.stop != nil {
+		c.stop()
+	}
+	c.mu.Unlock()
 	if e := <-c.turn; e != nil {
 		e.Close()
 	}
@@ -209,7 +220,8 @@ func (c *Client) Close() error {
 	return nil
 }
 
-// Exchange is the end's, which is opened where none is.
+// Exchange is the end's, which is opened if none is. It returns once the context ends, but the exchange goes on until its reply or its limit: the end is
+// shared, so a caller that leaves must not close it for the others. Until then the exchange may still read the lines.
 func (c *Client) Exchange(ctx context.Context, lines []byte, replies int) ([][]byte, error) {
 	var e *End
 	select {
@@ -217,26 +229,44 @@ func (c *Client) Exchange(ctx context.Context, lines []byte, replies int) ([][]b
 	case <-ctx.Done():
 		return nil, fmt.Errorf("%w: %v", ErrGone, ctx.Err())
 	}
-	// (whose context has ended may have had the turn all the same, and would have the end killed)
+	// (select may have taken the turn although the context has ended)
 	if ctx.Err() != nil {
 		c.turn <- e
 		return nil, fmt.Errorf("%w: %v", ErrGone, ctx.Err())
 	}
-	if e == nil {
-		opened, err := c.open(ctx)
+	own, stop := context.WithCancel(context.Background())
+	c.mu.Lock()
+	c.stop = stop
+	c.mu.Unlock()
+	done := make(chan outcome, 1)
+	go func() {
+		defer stop()
+		came, err := c.exchange(own, e, lines, replies)
+		done <- outcome{came, err}
+	}()
+	select {
+	case came := <-done:
+		return came.replies, came.err
+	case <-ctx.Done():
+		return nil, fmt.Errorf("%w: %v", ErrGone, ctx.Err())
+	}
+}
+
+// exchange asks with the turn, and gives it back.
+func (c *Client) exchange(ctx context.Context, e *End, lines []byte, replies int) (came [][]byte, err error) {
+	defer func() {
 		if err != nil {
-			c.turn <- nil
+			e = nil
+		}
+		c.turn <- e
+	}()
+	if e == nil {
+		if e, err = c.open(ctx); err != nil {
 			return nil, err
 		}
 		c.opens.Add(1)
-		e = opened
 	}
-	came, err := e.Exchange(ctx, c.limit, lines, replies)
-	if err != nil {
-		e = nil
-	}
-	c.turn <- e
-	return came, err
+	return e.Exchange(ctx, c.limit, lines, replies)
 }
 
 // ErrTooLong: a line is longer than the program takes. It wasn't sent.

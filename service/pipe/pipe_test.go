@@ -66,6 +66,77 @@ func TestWhoIsGoneAsksNothing(t *testing.T) {
 	}
 }
 
+// TestCallerLeaves has callers leave while the program works on what they asked: it must not be killed for them, since others share it, and its reply must
+// not be given to the next caller.
+func TestCallerLeaves(t *testing.T) {
+	t.Parallel()
+	folder := t.TempDir()
+	reads, goes := filepath.Join(folder, "reads"), filepath.Join(folder, "goes")
+	for _, fifo := range []string{reads, goes} {
+		must(t, syscall.Mkfifo(fifo, 0o600))
+	}
+	// The program says in one FIFO that it has read a line, and replies once the other one says so.
+	program := []string{"sh", "-c", `while read -r x; do echo "$x" >"$1"; read -r y <"$2"; echo "$x"; done`, "sh", reads, goes}
+	c := NewClient(func(context.Context) (*End, error) { return Start(program, 100) }, trial.Longest)
+	defer c.Close()
+	for i := 0; i < 5; i++ {
+		ctx, leave := context.WithCancel(context.Background())
+		left := make(chan error, 1)
+		go func() {
+			_, err := c.Exchange(ctx, []byte("of who leaves\n"), 1)
+			left <- err
+		}()
+		if read, err := os.ReadFile(reads); err != nil || string(read) != "of who leaves\n" {
+			t.Fatalf("%q, %v", read, err)
+		}
+		leave()
+		wants(t, <-left, ErrGone)
+		must(t, os.WriteFile(goes, []byte("\n"), 0))
+		stays := make(chan error, 1)
+		go func() {
+			replies, err := c.Exchange(context.Background(), []byte("of who stays\n"), 1)
+			if err == nil && string(replies[0]) != "of who stays" {
+				err = errors.New(string(replies[0]))
+			}
+			stays <- err
+		}()
+		if read, err := os.ReadFile(reads); err != nil || string(read) != "of who stays\n" {
+			t.Fatalf("%q, %v", read, err)
+		}
+		must(t, os.WriteFile(goes, []byte("\n"), 0))
+		must(t, <-stays)
+	}
+	if c.Opens() != 1 {
+		t.Errorf("the program was started %d times", c.Opens())
+	}
+}
+
+// TestCloseInterrupts closes a client while its program works on what a caller asked that left: Close must not wait for the limit.
+func TestCloseInterrupts(t *testing.T) {
+	t.Parallel()
+	reads := filepath.Join(t.TempDir(), "reads")
+	must(t, syscall.Mkfifo(reads, 0o600))
+	c := NewClient(func(context.Context) (*End, error) {
+		return Start([]string{"sh", "-c", `read -r x; echo $$ >"$1"; sleep 100000`, "sh", reads}, 100)
+	}, 24*time.Hour)
+	ctx, leave := context.WithCancel(context.Background())
+	left := make(chan error, 1)
+	go func() {
+		_, err := c.Exchange(ctx, []byte("x\n"), 1)
+		left <- err
+	}()
+	text, err := os.ReadFile(reads)
+	must(t, err)
+	leave()
+	wants(t, <-left, ErrGone)
+	must(t, c.Close())
+	pid, err := strconv.Atoi(strings.TrimSpace(string(text)))
+	must(t, err)
+	if alive(pid) {
+		t.Error("the process goes on")
+	}
+}
+
 // TestProgram: a program's replies come a line each; a request that is longer than it takes isn't sent, and no command is none.
 func TestProgram(t *testing.T) {
 	ctx := context.Background()

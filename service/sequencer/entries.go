@@ -70,12 +70,14 @@ func identity(of chains.EntryType, what ...[]byte) (id stores.Identity) {
 	return id
 }
 
-// leaf is an entry of a data tile, with its index and its identity.
+// leaf is an entry of a data tile, with its index.
 type leaf struct {
 	datatile.Leaf
-	index    uint64
-	identity stores.Identity
+	index uint64
 }
+
+// identity returns that of the leaf's entry. It hashes the certificate, so it must not be computed for a tile that is only served.
+func (l *leaf) identity() stores.Identity { return identity(l.Type, l.IssuerKeyHash, l.Certificate) }
 
 // hash is the leaf's, as tlog has it.
 func (l *leaf) hash() tlog.Hash { return tlog.Hash(l.Hash()) }
@@ -92,7 +94,7 @@ func leavesOf(tile []byte) ([]leaf, error) {
 		if !ok {
 			return nil, fmt.Errorf("%w: entry %d of a data tile doesn't name its index", ErrDamaged, i)
 		}
-		leaves[i] = leaf{one, index, identity(one.Type, one.IssuerKeyHash, one.Certificate)}
+		leaves[i] = leaf{one, index}
 	}
 	return leaves, nil
 }
@@ -123,8 +125,9 @@ func placesIn(objects []step.Object) (placed places, err error) {
 		if err != nil {
 			return places{}, fmt.Errorf("%s: %w", object.Name, err)
 		}
-		for _, l := range leaves {
-			placed.add(l.identity, stores.Identity(l.hash()), stores.Place{Index: l.index, Timestamp: l.Timestamp})
+		for i := range leaves {
+			l := &leaves[i]
+			placed.add(l.identity(), stores.Identity(l.hash()), stores.Place{Index: l.index, Timestamp: l.Timestamp})
 		}
 	}
 	return placed, nil

@@ -375,10 +375,10 @@ func (w *world) putsHead(name, note string) {
 	}
 	identities := map[stores.Identity]bool{}
 	for i, one := range all {
-		if identities[one.identity] {
+		if identities[one.identity()] {
 			w.breaks("%s is put, and the identity of entry %d stands before it", name, i)
 		}
-		identities[one.identity] = true
+		identities[one.identity()] = true
 		stored, err := tlog.StoredHashesForRecordHash(int64(i), one.hash(), knownHashes(hashes))
 		if err != nil {
 			w.breaks("%v", err)
@@ -387,7 +387,7 @@ func (w *world) putsHead(name, note string) {
 		for j, hash := range stored {
 			hashes[tlog.StoredHashIndex(0, int64(i))+int64(j)] = hash
 		}
-		if _, ok := w.identities[one.identity]; !ok {
+		if _, ok := w.identities[one.identity()]; !ok {
 			w.breaks("%s is put, and the place of entry %d wasn't added", name, i)
 		}
 		if i < len(w.entries) && w.entries[i].hash() != one.hash() {
@@ -512,7 +512,7 @@ func (h *history) answered() (count int) {
 			count++
 			if index := came.place.LeafIndex; index >= uint64(len(h.w.entries)) {
 				h.w.breaks("who waits is answered by entry %d, of %d under a head", index, len(h.w.entries))
-			} else if at := h.w.entries[index]; at.identity != w.identity || at.Timestamp != came.place.Timestamp {
+			} else if at := h.w.entries[index]; at.identity() != w.identity || at.Timestamp != came.place.Timestamp {
 				h.w.breaks("who waits is answered by entry %d, which is another one", index)
 			}
 		default:

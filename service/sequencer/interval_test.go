@@ -1,6 +1,7 @@
 package sequencer
 
 import (
+	"bytes"
 	"context"
 	"errors"
 	"io/fs"
@@ -10,6 +11,8 @@ import (
 	"testing"
 	"time"
 
+	"wagtenib/service/chains"
+	"wagtenib/service/check"
 	"wagtenib/service/log"
 )
 
@@ -148,8 +151,34 @@ func TestWaitForBack(t *testing.T) {
 	gone, cancel := context.WithCancel(ctx)
 	cancel()
 	for _, least := range []time.Duration{0, never} {
+		for _, back := range []int{0, 1} {
+			s := &Sequencer{queue: newQueue(100, 1<<20), back: back}
+			s.queue.end()
+			<-s.queue.changed
+			s.waitForBack(ctx, least, never)
+		}
 		(&Sequencer{queue: newQueue(100, 1<<20), back: 1}).waitForBack(gone, least, never)
 	}
+}
+
+// TestEndWaitsForNoPace ends a node whose next step would be due in half an hour, since its last one put as many bytes as the node may put in that time.
+func TestEndWaitsForNoPace(t *testing.T) {
+	t.Parallel()
+	p, rests := newPlace(t), make(chan time.Duration, 1000)
+	config := p.config(t)
+	config.MostWritten = 1
+	s, err := start(limited(t), config, hooks{rests: func(most time.Duration) { rests <- most }})
+	must(t, err)
+	entry := log.Entry{Type: chains.X509Entry, Certificate: bytes.Repeat([]byte("x"), 1000)}
+	place, err := s.Submit(limited(t), entry)
+	must(t, err)
+	for most := time.Duration(0); most < 25*time.Minute; most = <-rests {
+	}
+	within, cancel := context.WithTimeout(context.Background(), 10*time.Minute)
+	defer cancel()
+	must(t, s.End(within))
+	must(t, within.Err())
+	isOf(t, p.right(t, &answers{all: []check.Answer{answerOf(entry, place)}}), 1)
 }
 
 // TestStepOnceAllAreBack: the next step begins once all wait who were answered, or waited beside them, whatever the pause, or the rest; and takes all of them in.

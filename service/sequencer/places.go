@@ -36,7 +36,7 @@ func (s *Sequencer) knowsPlaces(ctx context.Context, k known) error {
 		return nil
 	}
 	hash := stores.Identity(newest.hash())
-	byIdentity, err := s.config.Places.Find(ctx, []stores.Identity{newest.identity})
+	byIdentity, err := s.config.Places.Find(ctx, []stores.Identity{newest.identity()})
 	if err != nil {
 		return fmt.Errorf("sequencer: %w", err)
 	}
@@ -277,7 +277,7 @@ func RebuildPlaces(ctx context.Context, config Config, told func(left uint64)) e
 		}
 		var placed places
 		for i := range leaves {
-			placed.add(leaves[i].identity, stores.Identity(leaves[i].hash()), stores.Place{Index: leaves[i].index, Timestamp: leaves[i].Timestamp})
+			placed.add(leaves[i].identity(), stores.Identity(leaves[i].hash()), stores.Place{Index: leaves[i].index, Timestamp: leaves[i].Timestamp})
 		}
 		if err := config.Places.Replace(ctx, placed.identities); err != nil {
 			return fmt.Errorf("sequencer: %w", err)

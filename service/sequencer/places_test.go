@@ -226,7 +226,7 @@ func TestPlacesByTheirID(t *testing.T) {
 	newest, err := s.treeOf(ctx, s.newestKnown().state).leafAt(4)
 	must(t, err)
 	at := stores.Place{Index: 4, Timestamp: newest.Timestamp}
-	must(t, other.Places.Add(ctx, []stores.Placed{{Identity: newest.identity, Place: at}}))
+	must(t, other.Places.Add(ctx, []stores.Placed{{Identity: newest.identity(), Place: at}}))
 	must(t, other.Places.Leaves().Add(ctx, []stores.Placed{{Identity: stores.Identity(newest.hash()), Place: at}}))
 	own, err := newPlacesID(ctx, other.Places)
 	must(t, err)

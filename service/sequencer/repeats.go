@@ -93,6 +93,9 @@ func (s *Sequencer) read(ctx context.Context, name string) ([]byte, error) {
 // Tiles are read beside the rounds: who wants one that isn't there yet is left for a later round, behind all who wait, and so is who wants one
 // that can't be read, which is told behind Patience. Who wants a tile that is damaged is told so. The others have nothing to do with either.
 func (s *Sequencer) answerRepeats(ctx context.Context, k known, batch []*waiting) (rest []*waiting, err error) {
+	if len(batch) == 0 {
+		return batch, nil
+	}
 	identities := make([]stores.Identity, 0, len(batch))
 	for _, w := range batch {
 		identities = append(identities, w.identity)
@@ -289,7 +292,7 @@ func (t *tree) leafAt(index uint64) (*leaf, error) {
 // doesn't stand there.
 func (t *tree) receiptAt(place stores.Place, line string, w *waiting) (*step.Receipt, error) {
 	l, err := t.leafAt(place.Index)
-	if err != nil || l == nil || l.identity != w.identity || l.Timestamp != place.Timestamp {
+	if err != nil || l == nil || l.identity() != w.identity || l.Timestamp != place.Timestamp {
 		return nil, err
 	}
 	proof, err := tlog.ProveRecord(int64(t.state.Size), int64(place.Index), t.hashes)

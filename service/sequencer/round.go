@@ -61,8 +61,13 @@ func (s *Sequencer) loop(ctx context.Context) {
 		if !some {
 			s.idle(ctx)
 		}
-		if until := time.Until(next); until > 0 && (!ending || s.later) {
-			s.rest(ctx, time.Until(least), until)
+		if until := time.Until(next); until > 0 {
+			if !ending {
+				s.rest(ctx, time.Until(least), until)
+			} else if s.later {
+				// A submission waits for a tile that couldn't be read. The end must not ask for the tile without a pause.
+				_ = wait(ctx, until)
+			}
 		}
 		began, before := time.Now(), s.achieved()
 		round, cancel := context.WithTimeout(ctx, mostRound)
@@ -114,17 +119,21 @@ func (c *Config) interval(took time.Duration, wrote bool, written int) (least, m
 	return longer(least, paced), longer(longer(most, rested), paced)
 }
 
-// waitForBack waits for a time, and no longer than until as many wait, behind the least of it, as were answered last and waited beside those.
+// waitForBack waits for at least one time and at most another, and in between until as many submissions wait as the last step answered or left waiting.
+// It returns at once if the node ends: the end must not wait for the pace of a step that it doesn't make.
 func (s *Sequencer) waitForBack(ctx context.Context, least, most time.Duration) {
-	timer := time.NewTimer(most)
-	defer timer.Stop()
-	if least > 0 && wait(ctx, least) != nil {
-		return
-	}
-	for s.back == 0 || !s.queue.has(s.back) {
+	soonest, latest := time.NewTimer(least), time.NewTimer(most)
+	defer soonest.Stop()
+	defer latest.Stop()
+	for early := least > 0; early || s.back == 0 || !s.queue.has(s.back); {
+		if _, ending := s.queue.state(); ending {
+			return
+		}
 		select {
 		case <-s.queue.changed:
-		case <-timer.C:
+		case <-soonest.C:
+			early = false
+		case <-latest.C:
 			return
 		case <-ctx.Done():
 			return
