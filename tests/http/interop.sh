@@ -1,8 +1,7 @@
 #!/usr/bin/env bash
 # Has certspotter, a monitor by others, follow the log over HTTP: to a verified head of 30 entries, and in a second run from
-# there to one of 50. Then client.go submits five more by Google's client library, where go and that library are installed. It
-# wants certspotter, openssl and curl, and for client.go golang-go, golang-github-google-certificate-transparency-dev, g++ and
-# libssl-dev (Debian has them all). With LOG="PROGRAM WORD.." another log is served than crates/ctlogd/out/ctlogd or, where that
+# there to one of 50. Then client.go submits five more by Google's client library, where Go and that library are there (make deps
+# fetches both). It wants certspotter, openssl and curl. With LOG="PROGRAM WORD.." another log is served than crates/ctlogd/out/ctlogd or, where that
 # isn't built, stand_in.py.
 set -eu
 here=$(cd "$(dirname "$0")" && pwd)
@@ -62,14 +61,13 @@ submit 31 50
 follow 50
 told " of ${log##*/}"
 
-packages=$(dpkg-query -L golang-github-google-certificate-transparency-dev 2>/dev/null | sed -n 's|/src/github.com$||p')
-if ! command -v go >/dev/null || [ -z "$packages" ]; then
-  echo "Google's client library isn't installed, and wasn't tried."
+deps=$here/../../deps
+if ! SETUP=no "$deps/fetch.sh" 2>/dev/null; then
+  echo "Google's client library isn't here (make deps), and wasn't tried."
   exit 0
 fi
 for number in $(seq 51 55); do
   make_certificate "$number"
 done
-# The library's C++ code calls functions that OpenSSL 3 calls old: -w has the compiler say nothing of it.
-CGO_CXXFLAGS=-w GO111MODULE=off GOPATH=$packages GOCACHE=$work/go go run "$here/client.go" "$base" "$work"/certificate.5[1-5] ||
-  fail "Google's client library doesn't take what is answered"
+"$deps/go" -C "$deps/.." build -o "$work/client" ./tests/http
+"$work/client" "$base" "$work"/certificate.5[1-5] || fail "Google's client library doesn't take what is answered"
