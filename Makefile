@@ -1,4 +1,4 @@
-.PHONY: help demo test check service service-test service-race service-engines service-faults service-soak service-clients cluster cluster-status cluster-stop link install install-library install-ctlog install-ctmonitor install-ctguard install-cttile install-ctproof install-ctnode install-ctwitness fuzz load sweep wrong sources serve serve-witness tiles programs release reproduce bare container pages
+.PHONY: help demo test check deps service service-test service-race service-engines service-faults service-soak service-clients cluster cluster-status cluster-stop link install install-library install-ctlog install-ctmonitor install-ctguard install-cttile install-ctproof install-ctnode install-ctwitness fuzz load sweep wrong sources serve serve-witness tiles programs release reproduce bare container pages
 
 SECONDS ?= 60
 RUNS ?= 20
@@ -24,12 +24,16 @@ demo: ## proves ctlog and ctmonitor, and shows something of each layer as soon a
 	@examples/demo.sh
 
 # TURN=0 to 8 says of which ninth of the crates it tries the wrong bodies that every ninth gate tries.
-# GO=no leaves the Go part out, SETUP=no installs no packages of Debian's for it. The file COUNT gets how many of its tests passed.
+# GO=no leaves the Go part out, SETUP=no fetches and installs nothing for it. The file COUNT gets how many of its tests passed.
 test: ## the gate: proves every crate from nothing, and runs the tests and the program
 	@checks/needs.sh test
 	@$(MAKE) --silent sources
 	@COUNT="$(CURDIR)/service/out/count" $(MAKE) --silent service-test
 	@COUNT="$(CURDIR)/service/out/count" PYTHONDONTWRITEBYTECODE=1 python3 checks/gate.py
+
+# On a terminal it asks before it installs anything. SETUP=no says what is missing, and SETUP=yes installs a C compiler even if apt upgrades others for it.
+deps: ## fetches Go 1.24 and the modules of the Go part from Debian 13 into a cache, and installs a C compiler where there is none
+	@deps/fetch.sh openssl
 
 check: ## for daily work: proves what changed
 	@checks/needs.sh check
@@ -46,7 +50,7 @@ service: ## builds service/out/ctserve, the service in Go (docs/OPERATING.md), c
 	@checks/needs.sh service
 	@service/build.sh build
 
-service-test: ## builds and tests the Go part, without engines; installs Debian's packages that it lacks, where that asks nothing
+service-test: ## builds and tests the Go part, without engines; fetches first what make deps fetches
 	@service/test.sh
 
 service-engines: ## the same with engines on loopback: those of etcd, PostgreSQL and Ceph that are installed

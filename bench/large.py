@@ -259,7 +259,7 @@ def main():
     with tempfile.TemporaryDirectory(dir=os.environ.get("TMPDIR")) as work:
         work, columns = pathlib.Path(work), {}
         fabricate = work / "fabricate"
-        run("go", "build", "-o", fabricate, ".", cwd=HERE / "fabricate", env={**os.environ, "GO111MODULE": "off"})
+        run(HERE.parent / "deps" / "go", "-C", HERE.parent, "build", "-o", fabricate, "./bench/fabricate")
         for entries in map(int, words.entries.split(",")):
             folder = (words.keep.resolve() if words.keep else work) / str(entries)
             if words.make:

@@ -3,8 +3,8 @@
 
     step.py BENCH_WORK [--batches 1,16,256,4096] [--sizes 1000,1000000232] [--entries 4096] [--turns 5]
 
-BENCH_WORK is the built program (`rt run` in crates/bench_work builds it). rustc builds bench/step/plain.rs, and go bench/step/tiles.go over Debian's
-golang-golang-x-mod-dev; where Go or that package isn't there it is left out. Each makes steps from one made-up state, of submissions of
+BENCH_WORK is the built program (`rt run` in crates/bench_work builds it). rustc builds bench/step/plain.rs, and Go bench/step/tiles.go over
+golang.org/x/mod; where Go or that module isn't there (make deps fetches both) it is left out. Each makes steps from one made-up state, of submissions of
 1,500 bytes with two fingerprints, and prints the line of the last step: the three have to print the same, and the digests in it
 cover all objects. A run makes so many steps that it takes in at least --entries entries, and at least 32. What is printed is processor time (user and
 system) of the whole program, less that of a run of no steps; each figure is the least of the turns. Where the state has nothing at its edge but
@@ -13,13 +13,12 @@ hashes, as at 2^30 leaves, there is no partial data tile.
 import argparse
 import os
 import pathlib
-import shutil
 import subprocess
 import sys
 import tempfile
 
 HERE = pathlib.Path(__file__).resolve().parent
-PACKAGES = pathlib.Path("/usr/share/gocode")
+DEPS = HERE.parent / "deps"
 FEWEST = 32
 
 
@@ -28,11 +27,10 @@ def built(folder):
     plain, tiles = folder / "plain", folder / "tiles"
     flags = ["--edition", "2024", "-O", "-C", "codegen-units=1", "-C", "target-cpu=x86-64-v2", "-C", "no-vectorize-slp"]
     subprocess.run(["rustc", *flags, "-o", plain, HERE / "step" / "plain.rs"], check=True)
-    if not shutil.which("go") or not (PACKAGES / "src/golang.org/x/mod/sumdb/tlog").is_dir():
-        print("step.py: Go or golang.org/x/mod isn't installed", file=sys.stderr)
+    if subprocess.run([DEPS / "fetch.sh"], env={**os.environ, "SETUP": "no"}, capture_output=True).returncode:
+        print("step.py: Go or golang.org/x/mod isn't here (make deps)", file=sys.stderr)
         return {"plain Rust": [plain]}
-    place = dict(os.environ, GO111MODULE="off", GOPATH=str(PACKAGES), GOCACHE=str(folder / "go"))
-    subprocess.run(["go", "build", "-o", tiles, HERE / "step" / "tiles.go"], check=True, env=place)
+    subprocess.run([DEPS / "go", "-C", DEPS.parent, "build", "-o", tiles, "./bench/step"], check=True)
     return {"plain Rust": [plain], "Go": [tiles]}
 
 

@@ -5,11 +5,10 @@
 
 Each job is a process of its own, and all take turns. A time is the job's processor time, without that of the same job over next to nothing,
 and the median of the runs; a ratio is the median of the turns' ratios, so that what else the machine does falls on both. What the jobs print
-has to be the same. Without Go and Debian's golang-golang-x-mod-dev tlog is left out.
+has to be the same. Without Go and that module (make deps fetches both) tlog is left out.
 """
 import argparse
 import os
-import shutil
 import subprocess
 import sys
 import tempfile
@@ -17,7 +16,7 @@ from pathlib import Path
 from statistics import median
 
 HERE = Path(__file__).resolve().parent
-PACKAGES = Path("/usr/share/gocode")
+DEPS = HERE.parent / "deps"
 BATCHES = [1, 10, 1_000, 100_000]
 
 
@@ -65,10 +64,9 @@ def take_turns(jobs, runs):
 
 def tlog(folder):
     """The program of bench/tlog.go, or None where it can't be built."""
-    if not shutil.which("go") or not (PACKAGES / "src/golang.org/x/mod/sumdb/tlog").is_dir():
+    if subprocess.run([DEPS / "fetch.sh"], env={**os.environ, "SETUP": "no"}, capture_output=True).returncode:
         return None
-    words = {"GO111MODULE": "off", "GOPATH": str(PACKAGES), "GOCACHE": f"{folder}/cache"}
-    subprocess.run(["go", "build", "-o", f"{folder}/tlog", HERE / "tlog.go"], env={**os.environ, **words}, check=True)
+    subprocess.run([DEPS / "go", "-C", DEPS.parent, "build", "-o", f"{folder}/tlog", "./bench"], check=True)
     return f"{folder}/tlog"
 
 

@@ -1,15 +1,16 @@
 #!/usr/bin/env bash
 # Says what a target of the Makefile lacks here, and how long it takes on so many processors: needs.sh demo|serve|test|check|link|service|service-test,
-# and of the service's part of serve and of test: needs.sh service-for-serve, service-for-test. GO=no leaves that of test out. Debian's packages that the
-# service lacks are installed where nothing is asked for that, by root or by sudo; SETUP=no says the line alone.
+# and of the service's part of serve and of test: needs.sh service-for-serve, service-for-test. GO=no leaves that of test out. What the service lacks
+# deps/fetch.sh fetches; with SETUP=no it only says so.
 # `needs.sh figures` prints the times on four processors, with which tests/scripts.py compares README.md, and `needs.sh write` writes them there.
 set -u
-cd "$(dirname "$0")/.."
+cd "$(dirname "$0")/.." || exit
 what=$1
 missing=0
 
 # The processor minutes that a target takes where nothing was proved before: test by a run of the gate, demo and serve by runs of their own, from
 # which link is reckoned. After another run: put its figures into this line, and let `needs.sh write` put the times into README.md.
+# shellcheck disable=SC2034
 work_of() { local demo=50 serve=42 link=10 test=180 && echo "${!1}"; }
 
 # The minutes that target $1 takes on $2 processors, rounded up to five. Crates are proved side by side: where processors share them a third is added, or
@@ -46,52 +47,17 @@ if [ "$what" = write ]; then
 fi
 
 lacks() {
-  echo "make ${what#service-for-} lacks $1" >&2
+  echo "make $what lacks $1" >&2
   missing=1
 }
 
-# Installs packages of Debian's, $packages, by root or by a sudo that asks nothing. Where the lists of packages are old, or none are there, they are
-# fetched, and it is tried once more. Where nothing of this is allowed, or it fails, the line is said, and this ends.
-install_packages() {
-  local as="" line="apt-get install --yes --no-install-recommends$packages"
-  [ "$(id -u)" = 0 ] || as="sudo "
-  if [ "${SETUP:-}" = no ]; then
-    echo "$as$line    installs these" >&2
-    exit 1
-  fi
-  if [ -n "$as" ]; then
-    sudo -n true 2>/dev/null || { echo "$as$line    installs these; sudo asks for a password, so this doesn't" >&2; exit 1; }
-    as="sudo -n "
-  fi
-  echo "$as$line" >&2
-  # (nothing is asked, and who else installs has five minutes)
-  local run="${as}env DEBIAN_FRONTEND=noninteractive apt-get -o DPkg::Lock::Timeout=300"
-  $run install --yes --no-install-recommends $packages </dev/null >&2 && return
-  echo "apt-get update, and once more" >&2
-  if ! { $run update && $run install --yes --no-install-recommends $packages; } </dev/null >&2; then
-    echo "make ${what#service-for-}: apt-get couldn't install$packages" >&2
-    exit 1
-  fi
-}
-
-# The Go part stands on Debian's packages, and on nothing of the kit.
+# The Go part needs what deps/fetch.sh fetches, and nothing of the kit.
 if [ "$what" = service ] || [ "$what" = service-test ] || [ "$what" = service-for-serve ] || [ "$what" = service-for-test ]; then
-  tools="go:golang-go gcc:gcc"
-  [ "$what" = service ] || tools+=" openssl:openssl python3:python3"
-  [ "$what" != service-test ] && [ "$what" != service-for-test ] || tools+=" gofmt:golang-go"
-  packages=
-  for pair in $tools; do
-    command -v "${pair%:*}" >/dev/null && continue
-    lacks "${pair%:*} (Debian: ${pair#*:})"
-    [[ " $packages " == *" ${pair#*:} "* ]] || packages+=" ${pair#*:}"
-  done
-  for package in libsqlite3-dev golang-github-mattn-go-sqlite3-dev golang-github-lib-pq-dev golang-etcd-server-dev \
-    golang-github-minio-minio-go-v7-dev golang-github-prometheus-client-golang-dev golang-github-thalesignite-crypto11-dev golang-golang-x-crypto-dev golang-golang-x-mod-dev golang-golang-x-sync-dev; do
-    [ "$(dpkg-query -W -f '${db:Status-Status}' "$package" 2>/dev/null)" = installed ] || { lacks "Debian's $package" && packages+=" $package"; }
-  done
-  [ "$missing" = 1 ] || exit 0
-  install_packages
-  SETUP=no exec "checks/needs.sh" "$what"
+  tools=openssl
+  [ "$what" != service ] || tools=
+  # (each word is a command)
+  # shellcheck disable=SC2086
+  exec deps/fetch.sh $tools
 fi
 
 command -v rt >/dev/null || lacks "rt, the command of the Rattle kit: put the kit's folder bin on the PATH (README.md, 'With the kit')"

@@ -342,14 +342,23 @@ def make_package(release, name, to):
     return path
 
 
-def go_packages():
-    """Debian's packages of Go that the service is built of, with their versions, and Go itself; none where they aren't installed."""
-    ran = run("service/build.sh", "folders")
-    folders = ran.stdout.split() if ran.returncode == 0 else []
-    owners = run("dpkg-query", "-S", *folders).stdout if folders else ""
-    names = sorted({owner for line in owners.splitlines() for owner in line.partition(": ")[0].split(", ")})
-    said = run("dpkg-query", "-W", "-f", "${Package} ${Version}\n", "golang-go", *names).stdout
-    return [tuple(line.split()) for line in said.splitlines()]
+def go_modules(release):
+    """Returns the modules that are linked into the programs in Go, each with its version and where its sources are from, and Go itself. A trial has none where
+    Go isn't there."""
+    ran, go = run("service/build.sh", "modules", env={**os.environ, "SETUP": "no"}), run("deps/go", "env", "GOVERSION")
+    if ran.returncode or go.returncode:
+        if release.quickly:
+            return []
+        stop(f"the modules of the programs in Go can't be listed: {(ran.stderr or go.stderr).strip()}")
+    lines = [line.split() for line in (ROOT / "deps" / "packages.txt").read_text().splitlines() if line[0] != "#"]
+    package = {module.partition("=")[0]: name.rstrip("*") for name, *modules in lines for module in modules}
+    listed = (ROOT / "vendor").resolve().parent / "versions"
+    versions = dict(line.split() for line in listed.read_text().splitlines()) if listed.exists() else {}
+    found = [("go", go.stdout.strip().removeprefix("go"), "the compiler and the standard library")]
+    for module, version in (line.split() for line in ran.stdout.splitlines()):
+        debian = versions.get(package.get(module))
+        found.append((module, version, f"its sources are those of Debian's {package[module]} {debian}" if debian else "its sources are a module proxy's"))
+    return found
 
 
 def crates_of_the_kit():
@@ -363,14 +372,17 @@ def sbom(release):
     """What the programs are made of, in SPDX 2.3 (JSON)."""
     created = time.strftime("%Y-%m-%dT%H:%M:%SZ", time.gmtime(release.moment))
 
-    def package(name, version, supplier, comment):
+    def package(name, version, supplier, comment, **more):
         of = re.sub(r"[^A-Za-z0-9.-]", "-", f"{supplier}-{name}")
-        return {"SPDXID": f"SPDXRef-{of}", "name": name, "versionInfo": version, "downloadLocation": "NOASSERTION", "filesAnalyzed": False, "comment": comment}
+        return {"SPDXID": f"SPDXRef-{of}", "name": name, "versionInfo": version, "downloadLocation": "NOASSERTION", "filesAnalyzed": False, "comment": comment, **more}
+
+    def located(module, version):
+        return [{"referenceCategory": "PACKAGE-MANAGER", "referenceType": "purl", "referenceLocator": f"pkg:golang/{module}@{version}"}]
 
     own = [package(name, release.version, "wagtenib", "proved" if name in PROGRAMS else "in Go, not proved") for name in release.programs]
     own.append(package("libwagtenib", release.version, "wagtenib", "proved"))
     kit = [package(name, release.logic, "rattle", "a library of the Rattle kit, by its logic") for name in crates_of_the_kit()]
-    go = [package(name, version, "debian", "linked into the programs in Go") for name, version in go_packages()]
+    go = [package(name, version, "go", f"linked into the programs in Go; {comment}", externalRefs=located(name, version)) for name, version, comment in go_modules(release)]
     relations = [{"spdxElementId": "SPDXRef-DOCUMENT", "relationshipType": "DESCRIBES", "relatedSpdxElement": it["SPDXID"]} for it in own]
     for it in own:
         below = go if it["name"] in SERVICE else kit

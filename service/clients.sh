@@ -4,7 +4,7 @@
 # follows its tiles, which golang.org/x/mod/sumdb/tlog reads, to the last leaf and head. ctmonitor (where it isn't built, its stand-in) watches it by
 # its tiles and by its calls, at 30 entries and at the end, and openssl checks the signatures of the checkpoints that are kept. Which certificates
 # certspotter and watch.sh tell an owner of is compared with examples/monitor/CERTSPOTTER.md, over a log of tests/names/table.py's. At the end ctcheck
-# judges the log from its folder. It wants certspotter, openssl and curl, and for Google's library golang-github-google-certificate-transparency-dev, g++ and libssl-dev; it
+# judges the log from its folder. It wants certspotter, openssl and curl; it
 # says what it leaves out. STEP, READER and GUARD are the log's programs, as in cluster.sh.
 set -eu
 here=$(cd "$(dirname "$0")" && pwd)
@@ -109,19 +109,12 @@ else
   submit 31 50
 fi
 
-packages=$(dpkg-query -L golang-github-google-certificate-transparency-dev 2>/dev/null | sed -n 's|/src/github.com$||p')
-size=50
-if [ -n "$packages" ]; then
-  for number in $(seq 51 55); do
-    make_certificate "$number"
-  done
-  # The library's C++ code calls functions that OpenSSL 3 calls old: -w has the compiler say nothing of it.
-  CGO_CXXFLAGS=-w GO111MODULE=off GOPATH=$packages GOCACHE=$work/go go run "$here/../tests/clients/client.go" -key "$work/log.pem" "$base" "$work"/certificate.5[1-5] ||
-    fail "Google's client library doesn't take what is answered"
-  size=55
-else
-  echo "Google's client library isn't installed, and wasn't tried."
-fi
+size=55
+for number in $(seq 51 55); do
+  make_certificate "$number"
+done
+"$here/../deps/go" -C "$here/.." build -o "$work/client" ./tests/clients
+"$work/client" -key "$work/log.pem" "$base" "$work"/certificate.5[1-5] || fail "Google's client library doesn't take what is answered"
 
 for _ in $(seq 300); do
   grep -q ": $size entries, " "$work/ctread.told" && break

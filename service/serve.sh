@@ -1,13 +1,27 @@
 #!/usr/bin/env bash
 # Serves one log of ctserve out of a folder, on loopback: serve.sh [FOLDER] [PORT] [SETTING..], by default ct-log and 8618; settings go to ctserve.
 # The first start makes the log in FOLDER: its key (log.key, log.pem), a root of its own to try it with (root.key, root.pem) and a chain that
-# leads there (chain.json); later ones go on with it. ROOTS is a file with the roots besides, in PEM; by default the system's.
+# leads there (chain.json); later ones go on with it. A first start that fails leaves no folder. ROOTS is a file with the roots besides, in PEM; by default the
+# system's.
 # STEP, DECIDER and GUARD are the log's programs, READER the one that makes readers' proofs; by default cttile, ctnode, ctguard and ctproof, which are
 # proved and built where they aren't. Where the kit isn't there either, programs in Python stand in for those that lack. ORIGIN=ct-log.example is the log's name in checkpoints.
 set -eu
 here=$(cd "$(dirname "$0")" && pwd)
 folder=${1:-ct-log} port=${2:-8618}
-[ $# -lt 2 ] && shift $# || shift 2
+if [ $# -lt 2 ]; then shift $#; else shift 2; fi
+
+# Each port must be free before anything is built or made.
+for taken in "$port" "$((port + 1))"; do
+  if (exec 3<>"/dev/tcp/127.0.0.1/$taken") 2>/dev/null; then
+    echo "serve.sh: another program listens at port $taken (take other ports: make serve PORT=$((port + 10)))" >&2
+    exit 1
+  fi
+done
+# A log is made once: a log whose objects are there and whose register isn't would be another one of that name.
+if [ ! -e "$folder/made" ] && [ -n "$(ls -A "$folder" 2>/dev/null)" ]; then
+  echo "serve.sh: $folder isn't a log that serve.sh made, or is incomplete (remove it and run this again: rm -r $folder)" >&2
+  exit 1
+fi
 crates=$here/../crates
 missing=
 [ -n "${STEP:-}" ] || [ -x "$crates/cttile/out/cttile" ] || missing+=" cttile"
@@ -35,16 +49,25 @@ fi
 [ -x "$here/out/ctserve" ] || echo "Building ctserve, a minute and a half of one processor."
 "$here/build.sh" build
 export PYTHONDONTWRITEBYTECODE=1
-mkdir -p "$folder"
-folder=$(cd "$folder" && pwd)
-settings=(--origin "${ORIGIN:-ct-log.example}" --listen "127.0.0.1:$port" --operator-listen "127.0.0.1:$((port + 1))" --signing-key "$folder/log.key"
-  --roots "$folder/roots.pem" --folder "$folder/log" --step "${STEP:-$crates/cttile/out/cttile}" --guard "${GUARD:-$crates/ctguard/out/ctguard}"
-  --decider "${DECIDER:-$crates/ctnode/out/ctnode}" --reader "${READER:-$crates/ctproof/out/ctproof}" "$@")
+mkdir -p "$(dirname "$folder")"
+folder=$(cd "$(dirname "$folder")" && pwd)/$(basename "$folder")
 
-# make: key, root and chain, and the log, which is ready once before it is served.
+# ctserve_at FOLDER WORD..: what calls ctserve over the log in a folder.
+ctserve_at() {
+  local at=$1
+  shift
+  settings=(--origin "${ORIGIN:-ct-log.example}" --listen "127.0.0.1:$port" --operator-listen "127.0.0.1:$((port + 1))" --signing-key "$at/log.key"
+    --roots "$at/roots.pem" --folder "$at/log" --step "${STEP:-$crates/cttile/out/cttile}" --guard "${GUARD:-$crates/ctguard/out/ctguard}"
+    --decider "${DECIDER:-$crates/ctnode/out/ctnode}" --reader "${READER:-$crates/ctproof/out/ctproof}" "$@")
+}
+
+# make: key, root and chain, and the log, which is ready once before it is served. All of it is made beside FOLDER, which it becomes at the end.
 make() {
-  local name log
-  cd "$folder"
+  local name log made
+  made=$(mktemp -d "$folder.XXXXXX")
+  # shellcheck disable=SC2064
+  trap "rm -rf '$made'" EXIT
+  cd "$made"
   for name in log root leaf; do openssl ecparam -name prime256v1 -genkey -noout -out "$name.key"; done
   openssl ec -in log.key -pubout -out log.pem 2>/dev/null
   openssl req -x509 -key root.key -subj "/CN=a root to try a log with" -days 3650 -out root.pem
@@ -52,6 +75,7 @@ make() {
     openssl x509 -req -CA root.pem -CAkey root.key -set_serial 1 -days 90 -out leaf.pem 2>/dev/null
   printf '{"chain":["%s","%s"]}\n' "$(openssl x509 -in leaf.pem -outform DER | base64 -w 0)" "$(openssl x509 -in root.pem -outform DER | base64 -w 0)" >chain.json
   cp root.pem roots.pem
+  ctserve_at "$made" "$@"
   "$here/out/ctserve" "${settings[@]}" --create 2>create.log &
   log=$!
   until grep -qs '"event":"serving"' create.log; do
@@ -61,16 +85,14 @@ make() {
   kill -TERM "$log"
   wait "$log"
   touch made
+  cd /
+  chmod 755 "$made"
+  # (an empty folder is replaced)
+  mv -T "$made" "$folder"
 }
 
-# (a log is made once: one whose objects are there and whose register isn't would be another one of that name)
-if [ ! -e "$folder/made" ]; then
-  if [ -e "$folder/log" ]; then
-    echo "serve.sh: $folder/log is of a first start that didn't come to its end: look at it, or take the folder away" >&2
-    exit 1
-  fi
-  (umask 077 && make)
-fi
+[ -e "$folder/made" ] || (umask 077 && make "$@")
+ctserve_at "$folder" "$@"
 roots=${ROOTS:-/etc/ssl/certs/ca-certificates.crt}
 [ -n "${ROOTS:-}" ] || [ -e "$roots" ] || roots=/dev/null
 cat "$folder/root.pem" "$roots" >"$folder/roots.pem"

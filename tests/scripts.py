@@ -365,50 +365,76 @@ def try_release(folder):
     named = {package["name"] for package in bill["packages"]}
     if bill["spdxVersion"] != "SPDX-2.3" or not {"ctserve", "cttile", "sha2", "std"} <= named or len({it["SPDXID"] for it in bill["packages"]}) != len(bill["packages"]):
         fail(f"release.py: the SBOM names {sorted(named)}")
+    has_go = not subprocess.run([HERE.parent / "deps" / "fetch.sh"], env={**os.environ, "SETUP": "no"}, capture_output=True).returncode
+    if has_go and (not {"go", "golang.org/x/mod", "github.com/lib/pq"} <= named or "github.com/google/certificate-transparency-go" in named):
+        fail(f"release.py: the SBOM names other modules than those that are linked: {sorted(named)}")
     return f"{len(names)} files twice the same"
 
 
-def try_needs(folder):
-    """needs.sh says the packages that lack in one line, and runs it where nothing is asked; where it fails, behind an update once more. Then make test fails,
-    but for GO=no. Where others lack too it isn't tried."""
-    needs = [HERE.parent / "checks" / "needs.sh", "service-for-test"]
-    if subprocess.run(needs, env={**os.environ, "SETUP": "no"}, capture_output=True).returncode:
-        return
-    lacking, line = "golang-github-lib-pq-dev", "apt-get install --yes --no-install-recommends golang-github-lib-pq-dev"
-    log, there = folder / "log", folder / "there"
+def answered(words, answer, **how):
+    """Runs a program on a terminal, on which it is answered so."""
+    ours, terminal = os.openpty()
+    with open(ours, "wb", buffering=0) as writing:
+        writing.write(answer)
+        ended = subprocess.run(words, stdin=terminal, **how)
+        os.close(terminal)
+    return ended
+
+
+def try_deps(folder):
+    """fetch.sh installs a C compiler that is missing where nothing is asked for that, and after a question on a terminal. It neither upgrades nor removes
+    anything, except with SETUP=yes. With SETUP=no it does nothing, and says what is missing. What make test runs fails then, except with GO=no."""
+    top, log, planned = folder / "checkout", folder / "log", folder / "planned"
+    shutil.copytree(HERE.parent / "deps", top / "deps")
+    shutil.copy(HERE.parent / "go.mod", top)
     stubs = {
-        "dpkg-query": f'case "$*" in *{lacking}) [ ! -e {there} ] || echo installed ;; *) echo installed ;; esac',
-        "apt-get": f'echo "apt-get $*" >>{log}; [ "$DEBIAN_FRONTEND" = noninteractive ] || exit 9; case "$*" in *update) touch {folder}/lists ;; *) $FAILS && touch {there} ;; esac',
+        "apt-get": f'case "$*" in *--simulate*) cat {planned} ;; *) echo "apt-get $*" >>{log}; [ "$DEBIAN_FRONTEND" = noninteractive ] || exit 9 ;; esac; '
+                   f'case "$*" in *--simulate*) ;; *update) touch {folder}/lists ;; *) $FAILS ;; esac',
         "sudo": f'echo "sudo $1" >>{log}; [ $1 = -n ] && $ASKS_NOTHING && shift && exec "$@"',
         "id": "echo $USER_ID",
-    }
+        "go": "$HAS_GO && echo go1.24.4",
+    }  # fmt: skip
     for name, script in stubs.items():
         (folder / name).write_text(f"#!/bin/sh\n{script}\n")
         (folder / name).chmod(0o755)
-    install = f"apt-get -o DPkg::Lock::Timeout=300 install --yes --no-install-recommends {lacking}"
-    update = "apt-get -o DPkg::Lock::Timeout=300 update"
+    line = "apt-get install --yes --no-install-recommends gcc libc6-dev"
+    install, update = "apt-get -o DPkg::Lock::Timeout=300 install --yes --no-install-recommends gcc libc6-dev", "apt-get -o DPkg::Lock::Timeout=300 update"
     lists, never, always = f"test -e {folder}/lists", "false", "true"
-    for what, user, setup, asks_nothing, fails, status, ran, says in (
-        ("SETUP=no", 0, "no", always, always, 1, [], f"{line}    installs these"),
-        ("root", 0, "", always, always, 0, [install], line),
-        ("root, where SETUP=yes", 0, "yes", always, always, 0, [install], line),
-        ("root without lists of packages", 0, "", always, lists, 0, [install, update, install], line),
-        ("root without a network", 0, "", always, never, 1, [install, update, install], f"make test: apt-get couldn't install {lacking}"),
-        ("a sudo that asks nothing", 7, "", always, always, 0, ["sudo -n", "sudo -n", install], f"sudo -n {line}"),
-        ("a sudo that asks", 7, "", never, always, 1, ["sudo -n"], f"sudo {line}    installs these; sudo asks"),
-    ):
-        for path in (log, there, folder / "lists"):
-            path.unlink(missing_ok=True)
-        environment = {**os.environ, "PATH": f"{folder}:{os.environ['PATH']}", "SETUP": setup, "USER_ID": str(user), "ASKS_NOTHING": asks_nothing, "FAILS": fails}
-        ended = subprocess.run(needs, env=environment, capture_output=True, text=True)
+    new, upgrade = "Inst gcc (12 Debian)\n", "Inst libc6 [1] (2 Debian)\nInst gcc (12 Debian)\n"
+    missing, other = "a-compiler-that-is-missing", f"{folder}/cache"
+
+    def place(setup="", user=0, asks_nothing=always, fails=always, has_go=always, compiler=missing):
+        return {**os.environ, "PATH": f"{folder}:{os.environ['PATH']}", "SETUP": setup, "USER_ID": str(user), "ASKS_NOTHING": asks_nothing, "FAILS": fails,
+                "HAS_GO": has_go, "CC": compiler, "XDG_CACHE_HOME": other}  # fmt: skip
+
+    def judge(what, ended, status, ran, says):
         did = log.read_text().splitlines() if log.exists() else []
-        told = ended.stderr.splitlines()
-        if ended.returncode != status or did != ran or not told or told[0] != f"make test lacks Debian's {lacking}" or not any(said.startswith(says) for said in told):
-            fail(f"needs.sh, by {what}, ends with status {ended.returncode}, ran {did} and says {told}")
-    there.unlink(missing_ok=True)
-    for go, status, says in (("", 1, f"{line}    installs these"), ("no", 0, "GO=no")):
-        environment = {**os.environ, "PATH": f"{folder}:{os.environ['PATH']}", "SETUP": "no", "USER_ID": "0", "GO": go}
-        ended = subprocess.run([HERE.parent / "service" / "test.sh"], env=environment, capture_output=True, text=True)
+        if ended.returncode != status or did != ran or says not in ended.stderr:
+            fail(f"fetch.sh, by {what}, ends with status {ended.returncode}, ran {did} and says {ended.stderr}")
+
+    for what, how, plan, status, ran, says in (
+        ("SETUP=no", {"setup": "no"}, new, 1, [], f"deps: gcc libc6-dev must be installed: {line}"),
+        ("root", {}, new, 0, [install], line),
+        ("root, where others would be upgraded", {}, upgrade, 1, [], "upgrade or remove packages that are installed (libc6)"),
+        ("root, where others would be removed", {}, "Remv tcc [1]\n", 1, [], "upgrade or remove packages that are installed (tcc)"),
+        ("root with SETUP=yes, where others are upgraded", {"setup": "yes"}, upgrade, 0, [install], line),
+        ("root without lists of packages", {"fails": lists}, new, 0, [install, update, install], line),
+        ("root without a network", {"fails": never}, new, 1, [install, update, install], "deps: apt-get couldn't install gcc libc6-dev"),
+        ("a sudo that asks nothing", {"user": 7}, new, 0, ["sudo -n", "sudo -n", install], f"sudo -n {line}"),
+        ("a sudo that asks", {"user": 7, "asks_nothing": never}, new, 1, ["sudo -n"], f"sudo asks for a password: sudo {line}"),
+        ("a machine that has all of it", {"compiler": "true"}, new, 0, [], ""),
+        ("SETUP=no without Go", {"compiler": "true", "has_go": never, "setup": "no"}, new, 1, [], "deps: Go 1.24 or its modules aren't here: make deps"),
+    ):
+        for path in (log, folder / "lists"):
+            path.unlink(missing_ok=True)
+        planned.write_text(plan)
+        judge(what, subprocess.run([top / "deps" / "fetch.sh"], env=place(**how), stdin=subprocess.DEVNULL, capture_output=True, text=True), status, ran, says)
+    for answer, status, ran in ((b"\n", 1, []), (b"n\n", 1, []), (b"y\n", 0, [install])):
+        log.unlink(missing_ok=True)
+        planned.write_text(new)
+        judge(f"the answer {answer}", answered([top / "deps" / "fetch.sh"], answer, env=place(), capture_output=True, text=True), status, ran, line)
+    for go, status, says in (("", 1, "deps: gcc libc6-dev must be installed"), ("no", 0, "GO=no")):
+        ended = subprocess.run([HERE.parent / "service" / "test.sh"], env={**place("no"), "GO": go}, stdin=subprocess.DEVNULL, capture_output=True, text=True)
         if ended.returncode != status or says not in ended.stdout + ended.stderr:
             fail(f"test.sh with GO={go} ends with status {ended.returncode}: {ended.stdout}{ended.stderr}")
 
@@ -496,7 +522,7 @@ def main():
     with tempfile.TemporaryDirectory() as folder:
         released = try_release(pathlib.Path(folder))
     with tempfile.TemporaryDirectory() as folder:
-        try_needs(pathlib.Path(folder))
+        try_deps(pathlib.Path(folder))
         try_count(pathlib.Path(folder))
     with tempfile.TemporaryDirectory() as folder:
         sessions = try_sessions(pathlib.Path(folder))

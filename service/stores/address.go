@@ -9,7 +9,7 @@ import (
 	"strconv"
 	"strings"
 
-	"go.etcd.io/etcd/clientv3"
+	"go.etcd.io/etcd/client/v3"
 )
 
 // ErrAddress: a text isn't an address of a store of this kind. It is wrapped with why, and without what may be secret in it.

@@ -8,7 +8,7 @@ import (
 	"strings"
 	"testing"
 
-	"go.etcd.io/etcd/clientv3"
+	"go.etcd.io/etcd/client/v3"
 )
 
 // TestAddresses reads addresses of engines without asking them.

@@ -6,8 +6,8 @@ import (
 	"sync"
 	"time"
 
-	"go.etcd.io/etcd/clientv3"
-	"go.etcd.io/etcd/etcdserver/api/v3rpc/rpctypes"
+	"go.etcd.io/etcd/api/v3/v3rpc/rpctypes"
+	"go.etcd.io/etcd/client/v3"
 )
 
 // A member of etcd that its peers can't reach takes calls, and answers none of them while that lasts: a call has mostCall there, and is then made

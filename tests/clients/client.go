@@ -4,11 +4,11 @@
 //
 //	client -key FILE BASE CERTIFICATE..
 //
-// BASE is the log's address with a slash at its end; each CERTIFICATE is a file in DER, and FILE has the log's public key in PEM. Debian has the library
-// (golang-github-google-certificate-transparency-dev); GOPATH has to name the folder of such packages.
+// BASE is the log's address with a slash at its end; each CERTIFICATE is a file in DER, and FILE has the log's public key in PEM.
 package main
 
 import (
+	"context"
 	"crypto/sha256"
 	"crypto/x509"
 	"encoding/base64"
@@ -20,9 +20,11 @@ import (
 	"net/url"
 	"os"
 
-	ct "github.com/google/certificate-transparency/go"
-	"github.com/google/certificate-transparency/go/client"
-	"github.com/google/certificate-transparency/go/merkletree"
+	ct "github.com/google/certificate-transparency-go"
+	"github.com/google/certificate-transparency-go/client"
+	"github.com/google/certificate-transparency-go/jsonclient"
+	"github.com/transparency-dev/merkle/proof"
+	"github.com/transparency-dev/merkle/rfc6962"
 )
 
 // Ends the program where it isn't as it has to be.
@@ -56,7 +58,6 @@ type checker struct {
 	base      string
 	log       *client.LogClient
 	signature *ct.SignatureVerifier
-	tree      merkletree.MerkleVerifier
 }
 
 // The log at base, by the key in a file.
@@ -69,12 +70,14 @@ func open(base, file string) checker {
 	ok(err)
 	signature, err := ct.NewSignatureVerifier(key)
 	ok(err)
-	return checker{base, client.New(base[:len(base)-1], nil), signature, merkletree.NewMerkleVerifier(digest)}
+	log, err := client.New(base[:len(base)-1], nil, jsonclient.Options{PublicKeyDER: answer.Key})
+	ok(err)
+	return checker{base, log, signature}
 }
 
 // The head that is answered, with its signature checked; over another size it doesn't hold.
 func (c checker) head() *ct.SignedTreeHead {
-	head, err := c.log.GetSTH()
+	head, err := c.log.GetSTH(context.Background())
 	ok(err)
 	ok(c.signature.VerifySTHSignature(*head))
 	other := *head
@@ -85,13 +88,10 @@ func (c checker) head() *ct.SignedTreeHead {
 
 // Submits a certificate, checks the signature of its timestamp, and gives its leaf.
 func (c checker) submit(certificate []byte) []byte {
-	timestamp, err := c.log.AddChain([]ct.ASN1Cert{certificate})
+	timestamp, err := c.log.AddChain(context.Background(), []ct.ASN1Cert{{Data: certificate}})
 	ok(err)
-	// (Debian's version of the library leaves the extensions in base64.)
-	timestamp.Extensions, err = base64.StdEncoding.DecodeString(string(timestamp.Extensions))
-	ok(err)
-	entry := ct.LogEntry{Leaf: ct.MerkleTreeLeaf{TimestampedEntry: ct.TimestampedEntry{
-		EntryType: ct.X509LogEntryType, X509Entry: certificate, Extensions: timestamp.Extensions}}}
+	entry := ct.LogEntry{Leaf: ct.MerkleTreeLeaf{TimestampedEntry: &ct.TimestampedEntry{
+		EntryType: ct.X509LogEntryType, X509Entry: &ct.ASN1Cert{Data: certificate}, Extensions: timestamp.Extensions}}}
 	ok(c.signature.VerifySCTSignature(*timestamp, entry))
 	other := *timestamp
 	other.Timestamp++
@@ -103,18 +103,17 @@ func (c checker) submit(certificate []byte) []byte {
 }
 
 // Checks the audit path of a leaf to the head, and gives the leaf's index. It leads to no other root.
-func (c checker) include(leaf []byte, head *ct.SignedTreeHead) int64 {
+func (c checker) include(leaf []byte, head *ct.SignedTreeHead) uint64 {
 	var answer struct {
-		LeafIndex int64    `json:"leaf_index"`
+		LeafIndex uint64   `json:"leaf_index"`
 		AuditPath [][]byte `json:"audit_path"`
 	}
-	hash := base64.StdEncoding.EncodeToString(digest(append([]byte{0}, leaf...)))
-	get(fmt.Sprintf("%sct/v1/get-proof-by-hash?hash=%s&tree_size=%d", c.base, url.QueryEscape(hash), head.TreeSize), &answer)
-	index, size, root := answer.LeafIndex, int64(head.TreeSize), head.SHA256RootHash
-	// The library counts leaves from 1.
-	ok(c.tree.VerifyInclusionProof(index+1, size, answer.AuditPath, root[:], leaf))
+	hash := digest(append([]byte{0}, leaf...))
+	get(fmt.Sprintf("%sct/v1/get-proof-by-hash?hash=%s&tree_size=%d", c.base, url.QueryEscape(base64.StdEncoding.EncodeToString(hash)), head.TreeSize), &answer)
+	index, size, root := answer.LeafIndex, head.TreeSize, head.SHA256RootHash
+	ok(proof.VerifyInclusion(rfc6962.DefaultHasher, index, size, hash, answer.AuditPath, root[:]))
 	root[0] ^= 1
-	hold(c.tree.VerifyInclusionProof(index+1, size, answer.AuditPath, root[:], leaf) != nil, "an audit path leads to another root")
+	hold(proof.VerifyInclusion(rfc6962.DefaultHasher, index, size, hash, answer.AuditPath, root[:]) != nil, "an audit path leads to another root")
 	return index
 }
 
@@ -125,18 +124,18 @@ func (c checker) extends(first, second *ct.SignedTreeHead) {
 	}
 	get(fmt.Sprintf("%sct/v1/get-sth-consistency?first=%d&second=%d", c.base, first.TreeSize, second.TreeSize), &answer)
 	one, two := first.SHA256RootHash, second.SHA256RootHash
-	ok(c.tree.VerifyConsistencyProof(int64(first.TreeSize), int64(second.TreeSize), one[:], two[:], answer.Consistency))
+	ok(proof.VerifyConsistency(rfc6962.DefaultHasher, first.TreeSize, second.TreeSize, answer.Consistency, one[:], two[:]))
 	one[0] ^= 1
-	hold(c.tree.VerifyConsistencyProof(int64(first.TreeSize), int64(second.TreeSize), one[:], two[:], answer.Consistency) != nil,
+	hold(proof.VerifyConsistency(rfc6962.DefaultHasher, first.TreeSize, second.TreeSize, answer.Consistency, one[:], two[:]) != nil,
 		"a consistency proof shows another root")
 }
 
 // Checks that the entry at this index is the certificate.
-func (c checker) read(index int64, certificate []byte) {
-	entries, err := c.log.GetEntries(index, index)
+func (c checker) read(index uint64, certificate []byte) {
+	entries, err := c.log.GetEntries(context.Background(), int64(index), int64(index))
 	ok(err)
 	hold(len(entries) == 1, "not one entry at index", index)
-	hold(string(entries[0].Leaf.TimestampedEntry.X509Entry) == string(certificate), "another certificate at index", index)
+	hold(string(entries[0].Leaf.TimestampedEntry.X509Entry.Data) == string(certificate), "another certificate at index", index)
 }
 
 func main() {

@@ -6,14 +6,13 @@
 Of a certificate with each kind of name, each beginning is taken, and each byte set to EVERY'th (64) value from a first one that depends on the
 place, and to those that DER's lengths and tags turn on. Each of them Go's golang.org/x/crypto/cryptobyte (names.go) and
 ../monitor/certificate_names.py have to read alike, names or a refusal; where python's `cryptography` reads names at all, it reads
-these; and the built ctmonitor, or else stand_in.py, says of them what certificate_names.py does. Where Go, x/crypto (Debian's golang-go and
-golang-golang-x-crypto-dev) or `cryptography` isn't installed, it says so. It ends with status 1 where something differs.
+these; and the built ctmonitor, or else stand_in.py, says of them what certificate_names.py does. Where Go, x/crypto (make deps fetches
+both) or `cryptography` isn't there, it says so. It ends with status 1 where something differs.
 """
 import base64
 import json
 import os
 import pathlib
-import shutil
 import subprocess
 import sys
 import tempfile
@@ -25,7 +24,7 @@ sys.path.append(str(HERE))
 import compare  # noqa: E402
 from compare import kinds, x509  # noqa: E402
 
-PACKAGES = pathlib.Path("/usr/share/gocode")
+DEPS = compare.ROOT / "deps"
 # What a byte of DER is set to besides: tags and lengths that are near to others, 0x80 (indefinite), and 31 (a tag of more bytes).
 TOLD = [0x00, 0x01, 0x1F, 0x30, 0x31, 0x7F, 0x80, 0x81, 0x82, 0x84, 0x85, 0xA2, 0xA6, 0xFF]
 PIECE = 2000
@@ -71,13 +70,10 @@ def main():
         others += theirs is not None
         if theirs is not None and theirs != names:
             compare.fail(f"other names are read: {names}, where cryptography reads {theirs}: {base64.b64encode(one).decode()}")
-    gos = "Go or x/crypto isn't installed: cryptobyte hasn't read them"
-    if shutil.which("go") and (PACKAGES / "src/golang.org/x/crypto/cryptobyte").is_dir():
+    gos = "Go or x/crypto isn't here (make deps): cryptobyte hasn't read them"
+    if not subprocess.run([DEPS / "fetch.sh"], env={**os.environ, "SETUP": "no"}, capture_output=True).returncode:
         with tempfile.TemporaryDirectory() as work:
-            there = {**os.environ, "GO111MODULE": "off", "GOPATH": str(PACKAGES)}
-            if not there.get("HOME"):
-                there.setdefault("GOCACHE", f"{work}/cache")
-            subprocess.run(["go", "build", "-o", f"{work}/names", HERE / "names.go"], env=there, check=True)
+            subprocess.run([DEPS / "go", "-C", compare.ROOT, "build", "-o", f"{work}/names", "./tests/names"], check=True)
             for one, names, theirs in zip(everything, ours, read_by_go(f"{work}/names", everything), strict=True):
                 if names != theirs:
                     compare.fail(f"other names are read: {names}, where cryptobyte reads {theirs}: {base64.b64encode(one).decode()}")

@@ -26,7 +26,7 @@ type files struct {
 	read   map[string][]byte
 }
 
-func (f files) Height() int                          { return 8 }
+func (f files) Height() int                         { return 8 }
 func (f files) SaveTiles(_ []tlog.Tile, _ [][]byte) {}
 
 func (f files) ReadTiles(tiles []tlog.Tile) ([][]byte, error) {
