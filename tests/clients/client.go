@@ -70,7 +70,7 @@ func open(base, file string) checker {
 	ok(err)
 	signature, err := ct.NewSignatureVerifier(key)
 	ok(err)
-	log, err := client.New(base[:len(base)-1], nil, jsonclient.Options{PublicKeyDER: answer.Key})
+	log, err := client.New(base[:len(base)-1], nil, jsonclient.Options{PublicKeyDER: block.Bytes})
 	ok(err)
 	return checker{base, log, signature}
 }
