@@ -130,7 +130,7 @@ has_modules && exit
 if [ ! -d "$deps_cache" ]; then
   [ "${SETUP:-}" != no ] || fail "Go 1.24 or its modules aren't here: make deps fetches them into $deps_cache"
   if [ "$(. /etc/os-release && echo "$ID")" != debian ] || ! command -v apt-get >/dev/null; then
-    fail "this isn't a Debian: install Go 1.24, a C compiler and SQLite, and let go mod tidy fetch the modules"
+    fail "this isn't a Debian: install Go 1.24 and a C compiler, and have go fetch the modules (GOFLAGS=-mod=mod)"
   fi
   [ -e $keys ] || fail "$keys isn't there, with which Debian's packages are checked (Debian: debian-archive-keyring)"
   echo "Fetching Go 1.24 and the modules from Debian 13, some 80 MB, into $deps_cache" >&2
