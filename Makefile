@@ -34,6 +34,7 @@ test: ## the gate: proves every crate from nothing, and runs the tests and the p
 # On a terminal it asks before it installs anything. SETUP=no says what is missing, and SETUP=yes installs a C compiler even if apt upgrades others for it.
 deps: ## fetches Go 1.24 and the modules of the Go part from Debian 13 into a cache, and installs a C compiler where there is none
 	@deps/fetch.sh openssl
+	@echo "$$(deps/go version) is here. In a shell: eval \"\$$($(CURDIR)/deps/env.sh)\""
 
 check: ## for daily work: proves what changed
 	@checks/needs.sh check

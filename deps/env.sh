@@ -1,6 +1,6 @@
-# shellcheck shell=bash
-# Puts Go 1.24 on the PATH of a script in bash: . deps/env.sh
-# That is the Go that is on the PATH, if it is 1.24 or later, and otherwise Debian 13's, in the cache that fetch.sh makes. deps_cache is the folder of the
+#!/usr/bin/env bash
+# Puts Go 1.24, gopls and staticcheck on the PATH: of a script in bash by `. deps/env.sh`, of any shell by `eval "$(deps/env.sh)"`.
+# Go is the Go that is on the PATH, if it is 1.24 or later, and otherwise Debian 13's, in the cache that fetch.sh makes. deps_cache is the folder of the
 # cache, and deps_vendor the vendor folder in it. The cache's name has a digest of what it is made from, so a change of go.mod makes a new cache.
 deps_top=$(cd "$(dirname "${BASH_SOURCE[0]}")/.." && pwd)
 export HOME="${HOME:-$(getent passwd "$(id -u)" | cut -d: -f6)}"
@@ -20,3 +20,4 @@ deps_vendor=$deps_cache/vendor
 # The cache has gopls and staticcheck too: those that are installed come before them.
 is_new_go go || PATH=$deps_cache/bin:$PATH
 export PATH="$PATH:$deps_cache/tools"
+[ "${BASH_SOURCE[0]}" != "$0" ] || echo "export PATH=\"$PATH\""

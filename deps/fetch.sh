@@ -59,7 +59,7 @@ sources() {
   codename=$(. /etc/os-release && echo "${VERSION_CODENAME:-}")
   apt-get update --print-uris | sed -n "s|^'\([^']*/\)dists/\([^/']*\)/InRelease'.*|\1 \2|p" | while read -r uri suite; do
     case $suite in
-      "$codename" | stable | oldstable) suite=trixie ;;
+      "$codename" | stable | oldstable | testing | unstable | sid) suite=trixie ;;
       "$codename-updates" | stable-updates | oldstable-updates) suite=trixie-updates ;;
       "$codename-security" | stable-security | oldstable-security) suite=trixie-security ;;
       *) continue ;;
@@ -122,13 +122,15 @@ for command in python3 "$@"; do
   command -v "$command" >/dev/null || missing+=("$command")
 done
 [ ${#missing[@]} = 0 ] || install_packages "${missing[@]}"
-# A link into another cache is made again.
-[ ! -L vendor ] || [ "$(readlink vendor)" = "$deps_vendor" ] || rm vendor
+# A link into another cache is of another go.mod.
+if [ -L vendor ] && [ "$(readlink vendor)" != "$deps_vendor" ]; then
+  if [ -d "$deps_vendor" ]; then ln -sfn "$deps_vendor" vendor; else rm vendor; fi
+fi
 has_modules && exit
 if [ ! -d "$deps_cache" ]; then
   [ "${SETUP:-}" != no ] || fail "Go 1.24 or its modules aren't here: make deps fetches them into $deps_cache"
-  if ! [ -e /etc/debian_version ] || ! command -v apt-get >/dev/null; then
-    fail "this isn't a Debian: install Go 1.24, a C compiler and SQLite, and let go mod tidy fetch the modules"
+  if [ "$(. /etc/os-release && echo "$ID")" != debian ] || ! command -v apt-get >/dev/null; then
+    fail "this isn't a Debian: install Go 1.24 and a C compiler, and have go fetch the modules (GOFLAGS=-mod=mod)"
   fi
   [ -e $keys ] || fail "$keys isn't there, with which Debian's packages are checked (Debian: debian-archive-keyring)"
   echo "Fetching Go 1.24 and the modules from Debian 13, some 80 MB, into $deps_cache" >&2
@@ -143,4 +145,3 @@ fi
 ln -sfn "$deps_vendor" vendor
 . deps/env.sh
 has_modules || { GOWORK=off GOPROXY=off go list -deps -test ./... >/dev/null; fail "the modules aren't whole: remove $deps_cache, and run this again"; }
-echo "Go is $(command -v go). In a shell: export PATH=\"\$PATH:$deps_cache/tools:$deps_cache/bin\"" >&2

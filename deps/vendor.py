@@ -56,9 +56,9 @@ def language(go_mod):
 
 
 def is_left_out(folder, names, root):
-    """Returns what a vendor folder does not have: tests, their data, hidden files, and the folders of other modules."""
+    """Returns what a vendor folder does not have: tests, their data, hidden files, go.mod, and the folders of other modules."""
     folder = pathlib.Path(folder)
-    return {name for name in names if name.endswith("_test.go") or name == "testdata" or name.startswith((".", "_"))
+    return {name for name in names if name.endswith("_test.go") or name in ("testdata", "go.mod", "go.sum") or name.startswith((".", "_"))
             or (folder / name).is_symlink() and not (folder / name).exists()
             or (folder / name).is_dir() and (folder / name / "go.mod").exists() and folder / name != root}  # fmt: skip
 
