@@ -11,6 +11,7 @@ import (
 	"time"
 
 	"wagtenib/service/log"
+	"wagtenib/service/signer"
 	"wagtenib/service/stores"
 )
 
@@ -220,6 +221,31 @@ func TestPastState(t *testing.T) {
 		if other.mended != 0 {
 			t.Errorf("%s was made again", other.lastMended)
 		}
+	}
+}
+
+// TestHeadThatAnotherKeySigned has a store give a head of the newest state's size, timestamp and root, with the log's name and key ID, which another key
+// signed: no node may serve it.
+func TestHeadThatAnotherKeySigned(t *testing.T) {
+	t.Parallel()
+	p, ctx, _, s := untended(t, 5, 5)
+	head, err := s.Checkpoint(ctx)
+	must(t, err)
+	must(t, s.End(ctx))
+	other, err := newPlace(t).guarded(ctx, signer.Unguarded)
+	must(t, err)
+	forged := head
+	forged.Signature, err = other.SignHead(ctx, signer.Head{Size: head.TreeSize, Moment: head.Timestamp, Root: head.RootHash}, nil)
+	must(t, err)
+	body, _, _ := strings.Cut(string(head.Note), "\n\n")
+	heads := headsOf(t, p)
+	newest := filepath.Join(p.objects(), heads[len(heads)-1])
+	must(t, os.Remove(newest))
+	must(t, os.WriteFile(newest, s.signedNote(body+"\n", forged), 0o644))
+	if served, err := readingNode(s).Checkpoint(ctx); err == nil {
+		t.Errorf("a node serves %q", served.Note)
+	} else {
+		wants(t, err, log.ErrStore, ErrDamaged)
 	}
 }
 

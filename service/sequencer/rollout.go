@@ -3,21 +3,21 @@ package sequencer
 import (
 	"bytes"
 	"context"
-	"crypto/sha256"
 	"encoding/base64"
 	"encoding/binary"
 	"errors"
 	"fmt"
-	"strconv"
 	"strings"
 	"time"
 
+	"golang.org/x/mod/sumdb/note"
 	"golang.org/x/sync/errgroup"
 
 	"wagtenib/service/log"
 	"wagtenib/service/signer"
 	"wagtenib/service/step"
 	"wagtenib/service/stores"
+	"wagtenib/service/witness"
 )
 
 // mostPuts is how many objects are put or read at once.
@@ -257,7 +257,7 @@ func (s *Sequencer) signedHead(ctx context.Context, state step.State, head step.
 		return log.Head{}, err
 	}
 	made := log.Head{TreeSize: state.Size, Timestamp: state.Moment, RootHash: state.Root, Signature: signed}
-	made.Note = s.note(head.Checkpoint, made)
+	made.Note = s.signedNote(head.Checkpoint, made)
 	if again, err := s.parseNote(made.Note); err != nil || matches(again, state) != nil {
 		return log.Head{}, fmt.Errorf("sequencer: the step's note isn't one of %s: %w", s.config.Origin, errNote)
 	}
@@ -265,100 +265,73 @@ func (s *Sequencer) signedHead(ctx context.Context, state step.State, head step.
 	return made, err
 }
 
-// keyID is what a signature's line names the key by (C2SP static-ct-api; signatures of type 5).
-func (s *Sequencer) keyID() []byte {
-	id := sha256.Sum256(append([]byte(s.config.Origin+"\n\x05"), s.logID[:]...))
-	return id[:4]
-}
-
 // signatureLine is what stands before the signature.
 func (s *Sequencer) signatureLine() string { return "— " + s.config.Origin + " " }
 
-// note writes a signed note: its body, an empty line, and a line with the moment and the signature.
-func (s *Sequencer) note(body string, head log.Head) []byte {
-	blob := s.keyID()
-	blob = append(blob, eight(head.Timestamp)...)
-	blob = append(blob, head.Signature...)
+// verifier returns what verifies the log's own signature of a note (C2SP static-ct-api, signatures of type 5).
+func (s *Sequencer) verifier() note.Verifier {
+	return witness.OfRFC6962(s.config.Origin, s.config.Signer.Key())
+}
+
+// signedNote returns a note of a body: an empty line follows it, and a line with the head's timestamp and signature.
+func (s *Sequencer) signedNote(body string, head log.Head) []byte {
+	blob := binary.BigEndian.AppendUint32(nil, s.verifier().KeyHash())
+	blob = append(binary.BigEndian.AppendUint64(blob, head.Timestamp), head.Signature...)
 	return []byte(body + "\n" + s.signatureLine() + base64.StdEncoding.EncodeToString(blob) + "\n")
 }
 
-func eight(number uint64) []byte {
-	var b [8]byte
-	binary.BigEndian.PutUint64(b[:], number)
-	return b[:]
-}
+// eight returns a number's eight bytes, the highest first.
+func eight(number uint64) []byte { return binary.BigEndian.AppendUint64(nil, number) }
 
 // mostNote is how many bytes a signed note has at most.
 const mostNote = 16 << 10
 
 // readHead reads a head, and checks its signature.
 func (s *Sequencer) readHead(ctx context.Context, name string) (log.Head, error) {
-	note, err := s.config.Objects.Get(ctx, name, mostNote)
+	content, err := s.config.Objects.Get(ctx, name, mostNote)
 	if err != nil {
 		return log.Head{}, fmt.Errorf("sequencer: %w", err)
 	}
-	head, err := s.parseNote(note)
+	head, err := s.parseNote(content)
 	if err != nil {
-		return log.Head{}, fault{errOtherHead, fmt.Errorf("%w: %s: %v%s", ErrDamaged, name, err, s.strange(note))}
+		return log.Head{}, fault{errOtherHead, fmt.Errorf("%w: %s: %v", ErrDamaged, name, err)}
 	}
 	return head, nil
-}
-
-// strange says of a note that isn't this log's whose it says that it is; nothing where it is none, or says that it is this log's.
-func (s *Sequencer) strange(note []byte) string {
-	lines := strings.Split(string(note), "\n")
-	if len(lines) < 6 || !strings.HasPrefix(lines[4], "— "+lines[0]+" ") {
-		return ""
-	}
-	if lines[0] != s.config.Origin {
-		return fmt.Sprintf("; it has the origin %.80q, and the settings have %q", lines[0], s.config.Origin)
-	}
-	blob, err := base64.StdEncoding.DecodeString(strings.TrimPrefix(lines[4], s.signatureLine()))
-	if err == nil && len(blob) >= 12 && !bytes.Equal(blob[:4], s.keyID()) {
-		return "; another key than the settings' signed it"
-	}
-	return ""
 }
 
 var errNote = errors.New("it isn't a signed head of this log")
 
-// parseNote reads a head's note: the first line of a signature is the log's, and others may stand behind it, whose cosignatures they may be.
-func (s *Sequencer) parseNote(note []byte) (log.Head, error) {
-	lines := strings.Split(string(note), "\n")
-	last := len(lines) - 1
-	if last < 5 || lines[0] != s.config.Origin || lines[3] != "" || lines[last] != "" || !strings.HasPrefix(lines[4], s.signatureLine()) {
+// parseNote reads a head's note. The first signature must be the log's, and it must be right; those of witnesses may follow it.
+func (s *Sequencer) parseNote(content []byte) (log.Head, error) {
+	opened, err := note.Open(content, note.VerifierList(s.verifier()))
+	var unknown *note.UnverifiedNoteError
+	if errors.As(err, &unknown) {
+		return log.Head{}, s.foreign(unknown.Note)
+	}
+	if err != nil || !strings.HasPrefix(string(content[len(opened.Text):]), "\n"+s.signatureLine()) {
 		return log.Head{}, errNote
 	}
-	for _, line := range lines[5:last] {
-		if !isSignature(line) {
-			return log.Head{}, errNote
-		}
-	}
-	size, err := strconv.ParseUint(lines[1], 10, 64)
+	size, root, err := witness.TreeOf(opened.Text)
 	if err != nil {
 		return log.Head{}, errNote
 	}
-	root, err := base64.StdEncoding.DecodeString(lines[2])
-	if err != nil || len(root) != 32 {
+	blob, err := base64.StdEncoding.DecodeString(opened.Sigs[0].Base64)
+	if err != nil {
 		return log.Head{}, errNote
 	}
-	blob, err := base64.StdEncoding.DecodeString(strings.TrimPrefix(lines[4], s.signatureLine()))
-	if err != nil || len(blob) < 12 || !bytes.Equal(blob[:4], s.keyID()) {
-		return log.Head{}, errNote
-	}
-	head := log.Head{Note: note, TreeSize: size, Timestamp: binary.BigEndian.Uint64(blob[4:12]), Signature: blob[12:]}
-	copy(head.RootHash[:], root)
-	if err := signer.CheckHead(s.config.Signer.Key(), signer.Head{Size: size, Moment: head.Timestamp, Root: head.RootHash}, head.Signature); err != nil {
-		return log.Head{}, err
-	}
-	return head, nil
+	return log.Head{Note: content, TreeSize: size, RootHash: root, Timestamp: binary.BigEndian.Uint64(blob[4:12]), Signature: blob[12:]}, nil
 }
 
-// isSignature says whether a line is one of a signature (C2SP signed-note), whosever.
-func isSignature(line string) bool {
-	name, text, _ := strings.Cut(strings.TrimPrefix(line, "— "), " ")
-	blob, err := base64.StdEncoding.DecodeString(text)
-	return strings.HasPrefix(line, "— ") && name != "" && err == nil && len(blob) > 4
+// foreign returns why a note isn't this log's that its own log or its own key signed: another origin than the settings', or another key.
+func (s *Sequencer) foreign(of *note.Note) error {
+	origin, _, _ := strings.Cut(of.Text, "\n")
+	switch {
+	case of.UnverifiedSigs[0].Name != origin:
+		return errNote
+	case origin != s.config.Origin:
+		return fmt.Errorf("%w; it has the origin %.80q, and the settings have %q", errNote, origin, s.config.Origin)
+	}
+	return fmt.Errorf("%w; another key than the settings' signed it", errNote)
 }
 
 // mostUnread is for how long a register that doesn't answer is waited for, where a published head is known.

@@ -3,6 +3,7 @@ package web
 import (
 	"context"
 	"crypto/sha256"
+	"encoding/base64"
 	"encoding/hex"
 	"encoding/json"
 	"errors"
@@ -175,7 +176,13 @@ func (f *Front) entryOf(ctx context.Context, leaf *datatile.Leaf) (entryOf, erro
 	if err != nil {
 		return entryOf{}, fmt.Errorf("%w: a chain that is too long: %v", log.ErrStore, err)
 	}
-	return entryOf{leaf.Input(), data}, nil
+	entry := entryOf{leaf.Input(), data}
+	// The answer has both in base64, and is held until it is sent. It must count before it is made: issuers may make it ten times as long as its tile.
+	length := base64.StdEncoding.EncodedLen(len(entry.LeafInput)) + base64.StdEncoding.EncodedLen(len(entry.ExtraData))
+	if err := heldIn(ctx).change(int64(length)); err != nil {
+		return entryOf{}, err
+	}
+	return entry, nil
 }
 
 // mostIssuerBytes is how many bytes of issuers are kept at hand.

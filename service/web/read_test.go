@@ -8,6 +8,7 @@ import (
 	"encoding/json"
 	"fmt"
 	"io"
+	"net/http"
 	"net/http/httptest"
 	"net/netip"
 	"net/url"
@@ -138,6 +139,54 @@ func TestAnswersAreBounded(t *testing.T) {
 	// One that has more bytes than it was taken to have.
 	f.log.Change("tile/data/001.p/4", dataTileOf(700000, 700000, 700000, 700000))
 	refused(t, "a large tile", f.get("/tile/data/001.p/4"), 503, "busy")
+	if used := f.front.answers.used.Load(); used != 0 {
+		t.Errorf("%d bytes are still counted", used)
+	}
+}
+
+// countedWriter notes how many bytes count as held by answers while one is written. (Its last byte is written once none count any more.)
+type countedWriter struct {
+	*httptest.ResponseRecorder
+	front   *Front
+	counted int64
+}
+
+func (w *countedWriter) Write(content []byte) (int, error) {
+	if now := w.front.answers.used.Load(); now > w.counted {
+		w.counted = now
+	}
+	return w.ResponseRecorder.Write(content)
+}
+
+// TestAnswersWithEntriesCount asks for entries whose issuers are far longer than their data tile: all bytes of the answer must count while it is written, and an
+// answer that has no room must be refused before it is made.
+func TestAnswersWithEntriesCount(t *testing.T) {
+	f := newFixture(t, 0, func(o *Options) { o.Limits.AnswerBytes = 64 << 20 })
+	f.running()
+	issuers := [][]byte{bytes.Repeat([]byte("a"), 1300), bytes.Repeat([]byte("b"), 1300), bytes.Repeat([]byte("c"), 1300)}
+	var entries []log.Entry
+	for i := 0; i < 256; i++ {
+		entries = append(entries, log.Entry{Type: chains.X509Entry, Certificate: []byte(fmt.Sprint("certificate ", i)), Issuers: issuers})
+	}
+	f.log.Add(entries)
+	paths := []string{"/ct/v1/get-entries?start=0&end=255", "/ct/v1/get-entry-and-proof?leaf_index=1&tree_size=256"}
+	for _, path := range paths {
+		w := &countedWriter{httptest.NewRecorder(), f.front, 0}
+		f.front.ServeHTTP(w, httptest.NewRequest(http.MethodGet, path, nil))
+		if w.Code != http.StatusOK || w.counted < int64(w.Body.Len())-1024 {
+			t.Errorf("%s: %d, %d bytes count of an answer of %d", path, w.Code, w.counted, w.Body.Len())
+		}
+	}
+	// There is room for the tile, and not for the answer.
+	const room = likelyEntries + 64<<10
+	if !f.front.answers.take(64<<20 - room) {
+		t.Fatalf("%d bytes are still counted", f.front.answers.used.Load())
+	}
+	if w := f.get("/tile/data/000"); w.Code != http.StatusOK {
+		t.Errorf("the tile: %d %s", w.Code, w.Body)
+	}
+	refused(t, "the entries", f.get(paths[0]), 503, "busy")
+	f.front.answers.give(64<<20 - room)
 	if used := f.front.answers.used.Load(); used != 0 {
 		t.Errorf("%d bytes are still counted", used)
 	}

@@ -207,11 +207,11 @@ func TestTexts(t *testing.T) {
 			t.Errorf("%q is a hash", wrong)
 		}
 	}
-	if size, _, err := treeOf("o\n5\n" + right + "\n"); err != nil || size != 5 {
+	if size, _, err := TreeOf("o\n5\n" + right + "\n"); err != nil || size != 5 {
 		t.Error(err)
 	}
 	for _, wrong := range []string{"", "\n5\n" + right + "\n", "o\n5\n" + right, "o\n5\n" + right + "\nmore\n", "o\n05\n" + right + "\n", "o\n5\n\n", "o\n5\n" + right + "\n\n", "o\n\n" + right + "\n"} {
-		if _, _, err := treeOf(wrong); !errors.Is(err, ErrRequest) {
+		if _, _, err := TreeOf(wrong); !errors.Is(err, ErrRequest) {
 			t.Errorf("%q is a checkpoint", wrong)
 		}
 	}

@@ -120,8 +120,8 @@ func TextOf(signed []byte) (string, error) {
 	return unknown.Note.Text, nil
 }
 
-// treeOf is the tree of a checkpoint's text of three lines (C2SP tlog-checkpoint, without extension lines).
-func treeOf(text string) (size uint64, root [32]byte, err error) {
+// TreeOf is the tree of a checkpoint's text of three lines (C2SP tlog-checkpoint, without extension lines).
+func TreeOf(text string) (size uint64, root [32]byte, err error) {
 	lines := strings.Split(text, "\n")
 	if len(lines) != 4 || lines[0] == "" || lines[3] != "" {
 		return 0, root, fmt.Errorf("%w: no checkpoint of three lines", ErrRequest)
@@ -155,7 +155,7 @@ func (v verifier) Verify(text, signature []byte) bool { return v.verify(text, si
 func OfRFC6962(origin string, der []byte) note.Verifier {
 	logID := sha256.Sum256(der)
 	return verifier{origin, idOf(origin, algRFC6962, logID[:]), func(text, signature []byte) bool {
-		size, root, err := treeOf(string(text))
+		size, root, err := TreeOf(string(text))
 		if err != nil || !bytes.HasPrefix(text, []byte(origin+"\n")) || len(signature) <= 8 {
 			return false
 		}

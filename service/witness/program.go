@@ -81,7 +81,7 @@ func readReply(line []byte, last tree, r Request, now uint64) (*reply, error) {
 		}
 		return said, nil
 	}
-	size, root, err := treeOf(r.Text)
+	size, root, err := TreeOf(r.Text)
 	if err != nil || said.Size != nil || said.Fault != "" || said.tree.Size != size || !bytes.Equal(said.Root, root[:]) {
 		return wrong("another tree than the checkpoint's")
 	}

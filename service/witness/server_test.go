@@ -136,7 +136,7 @@ func headKey(t testing.TB, origin string) signing {
 	must(t, err)
 	of := OfRFC6962(origin, key.Key())
 	return signing{of, "", func(text string) []byte {
-		size, root, err := treeOf(text)
+		size, root, err := TreeOf(text)
 		must(t, err)
 		const moment = 1_700_000_000_000
 		signed, err := key.SignHead(context.Background(), signer.Head{Size: size, Moment: moment, Root: root}, nil)
