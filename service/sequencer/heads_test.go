@@ -232,7 +232,7 @@ func TestHeadThatAnotherKeySigned(t *testing.T) {
 	head, err := s.Checkpoint(ctx)
 	must(t, err)
 	must(t, s.End(ctx))
-	other, err := newPlace(t).guarded(ctx, signer.Unguarded)
+	other, err := newPlace(t).bareKey()
 	must(t, err)
 	forged := head
 	forged.Signature, err = other.SignHead(ctx, signer.Head{Size: head.TreeSize, Moment: head.Timestamp, Root: head.RootHash}, nil)
