@@ -6,6 +6,7 @@ made-up builds, monitor/watch.sh on logs of its own, and service/cluster.sh over
 It prints one line where all is as expected; else it says what isn't, and ends with status 1.
 """
 import argparse
+import contextlib
 import itertools
 import json
 import os
@@ -13,6 +14,7 @@ import pathlib
 import random
 import re
 import shutil
+import socket
 import subprocess
 import sys
 import tempfile
@@ -439,6 +441,58 @@ def try_deps(folder):
             fail(f"test.sh with GO={go} ends with status {ended.returncode}: {ended.stdout}{ended.stderr}")
 
 
+def two_ports():
+    """Returns a port that nobody has, of which nobody has the next one either."""
+    while True:
+        with contextlib.ExitStack() as opened, contextlib.suppress(OSError):
+            first = opened.enter_context(socket.socket())
+            first.bind(("127.0.0.1", 0))
+            port = first.getsockname()[1]
+            opened.enter_context(socket.socket()).bind(("127.0.0.1", port + 1))
+            return port
+
+
+def try_serve(folder):
+    """serve.sh refuses a port that is taken, and a folder that it did not make, before it does anything. A first start that fails leaves nothing behind, and
+    the next one makes the log, once."""
+    service, log, fails, calls = folder / "service", folder / "a log", folder / "fails", folder / "calls"
+    ctserve = f"""echo "$*" >>'{calls}'
+[ ! -e '{fails}' ] || {{ echo 'it fails' >&2; exit 1; }}
+echo '{{"event":"serving"}}' >&2
+case "$*" in *--create*) trap 'exit 0' TERM; while :; do sleep 0.1; done ;; esac"""
+    (service / "out").mkdir(parents=True)
+    (folder / "checks").mkdir()
+    shutil.copy(HERE.parent / "service" / "serve.sh", service)
+    for path, script in ((service / "build.sh", ""), (folder / "checks" / "needs.sh", ""), (service / "out" / "ctserve", ctserve)):
+        path.write_text(f"#!/bin/sh\n{script}\n")
+        path.chmod(0o755)
+    before = {path.name for path in folder.iterdir()}
+    place = {**os.environ, "STEP": "true", "GUARD": "true", "DECIDER": "true", "READER": "true", "ROOTS": os.devnull}
+
+    def serve(what, port, status, says, left):
+        ended = subprocess.run([service / "serve.sh", log, str(port)], env=place, capture_output=True, text=True)
+        there = {path.name for path in folder.iterdir()} - before - {calls.name, fails.name}
+        if ended.returncode != status or says not in ended.stdout + ended.stderr or there != left:
+            fail(f"serve.sh, with {what}, ends with status {ended.returncode}, leaves {there} and says {ended.stdout}{ended.stderr}")
+
+    port = two_ports()
+    for taken in (port, port + 1):
+        with socket.socket() as other:
+            other.bind(("127.0.0.1", taken))
+            other.listen()
+            serve("a port that is taken", port, 1, f"serve.sh: another program listens at port {taken} ", set())
+    fails.touch()
+    serve("a first start that fails", port, 1, "it fails", set())
+    fails.unlink()
+    serve("a first start", port, 0, f"A log in {log}:", {log.name})
+    serve("a second start", port, 0, f"A log in {log}:", {log.name})
+    created = [("--create" in call) for call in calls.read_text().splitlines()]
+    if created != [True, True, False, False] or f"--folder {log}/log" not in calls.read_text():
+        fail(f"serve.sh calls ctserve by {calls.read_text()}")
+    (log / "made").unlink()
+    serve("another folder", port, 1, f"serve.sh: {log} isn't a log that serve.sh made", {log.name})
+
+
 def try_count(folder):
     """Go's tests are counted with their parts as one; a test within which the program ended failed; what failed is said."""
     count = folder / "made" / "count"
@@ -524,6 +578,8 @@ def main():
     with tempfile.TemporaryDirectory() as folder:
         try_deps(pathlib.Path(folder))
         try_count(pathlib.Path(folder))
+    with tempfile.TemporaryDirectory() as folder:
+        try_serve(pathlib.Path(folder))
     with tempfile.TemporaryDirectory() as folder:
         sessions = try_sessions(pathlib.Path(folder))
     try_figures()
