@@ -5,6 +5,7 @@ import (
 	"errors"
 	"fmt"
 	"math/rand"
+	"regexp"
 	"sort"
 	"time"
 
@@ -157,6 +158,9 @@ func (s *Sequencer) failed(what string, err error) {
 // mostBundles is how many bundles one turn deletes.
 const mostBundles = 64
 
+// bundleName matches the names that the program gives bundles. It refuses a line with any other name, and would be ended for it.
+var bundleName = regexp.MustCompile("^" + stagingPrefix + "[0-9a-f]{48}$")
+
 // sweepBundles lists staging/ every SweepAfter, and deletes what the program says is of no use any more. Of a name that isn't one of its own, as versions
 // before had them, that is what was there at the listing before, but for the newest state's, where the register has moved since: a step is decided only
 // as long as the text stands that it was made from, and that was there before its bundle.
@@ -183,13 +187,13 @@ func (t *tender) sweepBundles(ctx context.Context) error {
 	}
 	staged, left := map[string]bool{}, mostBundles
 	for _, name := range names {
-		next, err := t.s.config.Decider.Next(ctx, stepping, decider.Listed(name))
-		goes := err == nil && next.Do == decider.Delete && next.Bundle == name
-		if errors.Is(err, decider.ErrRefused) {
-			goes, err = t.staged[name] && text != t.text && name != oldBundleName(step.Digest(newest.line)), nil
-		}
-		if err != nil {
-			return err
+		goes := t.staged[name] && text != t.text && name != oldBundleName(step.Digest(newest.line))
+		if bundleName.MatchString(name) {
+			next, err := t.s.config.Decider.Next(ctx, stepping, decider.Listed(name))
+			if err != nil {
+				return err
+			}
+			goes = next.Do == decider.Delete && next.Bundle == name
 		}
 		if !goes || left == 0 {
 			staged[name] = true

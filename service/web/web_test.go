@@ -333,6 +333,8 @@ func TestErrorsOfTheLog(t *testing.T) {
 		{log.ErrClock, 503, "clock", "10"},
 		{log.ErrStore, 503, "store", "5"},
 		{fmt.Errorf("deep inside: %w", log.ErrStore), 503, "store", "5"},
+		{step.ErrProcess, 503, "program", "5"},
+		{fmt.Errorf("deep inside: %w", step.ErrReply), 503, "program", "5"},
 		{context.DeadlineExceeded, 503, "late", "5"},
 		{errors.New("secret of the machine"), 500, "internal", ""},
 	} {

@@ -39,7 +39,7 @@ var (
 	// ErrState: a log's state is missing, or isn't one of this log.
 	ErrState = errors.New("witness: no state of the log")
 	// ErrReply: the program's reply isn't one to the request.
-	ErrReply = errors.New("witness: not a reply")
+	ErrReply = fmt.Errorf("witness: %w", pipe.ErrReply)
 	// ErrClock: the clock is behind the last cosignature.
 	ErrClock = errors.New("witness: the clock went back")
 )
