@@ -419,6 +419,72 @@ func TestReloadBySIGHUP(t *testing.T) {
 	}
 }
 
+// TestReloadThatHangs has the roots' file be one that gives nothing, as on a disk of a network that is gone: the node serves on, and a signal ends it.
+func TestReloadThatHangs(t *testing.T) {
+	at := newPlace(t)
+	p := started(t, "20ms", at.words()...)
+	if err := os.Remove(at.path("roots.pem")); err != nil {
+		t.Fatal(err)
+	}
+	if err := syscall.Mkfifo(at.path("roots.pem"), 0o600); err != nil {
+		t.Fatal(err)
+	}
+	p.signal(syscall.SIGHUP)
+	// (that it is opened for reading says that the reload has begun)
+	writer, err := os.OpenFile(at.path("roots.pem"), os.O_WRONLY, 0)
+	if err != nil {
+		t.Fatal(err)
+	}
+	defer writer.Close()
+	p.signal(syscall.SIGHUP)
+	if status, text := post(p.clients, at.submission()); status != 200 {
+		t.Errorf("%d %s", status, text)
+	}
+	p.signal(syscall.SIGTERM)
+	if status := p.ends(); status != 0 {
+		t.Errorf("it ended with status %d", status)
+	}
+}
+
+// TestReaderOfLinesGoes has whoever reads standard error go away: the log must go on without its lines, and end in order.
+func TestReaderOfLinesGoes(t *testing.T) {
+	at := newPlace(t)
+	read, write, err := os.Pipe()
+	if err != nil {
+		t.Fatal(err)
+	}
+	clients := trial.Free(t)
+	command := exec.Command(os.Args[0], append(at.words(), "--listen", clients, "--log-requests")...)
+	command.Env = append(os.Environ(), childKey+"=1", everyKey+"=20ms")
+	command.Stderr = write
+	if err := command.Start(); err != nil {
+		t.Fatal(err)
+	}
+	defer command.Process.Kill()
+	write.Close()
+	for lines := bufio.NewScanner(read); ; {
+		if !lines.Scan() {
+			t.Fatal("it ended before it served")
+		}
+		if strings.Contains(lines.Text(), `"serving"`) {
+			break
+		}
+	}
+	read.Close()
+	for i := 0; i < 5; i++ {
+		// (each request writes a line)
+		if status, text := post(clients, at.submission()); status != 200 {
+			t.Errorf("%d %s", status, text)
+		}
+	}
+	if err := command.Process.Signal(syscall.SIGTERM); err != nil {
+		t.Fatal(err)
+	}
+	if err := command.Wait(); err != nil {
+		t.Errorf("it ended by %v", err)
+	}
+}
+
 // TestRootsThatArentRead: a root that crypto/x509 doesn't read keeps neither a start nor a reload from going on with the others, and each tells which one it is.
 func TestRootsThatArentRead(t *testing.T) {
 	at := newPlace(t)

@@ -73,6 +73,7 @@ func run(words []string, to io.Writer, open opener) int {
 	if status, ends := settingsfile.Ends(err, to); ends {
 		return status
 	}
+	surviveReader()
 	signals := make(chan os.Signal, 4)
 	signal.Notify(signals, syscall.SIGHUP, syscall.SIGTERM, syscall.SIGINT)
 	lines := web.NewLines(to)
@@ -86,6 +87,10 @@ func run(words []string, to io.Writer, open opener) int {
 	lines.Info("end")
 	return 0
 }
+
+// surviveReader has a write to standard error fail once nobody reads it any more, instead of ending this process by SIGPIPE: the log must go on without its lines.
+// The signal is caught and not ignored, since what is ignored would be so in the programs that this process starts.
+func surviveReader() { signal.Notify(make(chan os.Signal, 1), syscall.SIGPIPE) }
 
 // served is one listener with its server.
 type served struct {
@@ -158,7 +163,7 @@ func serve(s *settings, lines *web.Lines, signals <-chan os.Signal, open opener)
 		telling, stop := context.WithCancel(context.Background())
 		defer stop()
 		go front.Tell(telling, looksEvery)
-		ending, err = wait(s, front, checker, certificate, lines, signals, failed)
+		ending, err = wait(func() { reload(s, front, checker, certificate, lines) }, signals, failed)
 	}
 	// From here on another signal ends the process; that it ends is told behind that.
 	signal.Reset(syscall.SIGTERM, syscall.SIGINT)
@@ -204,33 +209,49 @@ func tellHead(s *settings, of log.Log, lines *web.Lines) {
 	lines.Info("serving", "origin", s.node.origin, "entries", head.TreeSize, "root_hash", hex.EncodeToString(head.RootHash[:]), "head_of", time.UnixMilli(int64(head.Timestamp)).UTC().Format(time.RFC3339))
 }
 
-// wait reloads at SIGHUP, and returns at a signal that ends, which it gives, or where a server fails.
-func wait(s *settings, front *web.Front, checker *chains.Checker, certificate *web.Certificate, lines *web.Lines, signals <-chan os.Signal, failed <-chan error) (os.Signal, error) {
+// wait has everything reloaded at SIGHUP, and returns at a signal that ends, which it gives, or if a server fails. A file that can't be read for long, as on a
+// network's disk, must not keep it from ending.
+func wait(reload func(), signals <-chan os.Signal, failed <-chan error) (os.Signal, error) {
+	reloaded, reloads, again := make(chan struct{}, 1), false, false
 	for {
+		if again && !reloads {
+			reloads, again = true, false
+			go func() {
+				reload()
+				reloaded <- struct{}{}
+			}()
+		}
 		select {
 		case err := <-failed:
 			return nil, err
+		case <-reloaded:
+			reloads = false
 		case came := <-signals:
 			if came != syscall.SIGHUP {
 				return came, nil
 			}
-			reloaded := func(of string, err error, more ...any) {
-				front.Reloaded(of, err)
-				if err != nil {
-					lines.Error("reload", "of", of, "fault", err)
-					return
-				}
-				lines.Info("reload", append([]any{"of", of}, more...)...)
-			}
-			added, removed, err := checker.Reload(s.roots)
-			reloaded("roots", err, "roots", len(checker.Roots().Certificates()), "added", added, "removed", removed)
-			if err == nil {
-				tellLeftOut(checker.Roots(), lines)
-			}
-			if certificate != nil {
-				reloaded("certificate", certificate.Reload())
-			}
+			again = true
 		}
+	}
+}
+
+// reload reads the roots and the certificate again, and tells what came of it.
+func reload(s *settings, front *web.Front, checker *chains.Checker, certificate *web.Certificate, lines *web.Lines) {
+	reloaded := func(of string, err error, more ...any) {
+		front.Reloaded(of, err)
+		if err != nil {
+			lines.Error("reload", "of", of, "fault", err)
+			return
+		}
+		lines.Info("reload", append([]any{"of", of}, more...)...)
+	}
+	added, removed, err := checker.Reload(s.roots)
+	reloaded("roots", err, "roots", len(checker.Roots().Certificates()), "added", added, "removed", removed)
+	if err == nil {
+		tellLeftOut(checker.Roots(), lines)
+	}
+	if certificate != nil {
+		reloaded("certificate", certificate.Reload())
 	}
 }
 

@@ -94,9 +94,17 @@ func openNode(ctx context.Context, n node) (of *opened, err error) {
 		closers = append(closers, circle.Close)
 		config.Witnesses = circle
 	}
+	shown, err := newProbed(ctx, nil, cutting, func() uint64 { return reading.Starts() + cutting.Starts() })
+	if err != nil {
+		return nil, err
+	}
 	s, err := sequencer.New(ctx, config)
 	if err != nil {
 		return nil, err
 	}
-	return &opened{log: s, proofs: reader.New(reading, s.Object, n.mostProofs), cutter: cutting, nodes: s.Handler(), key: asked.Key(), calls: calls, close: closeAll}, nil
+	shown.Log = s
+	probing, stop := context.WithCancel(context.Background())
+	closers = append(closers, func() error { stop(); return nil })
+	go shown.probe(probing, probesEvery)
+	return &opened{log: shown, proofs: reader.New(reading, s.Object, n.mostProofs), cutter: cutting, nodes: s.Handler(), key: asked.Key(), calls: calls, close: closeAll}, nil
 }

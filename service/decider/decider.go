@@ -26,7 +26,7 @@ var (
 	// ErrGone: the process doesn't start, ended, or gave no reply in time, twice.
 	ErrGone = pipe.ErrGone
 	// ErrReply: the reply isn't one.
-	ErrReply = errors.New("decider: not a reply")
+	ErrReply = fmt.Errorf("decider: %w", pipe.ErrReply)
 	// ErrRefused: the program doesn't take what was told: a text that isn't a register's, or a name that isn't a bundle's.
 	ErrRefused = errors.New("decider: refused")
 )
@@ -172,54 +172,72 @@ func (c *Client) Next(ctx context.Context, command *Command, told Told) (*Comman
 			told[key] = []string{}
 		}
 	}
-	reply, err := c.ask(ctx, map[string]any{"node": command.said, "told": told})
+	var next *Command
+	err := c.ask(ctx, map[string]any{"node": command.said, "told": told}, func(reply []byte) (err error) {
+		next, err = read(reply)
+		return err
+	})
 	if err != nil {
 		return nil, err
 	}
-	return read(reply)
+	return next, nil
 }
 
 // Start says whether a node that finds this goes on from the register's text, or is to create the register. A Refusal says that it does neither.
 func (c *Client) Start(ctx context.Context, found Found) (creates bool, err error) {
-	line, err := c.ask(ctx, map[string]any{"begin": found})
-	if err != nil {
-		return false, err
-	}
+	var began string
+	err = c.ask(ctx, map[string]any{"begin": found}, func(line []byte) (err error) {
+		began, err = readBegin(line)
+		return err
+	})
+	return err == nil && began == "creates", err
+}
+
+// readBegin reads a reply to what a node finds.
+func readBegin(line []byte) (string, error) {
 	var reply struct {
 		Begin   string
 		Refused Refusal
 	}
-	err = json.Unmarshal(line, &reply)
+	err := json.Unmarshal(line, &reply)
 	switch {
 	case err == nil && reply.Refused == "bad-line" && reply.Begin == "":
-		return false, ErrRefused
+		return "", errBadLine
 	case err == nil && reply.Refused.isOne() && reply.Begin == "":
-		return false, reply.Refused
+		return "", reply.Refused
 	case err == nil && reply.Refused == "" && (reply.Begin == "goes" || reply.Begin == "creates"):
-		return reply.Begin == "creates", nil
+		return reply.Begin, nil
 	}
-	return false, fmt.Errorf("%w: %.80q", ErrReply, line)
+	return "", fmt.Errorf("%w: %.80q", ErrReply, line)
 }
 
-// ask asks a line, once more where the process is gone.
-func (c *Client) ask(ctx context.Context, line map[string]any) ([]byte, error) {
-	reply, err := c.Ask(ctx, line)
+// errBadLine is an ErrRefused of a line that this process wrote itself. The program may have read a part of it, so it is ended like after a reply that is none.
+var errBadLine error = badLine{}
+
+type badLine struct{}
+
+func (badLine) Error() string        { return ErrRefused.Error() }
+func (badLine) Is(target error) bool { return target == ErrRefused || target == pipe.ErrReply }
+
+// ask asks a line, and once more if the process is gone.
+func (c *Client) ask(ctx context.Context, line map[string]any, read func(reply []byte) error) error {
+	err := c.Ask(ctx, line, read)
 	if errors.Is(err, ErrGone) && ctx.Err() == nil {
-		reply, err = c.Ask(ctx, line)
+		err = c.Ask(ctx, line, read)
 	}
-	if errors.Is(err, pipe.ErrTooLong) {
-		return nil, fmt.Errorf("%w: %v", ErrRefused, err)
+	switch {
+	case errors.Is(err, pipe.ErrTooLong):
+		return fmt.Errorf("%w: %v", ErrRefused, err)
+	case errors.Is(err, ErrGone):
+		return fmt.Errorf("decider: %w", err)
 	}
-	if err != nil {
-		return nil, fmt.Errorf("decider: %w", err)
-	}
-	return reply, nil
+	return err
 }
 
 // read reads a reply.
 func read(line []byte) (*Command, error) {
 	if bytes.HasPrefix(line, []byte(`{"refused":`)) {
-		return nil, ErrRefused
+		return nil, errBadLine
 	}
 	var reply struct{ Node json.RawMessage }
 	if err := json.Unmarshal(line, &reply); err != nil {

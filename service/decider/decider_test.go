@@ -98,7 +98,8 @@ func again(command *Command) (*Command, error) {
 	return &next, nil
 }
 
-// TestRefusals: what isn't a register's text or a bundle's name is refused, and the process goes on.
+// TestRefusals: what isn't a register's text or a bundle's name is refused. The process is ended for each, since it may have read a part of the line; a line that
+// is too long isn't sent.
 func TestRefusals(t *testing.T) {
 	t.Parallel()
 	c, ctx := client(t, longest, program...), within(t)
@@ -114,7 +115,7 @@ func TestRefusals(t *testing.T) {
 			t.Error(err)
 		}
 	}
-	if c.Starts() != 1 {
+	if c.Starts() != 3 {
 		t.Errorf("the process was started %d times", c.Starts())
 	}
 }

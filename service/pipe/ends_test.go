@@ -111,7 +111,7 @@ func alive(pid int) bool { return syscall.Kill(pid, 0) == nil }
 // TestCloseKills: a process ends with its end, whatever signals it ignores, and so does what it started.
 func TestCloseKills(t *testing.T) {
 	t.Parallel()
-	e, err := Start([]string{"sh", "-c", "trap '' TERM HUP INT; sleep 600 & echo $$; echo $!; while :; do wait; done"}, 100)
+	e, err := Start([]string{"sh", "-c", "trap '' TERM HUP INT; read -r x; sleep 600 & echo $$; echo $!; while :; do wait; done"}, 100)
 	must(t, err)
 	replies, err := e.Exchange(limited(t), trial.Longest, []byte("x\n"), 2)
 	must(t, err)
@@ -153,7 +153,7 @@ func TestCloseKills(t *testing.T) {
 // TestUnreadLines: who replies without having read what it is asked has replied to something else.
 func TestUnreadLines(t *testing.T) {
 	t.Parallel()
-	e := script(t, "exec <&-; echo yes; exec sleep 600", 100)
+	e := script(t, "head -c 1 >/dev/null; exec <&-; echo yes; exec sleep 600", 100)
 	if replies, err := e.Exchange(limited(t), trial.Longest, []byte(strings.Repeat("x", 1<<20)+"\n"), 1); !errors.Is(err, ErrGone) || replies != nil {
 		t.Errorf("%q, %v", replies, err)
 	}
@@ -210,7 +210,7 @@ func TestWaiting(t *testing.T) {
 	cancel()
 	came := make(chan error, 1)
 	go func() {
-		_, err := c.Exchange(gone, []byte("one\n"), 1)
+		_, err := exchange(c, gone, []byte("one\n"), 1)
 		came <- err
 	}()
 	select {
@@ -220,7 +220,7 @@ func TestWaiting(t *testing.T) {
 		t.Error("who is gone waits")
 	}
 	c.turn <- e
-	if _, err := c.Exchange(limited(t), []byte("half a line"), 1); !errors.Is(err, ErrGone) || !strings.Contains(err.Error(), "none in 50ms") {
+	if _, err := exchange(c, limited(t), []byte("half a line"), 1); !errors.Is(err, ErrGone) || !strings.Contains(err.Error(), "none in 50ms") {
 		t.Errorf("no reply: %v", err)
 	}
 	fails, opens := errors.New("it isn't there"), 0
@@ -231,10 +231,10 @@ func TestWaiting(t *testing.T) {
 		return cat(ctx)
 	}, trial.Longest)
 	defer c.Close()
-	_, err := c.Exchange(limited(t), []byte("one\n"), 1)
+	_, err := exchange(c, limited(t), []byte("one\n"), 1)
 	wants(t, err, fails)
 	for i := 0; i < 2; i++ {
-		replies, err := c.Exchange(limited(t), []byte("two\n"), 1)
+		replies, err := exchange(c, limited(t), []byte("two\n"), 1)
 		if err != nil || string(replies[0]) != "two" {
 			t.Fatalf("%q, %v", replies, err)
 		}
@@ -252,7 +252,7 @@ func TestClientCloses(t *testing.T) {
 		return Start([]string{"sh", "-c", "while read -r x; do echo $$; done"}, 100)
 	}, trial.Longest)
 	for i := 0; i < 2; i++ {
-		replies, err := c.Exchange(limited(t), []byte("x\n"), 1)
+		replies, err := exchange(c, limited(t), []byte("x\n"), 1)
 		must(t, err)
 		pid, err := strconv.Atoi(string(replies[0]))
 		must(t, err)
@@ -271,7 +271,7 @@ func TestClientCloses(t *testing.T) {
 // TestOwnGroup: what a terminal sends to this process's group doesn't reach the other end.
 func TestOwnGroup(t *testing.T) {
 	t.Parallel()
-	e := script(t, "echo $$; exec sleep 600", 100)
+	e := script(t, "read -r x; echo $$; exec sleep 600", 100)
 	replies, err := e.Exchange(limited(t), trial.Longest, []byte("x\n"), 1)
 	must(t, err)
 	pid, err := strconv.Atoi(string(replies[0]))

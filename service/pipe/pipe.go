@@ -19,13 +19,18 @@ import (
 	"golang.org/x/sys/unix"
 )
 
-// ErrGone: the other end doesn't start, ended, or gave no reply in time.
-var ErrGone = errors.New("pipe: the other end gives no reply")
+var (
+	// ErrGone: the other end doesn't start, ended, or gave no reply in time.
+	ErrGone = errors.New("pipe: the other end gives no reply")
+	// ErrReply: what came isn't a reply to what was asked. The other end is closed then: what it says next may be a reply to something else, too.
+	ErrReply = errors.New("not a reply")
+)
 
 // End is an other end that runs, or is connected. It is for one exchange at a time.
 type End struct {
 	in    io.WriteCloser
 	out   *bufio.Reader
+	from  syscall.Conn
 	most  int
 	close func() string
 	// before is how many bytes the reply before had: the next one may have as many.
@@ -66,6 +71,10 @@ func Start(words []string, most int, environment ...string) (*End, error) {
 	if err != nil {
 		return nil, fmt.Errorf("%w: %v", ErrGone, err)
 	}
+	from, ok := out.(syscall.Conn)
+	if !ok {
+		return nil, fmt.Errorf("%w: its output can't be looked at", ErrGone)
+	}
 	widen(in)
 	widen(out)
 	if err := command.Start(); err != nil {
@@ -78,7 +87,7 @@ func Start(words []string, most int, environment ...string) (*End, error) {
 		_ = command.Wait()
 		return string(bytes.TrimSpace(said.bytes))
 	}
-	return &End{in: in, out: bufio.NewReaderSize(out, 1<<16), most: most, close: end}, nil
+	return &End{in: in, out: bufio.NewReaderSize(out, 1<<16), from: from, most: most, close: end}, nil
 }
 
 // width is how many bytes a pipe holds, where the system lets it: a line of a megabyte goes through at once, and not by parts of 64 KiB.
@@ -101,11 +110,30 @@ func Dial(ctx context.Context, path string, most int) (*End, error) {
 	if err != nil {
 		return nil, fmt.Errorf("%w: %v", ErrGone, err)
 	}
+	from, ok := connection.(syscall.Conn)
+	if !ok {
+		connection.Close()
+		return nil, fmt.Errorf("%w: a connection that can't be looked at", ErrGone)
+	}
 	end := func() string {
 		connection.Close()
 		return ""
 	}
-	return &End{in: connection, out: bufio.NewReaderSize(connection, 1<<16), most: most, close: end}, nil
+	return &End{in: connection, out: bufio.NewReaderSize(connection, 1<<16), from: from, most: most, close: end}, nil
+}
+
+// hasUnread reports whether bytes came that nobody asked for. They must not be taken for the reply to the next request.
+func (e *End) hasUnread() bool {
+	if e.out.Buffered() > 0 {
+		return true
+	}
+	raw, err := e.from.SyscallConn()
+	if err != nil {
+		return false
+	}
+	unread, failed := 0, error(nil)
+	err = raw.Control(func(of uintptr) { unread, failed = unix.IoctlGetInt(int(of), unix.TIOCINQ) })
+	return err == nil && failed == nil && unread > 0
 }
 
 // Close kills the process, or closes the connection, and gives what it said last.
@@ -117,8 +145,12 @@ type outcome struct {
 	err     error
 }
 
-// Exchange sends lines, each with its end, and gives so many replies, without theirs. Behind an error the end is closed.
+// Exchange sends lines, each with its end, and gives so many replies, without theirs. After an error the end is closed. It is an error if something
+// came before the lines were sent.
 func (e *End) Exchange(ctx context.Context, limit time.Duration, lines []byte, replies int) ([][]byte, error) {
+	if e.hasUnread() {
+		return nil, fmt.Errorf("%w: it spoke before it was asked %.500s", ErrGone, e.Close())
+	}
 	done := make(chan outcome, 1)
 	go func() {
 		replies, err := e.exchange(lines, replies)
@@ -220,53 +252,64 @@ func (c *Client) Close() error {
 	return nil
 }
 
-// Exchange is the end's, which is opened if none is. It returns once the context ends, but the exchange goes on until its reply or its limit: the end is
-// shared, so a caller that leaves must not close it for the others. Until then the exchange may still read the lines.
-func (c *Client) Exchange(ctx context.Context, lines []byte, replies int) ([][]byte, error) {
+// Exchange is the end's, which is opened if none is, and gives the replies to read, whose error it returns. If that is an ErrReply, the end is closed before
+// anybody else asks it.
+//
+// Exchange returns once the context ends, but the exchange goes on until its reply or its limit: the end is shared, so a caller that leaves must not close it
+// for the others. Until then the lines may still be read, and read may be called: a caller must use nothing that read sets if Exchange returns an error.
+func (c *Client) Exchange(ctx context.Context, lines []byte, replies int, read func(replies [][]byte) error) error {
 	var e *End
 	select {
 	case e = <-c.turn:
 	case <-ctx.Done():
-		return nil, fmt.Errorf("%w: %v", ErrGone, ctx.Err())
+		return fmt.Errorf("%w: %v", ErrGone, ctx.Err())
 	}
 	// (select may have taken the turn although the context has ended)
 	if ctx.Err() != nil {
 		c.turn <- e
-		return nil, fmt.Errorf("%w: %v", ErrGone, ctx.Err())
+		return fmt.Errorf("%w: %v", ErrGone, ctx.Err())
 	}
 	own, stop := context.WithCancel(context.Background())
 	c.mu.Lock()
 	c.stop = stop
 	c.mu.Unlock()
-	done := make(chan outcome, 1)
+	done := make(chan error, 1)
 	go func() {
 		defer stop()
-		came, err := c.exchange(own, e, lines, replies)
-		done <- outcome{came, err}
+		left, err := c.exchange(own, e, lines, replies, read)
+		c.turn <- left
+		done <- err
 	}()
 	select {
-	case came := <-done:
-		return came.replies, came.err
+	case err := <-done:
+		return err
 	case <-ctx.Done():
-		return nil, fmt.Errorf("%w: %v", ErrGone, ctx.Err())
+		return fmt.Errorf("%w: %v", ErrGone, ctx.Err())
 	}
 }
 
-// exchange asks with the turn, and gives it back.
-func (c *Client) exchange(ctx context.Context, e *End, lines []byte, replies int) (came [][]byte, err error) {
-	defer func() {
-		if err != nil {
-			e = nil
-		}
-		c.turn <- e
-	}()
+// exchange asks with the turn, and returns the end that is left for the next one, or nil.
+func (c *Client) exchange(ctx context.Context, e *End, lines []byte, replies int, read func([][]byte) error) (left *End, err error) {
+	if e != nil && e.hasUnread() {
+		// Nothing is lost yet: another one is asked in its place.
+		e.Close()
+		e = nil
+	}
 	if e == nil {
 		if e, err = c.open(ctx); err != nil {
 			return nil, err
 		}
 		c.opens.Add(1)
 	}
-	return e.Exchange(ctx, c.limit, lines, replies)
+	came, err := e.Exchange(ctx, c.limit, lines, replies)
+	if err != nil {
+		return nil, err
+	}
+	if err = read(came); errors.Is(err, ErrReply) {
+		e.Close()
+		return nil, err
+	}
+	return e, err
 }
 
 // ErrTooLong: a line is longer than the program takes. It wasn't sent.
@@ -294,23 +337,19 @@ func (p *Program) Starts() uint64 { return p.asked.Opens() }
 // Close ends the process.
 func (p *Program) Close() error { return p.asked.Close() }
 
-// Ask sends a request, and gives the line that is replied.
-func (p *Program) Ask(ctx context.Context, request any) ([]byte, error) {
+// Ask sends a request, and gives the line that is replied to read, like Client.Exchange.
+func (p *Program) Ask(ctx context.Context, request any, read func(reply []byte) error) error {
 	line, err := json.Marshal(request)
 	if err != nil {
-		return nil, fmt.Errorf("pipe: request: %w", err)
+		return fmt.Errorf("pipe: request: %w", err)
 	}
-	return p.AskLine(ctx, append(line, '\n'))
+	return p.AskLine(ctx, append(line, '\n'), read)
 }
 
-// AskLine sends a request's line, with its end, and gives the line that is replied. Behind an error the line's bytes may still be read.
-func (p *Program) AskLine(ctx context.Context, line []byte) ([]byte, error) {
+// AskLine is Ask of a request's line, with its end. After an error the line's bytes may still be read.
+func (p *Program) AskLine(ctx context.Context, line []byte, read func(reply []byte) error) error {
 	if length := len(line) - 1; length > p.mostLine {
-		return nil, fmt.Errorf("%w: %d bytes", ErrTooLong, length)
+		return fmt.Errorf("%w: %d bytes", ErrTooLong, length)
 	}
-	replies, err := p.asked.Exchange(ctx, line, 1)
-	if err != nil {
-		return nil, err
-	}
-	return replies[0], nil
+	return p.asked.Exchange(ctx, line, 1, func(replies [][]byte) error { return read(replies[0]) })
 }

@@ -20,6 +20,8 @@ import (
 type turn struct {
 	k       known
 	command *decider.Command
+	// made is the register's text that this turn's step leads to, with the name of its bundle; empty before the step, and in a turn of another node's step.
+	made decider.Held
 	// contents are what may be put, by what the commands name it by; bundle is the step's.
 	contents map[string]step.Object
 	bundle   []byte
@@ -39,8 +41,27 @@ type turn struct {
 	paths [][][32]byte
 }
 
-// errCommand: the program gives a command that can't be carried out here.
+// errCommand: the program gives a command that can't be carried out here. It may be a reply to another line, so the program is replaced.
 var errCommand = errors.New("sequencer: no command of this node")
+
+// heldOf returns the text that a node's step leads to, with the name of its bundle, as the program makes them (docs/NODE.md). No other text may take the place of
+// the one that the step was made from: nothing that the log needs would belong to it, and the text before is kept nowhere.
+func heldOf(from known, line string, to step.State, where string, salt uint64) decider.Held {
+	return decider.Held{
+		Text:   fmt.Sprintf("%s\n%s%s\n%s%016x%016x\n", line, nodeWord, where, saltWord, from.state.Moment, salt),
+		Bundle: fmt.Sprintf("%s%016x%016x%016x", stagingPrefix, to.Moment, from.state.Moment, salt),
+		Moment: to.Moment, Size: to.Size,
+	}
+}
+
+// isMade returns an error unless the command is about this turn's own step: from the text that was read, to the text, the bundle and the objects that it made.
+func (t *turn) isMade() error {
+	if of := t.command; of.Seen.Text != t.k.text || t.made.Text == "" || of.New != t.made || len(of.Objects) != len(t.contents) {
+		return fmt.Errorf("%w: %s of another step than this round's", errCommand, of.Do)
+	}
+	_, err := t.objects()
+	return err
+}
 
 // goOn asks what comes behind what came.
 func (s *Sequencer) goOn(ctx context.Context, t *turn, told decider.Told) (err error) {
@@ -222,6 +243,7 @@ func (s *Sequencer) doStep(ctx context.Context, t *turn, batch []*waiting) error
 		}
 	}
 	t.bundle, t.head, t.receipts, t.edge = stepped.Bundle, stepped.Head, stepped.Receipts, edge
+	t.made = heldOf(t.k, stepped.Line, stepped.State, s.config.where(), salt)
 	s.phase("stepped")
 	told := decider.Stepped(stepped.Line, s.config.where(), salt, t.keep(stepped.Objects))
 	if err := s.goOn(ctx, t, told); err != nil {
@@ -235,6 +257,9 @@ func (s *Sequencer) doStep(ctx context.Context, t *turn, batch []*waiting) error
 
 // doStage keeps what a step writes, before the register decides on it.
 func (s *Sequencer) doStage(ctx context.Context, t *turn) (decider.Told, error) {
+	if err := t.isMade(); err != nil {
+		return nil, err
+	}
 	// (what is in the bundle is put once more, as objects)
 	s.written = 2 * len(t.bundle)
 	s.putBytes.Add(uint64(s.written))
@@ -247,8 +272,8 @@ func (s *Sequencer) doStage(ctx context.Context, t *turn) (decider.Told, error) 
 
 // doSwap has the register decide on a step.
 func (s *Sequencer) doSwap(ctx context.Context, t *turn) (decider.Told, error) {
-	if t.command.Seen.Text != t.k.text {
-		return nil, fmt.Errorf("%w: a swap from another text", errCommand)
+	if err := t.isMade(); err != nil {
+		return nil, err
 	}
 	won, err := s.swap(ctx, t.command.Seen.Text, t.command.New.Text)
 	if err != nil {

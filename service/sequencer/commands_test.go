@@ -58,7 +58,12 @@ func TestLyingDecider(t *testing.T) {
 		"another text is looked at":               {decider.Look, `other(node["seen"])`, "behind a text that was read"},
 		"a step from another text":                {decider.Step, `other(node["seen"])`, "a step from another text"},
 		"no stage behind a step":                  {decider.Stage, `node["do"] = "swap"`, "swap behind a step"},
-		"a swap from another text":                {decider.Swap, `other(node["seen"])`, "a swap from another text"},
+		"a bundle under another name":             {decider.Stage, `node["new"]["bundle"] = "staging/" + "0" * 48`, "stage of another step"},
+		"a bundle of another text":                {decider.Stage, `other(node["new"])`, "stage of another step"},
+		"a swap from another text":                {decider.Swap, `other(node["seen"])`, "swap of another step"},
+		"a swap to another text":                  {decider.Swap, `other(node["new"])`, "swap of another step"},
+		"a swap to another bundle":                {decider.Swap, `node["new"]["bundle"] = "staging/" + "0" * 48`, "swap of another step"},
+		"a swap without the step's objects":       {decider.Swap, `node["objects"] = []`, "swap of another step"},
 		"an object that isn't the step's":         {decider.Put, `node["objects"][0] = "tile/0/999 " + "0" * 64`, "which isn't there"},
 		"objects are put of another text":         {decider.Put, `other(node["new"])`, "put of another text"},
 		"places of another text":                  {decider.Place, `other(node["new"])`, "place of another text"},
@@ -86,6 +91,57 @@ func TestLyingDecider(t *testing.T) {
 			s = started(t, config, hooks{})
 			must(t, got.submitAll(ctx, s, 0, 5, 5))
 			p.right(t, got)
+		})
+	}
+}
+
+// late is a program that decides, and from its line of a number on gives each reply to the line after. Only its first process does.
+const late = `
+import json, os, sys
+sys.path.insert(0, %q)
+from ctnode import reply
+from explore import Machine
+
+machine, once, number, held = Machine(), %q, 0, None
+slips = not os.path.exists(once)
+for line in sys.stdin.buffer:
+    given = reply(line.rstrip(b"\n"), machine)
+    number += 1
+    if slips and number >= %d:
+        open(once, "w").close()
+        held, given = given, held or given
+    print(json.dumps(given), flush=True)
+`
+
+// TestLateReplies has the program's replies slip by one line, from each line of a node's first steps on. No foreign text may be swapped in, and no reply of another
+// line may be acted on: the program is replaced, all submissions are answered, and the log is right.
+func TestLateReplies(t *testing.T) {
+	t.Parallel()
+	here, err := filepath.EvalSymlinks(os.Getenv("PWD"))
+	must(t, err)
+	folder := filepath.Join(here, filepath.Dir(deciderFile))
+	for from := 3; from <= 30; from++ {
+		from := from
+		t.Run(fmt.Sprint(from), func(t *testing.T) {
+			t.Parallel()
+			p, ctx, got, at := newPlace(t), limited(t), &answers{}, t.TempDir()
+			path, slipped := filepath.Join(at, "late.py"), filepath.Join(at, "slipped")
+			must(t, os.WriteFile(path, []byte(fmt.Sprintf(late, folder, slipped, from)), 0o600))
+			config := p.config(t)
+			config.Decider.Close()
+			program, err := decider.NewClient([]string{"python3", path}, longest)
+			must(t, err)
+			config.Decider = program
+			t.Cleanup(func() { program.Close() })
+			config.TendEvery, config.Refresh = time.Hour, time.Hour
+			s := started(t, config, hooks{})
+			for number := 0; number < 9; number += 3 {
+				must(t, got.submitAll(ctx, s, number, number+3, 3))
+			}
+			if _, err := os.Stat(slipped); err != nil {
+				t.Errorf("no reply slipped: %v", err)
+			}
+			isOf(t, p.right(t, got), 9)
 		})
 	}
 }

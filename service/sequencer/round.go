@@ -73,6 +73,9 @@ func (s *Sequencer) loop(ctx context.Context) {
 		round, cancel := context.WithTimeout(ctx, mostRound)
 		err := s.round(round)
 		cancel()
+		if errors.Is(err, errCommand) {
+			s.replaceDecider()
+		}
 		atLeast, atMost := s.config.interval(time.Since(began), s.wrote, s.written)
 		least, next = began.Add(atLeast), began.Add(atMost)
 		if errors.Is(err, errMoves) {
@@ -88,6 +91,14 @@ func (s *Sequencer) loop(ctx context.Context) {
 		_ = wait(ctx, backoff)
 		backoff = longerBackoff(backoff)
 	}
+}
+
+// replaceDecider ends the program that says what this node does next, and forgets what it said last. The next round starts another one.
+func (s *Sequencer) replaceDecider() {
+	s.config.Decider.Close()
+	s.mu.Lock()
+	defer s.mu.Unlock()
+	s.stepping = nil
 }
 
 // longerBackoff is how far rounds are apart behind one more that failed.

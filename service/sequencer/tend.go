@@ -5,6 +5,7 @@ import (
 	"errors"
 	"fmt"
 	"math/rand"
+	"regexp"
 	"sort"
 	"time"
 
@@ -155,6 +156,9 @@ func (s *Sequencer) failed(what string, err error) {
 // mostBundles is how many bundles one turn deletes.
 const mostBundles = 64
 
+// bundleName matches the names that the program gives bundles. It refuses a line with any other name, and would be ended for it.
+var bundleName = regexp.MustCompile("^" + stagingPrefix + "[0-9a-f]{48}$")
+
 // sweepBundles lists staging/ every SweepAfter, and deletes the bundles that the program says no step needs any more. It leaves an object whose name is not
 // that of a bundle: no node put it.
 func (t *tender) sweepBundles(ctx context.Context) error {
@@ -172,11 +176,15 @@ func (t *tender) sweepBundles(ctx context.Context) error {
 	}
 	staged, left := 0, mostBundles
 	for _, name := range names {
-		next, err := t.s.config.Decider.Next(ctx, stepping, decider.Listed(name))
-		if err != nil && !errors.Is(err, decider.ErrRefused) {
-			return err
+		goes := false
+		if bundleName.MatchString(name) {
+			next, err := t.s.config.Decider.Next(ctx, stepping, decider.Listed(name))
+			if err != nil {
+				return err
+			}
+			goes = next.Do == decider.Delete && next.Bundle == name
 		}
-		if goes := err == nil && next.Do == decider.Delete && next.Bundle == name; !goes || left == 0 {
+		if !goes || left == 0 {
 			staged++
 			continue
 		}

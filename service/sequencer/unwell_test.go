@@ -388,6 +388,7 @@ func TestCommandsThatFail(t *testing.T) {
 		of.placed.add(stores.Identity{1}, stores.Identity{2}, stores.Place{Index: 4, Timestamp: 1})
 		of.placed.wrong = of.placed.identities
 		command.Objects = of.keep([]step.Object{object})
+		of.made = command.New
 		node.queue = newQueue(1, 1<<10)
 		of.batch, of.receipts = []*waiting{{ctx: ctx, done: make(chan answer, 1)}}, []step.Receipt{{LeafIndex: 0}}
 		must(t, node.queue.seat(of.batch[0]))

@@ -395,37 +395,35 @@ func (c *Client) Close() error { return c.asked.Close() }
 // Starts is how often the signer was started, or found.
 func (c *Client) Starts() uint64 { return c.asked.Opens() }
 
-func (c *Client) ask(ctx context.Context, asked request) (came reply, err error) {
+func (c *Client) ask(ctx context.Context, asked request, check func(reply) error) error {
 	line, err := json.Marshal(asked)
 	if err != nil {
-		return came, fmt.Errorf("signer: %w", err)
+		return fmt.Errorf("signer: %w", err)
 	}
-	return c.askLine(ctx, line)
+	return c.askLine(ctx, line, check)
 }
 
-// askLine sends a request's line, which is without its end.
-func (c *Client) askLine(ctx context.Context, line []byte) (came reply, err error) {
+// askLine sends a request's line, which is without its end, and gives what is replied to a check.
+func (c *Client) askLine(ctx context.Context, line []byte, check func(reply) error) error {
 	if len(line) >= MostLine {
-		return came, fmt.Errorf("%w: a request of %d bytes", ErrReply, len(line))
+		return fmt.Errorf("%w: a request of %d bytes", ErrReply, len(line))
 	}
-	replies, err := c.asked.Exchange(ctx, append(line, '\n'), 1)
-	if err != nil {
-		return came, err
-	}
-	if came, err = readReply(replies[0]); err != nil {
-		return came, fmt.Errorf("%w: %v", ErrReply, err)
-	}
-	switch {
-	case came.Refused != "":
-		return came, Refusal{came.Refused, came.Fault}
-	case came.Moved:
-		return came, ErrMoved
-	case came.Bad:
-		return came, fmt.Errorf("%w: %s", ErrState, came.Failed)
-	case came.Failed != "":
-		return came, fmt.Errorf("%w: %s", pipe.ErrGone, came.Failed)
-	}
-	return came, nil
+	return c.asked.Exchange(ctx, append(line, '\n'), 1, func(replies [][]byte) error {
+		came, err := readReply(replies[0])
+		switch {
+		case err != nil:
+			return fmt.Errorf("%w: %v", ErrReply, err)
+		case came.Refused != "":
+			return Refusal{came.Refused, came.Fault}
+		case came.Moved:
+			return ErrMoved
+		case came.Bad:
+			return fmt.Errorf("%w: %s", ErrState, came.Failed)
+		case came.Failed != "":
+			return fmt.Errorf("%w: %s", pipe.ErrGone, came.Failed)
+		}
+		return check(came)
+	})
 }
 
 // Key is Signer's.
@@ -436,27 +434,33 @@ func (c *Client) IsGuarded() bool { return c.guarded }
 
 // Last is Signer's.
 func (c *Client) Last(ctx context.Context) (*Head, error) {
-	came, err := c.ask(ctx, request{Last: true})
+	var last *Head
+	err := c.ask(ctx, request{Last: true}, func(came reply) (err error) {
+		if last, err = came.Last.head(); err != nil {
+			return fmt.Errorf("%w: %v", ErrReply, err)
+		}
+		return nil
+	})
 	if err != nil {
 		return nil, err
-	}
-	last, err := came.Last.head()
-	if err != nil {
-		return nil, fmt.Errorf("%w: %v", ErrReply, err)
 	}
 	return last, nil
 }
 
 // SignHead is Signer's.
 func (c *Client) SignHead(ctx context.Context, head Head, consistency [][32]byte) ([]byte, error) {
-	came, err := c.ask(ctx, request{Head: lineOf(&head), Consistency: hashesOf(consistency)})
+	var signed []byte
+	err := c.ask(ctx, request{Head: lineOf(&head), Consistency: hashesOf(consistency)}, func(came reply) error {
+		if err := c.areSigned(ctx, came.Signatures, [][]byte{head.message()}); err != nil {
+			return err
+		}
+		signed = came.Signatures[0]
+		return nil
+	})
 	if err != nil {
 		return nil, err
 	}
-	if err := c.areSigned(ctx, came.Signatures, [][]byte{head.message()}); err != nil {
-		return nil, err
-	}
-	return came.Signatures[0], nil
+	return signed, nil
 }
 
 // areSigned looks at what the other process gave, as at what another node's does: one signature for each message, the key's.
@@ -488,14 +492,15 @@ func (c *Client) SignTimestamps(ctx context.Context, receipts []Receipt) (signat
 		for _, one := range part {
 			messages = append(messages, one.Leaf)
 		}
-		came, err := c.askLine(ctx, appendReceipts(nil, part))
+		var signed [][]byte
+		err := c.askLine(ctx, appendReceipts(nil, part), func(came reply) error {
+			signed = came.Signatures
+			return c.areSigned(ctx, signed, messages)
+		})
 		if err != nil {
 			return nil, err
 		}
-		if err := c.areSigned(ctx, came.Signatures, messages); err != nil {
-			return nil, err
-		}
-		signatures = append(signatures, came.Signatures...)
+		signatures = append(signatures, signed...)
 	}
 	return signatures, nil
 }

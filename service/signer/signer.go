@@ -11,6 +11,8 @@ import (
 	"encoding/binary"
 	"errors"
 	"fmt"
+
+	"wagtenib/service/pipe"
 )
 
 // Signer signs heads and timestamps. Its methods may be called at once.
@@ -82,7 +84,7 @@ var (
 	// ErrState: the guard's state is missing, or isn't one that it takes up.
 	ErrState = errors.New("signer: no state of the guard")
 	// ErrReply: a reply isn't one to the request.
-	ErrReply = errors.New("signer: not a reply")
+	ErrReply = fmt.Errorf("signer: %w", pipe.ErrReply)
 	// ErrKey: a file is no key of a log.
 	ErrKey = errors.New("signer: no key of a log")
 	// ErrSignature: a signature isn't the key's over these bytes.

@@ -3,6 +3,7 @@ package step
 import (
 	"bytes"
 	"encoding/hex"
+	"encoding/json"
 	"errors"
 	"strings"
 	"testing"
@@ -43,6 +44,49 @@ func TestPrecertificates(t *testing.T) {
 	_, err := c.WithoutPoison(ctx, append(tbsWith(t, poison), 0))
 	if !errors.Is(err, Unread) || !strings.Contains(err.Error(), "trailing in tbs of the certificate") {
 		t.Error(err)
+	}
+}
+
+// TestWrongCuts has a program reply with entries that aren't the precertificate's: another certificate's, one bit of the right one changed, one byte less, the order
+// of its extensions, or an extension more or less. None may be used, and each must end the program.
+func TestWrongCuts(t *testing.T) {
+	t.Parallel()
+	const poison, one, two = "3013060a2b06010401d6790204030101ff04020500", "3009060355041d0402aabb", "3009060355041e0402ccdd"
+	tbs, right := tbsWith(t, one+poison+two), tbsWith(t, one+two)
+	another := append([]byte{}, right...)
+	another[4]++
+	wrongs := [][]byte{tbs, another, tbsWith(t, two+one), tbsWith(t, one), tbsWith(t, one+two+two), tbsWith(t, ""), right[:len(right)-1], append(append([]byte{}, right...), 0), {0x30, 0}}
+	for at := range right {
+		bent := append([]byte{}, right...)
+		bent[at] ^= 1
+		wrongs = append(wrongs, bent)
+	}
+	for _, wrong := range wrongs {
+		if isCut(tbs, wrong) {
+			t.Errorf("%x is taken for the entry of %x", wrong, tbs)
+		}
+	}
+	// The entry of a precertificate without other extensions has none, and no list of them.
+	if !isCut(tbs, right) || !isCut(tbsWith(t, poison), tbsWith(t, "")) || isCut(tbsWith(t, poison+one+poison), tbsWith(t, one)) || isCut(right, right) {
+		t.Error("what is an entry isn't taken for one, or the other way round")
+	}
+	for _, of := range []struct {
+		entry []byte
+		ends  bool
+	}{{right, false}, {another, true}} {
+		line, err := json.Marshal(map[string][]byte{"tbs_certificate": of.entry})
+		must(t, err)
+		c, err := NewClient([]string{"sh", "-c", "while read -r x; do echo '" + string(line) + "'; done"}, trial.Longest)
+		must(t, err)
+		for i := 0; i < 2; i++ {
+			if entry, err := c.WithoutPoison(within(t), tbs); of.ends != errors.Is(err, ErrReply) || of.ends != (entry == nil) {
+				t.Errorf("%x: %x, %v", of.entry, entry, err)
+			}
+		}
+		if ended := c.Starts() == 2; ended != of.ends {
+			t.Errorf("%x: the program was started %d times", of.entry, c.Starts())
+		}
+		c.Close()
 	}
 }
 

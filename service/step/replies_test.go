@@ -164,13 +164,6 @@ func TestBounds(t *testing.T) {
 	if path, err := c.Path(ctx, 0, 2, tiles); err != nil || len(path) != mostHashes || asked != mostTiles {
 		t.Errorf("%d hashes of %d tiles, %v", len(path), asked, err)
 	}
-	tbs := tbsWith(t, "")
-	for length, right := range map[int]bool{1: true, len(tbs) - 1: true, len(tbs): false} {
-		entry, err := liar(t, map[string][]byte{"tbs_certificate": make([]byte, length)}).WithoutPoison(ctx, tbs)
-		if right != (err == nil) || right && len(entry) != length || !right && !errors.Is(err, ErrReply) {
-			t.Errorf("an entry of %d bytes of %d: %x, %v", length, len(tbs), entry, err)
-		}
-	}
 }
 
 // TestRefusedByFault: a refusal that names a fault is found by its name, and says where the fault is.

@@ -33,13 +33,16 @@ var (
 	// ErrProcess: the process doesn't start, ended, or gave no reply in time. The next request starts another.
 	ErrProcess = pipe.ErrGone
 	// ErrReply: the reply isn't one to the request.
-	ErrReply = errors.New("step: not a reply")
+	ErrReply = fmt.Errorf("step: %w", pipe.ErrReply)
 )
 
 // Refusal is the name by which the program refused a request; nothing has changed then.
 type Refusal string
 
 func (r Refusal) Error() string { return "step: refused: " + string(r) }
+
+// Is reports that a bad line counts as no reply: this process wrote the line itself, so the program may have read a part of it, and is ended.
+func (r Refusal) Is(target error) bool { return r == BadLine && target == pipe.ErrReply }
 
 // The refusals.
 const (
@@ -67,19 +70,17 @@ func NewClient(command []string, limit time.Duration) (*Client, error) {
 	return &Client{Program: program}, err
 }
 
-// ask sends a request, and reads its reply into an object.
-func (c *Client) ask(ctx context.Context, request, reply any) error {
-	answered, err := c.Ask(ctx, request)
-	if err != nil {
-		return err
-	}
-	if isRefusal(answered) {
-		return refusalIn(answered)
-	}
-	if err := json.Unmarshal(answered, reply); err != nil {
-		return fmt.Errorf("%w: %v", ErrReply, err)
-	}
-	return nil
+// ask sends a request, and reads its reply into an object, which is checked then. The object must not be used after an error.
+func (c *Client) ask(ctx context.Context, request, reply any, check func() error) error {
+	return c.Ask(ctx, request, func(answered []byte) error {
+		if isRefusal(answered) {
+			return refusalIn(answered)
+		}
+		if err := json.Unmarshal(answered, reply); err != nil {
+			return fmt.Errorf("%w: %v", ErrReply, err)
+		}
+		return check()
+	})
 }
 
 // refusalIn reads a refusal.
@@ -146,26 +147,31 @@ func (h Head) check(s State) error {
 // Begin gives the line of a log without entries.
 func (c *Client) Begin(ctx context.Context, moment uint64) (string, error) {
 	var reply struct{ State string }
-	if err := c.ask(ctx, map[string]any{"begin": moment}, &reply); err != nil {
+	err := c.ask(ctx, map[string]any{"begin": moment}, &reply, func() error {
+		if s, err := ParseState(reply.State); err != nil || s.Size != 0 || s.Moment != moment || !s.IsBegin() {
+			return fmt.Errorf("%w: the state isn't that of a log without entries", ErrReply)
+		}
+		return nil
+	})
+	if err != nil {
 		return "", err
 	}
-	s, err := ParseState(reply.State)
-	if err == nil && (s.Size != 0 || s.Moment != moment || !s.IsBegin()) {
-		err = fmt.Errorf("%w: the state isn't that of a log without entries", ErrReply)
-	}
-	return reply.State, err
+	return reply.State, nil
 }
 
 // Needs gives the names of the objects that a step from this line wants: its edge.
 func (c *Client) Needs(ctx context.Context, line string) ([]string, error) {
 	var reply struct{ Names []string }
-	if err := c.ask(ctx, map[string]any{"needs": line}, &reply); err != nil {
-		return nil, err
-	}
-	for _, name := range reply.Names {
-		if err := checkTile(name); err != nil {
-			return nil, err
+	err := c.ask(ctx, map[string]any{"needs": line}, &reply, func() error {
+		for _, name := range reply.Names {
+			if err := checkTile(name); err != nil {
+				return err
+			}
 		}
+		return nil
+	})
+	if err != nil {
+		return nil, err
 	}
 	return reply.Names, nil
 }
@@ -185,13 +191,26 @@ type Stepped struct {
 // Step gives the state behind a batch, with the objects that it publishes. The edge are the contents of the names that Needs
 // gives, in that order. The moment is at most so many milliseconds beyond the line's (most), or it is TooFar.
 func (c *Client) Step(ctx context.Context, line string, edge [][]byte, batch []Submission, now, most uint64) (*Stepped, error) {
+	before, err := ParseState(line)
+	if err != nil {
+		return nil, err
+	}
+	var stepped *Stepped
+	err = c.askStep(ctx, line, edge, batch, now, most, func(answered []byte) (err error) {
+		stepped, err = readStep(answered, line, before.Size, len(batch), now)
+		return err
+	})
+	if err != nil {
+		return nil, err
+	}
+	return stepped, nil
+}
+
+// readStep reads the reply to a request for a step from a line, whose log has so many entries, with so many more.
+func readStep(answered []byte, line string, size uint64, batch int, now uint64) (*Stepped, error) {
 	var told struct {
 		Stepped
 		References []reference `json:"objects"`
-	}
-	answered, err := c.askStep(ctx, line, edge, batch, now, most)
-	if err != nil {
-		return nil, err
 	}
 	if isRefusal(answered) {
 		return nil, refusalIn(answered)
@@ -210,23 +229,19 @@ func (c *Client) Step(ctx context.Context, line string, edge [][]byte, batch []S
 	if bundle != nil {
 		reply.Bundle = bundle
 	}
-	before, err := ParseState(line)
-	if err != nil {
-		return nil, err
-	}
 	if reply.State, err = ParseState(reply.Line); err != nil {
 		return nil, fmt.Errorf("%w: %v", ErrReply, err)
 	}
 	s := reply.State
-	if len(reply.Receipts) != len(batch) {
-		return nil, fmt.Errorf("%w: %d receipts of %d entries", ErrReply, len(reply.Receipts), len(batch))
+	if len(reply.Receipts) != batch {
+		return nil, fmt.Errorf("%w: %d receipts of %d entries", ErrReply, len(reply.Receipts), batch)
 	}
-	size := before.Size
+	before := size
 	for i, r := range reply.Receipts {
 		if r.LeafIndex == size {
 			size++
 		}
-		if r.LeafIndex < before.Size || r.LeafIndex >= size || r.Timestamp != now || len(r.Sign) == 0 {
+		if r.LeafIndex < before || r.LeafIndex >= size || r.Timestamp != now || len(r.Sign) == 0 {
 			return nil, fmt.Errorf("%w: receipt %d isn't an entry's of this batch", ErrReply, i)
 		}
 	}
@@ -240,22 +255,22 @@ func (c *Client) Step(ctx context.Context, line string, edge [][]byte, batch []S
 }
 
 // askStep sends the request for a step.
-func (c *Client) askStep(ctx context.Context, state string, edge [][]byte, batch []Submission, now, most uint64) ([]byte, error) {
+func (c *Client) askStep(ctx context.Context, state string, edge [][]byte, batch []Submission, now, most uint64, read func([]byte) error) error {
 	spare, ok := c.spare.Get().(*[]byte)
 	if !ok {
 		spare = new([]byte)
 	}
 	line, err := appendStep((*spare)[:0], state, edge, batch, now, most)
 	if err != nil {
-		return nil, fmt.Errorf("step: request: %w", err)
+		return fmt.Errorf("step: request: %w", err)
 	}
-	answered, err := c.AskLine(ctx, line)
-	// (behind an error it may still be written)
-	if err == nil {
+	err = c.AskLine(ctx, line, read)
+	// (if there is no reply, it may still be written)
+	if !errors.Is(err, ErrProcess) {
 		*spare = line
 		c.spare.Put(spare)
 	}
-	return answered, err
+	return err
 }
 
 // Claim gives the receipt of a submission's entry that stands at a place of the log of this line: the program answers it where the audit
@@ -269,14 +284,16 @@ func (c *Client) Claim(ctx context.Context, line string, index, timestamp uint64
 	}
 	place := map[string]uint64{"leaf_index": index, "timestamp": timestamp}
 	var reply struct{ Receipt *Receipt }
-	if err := c.ask(ctx, map[string]any{"claim": place, "path": path, "state": line, "submission": submission}, &reply); err != nil {
+	err := c.ask(ctx, map[string]any{"claim": place, "path": path, "state": line, "submission": submission}, &reply, func() error {
+		if r := reply.Receipt; r == nil || r.LeafIndex != index || r.Timestamp != timestamp || len(r.Sign) == 0 {
+			return fmt.Errorf("%w: the receipt isn't that of the place", ErrReply)
+		}
+		return nil
+	})
+	if err != nil {
 		return nil, err
 	}
-	r := reply.Receipt
-	if r == nil || r.LeafIndex != index || r.Timestamp != timestamp || len(r.Sign) == 0 {
-		return nil, fmt.Errorf("%w: the receipt isn't that of the place", ErrReply)
-	}
-	return r, nil
+	return reply.Receipt, nil
 }
 
 // Resumed is what is published of a step that was decided.
@@ -295,12 +312,15 @@ func (c *Client) Resume(ctx context.Context, line string, bundle []byte) (*Resum
 		Head
 		References []reference `json:"objects"`
 	}
-	if err := c.ask(ctx, map[string]any{"resume": line, "bundle": bundle}, &reply); err != nil {
-		return nil, err
-	}
-	objects, err := objectsIn(bundle, reply.References)
+	var objects []Object
+	err = c.ask(ctx, map[string]any{"resume": line, "bundle": bundle}, &reply, func() (err error) {
+		if objects, err = objectsIn(bundle, reply.References); err != nil {
+			return err
+		}
+		return reply.Head.check(s)
+	})
 	if err != nil {
 		return nil, err
 	}
-	return &Resumed{reply.Head, objects}, reply.Head.check(s)
+	return &Resumed{reply.Head, objects}, nil
 }

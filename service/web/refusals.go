@@ -11,6 +11,7 @@ import (
 
 	"wagtenib/service/chains"
 	"wagtenib/service/log"
+	"wagtenib/service/pipe"
 	"wagtenib/service/step"
 	"wagtenib/service/stores"
 )
@@ -51,7 +52,7 @@ func refusalOf(err error) refusal {
 		r.name, r.after = "clock", 10
 	case errors.Is(err, log.ErrStore):
 		r.name, r.after = "store", 5
-	case errors.Is(err, step.ErrProcess):
+	case errors.Is(err, step.ErrProcess), errors.Is(err, pipe.ErrReply):
 		r.name, r.after = "program", 5
 	case errors.Is(err, context.DeadlineExceeded):
 		r.name, r.after = "late", 5

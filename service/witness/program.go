@@ -44,18 +44,22 @@ func (s *Server) ask(ctx context.Context, last tree, r Request, now uint64) (*re
 		return nil, fmt.Errorf("witness: %w", err)
 	}
 	line = append(line, '\n')
-	came, err := s.program.Exchange(ctx, line, 1)
-	if errors.Is(err, pipe.ErrGone) && ctx.Err() == nil {
-		came, err = s.program.Exchange(ctx, line, 1)
+	var said *reply
+	read := func(came [][]byte) (err error) {
+		said, err = readReply(came[0], last, r, now)
+		return err
 	}
-	if err != nil {
+	err = s.program.Exchange(ctx, line, 1, read)
+	if errors.Is(err, pipe.ErrGone) && ctx.Err() == nil {
+		err = s.program.Exchange(ctx, line, 1, read)
+	}
+	if errors.Is(err, pipe.ErrGone) {
 		return nil, fmt.Errorf("witness: %w", err)
 	}
-	said, err := readReply(came[0], last, r, now)
 	if err != nil {
-		s.program.Close()
+		return nil, err
 	}
-	return said, err
+	return said, nil
 }
 
 func slices(hashes [][32]byte) [][]byte {

@@ -39,7 +39,7 @@ var (
 	// ErrState: a log's state is missing, or isn't one of this log.
 	ErrState = errors.New("witness: no state of the log")
 	// ErrReply: the program's reply isn't one to the request.
-	ErrReply = errors.New("witness: not a reply")
+	ErrReply = fmt.Errorf("witness: %w", pipe.ErrReply)
 	// ErrClock: the clock is behind the last cosignature.
 	ErrClock = errors.New("witness: the clock went back")
 )
@@ -141,6 +141,8 @@ type Server struct {
 
 	mu   sync.Mutex
 	logs map[string]*Log
+	// seen has, by a log's origin, the newest tree that this process read or kept: its state must not go behind it while the process runs.
+	seen map[string]tree
 }
 
 // New makes a witness of no logs.
@@ -161,7 +163,7 @@ func New(of Options) (*Server, error) {
 		of.Tell = func(string, ...any) {}
 	}
 	s := &Server{
-		of: of, public: of.Key.Public().(ed25519.PublicKey), room: make(chan struct{}, mostAtOnce), logs: map[string]*Log{},
+		of: of, public: of.Key.Public().(ed25519.PublicKey), room: make(chan struct{}, mostAtOnce), logs: map[string]*Log{}, seen: map[string]tree{},
 		now: func() uint64 { return uint64(time.Now().Unix()) }, phase: func(string) {},
 	}
 	s.program = pipe.NewClient(func(context.Context) (*pipe.End, error) { return pipe.Start(of.Program, mostReply) }, of.Within)
@@ -213,6 +215,35 @@ func (s *Server) log(origin string) *Log {
 	return s.logs[origin]
 }
 
+// newestSeen returns the newest tree that this process saw of a log; the one without leaves before the first.
+func (s *Server) newestSeen(origin string) tree {
+	s.mu.Lock()
+	defer s.mu.Unlock()
+	if of, ok := s.seen[origin]; ok {
+		return of
+	}
+	return tree{Root: emptyRoot[:]}
+}
+
+// see keeps a tree if it is the newest of a log.
+func (s *Server) see(origin string, of tree) {
+	s.mu.Lock()
+	defer s.mu.Unlock()
+	if before, ok := s.seen[origin]; !ok || before.Size < of.Size {
+		s.seen[origin] = of
+	}
+}
+
+// isBehind returns an error if a state is older than a tree that was seen before the state was read, or has another root: it was put back, and cosigning from it
+// would make a fork.
+func isBehind(last state, before tree) error {
+	if last.Size > before.Size || last.Size == before.Size && bytes.Equal(last.Root, before.Root) {
+		return nil
+	}
+	return fmt.Errorf("%w %s: it was put back while this witness runs: it has %d leaves with the root %x, and had %d with %x (restore the newer state)", ErrState, last.Origin,
+		last.Size, last.Root, before.Size, before.Root)
+}
+
 // answer is a status, the type of what is answered with it, and its bytes.
 type answer struct {
 	status int
@@ -245,11 +276,13 @@ func (s *Server) add(ctx context.Context, body []byte) answer {
 		return plain(http.StatusForbidden, "no signature of a key of the log\n")
 	}
 	for try := 0; try < mostTries; try++ {
+		// (other requests may have the state moved, but never behind what was seen before it is read)
+		before := s.newestSeen(log.Origin)
 		text, err := log.State.Read(ctx)
 		if err != nil {
 			return s.failed("state", log.Origin, err)
 		}
-		came, again := s.decide(ctx, log, text, r)
+		came, again := s.decide(ctx, log, text, before, r)
 		if !again {
 			return came
 		}
@@ -258,12 +291,16 @@ func (s *Server) add(ctx context.Context, body []byte) answer {
 	return plain(http.StatusServiceUnavailable, "busy\n")
 }
 
-// decide decides from a state that was read, and keeps the next one. It says again where another one stood by then.
-func (s *Server) decide(ctx context.Context, log *Log, text string, r Request) (came answer, again bool) {
+// decide decides from a state that was read once a tree had been seen, and keeps the next one. It says again where another one stood by then.
+func (s *Server) decide(ctx context.Context, log *Log, text string, before tree, r Request) (came answer, again bool) {
 	last, err := readState(text, log.Origin)
+	if err == nil {
+		err = isBehind(last, before)
+	}
 	if err != nil {
 		return s.failed("state", log.Origin, err), false
 	}
+	s.see(log.Origin, last.tree)
 	now := s.now()
 	if now < last.Time {
 		if now+mostBehind < last.Time {
@@ -289,6 +326,7 @@ func (s *Server) decide(ctx context.Context, log *Log, text string, r Request) (
 	case err != nil:
 		return s.failed("state", log.Origin, err), false
 	}
+	s.see(log.Origin, next.tree)
 	s.phase("kept")
 	s.metrics.kept(log.Origin, next)
 	s.metrics.cosigned(log.Origin)

@@ -417,6 +417,59 @@ func TestStaleReader(t *testing.T) {
 	}
 }
 
+// TestStatePutBack has a log's state be put back below a running witness, as by a restored backup: it must cosign neither a fork from there nor anything else until
+// the newer state is back, and it must say why.
+func TestStatePutBack(t *testing.T) {
+	by, ctx, state := headKey(t, origin), limited(t), stateIn(t, t.TempDir())
+	one, fork := grown(t, "a", "b", "c", "d", "e"), grown(t, "a", "b", "c", "another", "e")
+	signed := func(of *leaves, n int64) []byte { return by.sign(checkpoint(origin, n, of.root(t, n))) }
+	s := witnessOver(t, state, newKey(t), decider(), by)
+	var told []string
+	s.of.Tell = func(event string, words ...any) { told = append(told, fmt.Sprint(append([]any{event}, words...)...)) }
+	cosigns := func(old, n int64, of *leaves) int {
+		t.Helper()
+		w := posted(t, s, request(old, of.proof(t, old, n), signed(of, n)))
+		if w.Code == 503 && w.Body.String() != "state\n" {
+			t.Errorf("%s", w.Body)
+		}
+		return w.Code
+	}
+	if w := posted(t, s, request(0, nil, signed(one, 3))); w.Code != 200 {
+		t.Fatalf("%d %s", w.Code, w.Body)
+	}
+	older, err := state.Read(ctx)
+	must(t, err)
+	if status := cosigns(3, 4, one); status != 200 {
+		t.Fatalf("%d", status)
+	}
+	newer, err := state.Read(ctx)
+	must(t, err)
+	must(t, state.Swap(ctx, newer, older))
+	for _, of := range []*leaves{fork, one} {
+		if status := cosigns(3, 4, of); status != 503 {
+			t.Errorf("over a state that was put back: %d", status)
+		}
+	}
+	if len(told) != 2 || !strings.Contains(told[0], "it was put back") {
+		t.Errorf("it says %q", told)
+	}
+	// Of the newest size it must be the same tree.
+	var other map[string]any
+	must(t, json.Unmarshal([]byte(newer), &other))
+	root := fork.root(t, 4)
+	other["last_root"] = root[:]
+	forked, err := json.Marshal(other)
+	must(t, err)
+	must(t, state.Swap(ctx, older, string(forked)))
+	if status := cosigns(4, 5, fork); status != 503 {
+		t.Errorf("over another tree of this size: %d", status)
+	}
+	must(t, state.Swap(ctx, string(forked), newer))
+	if status := cosigns(4, 5, one); status != 200 {
+		t.Errorf("once the newer state is back: %d", status)
+	}
+}
+
 // saying is a program that replies one thing to each line.
 func saying(reply string) []string {
 	return []string{"sh", "-c", "while read -r line; do printf '%s\\n' '" + reply + "'; done"}
