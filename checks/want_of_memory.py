@@ -5,7 +5,7 @@ No contract can say that an allocator refused. So in the sources of every crate 
 memory (the case `Memory` of an enum, or std's `AllocError`) stands only inside an `impl From<AllocError> for ..`, which turns a refused growth
 into an error, or a conversion that passes on an error which tells of one; everywhere else it comes by `?`. Types (in the body of a struct or an
 enum, a signature, an `impl`'s head, behind `let x:` or in angle brackets), imports and patterns may name it. The library for C has a number for
-it, 8, which stands only behind a pattern that names it. No growth is asked for that may be more than a machine has room for: how many places it
+it, 8 or OUT_OF_MEMORY, which stands only behind a pattern that names it. No growth is asked for that may be more than a machine has room for: how many places it
 asks for is a sum of lengths, of parameters, and of literals below 2^20, by way of `let`s of its function and constants, and so is what each call
 gives for such a parameter (`capacity.py`); only shared/src/count.rt asks for all places that there are, behind the last number. No array has 2^20 items or more, and
 nothing but a process's words is collected from an iterator, which may say that it has any number of items. And none
@@ -24,8 +24,9 @@ KEPT = re.compile(r"\b(?:forget|leak|ManuallyDrop)\b")
 ANGLE = r"<(?:[^()=<>{};]|->|<(?:[^()=<>{};]|<[^()=<>{};]*>)*>)*"
 BEFORE = re.compile(rf"(?:\blet\b[^=]*|\b(?:const|static)\s+\w+:[^=]*|->[^{{;=]*|{ANGLE}|\btype\s[^;]*|[!=]= (?:\w+::)*)$")
 BEHIND = re.compile(r"^(?:\([^()]*\)|\{[^{}]*\})?\s*[)}]*\s*(?:if\b[^=]*)?(?:\|(?!\|)|=>)|^>")
-# The library for C, and its number.
-NUMBERED, NUMBER = "libwagtenib", re.compile(r"(?<!; )\b8(?:_?[iu](?:\d+|size))?\b")
+# The library for C and the calls below it, their number, and the one place that may name it without a pattern.
+NUMBERED, NUMBER = ("libwagtenib", "line_calls"), re.compile(r"(?<!; )\b8(?:_?[iu](?:\d+|size))?\b|\bOUT_OF_MEMORY\b")
+CONSTANT = re.compile(r"\buse [^;]*;|\bpub const OUT_OF_MEMORY: u32 = 8;")
 # The one file that may ask for all places that there are.
 COUNT = "shared/src/count.rt"
 # A growth for as many items as an iterator says that it has: of a process's words alone, since a range says any number.
@@ -132,7 +133,7 @@ def collected(text):
 
 def numbers(text):
     """The places of the library's number for want of memory, where no pattern before it names it."""
-    for found in NUMBER.finditer(text):
+    for found in NUMBER.finditer(CONSTANT.sub(lambda it: " " * len(it[0]), text)):
         arm = re.search(r"([^\n]*)=>\s*$", text[: found.start()])
         if not (arm and NAMES.search(arm.group(1))):
             yield found.start()
@@ -143,7 +144,7 @@ def made_up(text, crate, path, known, given=None):
     parameters that say how many places a growth asks for join `given`."""
     text = without_clauses(blanked(text))
     found = set(named_in_expressions(text)) | {hit.start() for sort in (KEPT, RENAMED) for hit in sort.finditer(text)}
-    if crate == NUMBERED:
+    if crate in NUMBERED:
         found |= set(numbers(text))
     if not path.endswith(COUNT):
         found |= set(growths(text, known, given)) | set(arrays(text, known)) | set(collected(text))
@@ -188,6 +189,8 @@ Err(_) => 8,
 Err(_) => 8_u32,
 return 8;
 const MEMORY: u32 = 8;
+Err(_) => OUT_OF_MEMORY,
+return OUT_OF_MEMORY;
 impl From<ReadFault> for Fault { fn from(fault: ReadFault) -> Fault { Fault::Memory } }
 impl From<Held> for Fault { fn from(held: Held) -> Fault { match held { Held::Memory => Fault::Memory, Held::Read => Fault::Memory } } }
 impl From<Held> for Fault { fn from(held: Held) -> Fault { match held { Held::Memory => Fault::Memory, Held::Read(n) => if n < 9 { Fault::Read } else { Fault::Memory } } } }
@@ -243,6 +246,9 @@ fn f(alloc: Global, read: io::Result<Args<Global>>) -> Answer { let mut all = re
 fn f(items: &mut Vec<u8>, more: &[u8]) -> Answer { items.extend_from_slice(more)?; }
 Err(AllocError) => 8,
 DecodeFault::Memory => 8,
+Err(AllocError) => OUT_OF_MEMORY,
+pub const OUT_OF_MEMORY: u32 = 8;
+use line_calls::codes::OUT_OF_MEMORY;
 let eight = [0u8; 8];
 fn f<const N: usize>(alloc: Global, all: [u8; N]) -> Answer { let one = vec![in alloc; root(h, leaves)]?; }"""
 
@@ -269,11 +275,11 @@ def given_too_much(texts, asked):
 def try_itself():
     """Judges the lines above, each as a source of its own."""
     known = constants(["const CAPACITY: usize = 8_192;", "const HUGE: u16 = u16::MAX;"])
-    missed = [line for line in WRONG.splitlines() if not made_up(f"{line}{closers(line)}\n", NUMBERED, "lines", known)]
-    missed += [line for line in RIGHT.splitlines() if made_up(f"{line}{closers(line)}\n", NUMBERED, "lines", known)]
+    missed = [line for line in WRONG.splitlines() if not made_up(f"{line}{closers(line)}\n", NUMBERED[0], "lines", known)]
+    missed += [line for line in RIGHT.splitlines() if made_up(f"{line}{closers(line)}\n", NUMBERED[0], "lines", known)]
     for line in (GIVEN_TOO_MUCH + "\n" + GIVEN).splitlines():
         asked = set()
-        made_up(line, NUMBERED, "lines", known, asked)
+        made_up(line, NUMBERED[0], "lines", known, asked)
         missed += [line] if bool(given_too_much([("lines", line, known)], asked)) != (line in GIVEN_TOO_MUCH) else []
     if missed:
         sys.exit("checks/want_of_memory.py judges lines of its own wrongly:\n" + "\n".join(missed))
