@@ -559,6 +559,9 @@ func TestSettings(t *testing.T) {
 		return []string{"--config", at.path(name)}
 	}
 	needed := "roots a\norigin b\nsigning-key c\n"
+	named := func(origin string) []string {
+		return []string{"--roots", "a", "--signing-key", "c", "--origin", origin}
+	}
 	for _, test := range []struct {
 		words []string
 		why   string
@@ -589,6 +592,16 @@ func TestSettings(t *testing.T) {
 		{file(needed + "submitters 203.0.113.0/24=many"), "no bound above 0"},
 		{file(needed + "submitters 203.0.113/24=9"), "submitters"},
 		{file(needed + "submitters 203.0.113.1/24=9,203.0.113.2/24=8"), "203.0.113.0/24 stands there twice"},
+		{named("https://log.example/"), "leave https:// out"},
+		{named("log.example/"), "ends with a slash"},
+		{named("/log.example"), "begins or ends with a slash"},
+		{named("lög.example"), "xn-- form"},
+		{named("log example"), "a space or a sign"},
+		{named("log.example+2027"), "leave +, ? and # out"},
+		{named("log.example?2027"), "leave +, ? and # out"},
+		{file(needed + "listen 8618"), "write HOST:PORT"},
+		{file(needed + "listen :99999"), "a port is 0 to 65535"},
+		{file(needed + "listen 127.0.0.1:8619"), "two listeners are at 127.0.0.1:8619"},
 		{file(needed + "nodes-listen 127.0.0.1:1"), "go together"},
 		{file(needed + "register etcd://127.0.0.1:2379/log\nnodes-listen 127.0.0.1:1\nnodes-address http://x/\nnodes-secret " + at.path("secret")), "one store of places"},
 		{file(needed + "nodes-listen 127.0.0.1:1\nnodes-address http://x/\nnodes-secret " + at.path("none")), "no such file"},
@@ -613,6 +626,11 @@ func TestSettings(t *testing.T) {
 	if s, err := parse(file(needed+"submitters 203.0.113.9/24=512, 2001:db8::7=9"), io.Discard); err != nil || fmt.Sprint(s.limits.Submitters) != "[{203.0.113.0/24 512} {2001:db8::7/128 9}]" {
 		t.Errorf("submitters: %v, %+v", err, s)
 	}
+	for _, origin := range []string{"log.example", "log.example/2027h1", "xn--lg-fka.example/a/b", "localhost:8618"} {
+		if s, err := parse(named(origin), io.Discard); err != nil || s.node.origin != origin {
+			t.Errorf("%s: %v", origin, err)
+		}
+	}
 	for text, want := range map[string]time.Duration{"": 0, "interval 50ms": 50 * time.Millisecond} {
 		if s, err := parse(file(needed+text), io.Discard); err != nil || s.node.interval != want {
 			t.Errorf("%s: %v, %+v", text, err, s)
@@ -626,7 +644,7 @@ func TestSettings(t *testing.T) {
 	for _, test := range []struct {
 		words  []string
 		status int
-	}{{[]string{"--help"}, 0}, {[]string{"signer", "--help"}, 0}, {[]string{"signer"}, 2}, {[]string{"signer", "--signing-key", at.path("log.pem"), "word"}, 2}, {[]string{"--nothing"}, 2}, {at.words("--roots", at.path("none")), 1}, {at.words("--listen", "127.0.0.1:x"), 1}, {at.words("--tls-certificate", "none", "--tls-key", "none"), 1}} {
+	}{{[]string{"--help"}, 0}, {[]string{"signer", "--help"}, 0}, {[]string{"signer"}, 2}, {[]string{"signer", "--signing-key", at.path("log.pem"), "word"}, 2}, {[]string{"--nothing"}, 2}, {at.words("--roots", at.path("none")), 1}, {at.words("--listen", "127.0.0.1:x"), 2}, {at.words("--tls-certificate", "none", "--tls-key", "none"), 1}} {
 		open := func(context.Context, node) (*opened, error) {
 			of, err := standin.New(0)
 			return &opened{log: of, close: func() {}}, err

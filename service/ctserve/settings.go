@@ -4,6 +4,7 @@ import (
 	"errors"
 	"fmt"
 	"io"
+	"net"
 	"net/netip"
 	"os"
 	"path/filepath"
@@ -168,6 +169,12 @@ func (s *settings) settle() error {
 			return fmt.Errorf("--%s is needed", needed.name)
 		}
 	}
+	if err := checkOrigin(n.origin); err != nil {
+		return err
+	}
+	if err := checkListeners(s.listen, s.listenNodes, s.operator); err != nil {
+		return err
+	}
 	if n.signerAt != "" && (n.signingKey != "" || len(n.guard) > 0 || n.guardState != "") {
 		return errors.New("--signer-at has the place of --signing-key, --guard and --guard-state")
 	}
@@ -235,6 +242,49 @@ func (s *settings) settle() error {
 			return err
 		}
 		n.secret = secret
+	}
+	return nil
+}
+
+// checkOrigin refuses a name that can't be a log's origin: its submission prefix as a URL without the scheme and without a slash at the end (C2SP static-ct-api). An
+// origin is signed with each head and can't be changed later.
+func checkOrigin(origin string) error {
+	wrong := func(why, remedy string) error { return fmt.Errorf("--origin %q: %s (%s)", origin, why, remedy) }
+	switch {
+	case strings.Contains(origin, "://"):
+		return wrong("it has a scheme", "leave https:// out")
+	case strings.HasPrefix(origin, "/") || strings.HasSuffix(origin, "/"):
+		return wrong("it begins or ends with a slash", "leave that out")
+	case strings.ContainsAny(origin, "+?#"):
+		return wrong("it has a sign that a submission prefix can't have", "leave +, ? and # out")
+	}
+	for _, sign := range origin {
+		if sign <= ' ' || sign > '~' {
+			return wrong("it has a space or a sign that isn't ASCII", "write a domain's name in its xn-- form")
+		}
+	}
+	return nil
+}
+
+// checkListeners sees that each address to listen at is a host and a port, and that no two are one.
+func checkListeners(addresses ...string) error {
+	taken := map[string]bool{}
+	for _, address := range addresses {
+		if address == "" {
+			continue
+		}
+		_, port, err := net.SplitHostPort(address)
+		if err != nil {
+			return fmt.Errorf("%q isn't an address to listen at: %w (write HOST:PORT)", address, err)
+		}
+		number, err := net.LookupPort("tcp", port)
+		if err != nil {
+			return fmt.Errorf("%q isn't an address to listen at: %w (a port is 0 to 65535)", address, err)
+		}
+		if number != 0 && taken[address] {
+			return fmt.Errorf("two listeners are at %s (--listen, --operator-listen and --nodes-listen differ)", address)
+		}
+		taken[address] = true
 	}
 	return nil
 }

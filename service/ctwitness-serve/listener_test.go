@@ -1,12 +1,14 @@
 package main
 
 import (
+	"bufio"
 	"context"
 	"errors"
 	"io"
 	"net"
 	"net/http"
 	"net/http/httptest"
+	"net/netip"
 	"os"
 	"runtime"
 	"strconv"
@@ -47,11 +49,13 @@ func (c *connected) Close() error {
 	return nil
 }
 
+func (c *connected) RemoteAddr() net.Addr { return &net.TCPAddr{IP: net.IPv4(192, 0, 2, 1), Port: 1} }
+
 // TestBounded: who comes beyond the bound waits until one who is connected has gone, once for each; where none comes the room is given back.
 func TestBounded(t *testing.T) {
 	ctx := trial.Limited(t, trial.Longest)
 	of := &listening{}
-	b := bounded{of, make(chan struct{}, 2)}
+	b := bounded{of, make(chan struct{}, 2), &addresses{of: map[netip.Prefix]int{}}}
 	var first []net.Conn
 	for i := 0; i < 2; i++ {
 		one, err := b.Accept()
@@ -85,7 +89,7 @@ func TestBounded(t *testing.T) {
 		t.Errorf("%d are connected, of %d", len(b.room), of.asked.Load())
 	}
 	broken := errors.New("too many open files")
-	b = bounded{&listening{fails: broken}, make(chan struct{}, 2)}
+	b = bounded{&listening{fails: broken}, make(chan struct{}, 2), &addresses{of: map[netip.Prefix]int{}}}
 	for i := 0; i < 5; i++ {
 		if _, err := b.Accept(); !errors.Is(err, broken) {
 			t.Fatal(err)
@@ -93,6 +97,57 @@ func TestBounded(t *testing.T) {
 	}
 	if len(b.room) != 0 {
 		t.Errorf("%d hold room, and none is connected", len(b.room))
+	}
+}
+
+// TestOneHost has one host open as many connections as it is let, and ask nothing on them: others are answered, it gets no more, and has room again once it closes.
+func TestOneHost(t *testing.T) {
+	clients, err := clientsAt("127.0.0.1:0")
+	must(t, err)
+	server := serverOf(http.HandlerFunc(func(w http.ResponseWriter, r *http.Request) { io.WriteString(w, "answered") }), web.NewLines(io.Discard))
+	go server.Serve(clients)
+	defer server.Close()
+	from := func(host byte) net.Conn {
+		t.Helper()
+		connection, err := (&net.Dialer{LocalAddr: &net.TCPAddr{IP: net.IPv4(127, 0, 0, host)}}).Dial("tcp", clients.Addr().String())
+		must(t, err)
+		t.Cleanup(func() { connection.Close() })
+		return connection
+	}
+	answers := func(connection net.Conn) bool {
+		_, err := io.WriteString(connection, "GET / HTTP/1.1\r\nHost: x\r\n\r\n")
+		said, unread := bufio.NewReader(connection).ReadString('\n')
+		return err == nil && unread == nil && strings.Contains(said, "200")
+	}
+	var idle []net.Conn
+	for i := 0; i < mostOfAddress; i++ {
+		idle = append(idle, from(2))
+	}
+	for i := 0; i < 3; i++ {
+		if answers(from(2)) {
+			t.Error("one host has more connections than its bound")
+		}
+		if !answers(from(3)) || !answers(from(1)) {
+			t.Error("another host isn't answered")
+		}
+	}
+	idle[0].Close()
+	trial.Eventually(t, "room for one more", func() bool { return answers(from(2)) })
+}
+
+// TestGroups: an address of IPv6 counts with its /64, and a proxy on this machine has no bound of its own.
+func TestGroups(t *testing.T) {
+	of := func(text string) netip.Prefix { return groupOf(net.TCPAddrFromAddrPort(netip.MustParseAddrPort(text))) }
+	if of("[2001:db8::1]:1") != of("[2001:db8::2:3]:4") || of("[2001:db8::1]:1") == of("[2001:db8:0:1::1]:1") || of("192.0.2.1:1") == of("192.0.2.2:1") || of("192.0.2.1:1") != of("[::ffff:192.0.2.1]:9") {
+		t.Error("addresses count as one that are others', or the other way round")
+	}
+	a := &addresses{of: map[netip.Prefix]int{}}
+	for _, proxy := range []string{"127.0.0.1:1", "[::1]:1"} {
+		for i := 0; i < 2*mostOfAddress; i++ {
+			if !a.take(of(proxy)) {
+				t.Fatalf("%s has a bound", proxy)
+			}
+		}
 	}
 }
 
@@ -152,6 +207,28 @@ func TestOpenedOnce(t *testing.T) {
 	}
 	if w.close(); only.closed != 1 {
 		t.Errorf("closed %d times", only.closed)
+	}
+}
+
+// TestRemovedLogIsClosed takes a log out of the settings, as before SIGHUP: its state is closed then, and not opened again.
+func TestRemovedLogIsClosed(t *testing.T) {
+	p, _ := ofOneLog(t)
+	s, err := parse(p.words(), io.Discard)
+	must(t, err)
+	w, err := open(s, web.NewLines(io.Discard))
+	must(t, err)
+	must(t, w.takeUp(s))
+	removed := &closing{Register: w.registers["a.example"]}
+	w.registers["a.example"] = removed
+	without := *s
+	without.logs = nil
+	must(t, w.takeUp(&without))
+	if removed.closed != 1 || len(w.registers) != 0 {
+		t.Errorf("closed %d times, and %d are open", removed.closed, len(w.registers))
+	}
+	must(t, w.takeUp(s))
+	if w.close(); removed.closed != 1 {
+		t.Errorf("closed %d times", removed.closed)
 	}
 }
 

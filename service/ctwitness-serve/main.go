@@ -156,7 +156,18 @@ func (w *running) takeUp(s *settings) error {
 		logs = append(logs, log)
 	}
 	w.server.SetLogs(logs)
+	w.closeOthers(s)
 	return nil
+}
+
+// closeOthers closes the registers of logs that the settings don't have any more. A request of such a log that is under way may fail.
+func (w *running) closeOthers(s *settings) {
+	for origin, register := range w.registers {
+		if _, stays := s.log(origin); !stays {
+			_ = register.Close()
+			delete(w.registers, origin)
+		}
+	}
 }
 
 func (w *running) serve(s *settings, lines *web.Lines, signals <-chan os.Signal) error {

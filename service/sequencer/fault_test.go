@@ -5,6 +5,7 @@ import (
 	"context"
 	"encoding/hex"
 	"encoding/json"
+	"errors"
 	"net/http"
 	"net/http/httptest"
 	"strings"
@@ -120,6 +121,54 @@ func TestRoundsThatFailInARow(t *testing.T) {
 	}
 	register.on.Store(false)
 	must(t, <-told)
+	p.right(t, got)
+}
+
+// failingFinds are places whose lookups fail while they are to.
+type failingFinds struct {
+	stores.Places
+	fails *atomic.Bool
+	tried *atomic.Uint64
+}
+
+func (f failingFinds) Find(ctx context.Context, identities []stores.Identity) (map[stores.Identity]stores.Place, error) {
+	if f.fails.Load() {
+		f.tried.Add(1)
+		return nil, errTried
+	}
+	return f.Places.Find(ctx, identities)
+}
+
+func (f failingFinds) Leaves() stores.Places {
+	return failingFinds{f.Places.Leaves(), f.fails, f.tried}
+}
+
+func (f failingFinds) Close() error { return f.Places.Close() }
+
+// TestFaultOfEntriesStays has the places fail, of which a round without entries asks nothing: the fault must stand until they work, and not come and go, since an
+// alert looks only now and then. It must end without a submission, since none is taken while it stands.
+func TestFaultOfEntriesStays(t *testing.T) {
+	t.Parallel()
+	p, ctx, got := newPlace(t), limited(t), &answers{}
+	config := p.config(t)
+	fails, tried := &atomic.Bool{}, &atomic.Uint64{}
+	config.Places, config.Patience, config.Refresh = failingFinds{config.Places, fails, tried}, 200*time.Millisecond, time.Millisecond
+	s := started(t, config, hooks{})
+	must(t, got.submitAll(ctx, s, 0, 3, 3))
+	fails.Store(true)
+	if _, err := s.Submit(ctx, entryOf(7)); !errors.Is(err, errTried) {
+		t.Fatal(err)
+	}
+	seen := tried.Load()
+	eventually(t, "more rounds that fail", func() bool {
+		if s.Figures().Fault == "" {
+			t.Fatal("the fault is over while the places fail")
+		}
+		return tried.Load() >= seen+3
+	})
+	fails.Store(false)
+	eventually(t, "the fault's end", func() bool { return s.Figures().Fault == "" })
+	must(t, got.submitAll(ctx, s, 3, 6, 3))
 	p.right(t, got)
 }
 

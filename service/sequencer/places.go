@@ -31,24 +31,51 @@ func (s *Sequencer) knowsPlaces(ctx context.Context, k known) error {
 	if k.state.Size == 0 || s.placed == k.line || time.Since(s.placedAt) < mostUnheard {
 		return nil
 	}
+	newest, err := s.newestPlaced(ctx, k)
+	if err == nil && newest != nil {
+		s.placed, s.placedAt = k.line, time.Now()
+	}
+	return err
+}
+
+// newestPlaced returns a state's newest entry if the places know it, and nil if it can't be read.
+func (s *Sequencer) newestPlaced(ctx context.Context, k known) (*leaf, error) {
 	newest, err := s.treeOf(ctx, k.state).leafAt(k.state.Size - 1)
 	if err != nil || newest == nil {
-		return nil
+		return nil, nil
 	}
 	hash := stores.Identity(newest.hash())
 	byIdentity, err := s.config.Places.Find(ctx, []stores.Identity{newest.identity()})
 	if err != nil {
-		return fmt.Errorf("sequencer: %w", err)
+		return nil, fmt.Errorf("sequencer: %w", err)
 	}
 	byLeaf, err := s.config.Places.Leaves().Find(ctx, []stores.Identity{hash})
 	if err != nil {
-		return fmt.Errorf("sequencer: %w", err)
+		return nil, fmt.Errorf("sequencer: %w", err)
 	}
 	if len(byIdentity) == 0 || byLeaf[hash].Index != newest.index || len(byLeaf) == 0 {
-		return lacksPlaces(newest.index)
+		return nil, lacksPlaces(newest.index)
 	}
-	s.placed, s.placedAt = k.line, time.Now()
-	return nil
+	return newest, nil
+}
+
+// placesWork looks a state's newest entry up in the places and adds it again, which changes nothing. A step without entries asks nothing of the places, so without
+// this it would end a fault that only rounds with entries see.
+func (s *Sequencer) placesWork(ctx context.Context, k known) error {
+	if k.state.Size == 0 {
+		_, err := s.config.Places.Find(ctx, []stores.Identity{placesIdentity})
+		return wrapped(err)
+	}
+	newest, err := s.newestPlaced(ctx, k)
+	if err != nil || newest == nil {
+		return err
+	}
+	var again places
+	again.add(newest.identity(), stores.Identity(newest.hash()), stores.Place{Index: newest.index, Timestamp: newest.Timestamp})
+	if err := addPlaces(ctx, s.config.Places, again.identities); err != nil {
+		return err
+	}
+	return addPlaces(ctx, s.config.Places.Leaves(), again.leaves)
 }
 
 // putAndPlace puts a state's objects, adds its entries' places and keeps the state as the newest that this node saw, and makes the paths of who waits for it:

@@ -261,6 +261,11 @@ func (s *Sequencer) round(ctx context.Context) error {
 	if len(batch) == 0 && !s.isStale(k) && why == nil {
 		return nil
 	}
+	if len(batch) == 0 && why != nil {
+		if err := s.placesWork(ctx, k); err != nil {
+			return err
+		}
+	}
 	s.took(phaseTake, began)
 	// (Behind a fault a step without entries says whether it is mended.)
 	return s.advance(ctx, t, batch)

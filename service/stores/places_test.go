@@ -263,7 +263,7 @@ func TestSQLiteEndsWithItsContext(t *testing.T) {
 	must(t, err)
 	defer one.Close()
 	defer other.Close()
-	holding, err := one.(*inSQLite).db.BeginTx(limited(t), nil)
+	holding, err := one.(*inSQLite).database.db.BeginTx(limited(t), nil)
 	must(t, err)
 	start := time.Now()
 	short, cancel := context.WithTimeout(limited(t), 300*time.Millisecond)
@@ -313,7 +313,7 @@ func TestSQLiteSyncs(t *testing.T) {
 	for _, of := range []Places{places, places.Leaves()} {
 		var synchronous, cache int
 		var journal string
-		db := of.(*inSQLite).db
+		db := of.(*inSQLite).database.db
 		must(t, db.QueryRowContext(limited(t), "pragma synchronous").Scan(&synchronous))
 		must(t, db.QueryRowContext(limited(t), "pragma journal_mode").Scan(&journal))
 		must(t, db.QueryRowContext(limited(t), "pragma cache_size").Scan(&cache))

@@ -8,6 +8,7 @@ import (
 	"net/url"
 	"path/filepath"
 	"strings"
+	"sync"
 	"time"
 
 	"github.com/mattn/go-sqlite3"
@@ -21,11 +22,58 @@ const mostVariables = 500
 // It asks of the file system what SQLite does (locks that exclude, fsync that keeps). The write-ahead log is synced at each
 // commit (synchronous=FULL): in that mode NORMAL would lose the last commits when power fails.
 type inSQLite struct {
-	db *sql.DB
+	*database
 	// table is places, or leaves.
 	table string
 	// writes is held by who adds, to either table: SQLite has one at a time, and others look again after a while.
 	writes chan struct{}
+}
+
+// database is a file that is open. Both tables share it.
+type database struct {
+	source string
+	mu     sync.RWMutex
+	db     *sql.DB
+}
+
+// open opens the file; the first statement uses it.
+func (d *database) open() (err error) {
+	if d.db, err = sql.Open("sqlite3", d.source); err != nil {
+		return fmt.Errorf("stores: SQLite: %w", err)
+	}
+	d.db.SetMaxOpenConns(mostConnections)
+	return nil
+}
+
+// reopen closes the file, unless another call has, and opens it again.
+func (d *database) reopen(broken *sql.DB) error {
+	d.mu.Lock()
+	defer d.mu.Unlock()
+	if d.db != broken {
+		return nil
+	}
+	_ = broken.Close()
+	return d.open()
+}
+
+// with does something with the file.
+func (d *database) with(do func(*sql.DB) error) (used *sql.DB, err error) {
+	d.mu.RLock()
+	defer d.mu.RUnlock()
+	return d.db, do(d.db)
+}
+
+func (d *database) close() error {
+	d.mu.Lock()
+	defer d.mu.Unlock()
+	return d.db.Close()
+}
+
+// isBroken reports whether SQLite may be left with a lock that it believes it has, or doesn't have: a file system that fails a lock or an unlock leaves it so for as
+// long as this process has the file open.
+func isBroken(err error) bool {
+	var said sqlite3.Error
+	return errors.As(err, &said) && (said.Code == sqlite3.ErrProtocol || said.Code == sqlite3.ErrIoErr)
 }
 
 // mostCached is how many KiB of the file each connection remembers: the upper pages of a log of 10^8 entries. (By itself it remembers 2 MB.)
@@ -42,12 +90,11 @@ func OpenSQLite(ctx context.Context, path string) (Places, error) {
 	}
 	settings := url.Values{"_journal_mode": {"WAL"}, "_synchronous": {"FULL"}, "_cache_size": {fmt.Sprint(-mostCached)}, "_busy_timeout": {"50"}, "_txlock": {"immediate"}}
 	source := url.URL{Scheme: "file", Path: path, RawQuery: settings.Encode()}
-	db, err := sql.Open("sqlite3", source.String())
-	if err != nil {
-		return nil, fmt.Errorf("stores: SQLite: %w", err)
+	of := &database{source: source.String()}
+	if err := of.open(); err != nil {
+		return nil, err
 	}
-	db.SetMaxOpenConns(mostConnections)
-	err = unlessBusy(ctx, "table", func() error {
+	err = of.unlessBusy(ctx, "table", func(db *sql.DB) error {
 		for _, table := range []string{"places", "leaves"} {
 			if _, err := db.ExecContext(ctx, `create table if not exists `+table+` (identity blob primary key, "index" integer not null, timestamp integer not null) without rowid`); err != nil {
 				return err
@@ -56,21 +103,28 @@ func OpenSQLite(ctx context.Context, path string) (Places, error) {
 		return nil
 	})
 	if err != nil {
-		db.Close()
+		of.close()
 		return nil, fmt.Errorf("%w: the places in %s", err, path)
 	}
 	if err := syncFolder(filepath.Dir(path)); err != nil {
-		db.Close()
+		of.close()
 		return nil, err
 	}
-	return &inSQLite{db, "places", make(chan struct{}, 1)}, nil
+	return &inSQLite{of, "places", make(chan struct{}, 1)}, nil
 }
 
 // unlessBusy does what others may keep from being done, again and again until the context ends. (SQLite's own waiting doesn't end
-// with it.)
-func unlessBusy(ctx context.Context, what string, do func() error) error {
-	for {
-		err := do()
+// with it.) After a failure of the file's locks or of the disk, the file is opened again, and the statement is tried once more.
+func (d *database) unlessBusy(ctx context.Context, what string, do func(*sql.DB) error) error {
+	for again := false; ; {
+		used, err := d.with(do)
+		if isBroken(err) && !again && ctx.Err() == nil {
+			if failed := d.reopen(used); failed != nil {
+				return failed
+			}
+			again = true
+			continue
+		}
 		var said sqlite3.Error
 		busy := errors.As(err, &said) && (said.Code == sqlite3.ErrBusy || said.Code == sqlite3.ErrLocked)
 		if busy {
@@ -100,8 +154,8 @@ func (s *inSQLite) Find(ctx context.Context, identities []Identity) (map[Identit
 			values = append(values, identities[from+i][:])
 		}
 		places := strings.Repeat(", ?", to-from)[2:]
-		return unlessBusy(ctx, "find", func() error {
-			rows, err := s.db.QueryContext(ctx, `select identity, "index", timestamp from `+s.table+` where identity in (`+places+`)`, values...)
+		return s.unlessBusy(ctx, "find", func(db *sql.DB) error {
+			rows, err := db.QueryContext(ctx, `select identity, "index", timestamp from `+s.table+` where identity in (`+places+`)`, values...)
 			if err != nil {
 				return err
 			}
@@ -119,7 +173,7 @@ func (s *inSQLite) Add(ctx context.Context, placed []Placed) error {
 	if err != nil || len(placed) == 0 {
 		return err
 	}
-	return unlessBusy(ctx, "add", func() error { return s.add(ctx, placed, "nothing") })
+	return s.unlessBusy(ctx, "add", func(db *sql.DB) error { return s.add(ctx, db, placed, "nothing") })
 }
 
 func (s *inSQLite) Replace(ctx context.Context, placed []Placed) error {
@@ -128,18 +182,18 @@ func (s *inSQLite) Replace(ctx context.Context, placed []Placed) error {
 		return err
 	}
 	set := `update set "index" = excluded."index", timestamp = excluded.timestamp`
-	return unlessBusy(ctx, "replace", func() error { return s.add(ctx, placed, set) })
+	return s.unlessBusy(ctx, "replace", func(db *sql.DB) error { return s.add(ctx, db, placed, set) })
 }
 
 // add adds rows. Where there is one of an identity it does something else.
-func (s *inSQLite) add(ctx context.Context, placed []Placed, otherwise string) error {
+func (s *inSQLite) add(ctx context.Context, db *sql.DB, placed []Placed, otherwise string) error {
 	select {
 	case s.writes <- struct{}{}:
 		defer func() { <-s.writes }()
 	case <-ctx.Done():
 		return ctx.Err()
 	}
-	tx, err := s.db.BeginTx(ctx, nil)
+	tx, err := db.BeginTx(ctx, nil)
 	if err != nil {
 		return err
 	}
@@ -160,6 +214,6 @@ func (s *inSQLite) add(ctx context.Context, placed []Placed, otherwise string) e
 	return tx.Commit()
 }
 
-func (s *inSQLite) Leaves() Places { return &inSQLite{s.db, "leaves", s.writes} }
+func (s *inSQLite) Leaves() Places { return &inSQLite{s.database, "leaves", s.writes} }
 
-func (s *inSQLite) Close() error { return s.db.Close() }
+func (s *inSQLite) Close() error { return s.close() }

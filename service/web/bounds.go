@@ -195,15 +195,20 @@ func (c *connections) waiting() int {
 	return c.idle.Len()
 }
 
-// closeIdle closes the connection on which nothing was asked for the longest, and says whether there was one.
+// closeIdle closes the connection on which nothing was asked for the longest, and reports whether there was one. The lock is held until it is closed: another
+// request on it must not be taken in between.
 func (c *connections) closeIdle() bool {
 	c.mutex.Lock()
 	first := c.idle.Front()
-	c.mutex.Unlock()
 	if first == nil {
+		c.mutex.Unlock()
 		return false
 	}
-	first.Value.(*open).Close()
+	connection := first.Value.(*open)
+	c.remove(connection)
+	_ = connection.Conn.Close()
+	c.mutex.Unlock()
+	connection.Close()
 	return true
 }
 

@@ -682,3 +682,34 @@ func TestTLS(t *testing.T) {
 		t.Errorf("after a reload that failed: %v", err)
 	}
 }
+
+// watchedClose notes of each Close whether the lock of the connections is held.
+type watchedClose struct {
+	net.Conn
+	of   *connections
+	held []bool
+}
+
+func (w *watchedClose) Close() error {
+	isFree := w.of.mutex.TryLock()
+	if isFree {
+		w.of.mutex.Unlock()
+	}
+	w.held = append(w.held, !isFree)
+	return nil
+}
+
+// TestIdleIsClosedUnderTheLock: a connection that is closed since nothing is asked on it must be closed before anybody can note that something is.
+func TestIdleIsClosedUnderTheLock(t *testing.T) {
+	c := &connections{}
+	w := &watchedClose{of: c}
+	connection := &open{Conn: w}
+	connection.closed = func() { c.leave(connection) }
+	c.isIdle(connection, true)
+	if !c.closeIdle() || len(w.held) == 0 || !w.held[0] {
+		t.Errorf("it is closed without the lock: %v", w.held)
+	}
+	if c.isIdle(connection, true); c.waiting() != 0 || c.closeIdle() {
+		t.Error("a connection that is closed counts as one on which nothing is asked")
+	}
+}
