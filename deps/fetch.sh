@@ -113,8 +113,11 @@ END_OF_SETTINGS
   rm -r "$made/usr/share/gocode"
 }
 
-# Reports whether the go command finds all packages that are imported.
-has_modules() { is_new_go go && GOWORK=off GOPROXY=off go list -deps -test ./... >/dev/null 2>&1; }
+# Reports whether the go command finds all packages that are imported. It isn't asked without a vendor folder and go.sum: it would leave locks in GOPATH.
+has_modules() {
+  [ -e vendor/modules.txt ] || [ -e go.sum ] || return 1
+  is_new_go go && GOWORK=off GOPROXY=off go list -deps -test ./... >/dev/null 2>&1
+}
 
 missing=()
 command -v "${CC:-gcc}" >/dev/null || missing+=(gcc libc6-dev)

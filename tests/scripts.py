@@ -389,6 +389,7 @@ def try_deps(folder):
     top, log, planned = folder / "checkout", folder / "log", folder / "planned"
     shutil.copytree(HERE.parent / "deps", top / "deps")
     shutil.copy(HERE.parent / "go.mod", top)
+    (top / "go.sum").touch()
     stubs = {
         "apt-get": f'case "$*" in *--simulate*) cat {planned} ;; *) echo "apt-get $*" >>{log}; [ "$DEBIAN_FRONTEND" = noninteractive ] || exit 9 ;; esac; '
                    f'case "$*" in *--simulate*) ;; *update) touch {folder}/lists ;; *) $FAILS ;; esac',
