@@ -1,7 +1,7 @@
 #!/usr/bin/env python3
 """The header of the library for C says what the library's functions are: which there are, their arguments in order and their types, the fields
-of its struct in order, and the number of each fault. No contract sees these, since clauses name arguments and fields. The script makes what the
-header has to say from the sources of `libwagtenib`, prints each line that differs, and ends with status 1 where there is one."""
+of its struct in order, and the number of each fault and code. No contract sees these, since clauses name arguments and fields. The script makes what the
+header has to say from the sources of `libwagtenib` and from the codes of `line_calls`, prints each line that differs, and ends with status 1 where there is one."""
 import re
 import sys
 
@@ -18,11 +18,16 @@ TYPES = {
     "&[u8]": "const uint8_t *{}, size_t *",
     "&[[u8; 32]]": "const uint8_t *{}, size_t *",
     "&mut [[u8; 32]]": "uint8_t *{}, size_t *",
+    "bool": "bool {}",
+    "&mut [u8]": "uint8_t *{}, size_t *",
+    "&mut u64": "uint64_t *{}",
     "&mut usize": "size_t *{}",
     "&mut LeafInfo": "struct wagtenib_leaf_info *{}",
     "Global": None,
 }
 ALIASES = {"LeafInfo": "wagtenib_leaf_info"}
+# A fault of another crate that has another name in C.
+NAMES = {"Memory": "OutOfMemory"}
 
 
 def parts(text):
@@ -58,9 +63,11 @@ def shouted(name):
 
 
 def declared_numbers(text):
-    """The number of each fault that the sources name."""
+    """The number of each fault that the sources name, and of each code that is a constant."""
     for name, number in re.findall(r"\w+Fault::(\w+) => (\d+)", text):
-        yield f"{shouted(name)} = {number}"
+        yield f"{shouted(NAMES.get(name, name))} = {number}"
+    for name, number in re.findall(r"\bpub const (\w+): u32 = (\d+);", text):
+        yield f"WAGTENIB_{name} = {number}"
 
 
 def header_lines(text):
@@ -75,11 +82,9 @@ def header_lines(text):
 
 
 def main():
-    text = "\n".join(without_clauses(blanked(path.read_text())) for path in sorted((CRATES / "libwagtenib" / "src").rglob("*.rt")))
+    text = "\n".join(without_clauses(blanked(path.read_text())) for path in sorted(path for crate in ("libwagtenib", "line_calls") for path in (CRATES / crate / "src").rglob("*.rt")))
     made = set(declared_functions(text)) | set(declared_structs(text)) | set(declared_numbers(text))
     said = set(header_lines(HEADER.read_text()))
-    # These two are no faults of another crate.
-    made |= {"WAGTENIB_OK = 0", "WAGTENIB_FULL = 9"}
     for line in sorted(made - said):
         print(f"include/wagtenib.h lacks: {line}")
     for line in sorted(said - made):

@@ -17,7 +17,7 @@ if [ $# = 0 ]; then
   [ -n "$program" ] || ctlog=ctlog
   [ -n "$monitor" ] || ctmonitor=ctmonitor
   own="monitor=${ctmonitor-} log=${ctlog-} watched=${ctlog-},${ctmonitor-}"
-  [ -n "$program$monitor" ] || own="path=libwagtenib $own tiles=print_steps followed=print_steps,ctmonitor"
+  [ -n "$program$monitor" ] || own="$own tiles=print_steps followed=print_steps,ctmonitor path=libwagtenib"
   # (each word is a part)
   # shellcheck disable=SC2086
   exec examples/build.py --show examples/demo.sh $own

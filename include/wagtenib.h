@@ -1,17 +1,19 @@
-/* wagtenib: the proved checks of a Certificate Transparency log's proofs (RFC 6962, RFC 9162).
+/* wagtenib: the proved checks of a Certificate Transparency log's proofs (RFC 6962, RFC 9162), and the proved decisions of its programs over lines.
  *
  * A hash is 32 bytes (SHA-256). A list of hashes is given by a pointer to its first byte and the number of hashes, which
- * stand one after the other. No call keeps a pointer or has any state, so every call may run in any thread at any time;
- * wagtenib_root alone takes memory (malloc), and gives it back before it returns.
+ * stand one after the other. No call keeps a pointer or has any state, so every call may run in any thread at any time.
+ * wagtenib_root and the functions whose names end in _line or _lines take memory (malloc), and give it back before they return. All other
+ * memory is the caller's. A length is a number of bytes.
  *
  * What the caller owes, and nothing checks: each pointer points to as many bytes as is said, readable, and writable where
  * the pointer isn't const, which no other thread writes during the call (nor reads, where they are writable); what is
- * written overlaps no other argument; a length in bytes is below 2^63; the stack has 16 KB left. No pointer is NULL: for a
- * length of 0 any other pointer serves. Beyond that every number and every byte is allowed.
+ * written overlaps no other argument; a length in bytes is below 2^63. The stack has 16 KB left, or 128 KB for the functions whose names end in
+ * _line or _lines. No pointer is NULL: for a length of 0 any other pointer serves. Beyond that every number and every byte is allowed.
  */
 #ifndef WAGTENIB_H
 #define WAGTENIB_H
 
+#include <stdbool.h>
 #include <stddef.h>
 #include <stdint.h>
 
@@ -29,8 +31,10 @@ enum {
     WAGTENIB_EMPTY_PATH = 5,         /* a consistency proof of no hashes */
     WAGTENIB_FIRST_MISMATCH = 6,     /* a consistency proof leads to another first root */
     WAGTENIB_SIZES_OUT_OF_RANGE = 7, /* not 0 < first < second */
-    WAGTENIB_MEMORY = 8,             /* malloc refused */
-    WAGTENIB_FULL = 9,               /* no place is left for a subtree */
+    WAGTENIB_OUT_OF_MEMORY = 8,      /* malloc refused; nothing is written */
+    WAGTENIB_NO_ROOM = 9,            /* the caller's memory is too small for the result; wagtenib_push writes nothing then, and the others only how long it is */
+    WAGTENIB_BAD_ORIGIN = 10,        /* the origin isn't UTF-8, or has a line end; nothing is written */
+    WAGTENIB_NOT_A_REQUEST = 11,     /* the reply is written, and refuses the request, or a line of several, as none */
     WAGTENIB_TRUNCATED = 17,         /* the leaf ends before a field is whole */
     WAGTENIB_BAD_VERSION = 18,       /* the version isn't 0 (v1) */
     WAGTENIB_BAD_LEAF_TYPE = 19,     /* the leaf type isn't 0 (timestamped_entry) */
@@ -78,6 +82,44 @@ uint32_t wagtenib_push(uint64_t size, size_t count, uint8_t *subtrees, size_t pl
 
 /* out = MTH of the leaves whose perfect subtrees these are. */
 void wagtenib_subtrees_root(const uint8_t *subtrees, size_t count, uint8_t out[32]);
+
+/* The decisions of the programs over lines, as calls. A call writes, byte for byte, what the program of that name writes on its standard output for that
+ * line. The replies are lines of JSON, and each ends with a line end.
+ *
+ *   request, request_length  one line of the program's input, without its line end, in UTF-8. Any bytes are allowed: what is no request is refused by the
+ *                            reply. An empty request is refused too, although a program passes over an empty line.
+ *   origin, origin_length    the origin of the log, as of the option --origin, in UTF-8; a length of 0 is a program without that option.
+ *   reply, room              the caller's memory for the reply, and its length. Bytes after the reply are unchanged.
+ *   length                   gets the length of the reply, also if it has no room.
+ *
+ * 0 (WAGTENIB_OK): the reply is written. 11 (WAGTENIB_NOT_A_REQUEST): it is written too, and refuses the request as none, which is the program's exit status
+ * 4. 9 (WAGTENIB_NO_ROOM): *length says how much room the reply needs, and nothing else is written; the call has done all its work, so give a
+ * second call at least that much. 8 (WAGTENIB_OUT_OF_MEMORY) and 10 (WAGTENIB_BAD_ORIGIN): neither reply nor *length is written.
+ *
+ * A call takes at most a few times the length of its request and reply. A request of real data takes 26 KB of stack. JSON that nests as deep as is allowed
+ * (127) takes 82 KB.
+ */
+
+/* A step of a tiled log: what `cttile` replies to a line (docs/TILES.md). A request has at most 67,108,864 bytes. 0, 8, 9, 10 or 11. */
+uint32_t wagtenib_step_line(const uint8_t *origin, size_t origin_length, const uint8_t *request, size_t request_length,
+                            uint8_t *reply, size_t room, uint64_t *length);
+
+/* A node's next command: what `ctnode` replies to a line (docs/NODE.md). A request has at most 65,536 bytes. 0, 8, 9 or 11. */
+uint32_t wagtenib_node_line(const uint8_t *request, size_t request_length, uint8_t *reply, size_t room, uint64_t *length);
+
+/* A root, a path, a consistency proof or an entry for a reader: what `ctproof` replies to a line (docs/TILES.md). A request has at most 67,108,864 bytes.
+ * 0, 8, 9 or 11. */
+uint32_t wagtenib_proof_line(const uint8_t *request, size_t request_length, uint8_t *reply, size_t room, uint64_t *length);
+
+/* Whether a witness cosigns a checkpoint (C2SP tlog-witness): what `ctwitness` replies to a line (docs/WITNESS.md). A request has at most 1,048,576 bytes.
+ * 0, 8, 9 or 11. */
+uint32_t wagtenib_witness_line(const uint8_t *request, size_t request_length, uint8_t *reply, size_t room, uint64_t *length);
+
+/* What a log's key may sign: what a run of `ctguard` writes over these lines (docs/GUARD.md). `lines` has whole lines, each with its line end, of at most
+ * 1,048,576 bytes each; the first one may be the state that an earlier call ended with. `promised` is the option --receipts promised. The output has a reply
+ * to each line, and then the line of the state, which the next call begins with. 0, 8, 9, 10 or 11, which says that a line is no request. */
+uint32_t wagtenib_guard_lines(const uint8_t *origin, size_t origin_length, bool promised, const uint8_t *lines, size_t lines_length,
+                              uint8_t *output, size_t room, uint64_t *length);
 
 #ifdef __cplusplus
 }

@@ -44,8 +44,8 @@ static void follow(void) {
     /* Numbers that are those of no list: full, or some hashes, and never out of bounds. */
     uint8_t two[2][32] = {{1}, {2}};
     size_t count = 5;
-    expect(wagtenib_push(7, 3, two[0], 2, LEAF_HASHES[0], &count) == WAGTENIB_FULL && count == 5, "three of two subtrees");
-    expect(wagtenib_push(2, 2, two[0], 2, LEAF_HASHES[0], &count) == WAGTENIB_FULL && count == 5, "no place");
+    expect(wagtenib_push(7, 3, two[0], 2, LEAF_HASHES[0], &count) == WAGTENIB_NO_ROOM && count == 5, "three of two subtrees");
+    expect(wagtenib_push(2, 2, two[0], 2, LEAF_HASHES[0], &count) == WAGTENIB_NO_ROOM && count == 5, "no place");
     expect(wagtenib_push(UINT64_MAX, 2, two[0], 2, LEAF_HASHES[0], &count) == WAGTENIB_OK && count == 1, "the largest size");
 }
 
@@ -61,7 +61,7 @@ static void roots(void) {
     for (long n = 0; n < ample; n++) {
         memcpy(root, before, 32);
         growths = 0, refused = n;
-        expect(wagtenib_root(LEAF_HASHES[0], 8, root) == WAGTENIB_MEMORY, "a refused growth");
+        expect(wagtenib_root(LEAF_HASHES[0], 8, root) == WAGTENIB_OUT_OF_MEMORY, "a refused growth");
         refused = -1;
         expect(memcmp(root, before, 32) == 0, "out after a refused growth");
     }

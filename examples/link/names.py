@@ -12,8 +12,10 @@ declared = set(re.findall(r"\b(wagtenib_\w+)\(", re.sub(r"/\*.*?\*/", "", header
 exported = {line.split()[-1] for line in open(sys.argv[1], encoding="utf-8") if " T " in line and "::" not in line}
 exported = {name for name in exported if not name.startswith("rattle_")}
 answers = {name.replace("_", "").lower(): int(number) for name, number in re.findall(r"WAGTENIB_(\w+) = (\d+)", header)}
-promised = {name.lower(): int(number) for name, number in re.findall(r"^(?:proof_code|leaf_code) (\w+) = (\d+)$", codes, re.M)}
-promised |= {"ok": 0, "full": 9}
+promised = {name.lower(): int(number) for name, number in re.findall(r"^(?:proof_code|leaf_code) (?!Memory)(\w+) = (\d+)$", codes, re.M)}
+for crate in ("line_calls", "libwagtenib"):
+    constants = open(os.path.join(here, f"../../crates/{crate}/src/codes.rt"), encoding="utf-8").read()
+    promised |= {name.replace("_", "").lower(): int(number) for name, number in re.findall(r"^pub const (\w+): u32 = (\d+);$", constants, re.M)}
 
 for what, one, other in (("functions", declared, exported), ("answers", answers, promised)):
     if one != other or not one:
