@@ -67,8 +67,10 @@ type folder struct {
 // leaf is an entry: its MerkleTreeLeaf, its bytes in a data tile, and what it is an entry of.
 type leaf struct {
 	merkle, inTile, entry []byte
-	timestamp, index      uint64
-	issuers               []hash
+	// precertificate is nil of a certificate.
+	precertificate   []byte
+	timestamp, index uint64
+	issuers          []hash
 }
 
 // Folder judges the objects below a folder by a log's key (its SubjectPublicKeyInfo in DER).
@@ -332,7 +334,11 @@ func leavesOf(tile []byte) ([]leaf, error) {
 		l.index = number(5)
 		merkleEnd := at
 		if precertificate == 1 {
-			skip(number(3))
+			length := number(3)
+			from := at
+			if skip(length); at <= len(tile) {
+				l.precertificate = tile[from:at:at]
+			}
 		}
 		chain := number(2)
 		if chain%32 != 0 {

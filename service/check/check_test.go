@@ -45,7 +45,7 @@ func (e entered) signed() []byte {
 func (e entered) inTile() []byte {
 	b := e.signed()
 	if e.kind == 1 {
-		b = append(append(b, 0, 0, byte(len(e.precertificate))), e.precertificate...)
+		b = append(append(b, 0, byte(len(e.precertificate)>>8), byte(len(e.precertificate))), e.precertificate...)
 	}
 	return append(append(b, byte(len(e.chain)>>8), byte(len(e.chain))), e.chain...)
 }
@@ -205,13 +205,19 @@ func (p *published) copied() *published {
 // judged writes all objects into a folder, and has it judged.
 func (p *published) judged(t testing.TB) (Report, error) {
 	t.Helper()
+	return Folder(p.written(t), p.der, p.answers)
+}
+
+// written writes all objects into a folder.
+func (p *published) written(t testing.TB) string {
+	t.Helper()
 	folder := t.TempDir()
 	for name, content := range p.objects {
 		path := filepath.Join(folder, filepath.FromSlash(name))
 		must(t, os.MkdirAll(filepath.Dir(path), 0o755))
 		must(t, os.WriteFile(path, content, 0o600))
 	}
-	return Folder(folder, p.der, p.answers)
+	return folder
 }
 
 // TestRight judges a log that is right, also one whose partial tiles went behind their full ones, with what isn't published beside it.

@@ -61,7 +61,12 @@ func judge(folder, keyFile string, answerFiles []string) (check.Report, error) {
 		}
 		folder = copied
 	}
-	return check.Folder(folder, block.Bytes, answers)
+	report, err := check.Folder(folder, block.Bytes, answers)
+	if err != nil {
+		return report, err
+	}
+	_, err = check.Precertificates(folder)
+	return report, err
 }
 
 // fetch copies a bucket into a folder, but for the bundles.

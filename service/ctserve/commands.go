@@ -309,20 +309,31 @@ func runCheck(words []string, answers, faults io.Writer) error {
 		look("tls-certificate", s.certificate, err)
 	}
 	for _, program := range []struct {
-		of      string
-		command []string
-	}{{"step", s.node.step}, {"reader", s.node.reader}, {"decider", s.node.decider}, {"guard", s.node.guard}} {
+		of, name string
+		command  []string
+	}{{"step", "cttile", s.node.step}, {"reader", "ctproof", s.node.reader}, {"decider", "ctnode", s.node.decider}, {"guard", "ctguard", s.node.guard}} {
 		if s.node.signerAt != "" && program.of == "guard" || program.command[0] == noGuard && program.of == "guard" {
 			continue
 		}
 		said, err := versionOf(program.command)
+		if err == nil && !strings.HasPrefix(said, program.name+" ") {
+			err = fmt.Errorf("%s --version says %.40q (it must be a %s)", program.command[0], said, program.name)
+		}
 		look(program.of, said, err)
 	}
-	for _, address := range []struct{ of, text string }{{"store", s.node.store}, {"register", s.node.register}, {"places", s.node.places}, {"guard-state", s.node.guardState}} {
-		// (an address may have a password)
-		if kind, _, found := strings.Cut(address.text, ":"); found {
-			look(address.of, kind+", not opened", nil)
+	for _, address := range []struct {
+		of, text string
+		check    func(string) error
+	}{{"store", s.node.store, stores.CheckObjects}, {"register", s.node.register, stores.CheckRegister}, {"places", s.node.places, stores.CheckPlaces}, {"guard-state", s.node.guardState, stores.CheckRegister}} {
+		if address.text == "" {
+			continue
 		}
+		// (an address may have a password)
+		kind, _, _ := strings.Cut(address.text, ":")
+		look(address.of, kind+", not opened", address.check(address.text))
+	}
+	if about, err := os.Stat(s.node.folder); err == nil && !about.IsDir() {
+		look("folder", "", fmt.Errorf("%s isn't a folder (name a folder, or one that isn't there yet)", s.node.folder))
 	}
 	if wrong > 0 {
 		return fmt.Errorf("%d settings don't hold", wrong)

@@ -175,6 +175,15 @@ func TestCheck(t *testing.T) {
 		{"tls-certificate " + folder + "/absent\ntls-key " + folder + "/absent", "tls-certificate  WRONG: ", 1},
 		{"roots " + folder + "/log.key", "", 2},
 		{"no-such-setting 1", "", 2},
+		{"store S3://a.example/b", "store            WRONG: ", 1},
+		{"store s3:/b", "store            WRONG: ", 1},
+		{"store s3://a.example/b", "store            WRONG: ", 1},
+		{"store s3://key:secret@a.example/b", "store            s3, not opened", 0},
+		{"register file:", "register         WRONG: ", 1},
+		{"register folder:" + folder, "register         WRONG: ", 1},
+		{"guard-state folder:" + folder, "guard-state      WRONG: ", 1},
+		{"places http://a.example/", "places           WRONG: ", 1},
+		{"places postgres://a.example/b?log=one", "places           postgres, not opened", 0},
 	} {
 		_, file := settingsFile(t, c.line)
 		status, said, _ := does("check", file)
@@ -190,6 +199,28 @@ func TestCheck(t *testing.T) {
 		if status, said, told := does("check", file); status != 1 || strings.Count(said, "WRONG") != 1 || !strings.Contains(told, "1 settings") {
 			t.Errorf("without %s: status %d, %s%s", name, status, said, told)
 		}
+	}
+}
+
+// TestCheckOfOtherPrograms has settings name programs that run, and aren't those that they must be, and a file in the folder's place: a start refuses them, so must check.
+func TestCheckOfOtherPrograms(t *testing.T) {
+	for _, name := range []string{"cttile", "ctproof", "ctnode", "ctguard"} {
+		folder, file := settingsFile(t)
+		for _, script := range []string{"#!/bin/sh\necho \"$@\"\n", "#!/bin/sh\n", "#!/bin/sh\necho another 7.7.7\n"} {
+			if err := os.WriteFile(filepath.Join(folder, name), []byte(script), 0o700); err != nil {
+				t.Fatal(err)
+			}
+			if status, said, _ := does("check", file); status != 1 || strings.Count(said, "WRONG") != 1 || !strings.Contains(said, "it must be a "+name) {
+				t.Errorf("%q in the place of %s: status %d, %s", script, name, status, said)
+			}
+		}
+	}
+	folder, file := settingsFile(t)
+	if err := os.WriteFile(filepath.Join(folder, "log"), nil, 0o600); err != nil {
+		t.Fatal(err)
+	}
+	if status, said, _ := does("check", file); status != 1 || !strings.Contains(said, "isn't a folder") {
+		t.Errorf("a file in the folder's place: status %d, %s", status, said)
 	}
 }
 

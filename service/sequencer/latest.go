@@ -229,10 +229,28 @@ const mostUnheard = 3 * time.Second
 // what was decided meanwhile isn't known here, and a register that was set back would be taken for the newest one.
 func (s *Sequencer) lookAfter(ctx context.Context, k known) error {
 	further, err := s.config.Objects.List(ctx, headsPrefix, headName(k.state), 1)
-	if err != nil || len(further) == 0 {
+	if err != nil {
 		return wrapped(err)
 	}
-	return s.isFurther(ctx, k, further[0])
+	if len(further) > 0 {
+		return s.isFurther(ctx, k, further[0])
+	}
+	return s.isPublishedBy(ctx, k)
+}
+
+// isPublishedBy returns ErrSetBack if the register says that a later head than a state's is published, and still has that state: its text was put back, and the store
+// with it, so a step from there would make a fork. A node that starts is refused for the same.
+func (s *Sequencer) isPublishedBy(ctx context.Context, k known) error {
+	published, err := s.config.Register.Published(ctx)
+	if err != nil || !publishedAt(k.state).Before(published) {
+		return wrapped(err)
+	}
+	// (another node may have published more since the text was read)
+	text, err := s.config.Register.Read(ctx)
+	if err != nil || text != k.text {
+		return wrapped(err)
+	}
+	return fmt.Errorf("%w: it has %d entries at %d ms; %d at %d ms are published", ErrSetBack, k.state.Size, k.state.Moment, published.Size, published.Moment)
 }
 
 // lookBack has a node that hands over what it has look at the newest state now and then, as one that makes steps does before each.

@@ -587,3 +587,44 @@ func TestOutgrownOnEach(t *testing.T) {
 		}
 	})
 }
+
+// TestRegisterPutBackBesideItsHead has a node stand still while another one goes on, and then the register's text and the store's heads be put back to where the first
+// stood, but not what the register says is published: the node must not go on from there, and must once the newer text is back.
+func TestRegisterPutBackBesideItsHead(t *testing.T) {
+	t.Parallel()
+	p, ctx, got, s := untended(t, 5, 5)
+	must(t, s.End(ctx))
+	older := s.newestKnown()
+	config := p.config(t)
+	config.TendEvery = time.Hour
+	other := started(t, config, hooks{})
+	must(t, got.submitAll(ctx, other, 5, 15, 5))
+	must(t, other.End(ctx))
+	newer := other.newestKnown()
+	stood := readingNode(other)
+	stood.newest = older
+	must(t, config.Register.Swap(ctx, newer.text, older.text))
+	kept := map[string][]byte{}
+	for _, name := range headsOf(t, p) {
+		if name <= headName(older.state) {
+			continue
+		}
+		at := filepath.Join(p.objects(), name)
+		content, err := os.ReadFile(at)
+		must(t, err)
+		kept[at] = content
+		must(t, os.Remove(at))
+	}
+	_, err := stood.learn(ctx)
+	wants(t, err, ErrSetBack)
+	must(t, config.Register.Swap(ctx, older.text, newer.text))
+	for at, content := range kept {
+		must(t, os.WriteFile(at, content, 0o644))
+	}
+	k, err := stood.learn(ctx)
+	must(t, err)
+	if k.state.Size != 15 || len(kept) == 0 {
+		t.Errorf("%d entries, and %d heads were put back", k.state.Size, len(kept))
+	}
+	p.right(t, got)
+}

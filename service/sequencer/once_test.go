@@ -897,6 +897,30 @@ func TestOldWordsOfTheTime(t *testing.T) {
 	}
 }
 
+// TestWitnessInTheMiddle has three witnesses, of which one or two have a clock that is an hour off: a node's clock is right if it is that of the one in the middle.
+func TestWitnessInTheMiddle(t *testing.T) {
+	const off = time.Hour
+	for _, of := range []struct {
+		witnesses [3]time.Duration
+		own       time.Duration
+		right     bool
+	}{
+		{[3]time.Duration{0, 0, off}, 0, true}, {[3]time.Duration{0, off, 0}, off, false}, {[3]time.Duration{-off, 0, 0}, 0, true}, {[3]time.Duration{-off, 0, 0}, -off, false},
+		{[3]time.Duration{-off, 0, off}, 0, true}, {[3]time.Duration{off, 0, off}, 0, false}, {[3]time.Duration{off, off, 0}, off, true},
+	} {
+		c, now := newClock(Config{Clock: newMachine(), MostSkew: 10 * time.Second}), time.Now()
+		var moments []time.Time
+		for _, ahead := range of.witnesses {
+			moments = append(moments, now.Add(ahead))
+		}
+		elapsed := c.of.Elapsed()
+		c.hearWitnesses(moments, elapsed)
+		if said, err := c.byWitnesses(now.Add(of.own), elapsed); !said || (err == nil) != of.right {
+			t.Errorf("%+v: %v, %v", of, said, err)
+		}
+	}
+}
+
 // TestWitnessesAreAskedAgain: a node whose clock is off asks its witnesses again what time it is, once what they said soon counts no more.
 func TestWitnessesAreAskedAgain(t *testing.T) {
 	t.Parallel()

@@ -118,6 +118,39 @@ func PlacesAt(ctx context.Context, address string) (Places, error) {
 }
 
 // pathOf takes a path as it stands: it isn't a URL's, and a percent sign is one.
+// CheckObjects returns why an address isn't one of objects, and nil if it is. Nothing is opened.
+func CheckObjects(address string) error {
+	return checked(address, "objects", map[string]func() error{"folder": nil, "s3": func() error { _, err := parseS3(address); return err }})
+}
+
+// CheckRegister is CheckObjects of a register.
+func CheckRegister(address string) error {
+	postgres := func() error { _, err := parsePostgres(address); return err }
+	etcd := func() error { _, err := parseEtcd(address); return err }
+	return checked(address, "a register", map[string]func() error{"file": nil, "etcd": etcd, "postgres": postgres, "postgresql": postgres})
+}
+
+// CheckPlaces is CheckObjects of places.
+func CheckPlaces(address string) error {
+	postgres := func() error { _, err := parsePostgres(address); return err }
+	etcd := func() error { _, _, err := parseEtcdPlaces(address); return err }
+	return checked(address, "places", map[string]func() error{"sqlite": nil, "etcd": etcd, "postgres": postgres, "postgresql": postgres})
+}
+
+// checked reads an address by what reads those of its kind; nil reads a path.
+func checked(address, what string, kinds map[string]func() error) error {
+	kind, rest, _ := strings.Cut(address, ":")
+	read, known := kinds[kind]
+	switch {
+	case !known:
+		return fmt.Errorf("%w: %s of the kind %.20q", ErrAddress, what, kind)
+	case read != nil:
+		return read()
+	}
+	_, err := pathOf(kind, rest)
+	return err
+}
+
 func pathOf(kind, path string) (string, error) {
 	if path == "" {
 		return "", fmt.Errorf("%w: %s: without a path", ErrAddress, kind)

@@ -7,10 +7,10 @@ import (
 	"testing"
 )
 
-// TestSeveralRegisters: each name has a register of its own, below one address.
+// TestSeveralRegisters: each name has a register of its own, below one address, and so have two names that differ by case.
 func TestSeveralRegisters(t *testing.T) {
 	ctx, address := context.Background(), "file:"+filepath.Join(t.TempDir(), "states")
-	for _, name := range []string{"a.example/1", "../a", ""} {
+	for _, name := range []string{"a.example/1", "A.example/1", "../a", ""} {
 		r, err := RegisterOf(ctx, address, name)
 		if err != nil {
 			t.Fatal(err)
@@ -20,7 +20,7 @@ func TestSeveralRegisters(t *testing.T) {
 			t.Errorf("%q: %v", name, err)
 		}
 	}
-	for _, name := range []string{"a.example/1", "../a", ""} {
+	for _, name := range []string{"a.example/1", "A.example/1", "../a", ""} {
 		r, err := RegisterOf(ctx, address, name)
 		if err != nil {
 			t.Fatal(err)

@@ -173,13 +173,16 @@ func beKilled(t *testing.T, at string) {
 	folder := os.Getenv("WITNESS_TEST_FOLDER")
 	body, err := os.ReadFile(filepath.Join(folder, "body"))
 	must(t, err)
-	s := witnessOver(t, registerAt(t, os.Getenv("WITNESS_TEST_STATE")), newKey(t), decider(), signing{key: keyIn(t, folder)})
-	s.phase = func(now string) {
-		if now == at {
-			_ = syscall.Kill(os.Getpid(), syscall.SIGKILL)
-			select {}
+	kill := func(phase string) func() {
+		return func() {
+			if phase == at {
+				_ = syscall.Kill(os.Getpid(), syscall.SIGKILL)
+				select {}
+			}
 		}
 	}
+	state := swappedState{registerAt(t, os.Getenv("WITNESS_TEST_STATE")), kill("decided"), kill("kept")}
+	s := witnessOver(t, state, newKey(t), decider(), signing{key: keyIn(t, folder)})
 	fmt.Println(posted(t, s, body).Body)
 }
 

@@ -135,9 +135,8 @@ type Server struct {
 	program *pipe.Client
 	room    chan struct{}
 	metrics *metrics
-	// now is the clock, in seconds; phase is the tests'.
-	now   func() uint64
-	phase func(string)
+	// now is the clock, in seconds.
+	now func() uint64
 
 	mu   sync.Mutex
 	logs map[string]*Log
@@ -164,7 +163,7 @@ func New(of Options) (*Server, error) {
 	}
 	s := &Server{
 		of: of, public: of.Key.Public().(ed25519.PublicKey), room: make(chan struct{}, mostAtOnce), logs: map[string]*Log{}, seen: map[string]tree{},
-		now: func() uint64 { return uint64(time.Now().Unix()) }, phase: func(string) {},
+		now: func() uint64 { return uint64(time.Now().Unix()) },
 	}
 	s.program = pipe.NewClient(func(context.Context) (*pipe.End, error) { return pipe.Start(of.Program, mostReply) }, of.Within)
 	s.metrics = newMetrics(s)
@@ -312,7 +311,6 @@ func (s *Server) decide(ctx context.Context, log *Log, text string, before tree,
 	if err != nil {
 		return s.failed("program", log.Origin, err), false
 	}
-	s.phase("decided")
 	if said.Refused != "" {
 		return s.refusal(log.Origin, said), false
 	}
@@ -327,7 +325,6 @@ func (s *Server) decide(ctx context.Context, log *Log, text string, before tree,
 		return s.failed("state", log.Origin, err), false
 	}
 	s.see(log.Origin, next.tree)
-	s.phase("kept")
 	s.metrics.kept(log.Origin, next)
 	s.metrics.cosigned(log.Origin)
 	return plain(http.StatusOK, cosignatureLine(s.of.Name, s.public, now, ed25519.Sign(s.of.Key, said.Sign))), false

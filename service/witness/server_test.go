@@ -19,6 +19,7 @@ import (
 	"os/exec"
 	"path/filepath"
 	"strings"
+	"sync"
 	"testing"
 	"time"
 
@@ -397,20 +398,38 @@ func TestOpenssl(t *testing.T) {
 	}
 }
 
+// swappedState is a state with something done before each swap, and after each that went well.
+type swappedState struct {
+	stores.Register
+	before, after func()
+}
+
+func (s swappedState) Swap(ctx context.Context, old, new string) error {
+	s.before()
+	err := s.Register.Swap(ctx, old, new)
+	if err == nil {
+		s.after()
+	}
+	return err
+}
+
 // TestStaleReader: who decided by a state that has moved meanwhile signs nothing, also where it decided for the same tree once more.
 func TestStaleReader(t *testing.T) {
 	by, key, folder := headKey(t, origin), newKey(t), t.TempDir()
 	one := grown(t, "a", "b", "c", "d", "e")
 	signed := func(n int64) []byte { return by.sign(checkpoint(origin, n, one.root(t, n))) }
-	slow, fast := witnessOf(t, folder, key, decider(), by), witnessOf(t, folder, key, decider(), by)
+	fast, once := witnessOf(t, folder, key, decider(), by), sync.Once{}
+	// Between the slow one's decision and its swap the fast one cosigns a later head.
+	state := swappedState{stateIn(t, folder), func() {
+		once.Do(func() {
+			if w := posted(t, fast, request(3, one.proof(t, 3, 5), signed(5))); w.Code != 200 {
+				t.Errorf("%d %s", w.Code, w.Body)
+			}
+		})
+	}, func() {}}
+	slow := witnessOver(t, state, key, decider(), by)
 	if w := posted(t, fast, request(0, nil, signed(3))); w.Code != 200 {
 		t.Fatalf("%d %s", w.Code, w.Body)
-	}
-	slow.phase = func(string) {
-		slow.phase = func(string) {}
-		if w := posted(t, fast, request(3, one.proof(t, 3, 5), signed(5))); w.Code != 200 {
-			t.Errorf("%d %s", w.Code, w.Body)
-		}
 	}
 	if w := posted(t, slow, request(3, nil, signed(3))); w.Code != 409 || w.Body.String() != "5\n" {
 		t.Errorf("an older head is cosigned late: %d %s", w.Code, w.Body)
