@@ -1,5 +1,5 @@
 #!/usr/bin/env bash
-# Says what a target of the Makefile lacks here, and how long it takes on so many processors: needs.sh demo|serve|serve-ctlogd|test|check|link|service|service-test,
+# Says what a target of the Makefile lacks here, and how long it takes on so many processors: needs.sh demo|serve|serve-ctlogd|test|check|link|dist|service|service-test,
 # and of the service's part of serve and of test: needs.sh service-for-serve, service-for-test. GO=no leaves that of test out. Debian's packages that the
 # service lacks are installed where nothing is asked for that, by root or by sudo; SETUP=no says the line alone.
 # `needs.sh figures` prints the times on four processors, with which tests/scripts.py compares README.md, and `needs.sh write` writes them there.
@@ -9,8 +9,8 @@ what=$1
 missing=0
 
 # The processor minutes that a target takes where nothing was proved before: test by a run of the gate, demo and serve by runs of their own, from
-# which serve-ctlogd and link are reckoned. After another run: put its figures into this line, and let `needs.sh write` put the times into README.md.
-work_of() { local demo=50 serve=42 ctlogd=39 link=10 test=180 name=${1#serve-} && echo "${!name}"; }
+# which serve-ctlogd, link and dist are reckoned. After another run: put its figures into this line, and let `needs.sh write` put the times into README.md.
+work_of() { local demo=50 serve=42 ctlogd=39 link=50 dist=50 test=180 name=${1#serve-} && echo "${!name}"; }
 
 # The minutes that target $1 takes on $2 processors, rounded up to five. Crates are proved side by side: where processors share them a third is added, or
 # a fifth to the gate's, and more than eight gain little, of a program's own crates more than four.
@@ -122,10 +122,10 @@ logic="logic ${kit##*logic }"
 processors=$(python3 -c 'import os; print(len(os.sched_getaffinity(0)))')
 [ "$processors" = 1 ] && on="one processor" || on="$processors processors"
 case $what in
-  demo) first="ctlog, ctmonitor, libwagtenib, print_steps and the crates below them. Where nothing was proved before, that" ;;
+  demo) first="ctlog, ctmonitor, print_steps and the crates below them. Where nothing was proved before, that" ;;
   serve) first="cttile, ctnode, ctguard, ctproof and the crates below them. Where nothing was proved before, that" ;;
   serve-ctlogd) first="ctlogd, ctguard and the crates below them. Where nothing was proved before, that" ;;
-  link) first="the library and the crates below it. Where nothing was proved before, that" ;;
+  link | dist) first="the library and the crates below it. Where nothing was proved before, that" ;;
   test) first="everything, from nothing. That" ;;
   *) exit 0 ;;
 esac
