@@ -1,4 +1,4 @@
-.PHONY: help demo test check deps service service-test service-race service-engines service-faults service-soak service-clients cluster cluster-status cluster-stop link install install-library install-ctlog install-ctmonitor install-ctguard install-cttile install-ctproof install-ctnode install-ctwitness fuzz load sweep wrong sources serve serve-witness tiles programs release reproduce bare container pages
+.PHONY: help demo test check deps service service-test service-race service-engines service-faults service-soak service-clients cluster cluster-status cluster-stop link dist dist-programs install install-library install-ctlog install-ctmonitor install-ctguard install-cttile install-ctproof install-ctnode install-ctwitness fuzz load sweep wrong sources serve serve-witness tiles programs release reproduce bare container pages
 
 SECONDS ?= 60
 RUNS ?= 20
@@ -89,6 +89,14 @@ link: ## builds libwagtenib, the proof checkers for C, and runs programs in C, R
 	@checks/needs.sh link
 	@examples/link/link.sh
 
+dist: ## makes the assembly of libwagtenib in dist/ from the proved crates, for amd64 and arm64, with what it is made of and its licences
+	@checks/needs.sh dist
+	@examples/build.py libwagtenib
+	@PYTHONDONTWRITEBYTECODE=1 checks/dist.py --write
+
+dist-programs: ## makes cttile, ctnode, ctproof, ctwitness and ctguard of dist/ in dist/out/bin with gcc, without the kit
+	@dist/programs.sh dist/out
+
 # The scripts of examples/monitor that are installed beside ctmonitor: what follows ctmonitor- in their names there, and their files.
 WATCHING := audit=audit.py cosign=cosign.py cosignatures=cosignatures.sh from-end=from_end.py keep=keep.py log-list=log_list.py mail=mail.sh show=show.py signature=signature.sh watch=watch.sh
 
@@ -173,6 +181,7 @@ sources: ## looks through the sources, the documents and the scripts of examples
 	@PYTHONDONTWRITEBYTECODE=1 python3 checks/wrong_bodies.py
 	@PYTHONDONTWRITEBYTECODE=1 python3 checks/header.py
 	@PYTHONDONTWRITEBYTECODE=1 python3 checks/layout.py
+	@PYTHONDONTWRITEBYTECODE=1 python3 checks/dist.py --sources
 	@docs/check.sh
 	@PYTHONDONTWRITEBYTECODE=1 python3 tests/scripts.py
 

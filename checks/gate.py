@@ -2,7 +2,8 @@
 """Runs `rt ci`, the merge gate, and prints each of its lines behind the time so far. Its last line, 'N passed, M failed', is printed once
 more, with the tests of the Go part in it, of which the file COUNT in the environment has how many passed and failed, and with what is run over the
 programs once `rt ci` has built them: all by words of their own (tests/command_lines.py), ctlog over sessions (tests/sessions.py), all while some growths
-of memory are refused (tests/sweep.py), and the parts of the demo (examples/demo.sh). The status is that of `rt ci`, or 1 where one of these failed.
+of memory are refused (tests/sweep.py), and the parts of the demo (examples/demo.sh); dist/ is made again and compared (checks/dist.py), and its programs
+with the proved ones (tests/library/compare.py). The status is that of `rt ci`, or 1 where one of these failed.
 
 `rt ci` tells of a crate when it is done, and not how many of its functions are proved so far; while it tells nothing, a line a minute says
 how long it has been at work. Behind it a line says how many processor minutes it took.
@@ -40,8 +41,8 @@ service-race, service-engines, service-faults, service-clients), and what runs l
 # About the most memory that a proof was seen to take, in bytes.
 MEMORY = 4_000_000_000
 
-# The parts of the demo over programs that `rt ci` builds. The other one, path, is over libwagtenib, of which `rt ci` leaves no archive.
-DEMO = ("monitor", "log", "watched", "tiles", "followed")
+# The parts of the demo.
+DEMO = ("path", "monitor", "log", "watched", "tiles", "followed")
 
 # How the programs are broken off: each so many-th growth of memory is refused (make sweep refuses every one).
 BROKEN_OFF = (
@@ -212,6 +213,10 @@ def run_programs():
         broken = subprocess.run([sys.executable, ROOT / "tests" / script, *given], **how)
         print(broken.stdout if broken.returncode else f"{' '.join([script, *given])}: as due", flush=True)
         passed, failed = passed + (not broken.returncode), failed + (broken.returncode != 0)
+    for script in ("checks/dist.py", "tests/library/compare.py"):
+        compared = subprocess.run([sys.executable, ROOT / script], **how)
+        print(compared.stdout if compared.returncode else f"{script}: as due", flush=True)
+        passed, failed = passed + (not compared.returncode), failed + (compared.returncode != 0)
     for part in DEMO:
         shown = subprocess.run([ROOT / "examples" / "demo.sh", part], **how)
         print(shown.stdout if shown.returncode else f"the demo's part {part}: as due", flush=True)

@@ -17,7 +17,7 @@ if [ $# = 0 ]; then
   [ -n "$program" ] || ctlog=ctlog
   [ -n "$monitor" ] || ctmonitor=ctmonitor
   own="monitor=${ctmonitor-} log=${ctlog-} watched=${ctlog-},${ctmonitor-}"
-  [ -n "$program$monitor" ] || own="$own tiles=print_steps followed=print_steps,ctmonitor path=libwagtenib"
+  [ -n "$program$monitor" ] || own="path=ct_verify $own tiles=print_steps followed=print_steps,ctmonitor"
   # (each word is a part)
   # shellcheck disable=SC2086
   exec examples/build.py --show examples/demo.sh $own
@@ -113,15 +113,15 @@ watch_all() {
 
 show_path() {
   echo "== An audit path as long as a real log's, and forged ones, checked by libwagtenib =="
-  proved crates/libwagtenib/src/proofs.rt "whatever the hashes and numbers are, the answer is 0 exactly where the path leads from the leaf to the root, and else the number of a fault that it has" <<'END'
-ensures { Judges result (AcceptsInclusion sha256 leaf_hash.now leaf_index tree_size path.now root.now)
-    (RefusesInclusion sha256 leaf_hash.now leaf_index tree_size path.now root.now) }
+  proved crates/ct_verify/src/inclusion.rt "whatever the hashes and numbers are, the path is accepted exactly where it leads from the leaf to the root, and otherwise refused by a fault that it has" <<'END'
+ensures { MatchResult result (λ _. AcceptsInclusion H.digest leaf_hash.now index size path.now root.now)
+    (RefusesInclusion H.digest leaf_hash.now index size path.now root.now) }
 END
-  if command -v "${CC:-cc}" >/dev/null && command -v ar >/dev/null; then
-    examples/link/library.sh
-    python3 examples/link/real_path.py "$PWD/crates/libwagtenib/out/link/libwagtenib.so" || fail "examples/link/real_path.py finds other answers"
+  if command -v "${CC:-cc}" >/dev/null && dist/library.sh "$work/libwagtenib.so"; then
+    echo "The library over it was proved elsewhere, and is compiled from dist/ (make link proves it here)."
+    python3 examples/link/real_path.py "$work/libwagtenib.so" || fail "examples/link/real_path.py finds other answers"
   else
-    echo "It isn't linked and run, since no C compiler with ar is here."
+    echo "It isn't linked and run, for want of a C compiler for a processor of dist/."
   fi
 }
 

@@ -96,8 +96,8 @@ void wagtenib_subtrees_root(const uint8_t *subtrees, size_t count, uint8_t out[3
  * 4. 9 (WAGTENIB_NO_ROOM): *length says how much room the reply needs, and nothing else is written; the call has done all its work, so give a
  * second call at least that much. 8 (WAGTENIB_OUT_OF_MEMORY) and 10 (WAGTENIB_BAD_ORIGIN): neither reply nor *length is written.
  *
- * A call takes at most a few times the length of its request and reply. A request of real data takes 26 KB of stack. JSON that nests as deep as is allowed
- * (127) takes 82 KB.
+ * Measured, and not proved: a call has about twice the length of its request and reply as memory, and JSON that is made to be dear has up to 20 times the
+ * length of the request, or 120 KB. A request of real data takes 26 KB of stack, and JSON that nests as deep as is allowed (127) takes 84 KB.
  */
 
 /* A step of a tiled log: what `cttile` replies to a line (docs/TILES.md). A request has at most 67,108,864 bytes. 0, 8, 9, 10 or 11. */

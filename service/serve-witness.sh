@@ -2,7 +2,7 @@
 # Serves a witness on loopback, of one log: serve-witness.sh [FOLDER] [PORT] [LOG], by default ct-witness, 8640 and ct-log, the folder of serve.sh, which
 # has the log's public key, log.pem. ORIGIN=ct-log.example is the log's name in checkpoints.
 # The first start makes the witness's key, its settings and the log's state in FOLDER; later ones go on with them. PROGRAM decides, by default
-# ctwitness, which is proved and built where it isn't. Where the kit isn't there either, a program in Python stands in for it.
+# ctwitness, which is proved and built where it isn't. Without the kit it is compiled from dist/, the code that was proved elsewhere.
 set -eu
 here=$(cd "$(dirname "$0")" && pwd)
 folder=${1:-ct-witness} port=${2:-8640} log=${3:-ct-log} origin=${ORIGIN:-ct-log.example}
@@ -16,8 +16,9 @@ if [ -z "${PROGRAM:-}" ] && [ ! -x "$built" ]; then
   if command -v rt >/dev/null; then
     "$here/../examples/build.py" ctwitness
   else
-    echo "In place of ctwitness a program in Python decides: it is tested, and not proved. The Rattle kit isn't here (README.md, 'With the kit')."
-    PROGRAM="python3 $(cd "$here/../tests" && pwd)/witness/model.py"
+    "$here/../dist/programs.sh" "$here/../dist/out"
+    echo "The witness decides by ctwitness, which was proved elsewhere and is compiled from dist/. The Rattle kit, which proves it, isn't here (README.md, 'With the kit')."
+    PROGRAM=$(cd "$here/../dist/out/bin" && pwd)/ctwitness
   fi
 fi
 "$here/build.sh" build

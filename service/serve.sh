@@ -4,7 +4,7 @@
 # leads there (chain.json); later ones go on with it. A first start that fails leaves no folder. ROOTS is a file with the roots besides, in PEM; by default the
 # system's.
 # STEP, DECIDER and GUARD are the log's programs, READER the one that makes readers' proofs; by default cttile, ctnode, ctguard and ctproof, which are
-# proved and built where they aren't. Where the kit isn't there either, programs in Python stand in for those that lack. ORIGIN=ct-log.example is the log's name in checkpoints.
+# proved and built where they aren't. Without the kit, those that aren't built are compiled from dist/, the code that was proved elsewhere. ORIGIN=ct-log.example is the log's name in checkpoints.
 set -eu
 here=$(cd "$(dirname "$0")" && pwd)
 folder=${1:-ct-log} port=${2:-8618}
@@ -28,18 +28,19 @@ missing=
 [ -n "${GUARD:-}" ] || [ -x "$crates/ctguard/out/ctguard" ] || missing+=" ctguard"
 [ -n "${DECIDER:-}" ] || [ -x "$crates/ctnode/out/ctnode" ] || missing+=" ctnode"
 [ -n "${READER:-}" ] || [ -x "$crates/ctproof/out/ctproof" ] || missing+=" ctproof"
+"$here/../checks/needs.sh" service-for-serve
 if [ -n "$missing" ] && ! command -v rt >/dev/null; then
-  notice="In place of${missing} programs in Python serve this log: they are tested, and not proved."
-  echo "$notice The Rattle kit isn't here (README.md, 'With the kit')."
+  "$here/../dist/programs.sh" "$here/../dist/out"
+  notice="This log is served by${missing}, which were proved elsewhere and are compiled from dist/."
+  echo "$notice The Rattle kit, which proves them, isn't here (README.md, 'With the kit')."
   set -- --notice "$notice" "$@"
-  tests=$(cd "$here/../tests" && pwd)
-  [[ $missing != *cttile* ]] || STEP="python3 $tests/tiles/step.py"
-  [[ $missing != *ctproof* ]] || READER="python3 $tests/tiles/step.py"
-  [[ $missing != *ctnode* ]] || DECIDER="python3 $tests/node/ctnode.py"
-  [[ $missing != *ctguard* ]] || GUARD="python3 $tests/guard/model.py"
+  compiled=$(cd "$here/../dist/out/bin" && pwd)
+  [[ $missing != *cttile* ]] || STEP=$compiled/cttile
+  [[ $missing != *ctproof* ]] || READER=$compiled/ctproof
+  [[ $missing != *ctnode* ]] || DECIDER=$compiled/ctnode
+  [[ $missing != *ctguard* ]] || GUARD=$compiled/ctguard
   missing=
 fi
-"$here/../checks/needs.sh" service-for-serve
 if [ -n "$missing" ]; then
   "$here/../checks/needs.sh" serve
   # (each word is a crate)

@@ -91,7 +91,7 @@ class Page:
                 break
         else:
             fail(f"{command} ended with status {self.log.wait()}: {''.join(said)}")
-        notice = "In place of cttile ctguard ctnode ctproof programs in Python serve this log: they are tested, and not proved."
+        notice = "This log is served by cttile ctguard ctnode ctproof, which were proved elsewhere and are compiled from dist/."
         if not said[0].startswith(notice) or "  a page " not in "".join(said):
             fail(f"{command} says {''.join(said)}")
         if json.loads(self.answer("log.v3.json"))["notice"] != notice or self.answer("key") != (self.copy / "ct-log" / "log.pem").read_bytes():
@@ -140,7 +140,7 @@ ELSEWHERE = {
 # What the pages name in their text, README.md's tables too.
 TARGETS = {
     "make test": GATE, "make test TURN=0": GATE, "make sources": GATE, "make service-test": GATE, "make bare": "itself", "make container": "itself", "make pages": "itself",
-    **dict.fromkeys(("make check", "make wrong CRATE=ct_guard", "make service-race", "make service-faults", "make service-soak", "make load", "make sweep", "make fuzz SECONDS=180"), LONG),
+    **dict.fromkeys(("make check", "make wrong CRATE=ct_guard", "make service-race", "make service-faults", "make service-soak", "make load", "make sweep", "make fuzz SECONDS=180", "make dist"), LONG),
     **dict.fromkeys(("make serve", "make demo", "make install", "make release", "make programs", "make link", "make service", "make service-clients",
                      "make service-engines", "make serve-witness", "make cluster", "make fuzz", "make reproduce", "make demo install"), PAGES),
 }

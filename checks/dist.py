@@ -1,0 +1,237 @@
+#!/usr/bin/env python3
+"""dist/ has the code that the proved sources make.
+
+    dist.py [--sources | --write]
+
+The generated files of dist/ are the assembly of libwagtenib for each processor, as the kit's compiler makes it, without its comments; NOTICE, with the licences
+of the kit's crates whose code is in it; and SOURCES, which says what all of this is made of. With --sources, or without the kit, the script compares SOURCES
+with the checkout: a sum over the code of each crate that the library is made of (without comments and clauses, from which no code is made), and with the kit
+the kit's name. Otherwise it builds the library once more for each processor, over the crates as they are proved and built in crates/*/out, and compares each
+byte. It also has the kit's assembler make an object of the text, which must be the very object that the proved library is. With --write it writes the files.
+It prints what differs, and ends with status 1 if something does.
+"""
+import hashlib
+import pathlib
+import re
+import shlex
+import shutil
+import subprocess
+import sys
+import tempfile
+
+from source import CRATES, ROOT, blanked, sources, without_clauses
+
+DIST = ROOT / "dist"
+LIBRARY = "libwagtenib"
+# For each processor the kit's name of the target, and the oldest of its kind, whose code runs on all of them.
+TARGETS = {"amd64": ("x86_64-unknown-linux-gnu", "x86-64"), "arm64": ("aarch64-unknown-linux-gnu", "generic")}
+# What the kit's assembler needs to fill gaps as its compiler does.
+PADDING = {"amd64": ["-march=x86-64-v2"], "arm64": []}
+REMEDY = "make dist makes it anew, with the kit"
+COMMENT = re.compile(r"//[^\n]*|/\*.*?\*/|(\"(?:\\.|[^\"\\])*\"|'(?:\\.|[^'\\])')", re.S)
+# What the compiler calls once with -c, and once more for the text.
+CLANG = """#!/bin/sh
+{clang} "$@" || exit
+left=$#
+while [ $left -gt 0 ]; do
+  word=$1
+  shift
+  left=$((left - 1))
+  case $word in
+    -c) set -- "$@" -S ;;
+    -o) cp "$1" {kept}/code.o || exit; shift; left=$((left - 1)); set -- "$@" -o {kept}/code.s ;;
+    *) set -- "$@" "$word" ;;
+  esac
+done
+exec {clang} "$@"
+"""
+
+
+def uses():
+    """What each crate of crates.txt stands on, libraries of the kit among them, with its line."""
+    found = {}
+    for line in (ROOT / "crates.txt").read_text().splitlines():
+        if line and not line.startswith("#"):
+            head, _, below = line.partition(":")
+            found[head.split()[0]] = (line, below.split())
+    return found
+
+
+def made_of(listed):
+    """The repository's crates that the library is made of, those below first."""
+    found = {}
+
+    def take(name):
+        for below in listed[name][1]:
+            if below in listed and below not in found:
+                take(below)
+        found[name] = None
+
+    take(LIBRARY)
+    return [*found]
+
+
+def code(text):
+    """The text of a source without comments, clauses and what only lays it out."""
+    bare = blanked(text)
+    kept = COMMENT.sub(lambda found: found[1] or re.sub(r"[^\n]", " ", found[0]), text)
+    ghostless = without_clauses(bare)
+    return " ".join("".join(" " if one != other else char for one, other, char in zip(bare, ghostless, kept)).split())
+
+
+def sum_of(crate, line):
+    """A sum over what the code of a crate is made from."""
+    found = hashlib.sha256(line.encode())
+    for path in sources(crate):
+        found.update(f"\n{path.relative_to(CRATES).as_posix()}\n{code(path.read_text())}".encode())
+    return found.hexdigest()
+
+
+def kit():
+    """The folder of the kit, or None."""
+    rt = shutil.which("rt")
+    return rt and pathlib.Path(rt).resolve().parent.parent
+
+
+def said_of_sources(kit_name):
+    """The text of SOURCES."""
+    listed = uses()
+    lines = ["# What dist/ is made of. Made by checks/dist.py --write.", f"kit: {kit_name}"]
+    lines += [f"{processor}: --target {target} --cpu {cpu}" for processor, (target, cpu) in TARGETS.items()]
+    lines += [f"{crate}: {sum_of(crate, listed[crate][0])}" for crate in made_of(listed)]
+    return "".join(f"{line}\n" for line in lines)
+
+
+def kit_name():
+    """The kit's name for itself, or where it isn't here what SOURCES says of it."""
+    if kit():
+        return subprocess.run(["rt", "version"], capture_output=True, text=True, check=True).stdout.strip()
+    said = re.search(r"^kit: (.*)$", (DIST / "SOURCES").read_text(), re.M)
+    return said[1] if said else "unknown"
+
+
+def toolchain(folder, of_kit, kept):
+    """A folder like the kit's toolchain, whose clang also keeps the object and the assembly."""
+    (folder / "bin").mkdir(parents=True)
+    (folder / "lib").symlink_to(of_kit / "lib")
+    for tool in (of_kit / "bin").iterdir():
+        if tool.name != "clang":
+            (folder / "bin" / tool.name).symlink_to(tool)
+    clang = folder / "bin" / "clang"
+    clang.write_text(CLANG.format(clang=shlex.quote(str(of_kit / "bin" / "clang")), kept=shlex.quote(str(kept))))
+    clang.chmod(0o755)
+
+
+def words_of_build(top, listed):
+    """What `rattle build` is called with for the library, but for its target and where it puts what it makes."""
+    own = listed[LIBRARY][1]
+    words = ["build", "--crate-name", LIBRARY, "src/lib.rt", "--extern", f"std={top}/rlibs/std.rlib"]
+    for name in own:
+        words += ["--extern", f"{name}={CRATES / name / 'out' / 'rlib' if name in listed else top / 'rlibs'}/{name}.rlib"]
+    words += ["-L", f"dependency={top}/rlibs"]
+    for name in made_of(listed)[:-1]:
+        words += ["-L", f"dependency={CRATES / name / 'out' / 'rlib'}"]
+    words += ["--antt-project", f"{top}/rattle/logic/antt-project.json", "--logic-built", f"{top}/logic_built"]
+    return [*words, "--jobs", "1", "--links", f"{LIBRARY}=", "--crate-type", "staticlib", "--backend", "llvm"]
+
+
+def plain(text):
+    """The assembly as any assembler takes it: without comments, empty lines and the lines .addrsig, which only clang knows."""
+    found = []
+    for line in text.splitlines():
+        if not re.match(r"\s*\.(?:ascii|asciz|string)\b", line):
+            line = re.sub(r"\s+(?:#|//) .*$", "", line)
+        if line.strip() and not re.match(r"\s*(?:#|//|\.addrsig)", line):
+            found.append(line)
+    return "".join(f"{line}\n" for line in found)
+
+
+def is_the_object(text, processor, kept, clang, work):
+    """Whether the kit's assembler makes of this text the object that the library has, once the lines .addrsig are back."""
+    marks = "".join(f"{line}\n" for line in (kept / "code.s").read_text().splitlines() if re.match(r"\s*\.addrsig", line))
+    (work / "text.s").write_text(text + marks)
+    subprocess.run([clang, f"--target={TARGETS[processor][0]}", *PADDING[processor], "-c", work / "text.s", "-o", work / "text.o"], check=True)
+    return (work / "text.o").read_bytes() == (kept / "code.o").read_bytes()
+
+
+def assembly(processor, top, work):
+    """The assembly of the library for a processor, made of the sources."""
+    listed = uses()
+    absent = [name for name in made_of(listed)[:-1] if not (CRATES / name / "out" / "rlib" / f"{name}.rlib").exists()]
+    if absent:
+        sys.exit(f"checks/dist.py: {', '.join(absent)} is not built in crates/*/out (examples/build.py {LIBRARY} builds it)")
+    target, cpu = TARGETS[processor]
+    folder, kept = work / processor, work / processor / "kept"
+    kept.mkdir(parents=True)
+    toolchain(folder / "toolchain", top / "toolchain", kept)
+    # (what rt has kept of the library's proof saves proving it here; else the second target's build has the first one's)
+    incremental = CRATES / LIBRARY / "out" / "incremental"
+    incremental = incremental if incremental.exists() else work / "incremental"
+    words = [*words_of_build(top, listed), "--target", target, "--cpu", cpu, "--toolchain", folder / "toolchain", "--incremental", incremental]
+    ran = subprocess.run([top / "bin" / "rattle", *words, "-o", folder / "made.a"], cwd=CRATES / LIBRARY, stdout=subprocess.PIPE, stderr=subprocess.STDOUT, text=True)
+    if ran.returncode:
+        sys.exit(f"{ran.stdout}checks/dist.py: {LIBRARY} was not built for {target}: status {ran.returncode}")
+    text = plain((kept / "code.s").read_text())
+    if not is_the_object(text, processor, kept, top / "toolchain" / "bin" / "clang", folder):
+        sys.exit(f"checks/dist.py: the assembly for {processor} is not the object that the library has: a line that it needs was left out")
+    return text
+
+
+def of_the_kit(texts, top):
+    """The kit's crates whose functions the assembly has, by the names of its symbols."""
+    named = {name for text in texts for name in re.findall(r"(?<![\w:])([a-z]\w*)::", text)}
+    return sorted(name for name in named if (top / "rattle" / name).is_dir() and name not in uses())
+
+
+def notice(names, top):
+    """The text of NOTICE."""
+    texts, without = {}, []
+    for name in names:
+        folder = top / "rattle" / name
+        files = sorted(folder.glob("LICENSE*"))
+        # (of two licences between which one may choose, the shorter one)
+        files = [it for it in files if it.name == "LICENSE-MIT"] or files
+        for file in files:
+            texts.setdefault(file.read_text(errors="replace").strip(), []).append(name)
+        if not files:
+            without.append(name)
+    said = ["The assembly in this folder is compiled from the crates of this repository (LICENSE), and from these crates of the Rattle kit.", ""]
+    said += [f"- {', '.join(without)}: the kit's own, which has no file of a licence"] if without else []
+    said += [f"- {', '.join(dict.fromkeys(of))}: the licence below, number {number}" for number, of in enumerate(texts.values(), 1)]
+    for number, text in enumerate(texts, 1):
+        said += ["", "=" * 80, f"Licence {number}", "", "\n".join(line.rstrip() for line in text.splitlines())]
+    return "\n".join(said) + "\n"
+
+
+def made():
+    """The generated files, each by its name."""
+    top = kit()
+    with tempfile.TemporaryDirectory(prefix="wagtenib-dist-") as folder:
+        texts = {f"{LIBRARY}_linux_{processor}.s": assembly(processor, top, pathlib.Path(folder)) for processor in TARGETS}
+    return {**texts, "NOTICE": notice(of_the_kit(texts.values(), top), top), "SOURCES": said_of_sources(kit_name())}
+
+
+def differing(said, due):
+    """The first line of a file that isn't as due."""
+    lines = zip([*said.splitlines(), ""], [*due.splitlines(), ""])
+    return next((f"line {number} is {one!r}, and is to be {other!r}" for number, (one, other) in enumerate(lines, 1) if one != other), "it ends too early or too late")
+
+
+def main():
+    words = sys.argv[1:]
+    if words not in ([], ["--sources"], ["--write"]):
+        sys.exit(__doc__)
+    if words == ["--write"] and not kit():
+        sys.exit("checks/dist.py --write needs the Rattle kit: put its folder bin on the PATH (README.md, 'With the kit')")
+    due = made() if kit() and words != ["--sources"] else {"SOURCES": said_of_sources(kit_name())}
+    if words == ["--write"]:
+        for name, text in due.items():
+            (DIST / name).write_text(text)
+    wrong = [(name, text) for name, text in due.items() if not (DIST / name).exists() or (DIST / name).read_text() != text]
+    for name, text in wrong:
+        print(f"dist/{name} is not what the sources make: {differing((DIST / name).read_text(), text) if (DIST / name).exists() else 'it is not there'} ({REMEDY})")
+    sys.exit(1 if wrong else 0)
+
+
+if __name__ == "__main__":
+    main()
