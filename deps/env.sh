@@ -17,6 +17,9 @@ is_new_go() {
 deps_vendor=$deps_cache/vendor
 [ "$(dpkg-query -W -f '${db:Status-Status}' libsqlite3-dev 2>/dev/null)" = installed ] || deps_vendor+=-static-sqlite
 
+# The modules come from the vendor folder. So GOPATH gets nothing, not even the empty folders that the go command makes for a module cache.
+[ -e "$deps_top/go.sum" ] || export GOMODCACHE="$deps_cache/modules"
+
 # The cache has gopls and staticcheck too: those that are installed come before them.
 is_new_go go || PATH=$deps_cache/bin:$PATH
 export PATH="$PATH:$deps_cache/tools"
