@@ -1,17 +1,15 @@
-//! The programs, and what each says of itself.
+//! The program, and what it says of itself.
 
 ghost use Rattle.std.specs.Prelude.{◌≡◌};
 ghost use Rattle.ct_command.specs.FaultLines.{fault_line, name_of};
 
 use ct_tasks::Fault;
 
-/// A program that runs a log. All of them take the same options.
+/// A program that runs a log.
 #[derive(Clone, Copy, Debug, PartialEq, Eq)]
 pub enum Program {
     /// `ctlog`, which reads its input whole before the log opens.
     Ctlog,
-    /// `ctlogd`, which replies to each line as it comes.
-    Ctlogd,
 }
 
 impl Program {
@@ -21,7 +19,6 @@ impl Program {
     {
         match self {
             Program::Ctlog => "ctlog",
-            Program::Ctlogd => "ctlogd",
         }
     }
 
@@ -32,10 +29,6 @@ impl Program {
                 "Runs a Certificate Transparency log (RFC 6962). Requests come on standard input and replies go to standard output,
 a line of JSON each; docs/LINES.md has their form. The input is read whole before the log opens."
             }
-            Program::Ctlogd => {
-                "Runs a Certificate Transparency log (RFC 6962) that replies to each line as it comes. Requests come on standard input
-and replies go to standard output, a line of JSON each; docs/LINES.md has their form."
-            }
         }
     }
 
@@ -44,9 +37,6 @@ and replies go to standard output, a line of JSON each; docs/LINES.md has their 
         match self {
             Program::Ctlog => {
                 "The moment at which the log is closed, in milliseconds, at most the default [default: 9007199254740991]"
-            }
-            Program::Ctlogd => {
-                "The moment at which the log is closed where the input ends before, in milliseconds, at most the default [default: 9007199254740991]"
             }
         }
     }
@@ -61,11 +51,6 @@ and replies go to standard output, a line of JSON each; docs/LINES.md has their 
             (Program::Ctlog, Fault::Threads) => "ctlog: threads\n",
             (Program::Ctlog, Fault::Read) => "ctlog: read\n",
             (Program::Ctlog, Fault::Write) => "ctlog: write\n",
-            (Program::Ctlogd, Fault::Memory) => "ctlogd: memory\n",
-            (Program::Ctlogd, Fault::ClockBack) => "ctlogd: clock-back\n",
-            (Program::Ctlogd, Fault::Threads) => "ctlogd: threads\n",
-            (Program::Ctlogd, Fault::Read) => "ctlogd: read\n",
-            (Program::Ctlogd, Fault::Write) => "ctlogd: write\n",
         }
     }
 }
