@@ -44,6 +44,9 @@ MEMORY = 4_000_000_000
 # The parts of the demo.
 DEMO = ("path", "monitor", "log", "watched", "tiles", "followed")
 
+# What compares dist/ with what is proved.
+OF_DIST = ("checks/dist.py", "tests/library/compare.py")
+
 # How the programs are broken off: each so many-th growth of memory is refused (make sweep refuses every one).
 BROKEN_OFF = (
     ("sweep.py", "--step", "40"),
@@ -213,7 +216,7 @@ def run_programs():
         broken = subprocess.run([sys.executable, ROOT / "tests" / script, *given], **how)
         print(broken.stdout if broken.returncode else f"{' '.join([script, *given])}: as due", flush=True)
         passed, failed = passed + (not broken.returncode), failed + (broken.returncode != 0)
-    for script in ("checks/dist.py", "tests/library/compare.py"):
+    for script in OF_DIST:
         compared = subprocess.run([sys.executable, ROOT / script], **how)
         print(compared.stdout if compared.returncode else f"{script}: as due", flush=True)
         passed, failed = passed + (not compared.returncode), failed + (compared.returncode != 0)

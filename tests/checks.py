@@ -117,11 +117,15 @@ def try_counted(repository):
 
 
 def try_programs(repository):
-    """Behind a gate whose proofs passed the built programs are given words of their own, and sessions, growths of memory are refused to them, and the
-    demo's parts over them are shown: its last line counts all of these, and its status tells."""
+    """Behind a gate whose proofs passed the built programs are given words of their own, and sessions, growths of memory are refused to them, dist/ is
+    compared, and the demo's parts over them are shown: its last line counts all of these, and its status tells."""
     words, demo = repository.folder / "tests" / "command_lines.py", repository.folder / "examples" / "demo.sh"
     words.parent.mkdir()
-    shown = len(gate.DEMO) + len(gate.BROKEN_OFF)
+    shown = len(gate.DEMO) + len(gate.BROKEN_OFF) + len(gate.OF_DIST)
+    compared = [repository.folder / script for script in gate.OF_DIST]
+    for path in compared:
+        path.parent.mkdir(exist_ok=True)
+        path.write_text("")
     good, bad, none = ("print('one: 9 sessions as due')", "print('one: 6 sessions as due, 3 not')\nsys.exit(1)", "sys.exit('no session')")
     for end, sessions, swept, part, rt, due, last in (
         ("", good, "none", "none", "echo 3 passed, 0 failed", 0, f"{14 + shown} passed, 0 failed"),
@@ -145,6 +149,12 @@ def try_programs(repository):
         hold(f"a gate whose programs end with {end or 'status 0'}, whose sessions do {sessions}, whose sweep fails in {swept}, and demo in {part}", (ended, said.splitlines()[-1]), (due, last))
         hold(f"it says why {swept} failed", "sweep: another reply" in said, swept != "none")
         hold(f"it says why {part} failed", "demo: other replies" in said, part != "none")
+    for path in compared:
+        path.write_text(f"import sys\nsys.exit('{path.name}: other bytes')\n")
+        ended, said = repository.run("checks/gate.py", rt="echo 3 passed, 0 failed")
+        hold(f"a gate whose {path.name} finds other bytes", (ended, said.splitlines()[-1], f"{path.name}: other bytes" in said), (1, f"{13 + shown} passed, 1 failed", True))
+        path.write_text("")
+    compared[0].unlink()
     shutil.rmtree(words.parent)
     demo.unlink()
 
