@@ -134,14 +134,14 @@ ELSEWHERE = {
     "examples/README.md": {"examples/pem_lines.py": HERE, "examples/bad_lines.py": HERE},
     "examples/link/README.md": {"make link": PAGES, "make install": PAGES, "ldconfig": PAGES, "cc program.c": PAGES},
     "release/README.md": {"make programs release": PAGES, "cd release/out && sha256sum": PAGES, "apt-get install": BARE},
-    "service/README.md": {"make service-engines": PAGES, "make service-test": GATE, "make service": HERE, "openssl genpkey": BARE, "cp 2027h1.pem": BARE, "cat > /etc/ctwitness/a.conf": BARE,
+    "service/README.md": {"make deps": PAGES, "make service-engines": PAGES, "make service-test": GATE, "make service": HERE, "openssl genpkey": BARE, "cp 2027h1.pem": BARE, "cat > /etc/ctwitness/a.conf": BARE,
                           "runuser -u ctwitness": BARE, "systemctl": BARE, "LOG=tiled+https://2027h1.log.example ctmonitor-watch --cosign": BARE},
 }
 # What the pages name in their text, README.md's tables too.
 TARGETS = {
     "make test": GATE, "make test TURN=0": GATE, "make sources": GATE, "make service-test": GATE, "make bare": "itself", "make container": "itself", "make pages": "itself",
     **dict.fromkeys(("make check", "make wrong CRATE=ct_guard", "make service-race", "make service-faults", "make service-soak", "make load", "make sweep", "make fuzz SECONDS=180", "make dist"), LONG),
-    **dict.fromkeys(("make serve", "make demo", "make install", "make release", "make programs", "make link", "make service", "make service-clients",
+    **dict.fromkeys(("make deps", "make serve", "make demo", "make install", "make release", "make programs", "make link", "make service", "make service-clients",
                      "make service-engines", "make serve-witness", "make cluster", "make fuzz", "make reproduce", "make demo install"), PAGES),
 }
 
