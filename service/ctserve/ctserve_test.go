@@ -873,6 +873,7 @@ func TestFolderPutBack(t *testing.T) {
 	refused()
 	move("log", "copy")
 	move("newest", "log")
+	serves()
 	// The latest head alone says so, too.
 	move("log.latest-head", "latest-head")
 	if err := os.RemoveAll(at.path("log")); err != nil {

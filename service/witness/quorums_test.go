@@ -166,6 +166,13 @@ func (p *parties) starts(t *testing.T, q Quorums) (began int) {
 	return began
 }
 
+// startsAgain has a witness know its stored state only, as one that was restored and started again. A witness that runs would refuse the older state.
+func (s *server) startsAgain() {
+	s.witness.mu.Lock()
+	defer s.witness.mu.Unlock()
+	s.witness.seen = map[string]tree{}
+}
+
 // begins counts how often an old head is begun with, over all that may answer. Those who know better stand at the newest head, and the others at the old one.
 func (p *parties) begins(t *testing.T, q Quorums, know uint) (began int) {
 	for _, answering := range subsets(3) {
@@ -176,6 +183,7 @@ func (p *parties) begins(t *testing.T, q Quorums, know uint) (began int) {
 			var ones []One
 			for i, s := range p.all {
 				p.states[i].stands(t, p.one, 3+2*int64(know>>i&1))
+				s.startsAgain()
 				if ones = append(ones, s.One); answering>>i&1 == 0 {
 					ones[i].URL = fmt.Sprintf("http://127.0.0.1:1/%d", i)
 				}
