@@ -162,7 +162,10 @@ func TestManyBundles(t *testing.T) {
 // fiveTiles is a log of four full tiles and a partial one, and its node, which doesn't tend it.
 func fiveTiles(t *testing.T) (p place, ctx context.Context, got *answers, s *Sequencer) {
 	t.Helper()
-	return untended(t, 1100, 550)
+	p, ctx, got, s = untended(t, 900, 450)
+	// (a step ended at 900, so the newest full tile, of the entries from 768 on, had a partial one)
+	must(t, got.submitAll(ctx, s, 900, 1100, 200))
+	return p, ctx, got, s
 }
 
 // TestReadingBeginsByChance: a node that is started again and again, and reads one old tile each time, reads more than one.

@@ -39,8 +39,8 @@ def certificate():
 
 
 def damaged(data, every):
-    """Each beginning, and each byte as it isn't."""
-    for size in range(len(data)):
+    """Yields each beginning, and each byte as it isn't. No leaf has a certificate of no bytes, so the empty beginning is left out."""
+    for size in range(1, len(data)):
         yield data[:size]
     for place, byte in enumerate(data):
         for value in sorted({*TOLD, byte ^ 1, byte ^ 0x20, *range(place % every, 256, every)} - {byte}):
