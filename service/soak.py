@@ -575,7 +575,7 @@ class Soak:
                 os.kill(one, signal.SIGCONT)
 
     def one_program(self, chance):
-        node, kind = chance.choice(self.nodes), chance.choice(["signer", "guard", "step", "reader", "decider"])
+        node, kind = chance.choice(self.nodes), chance.choice(["signer", "step", "reader", "decider"])
         return node, kind, [one for found, one in self.programs_of(node) if found == kind]
 
     def kill_program(self, chance):

@@ -292,6 +292,11 @@ func runCheck(words []string, answers, faults io.Writer) error {
 			key.Close()
 		}
 		look("signing-key", said, err)
+		said = "on"
+		if !s.node.isGuarded() {
+			said = "off: the signer signs whatever it is asked for"
+		}
+		look("guard", said, nil)
 	}
 	roots, err := s.roots.Load()
 	said := ""
@@ -311,10 +316,7 @@ func runCheck(words []string, answers, faults io.Writer) error {
 	for _, program := range []struct {
 		of, name string
 		command  []string
-	}{{"step", "cttile", s.node.step}, {"reader", "ctproof", s.node.reader}, {"decider", "ctnode", s.node.decider}, {"guard", "ctguard", s.node.guard}} {
-		if s.node.signerAt != "" && program.of == "guard" || program.command[0] == noGuard && program.of == "guard" {
-			continue
-		}
+	}{{"step", "cttile", s.node.step}, {"reader", "ctproof", s.node.reader}, {"decider", "ctnode", s.node.decider}} {
 		said, err := versionOf(program.command)
 		if err == nil && !strings.HasPrefix(said, program.name+" ") {
 			err = fmt.Errorf("%s --version says %.40q (it must be a %s)", program.command[0], said, program.name)

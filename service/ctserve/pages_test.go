@@ -46,7 +46,7 @@ func TestPagesNameSettings(t *testing.T) {
 	}
 	s, err := parse([]string{"--roots", "r", "--origin", "o.example", "--signing-key", "k"}, &bytes.Buffer{})
 	trial.Must(t, err)
-	for name, command := range map[string][]string{"step": s.node.step, "decider": s.node.decider, "reader": s.node.reader, "guard": s.node.guard} {
+	for name, command := range map[string][]string{"step": s.node.step, "decider": s.node.decider, "reader": s.node.reader} {
 		if said := fmt.Sprintf("default %q", command[0]); !strings.Contains(settings[name], said) {
 			t.Errorf("where %s isn't set it is %q: %s", name, command, settings[name])
 		}
@@ -75,7 +75,7 @@ func TestPagesNameSettings(t *testing.T) {
 		{"step", "`step` makes the log's steps, by default `cttile`", `default "cttile"`},
 		{"decider", "`decider` says what a node does next, by default `ctnode`", `default "ctnode"`},
 		{"reader", "by default `ctproof`", `default "ctproof"`},
-		{"guard", "by default `ctguard`", `default "ctguard"`},
+		{"guard", "`guard` is on by default", "default true)"},
 		{"latest-head", "`latest-head`, by default `FOLDER.latest-head`", "default FOLDER.latest-head"},
 		{"guard-state", "`guard-state`, by default `FOLDER.guard`", "FOLDER.guard"},
 		{"refresh", "each `refresh` (an hour)", "default 1h0m0s)"},

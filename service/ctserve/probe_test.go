@@ -58,11 +58,11 @@ func TestReaderThatIsAnotherProgram(t *testing.T) {
 	at := newPlace(t)
 	words := at.realWords("--signing-key", at.path("log.pem"))
 	for _, reader := range []string{"cat", "false", "/nowhere/ctproof"} {
-		status, told := runs(append(append([]string{}, words...), "--guard", at.guard, "--create", "--reader", reader))
+		status, told := runs(append(append([]string{}, words...), "--create", "--reader", reader))
 		if status != 1 || !strings.Contains(told, "reader: it doesn't cut a precertificate") {
 			t.Errorf("%s: status %d: %s", reader, status, told)
 		}
 	}
-	p := started(t, "", append(words, "--guard", at.guard, "--create")...)
+	p := started(t, "", append(words, "--create")...)
 	p.shows("ctserve_reader_starts_total 1")
 }

@@ -7,11 +7,13 @@ import (
 	"net/http/httptest"
 	"os"
 	"path/filepath"
+	"regexp"
 	"strings"
 	"sync"
 	"testing"
 	"time"
 
+	"wagtenib/bindings/go/wagtenib"
 	"wagtenib/service/log"
 	"wagtenib/service/signer"
 	"wagtenib/service/step"
@@ -441,15 +443,16 @@ func TestMomentTooFar(t *testing.T) {
 	config.Step = steps
 	refuses(config, "the log's newest head")
 	config = p.config(t)
-	closeAll(Config{Signer: config.Signer})
 	key, err := signer.OpenKey(filepath.Join(string(p), "key.pem"))
 	must(t, err)
 	state, err := stores.OpenFile(p.guardState())
 	must(t, err)
-	guard := strict(`s/"most_ahead":[0-9]*/"most_ahead":0/`, "python3", guardFile)
-	config.Signer, err = signer.Behind(ctx, key, signer.Guard{Command: guard, State: state, Within: longest})
+	ahead := regexp.MustCompile(`"most_ahead":[0-9]*`)
+	config.Signer, err = signer.Behind(ctx, key, signer.Guard{State: state, Judge: func(lines []byte) ([]byte, error) {
+		var memory []byte
+		return wagtenib.GuardLines(&memory, "", false, ahead.ReplaceAll(lines, []byte(`"most_ahead":0`)))
+	}})
 	must(t, err)
-	t.Cleanup(func() { closeAll(Config{Signer: config.Signer}) })
 	refuses(config, "the signer's last head")
 	// The step was decided, and its head is signed once the guard lets it through.
 	p.goesOn(t, got, 5, 10)
