@@ -11,7 +11,6 @@ import (
 	"strings"
 	"time"
 
-	"wagtenib/service/pipe"
 	"wagtenib/service/signer"
 	"wagtenib/service/stores"
 )
@@ -27,7 +26,7 @@ const (
 // askSigner starts the log's signer, a process of its own, or finds the one at a socket. One that is started again makes no state of the
 // guard: what it would make it of is gone.
 func askSigner(ctx context.Context, n node) (*signer.Client, error) {
-	open := func(ctx context.Context) (*pipe.End, error) { return pipe.Dial(ctx, n.signerAt, signer.MostLine) }
+	open := func(ctx context.Context) (*signer.End, error) { return signer.Dial(ctx, n.signerAt) }
 	if n.signerAt == "" {
 		self, err := os.Executable()
 		if err != nil {
@@ -39,10 +38,10 @@ func askSigner(ctx context.Context, n node) (*signer.Client, error) {
 			words = append(words, "--open-within", (n.openWithin * 4 / 5).String())
 		}
 		create := n.create
-		open = func(context.Context) (*pipe.End, error) {
+		open = func(context.Context) (*signer.End, error) {
 			these := append(append([]string{}, words...), "--create="+strconv.FormatBool(create))
 			create = false
-			return pipe.Start(these, signer.MostLine, guardStateKey+"="+n.guardState)
+			return signer.Start(these, guardStateKey+"="+n.guardState)
 		}
 	}
 	return signer.Ask(ctx, open, signsWithin)

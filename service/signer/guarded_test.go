@@ -23,7 +23,6 @@ import (
 
 	"golang.org/x/mod/sumdb/tlog"
 
-	"wagtenib/service/pipe"
 	"wagtenib/service/stores"
 	"wagtenib/service/trial"
 	"wagtenib/service/trial/unsure"
@@ -178,7 +177,7 @@ func through(t *testing.T, test func(t *testing.T, s Signer, key *Key)) {
 			}
 			time.Sleep(time.Millisecond)
 		}
-		c, err := Ask(ctx, func(ctx context.Context) (*pipe.End, error) { return pipe.Dial(ctx, path, MostLine) }, trial.Longest)
+		c, err := Ask(ctx, func(ctx context.Context) (*End, error) { return Dial(ctx, path) }, trial.Longest)
 		must(t, err)
 		t.Cleanup(func() { c.Close() })
 		test(t, c, key)
@@ -193,7 +192,7 @@ func askedAtASocket(ctx context.Context, t *testing.T, of Signer) *Client {
 	must(t, err)
 	t.Cleanup(func() { listener.Close() })
 	go func() { _ = newClients().serve(ctx, of, listener) }()
-	c, err := Ask(ctx, func(ctx context.Context) (*pipe.End, error) { return pipe.Dial(ctx, path, MostLine) }, trial.Longest)
+	c, err := Ask(ctx, func(ctx context.Context) (*End, error) { return Dial(ctx, path) }, trial.Longest)
 	must(t, err)
 	t.Cleanup(func() { c.Close() })
 	return c
@@ -652,8 +651,8 @@ func TestUnreadStates(t *testing.T) {
 	go func() { _ = Listen(ctx, g, path) }()
 	var c *Client
 	for c == nil {
-		if c, err = Ask(ctx, func(ctx context.Context) (*pipe.End, error) { return pipe.Dial(ctx, path, MostLine) }, trial.Longest); err != nil {
-			wants(t, err, pipe.ErrGone)
+		if c, err = Ask(ctx, func(ctx context.Context) (*End, error) { return Dial(ctx, path) }, trial.Longest); err != nil {
+			wants(t, err, ErrGone)
 			time.Sleep(time.Millisecond)
 		}
 	}
@@ -861,11 +860,11 @@ func TestOtherKey(t *testing.T) {
 	ctx, key := limited(t), newKey(t)
 	for what, other := range map[string]Signer{"another key": newKey(t), "a guard": otherGuard{key}} {
 		signers, opened := []Signer{key, other}, 0
-		c, err := Ask(ctx, func(ctx context.Context) (*pipe.End, error) {
+		c, err := Ask(ctx, func(ctx context.Context) (*End, error) {
 			path, next := filepath.Join(t.TempDir(), "socket"), signers[opened%2]
 			go func() { _ = Listen(ctx, next, path) }()
 			for {
-				if end, err := pipe.Dial(ctx, path, MostLine); err == nil {
+				if end, err := Dial(ctx, path); err == nil {
 					opened++
 					return end, nil
 				}
@@ -970,7 +969,7 @@ func served(t *testing.T, all *clients, fails int) (path string, end func()) {
 // asks is a client at a socket.
 func asks(t *testing.T, path string) *Client {
 	t.Helper()
-	c, err := Ask(limited(t), func(ctx context.Context) (*pipe.End, error) { return pipe.Dial(ctx, path, MostLine) }, trial.Longest)
+	c, err := Ask(limited(t), func(ctx context.Context) (*End, error) { return Dial(ctx, path) }, trial.Longest)
 	must(t, err)
 	t.Cleanup(func() { c.Close() })
 	return c
@@ -1032,7 +1031,7 @@ func TestHalfLines(t *testing.T) {
 	ctx, err := limited(t), errTried
 	for err != nil && ctx.Err() == nil {
 		var c *Client
-		if c, err = Ask(ctx, func(ctx context.Context) (*pipe.End, error) { return pipe.Dial(ctx, path, MostLine) }, trial.Longest); err == nil {
+		if c, err = Ask(ctx, func(ctx context.Context) (*End, error) { return Dial(ctx, path) }, trial.Longest); err == nil {
 			_, err = c.Last(ctx)
 			c.Close()
 		}
@@ -1094,7 +1093,7 @@ func TestFailuresByLines(t *testing.T) {
 		{fmt.Errorf("x: %w", ErrMoved), ErrMoved, ErrState},
 		{fmt.Errorf("x: %w", ErrState), ErrState, ErrMoved},
 		{TooFar, TooFar, ErrMoved},
-		{errors.New("x"), pipe.ErrGone, ErrRefused},
+		{errors.New("x"), ErrGone, ErrRefused},
 	} {
 		c := askedAtASocket(ctx, t, unable{key, of.why})
 		if _, err := c.SignHead(ctx, Head{Size: 1, Moment: 1}, nil); !errors.Is(err, of.kind) || errors.Is(err, of.not) {
