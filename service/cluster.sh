@@ -5,9 +5,8 @@
 #   cluster.sh status FOLDER         says what runs and what it said last
 #   cluster.sh stop FOLDER           ends it; ctcheck judges what it published and answered, and openssl who cosigned its last head
 # RATE=20 is how many submissions the loader sends a second, 0 as many as are answered; LOAD=no starts neither it nor the reader.
-# STEP is the program that makes the steps, cttile where it is built, and else a second program with its lines; READER the one that makes
-# readers' proofs, likewise for ctproof, GUARD the one before the key, likewise for ctguard, and WITNESS the one that decides what is cosigned, likewise for
-# ctwitness. One signer has the key, for all nodes.
+# GUARD is the program before the key, ctguard if it is built, and otherwise a second program with its lines. WITNESS is the one that decides what is
+# cosigned, likewise for ctwitness. One signer has the key, for all nodes.
 set -eu
 here=$(cd "$(dirname "$0")" && pwd)
 what=${1:-} folder=${2:-}
@@ -83,9 +82,6 @@ nodes-address    http://127.0.0.1:$((port + 20 + i))/
 nodes-secret     $folder/secret
 signer-at        $folder/signer
 roots            $folder/roots.pem
-step             ${STEP:-$(command_of cttile tiles/step.py)}
-reader           ${READER:-$(command_of ctproof tiles/step.py)}
-decider          ${DECIDER:-$(command_of ctnode node/ctnode.py)}
 register         $register
 places           $register
 store            $bucket
