@@ -5,8 +5,7 @@
 #   cluster.sh status FOLDER         says what runs and what it said last
 #   cluster.sh stop FOLDER           ends it; ctcheck judges what it published and answered, and openssl who cosigned its last head
 # RATE=20 is how many submissions the loader sends a second, 0 as many as are answered; LOAD=no starts neither it nor the reader.
-# STEP is the program that makes the steps, cttile where it is built, and else a second program with its lines; READER the one that makes
-# readers' proofs, likewise for ctproof. One signer has the key, for all nodes.
+# One signer has the key, for all nodes.
 set -eu
 here=$(cd "$(dirname "$0")" && pwd)
 what=${1:-} folder=${2:-}
@@ -57,13 +56,6 @@ addresses() {
   register=etcd://${STORES_MEMBERS-}/log
 }
 
-# command_of NAME MODEL: the command of a proved program where it is built, and else of its model.
-command_of() {
-  local built=$here/../crates/$1/out/$1
-  [ -x "$built" ] || built="python3 $here/../tests/$2"
-  echo "$built"
-}
-
 # numbers KIND: those of the nodes, or of the witnesses.
 numbers() { find "$folder" -maxdepth 1 -name "$1-*.conf" | sed "s/^.*$1-\([0-9]*\)\.conf\$/\1/" | sort -n; }
 
@@ -82,9 +74,6 @@ nodes-address    http://127.0.0.1:$((port + 20 + i))/
 nodes-secret     $folder/secret
 signer-at        $folder/signer
 roots            $folder/roots.pem
-step             ${STEP:-$(command_of cttile tiles/step.py)}
-reader           ${READER:-$(command_of ctproof tiles/step.py)}
-decider          ${DECIDER:-$(command_of ctnode node/ctnode.py)}
 register         $register
 places           $register
 store            $bucket

@@ -166,8 +166,6 @@ def kind_of(process):
     for kind, (built, model) in PROGRAMS.items():
         model = os.path.basename(model)
         if built in names[:1] or model in names[:2]:
-            if model == "step.py" and model in names[:2]:
-                return "step" if b"--origin" in words else "reader"
             return kind
     return names[0] or None
 
@@ -575,7 +573,7 @@ class Soak:
                 os.kill(one, signal.SIGCONT)
 
     def one_program(self, chance):
-        node, kind = chance.choice(self.nodes), chance.choice(["signer", "step", "reader", "decider"])
+        node, kind = chance.choice(self.nodes), "signer"
         return node, kind, [one for found, one in self.programs_of(node) if found == kind]
 
     def kill_program(self, chance):
@@ -1042,7 +1040,7 @@ class Soak:
         except (OSError, http.client.HTTPException):
             return
         process = self.nodes[i].process.pid
-        for name, value in re.findall(r"^ctserve_((?:refusals|lost_swaps|mended_objects|swept_\w+|scrubbed_tiles|step_starts|signer_starts|decider_starts|handed_over|helped|repeats|connections_refused|tend_failures)_total(?:\{.*\})?) (\S+)$", text.decode(), re.M):
+        for name, value in re.findall(r"^ctserve_((?:refusals|lost_swaps|mended_objects|swept_\w+|scrubbed_tiles|signer_starts|handed_over|helped|repeats|connections_refused|tend_failures)_total(?:\{.*\})?) (\S+)$", text.decode(), re.M):
             before = self.seen_figures.get((i, process, name), 0.0)
             self.figures[name] += int(float(value) - before)
             self.seen_figures[i, process, name] = float(value)

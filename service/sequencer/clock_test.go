@@ -416,13 +416,10 @@ func TestClocksWrongAlike(t *testing.T) {
 	p.right(t, got)
 }
 
-// TestMomentTooFar has a step's program, and then a guard, that are told to let no moment be beyond the newest head's: each refuses, and who waits is
+// TestMomentTooFar has a step, and then a guard, that are told to let no moment be beyond the newest head's: each refuses, and who waits is
 // told by how much.
 func TestMomentTooFar(t *testing.T) {
 	t.Parallel()
-	strict := func(edit string, command ...string) []string {
-		return append([]string{"sh", "-c", `sed -u "$0" | exec "$@"`, edit}, command...)
-	}
 	p, ctx, got, s := begun(t, 5, 5)
 	must(t, s.End(ctx))
 	refuses := func(config Config, beside string) {
@@ -436,18 +433,16 @@ func TestMomentTooFar(t *testing.T) {
 		must(t, s.End(ctx))
 	}
 	config := p.config(t)
-	steps, err := step.NewClient(strict(`s/"most_ahead":[0-9]*/"most_ahead":0/`, "python3", stepsFile, "--origin", origin), longest)
-	must(t, err)
-	t.Cleanup(func() { steps.Close() })
-	closeAll(Config{Step: config.Step})
-	config.Step = steps
+	ahead := regexp.MustCompile(`"most_ahead":[0-9]*`)
+	config.Step = step.Over(func(memory *[]byte, request []byte) ([]byte, error) {
+		return wagtenib.StepLine(memory, origin, ahead.ReplaceAll(request, []byte(`"most_ahead":0`)))
+	})
 	refuses(config, "the log's newest head")
 	config = p.config(t)
 	key, err := signer.OpenKey(filepath.Join(string(p), "key.pem"))
 	must(t, err)
 	state, err := stores.OpenFile(p.guardState())
 	must(t, err)
-	ahead := regexp.MustCompile(`"most_ahead":[0-9]*`)
 	config.Signer, err = signer.Behind(ctx, key, signer.Guard{State: state, Judge: func(lines []byte) ([]byte, error) {
 		var memory []byte
 		return wagtenib.GuardLines(&memory, "", false, ahead.ReplaceAll(lines, []byte(`"most_ahead":0`)))
