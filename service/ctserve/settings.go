@@ -69,7 +69,7 @@ var errUsage = errors.New("ctserve")
 // parse reads the command line, and the file that it names. What stands on the command line counts.
 func parse(words []string, help io.Writer) (*settings, error) {
 	s := &settings{limits: web.DefaultLimits()}
-	flags := settingsfile.Flags("ctserve", "ctserve serves a Certificate Transparency log over HTTP. Each word may also stand as a line 'name value' in the file of --config.\n'ctserve signer --help' says what its signer takes; 'ctserve key FILE' makes a key, 'ctserve check FILE' looks at settings without starting, 'ctserve list-entry' writes a log list's entry, 'ctserve nginx' a site of nginx, 'ctserve places FILE' builds the places anew, 'ctserve clock FILE DAY' names the day where nothing but the machine's clock does, each with --help.", help)
+	flags := settingsfile.Flags("ctserve", "ctserve serves a Certificate Transparency log over HTTP. Each word may also stand as a line 'name value' in the file of --config.\n'ctserve signer --help' says what its signer takes; 'ctserve key FILE' makes a key, 'ctserve check FILE' looks at settings without starting, 'ctserve list-entry' writes a log list's entry, 'ctserve places FILE' builds the places anew, 'ctserve clock FILE DAY' names the day where nothing but the machine's clock does, each with --help.", help)
 	flags.String("config", "", "`file` with a line 'name value' for each of these, and comments behind #")
 	flags.StringVar(&s.listen, "listen", "127.0.0.1:8618", "`address` for clients")
 	flags.StringVar(&s.operator, "operator-listen", "127.0.0.1:8619", "`address` for /metrics, /healthz and /readyz; none where it is empty")
