@@ -5,8 +5,7 @@
 #   cluster.sh status FOLDER         says what runs and what it said last
 #   cluster.sh stop FOLDER           ends it; ctcheck judges what it published and answered, and openssl who cosigned its last head
 # RATE=20 is how many submissions the loader sends a second, 0 as many as are answered; LOAD=no starts neither it nor the reader.
-# GUARD is the program before the key, ctguard if it is built, and otherwise a second program with its lines. WITNESS is the one that decides what is
-# cosigned, likewise for ctwitness. One signer has the key, for all nodes.
+# One signer has the key, for all nodes.
 set -eu
 here=$(cd "$(dirname "$0")" && pwd)
 what=${1:-} folder=${2:-}
@@ -102,7 +101,6 @@ name             w$1.cluster.example
 key              $name.key
 state            file:$name
 log              $origin $folder/log.pem
-program          ${WITNESS:-$(command_of ctwitness witness/model.py)}
 listen           127.0.0.1:$(($2 + 7 + $1))
 operator-listen  127.0.0.1:$(($2 + 17 + $1))
 END_OF_CONF
@@ -170,7 +168,7 @@ start() {
   # (the loader makes a root of its own)
   [ -e "$folder/roots.pem" ] || openssl req -x509 -newkey rsa:2048 -nodes -days 3650 -subj "/CN=a root" -keyout "$folder/root.key" -out "$folder/roots.pem" 2>/dev/null
   process signer >/dev/null || rm -f "$folder/signer"
-  launch signer "$programs/ctserve" signer --signing-key "$folder/log.key" --guard "${GUARD:-$(command_of ctguard guard/model.py)}" --guard-state "file:$folder/guard" --listen "$folder/signer" ${create:+"$create"}
+  launch signer "$programs/ctserve" signer --signing-key "$folder/log.key" --guard-state "file:$folder/guard" --listen "$folder/signer" ${create:+"$create"}
   for _ in $(seq 300); do
     [ ! -S "$folder/signer" ] || break
     sleep 0.1

@@ -3,7 +3,7 @@
 # The first start makes the log in FOLDER: its key (log.key, log.pem), a root of its own to try it with (root.key, root.pem) and a chain that
 # leads there (chain.json); later ones go on with it. A first start that fails leaves no folder. ROOTS is a file with the roots besides, in PEM; by default the
 # system's.
-# STEP, DECIDER and GUARD are the log's programs, READER the one that makes readers' proofs; by default cttile, ctnode, ctguard and ctproof, which are
+# STEP and DECIDER are the log's programs, READER the one that makes readers' proofs; by default cttile, ctnode and ctproof, which are
 # proved and built where they aren't. Without the kit, those that aren't built are compiled from dist/, the code that was proved elsewhere. ORIGIN=ct-log.example is the log's name in checkpoints.
 set -eu
 here=$(cd "$(dirname "$0")" && pwd)
@@ -25,7 +25,6 @@ fi
 crates=$here/../crates
 missing=
 [ -n "${STEP:-}" ] || [ -x "$crates/cttile/out/cttile" ] || missing+=" cttile"
-[ -n "${GUARD:-}" ] || [ -x "$crates/ctguard/out/ctguard" ] || missing+=" ctguard"
 [ -n "${DECIDER:-}" ] || [ -x "$crates/ctnode/out/ctnode" ] || missing+=" ctnode"
 [ -n "${READER:-}" ] || [ -x "$crates/ctproof/out/ctproof" ] || missing+=" ctproof"
 "$here/../checks/needs.sh" service-for-serve
@@ -38,7 +37,6 @@ if [ -n "$missing" ] && ! command -v rt >/dev/null; then
   [[ $missing != *cttile* ]] || STEP=$compiled/cttile
   [[ $missing != *ctproof* ]] || READER=$compiled/ctproof
   [[ $missing != *ctnode* ]] || DECIDER=$compiled/ctnode
-  [[ $missing != *ctguard* ]] || GUARD=$compiled/ctguard
   missing=
 fi
 if [ -n "$missing" ]; then
@@ -58,7 +56,7 @@ ctserve_at() {
   local at=$1
   shift
   settings=(--origin "${ORIGIN:-ct-log.example}" --listen "127.0.0.1:$port" --operator-listen "127.0.0.1:$((port + 1))" --signing-key "$at/log.key"
-    --roots "$at/roots.pem" --folder "$at/log" --step "${STEP:-$crates/cttile/out/cttile}" --guard "${GUARD:-$crates/ctguard/out/ctguard}"
+    --roots "$at/roots.pem" --folder "$at/log" --step "${STEP:-$crates/cttile/out/cttile}"
     --decider "${DECIDER:-$crates/ctnode/out/ctnode}" --reader "${READER:-$crates/ctproof/out/ctproof}" "$@")
 }
 

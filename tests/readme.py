@@ -91,7 +91,7 @@ class Page:
                 break
         else:
             fail(f"{command} ended with status {self.log.wait()}: {''.join(said)}")
-        notice = "This log is served by cttile ctguard ctnode ctproof, which were proved elsewhere and are compiled from dist/."
+        notice = "This log is served by cttile ctnode ctproof, which were proved elsewhere and are compiled from dist/."
         if not said[0].startswith(notice) or "  a page " not in "".join(said):
             fail(f"{command} says {''.join(said)}")
         if json.loads(self.answer("log.v3.json"))["notice"] != notice or self.answer("key") != (self.copy / "ct-log" / "log.pem").read_bytes():

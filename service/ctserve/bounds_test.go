@@ -75,7 +75,7 @@ func TestWhatCantBeOpened(t *testing.T) {
 		"places are at sqlite:PATH":               {"--places", "nowhere:x"},
 	} {
 		whole := at.realWords("--signing-key", at.path("log.pem"))
-		whole = append(append(whole, "--guard", at.guard, "--create"), words...)
+		whole = append(append(whole, "--create"), words...)
 		if status, told := runs(whole); status != 1 || !strings.Contains(told, what) {
 			t.Errorf("%s: status %d: %s", what, status, told)
 		}

@@ -44,11 +44,6 @@ func TestPagesNameSettings(t *testing.T) {
 			t.Fatalf("--help doesn't list %s: %d settings", name, len(settings))
 		}
 	}
-	s, err := parse([]string{"--roots", "r", "--origin", "o.example", "--signing-key", "k"}, &bytes.Buffer{})
-	trial.Must(t, err)
-	if said := fmt.Sprintf("default %q", s.node.guard[0]); !strings.Contains(settings["guard"], said) {
-		t.Errorf("where guard isn't set it is %q: %s", s.node.guard, settings["guard"])
-	}
 	// What has a hyphen and is no setting.
 	others := map[string]bool{"list-entry": true, "made-again": true, "root-left-out": true, "read-only": true, "too-often": true, "statement_timeout": true, "pre-vote": true, "auto-compaction-mode=periodic": true}
 	whole := ""
@@ -70,7 +65,7 @@ func TestPagesNameSettings(t *testing.T) {
 		{"most-connections-by-address", "64 connections, or behind nginx requests, at once (`most-connections-by-address`)", "default 64)"},
 		{"most-clock-skew", "`most-clock-skew` (10 s)", "default 10s)"},
 		{"end-within", "`end-within` (30 s)", "default 30s)"},
-		{"guard", "by default `ctguard`", `default "ctguard"`},
+		{"guard", "`guard` is on by default", "default true)"},
 		{"latest-head", "`latest-head`, by default `FOLDER.latest-head`", "default FOLDER.latest-head"},
 		{"guard-state", "`guard-state`, by default `FOLDER.guard`", "FOLDER.guard"},
 		{"refresh", "each `refresh` (an hour)", "default 1h0m0s)"},

@@ -39,8 +39,9 @@ type settings struct {
 
 // node is what the log stands on.
 type node struct {
-	origin, signingKey               string
-	guard                            []string
+	origin, signingKey string
+	// guard is whether the signer has a guard. nil means that no setting says so, and then it has one.
+	guard                            *bool
 	guardState, signerAt             string
 	folder, store, register, places  string
 	latestHead, namedDay             string
@@ -56,6 +57,9 @@ type node struct {
 	witnesses                        []witness.One
 	quorums                          witness.Quorums
 }
+
+// isGuarded reports whether a guard approves what the signer signs.
+func (n *node) isGuarded() bool { return n.guard == nil || *n.guard }
 
 // rests says whether steps leave their stores half of the time: one of them isn't this machine's own folder or file.
 func (n *node) rests() bool {
@@ -110,7 +114,7 @@ func parse(words []string, help io.Writer) (*settings, error) {
 	n := &s.node
 	flags.StringVar(&n.origin, "origin", "", "the log's `name` in checkpoints, as log.example/2027h1")
 	flags.StringVar(&n.signingKey, "signing-key", "", "`file` with the log's key in PEM, of P-256, that none but its owner may read; or a URI of PKCS#11, pkcs11:token=LABEL;object=LABEL?module-path=PATH&pin-source=file:PATH")
-	flags.Func("guard", "the `command` of the guard between the key and all else, with its words (default \"ctguard\"); none signs without one", command(&n.guard))
+	flags.BoolFunc("guard", "let the guard, which is proved code, approve what is signed (default true); without it the signer signs whatever it is asked for", isOn(&n.guard))
 	flags.StringVar(&n.guardState, "guard-state", "", "`address` of the register with the guard's state: file:PATH, etcd://HOST:PORT/PREFIX, postgres://HOST/DATABASE?log=NAME; by default FOLDER.guard, beside the folder")
 	flags.StringVar(&n.signerAt, "signer-at", "", "`socket` of a signer that runs (ctserve signer --help), instead of signing-key, guard and guard-state")
 	flags.StringVar(&n.folder, "folder", "ct-log", "`folder` of the objects, the register and the places, where no other address is given")
@@ -170,11 +174,8 @@ func (s *settings) settle() error {
 	if err := checkListeners(s.listen, s.listenNodes, s.operator); err != nil {
 		return err
 	}
-	if n.signerAt != "" && (n.signingKey != "" || len(n.guard) > 0 || n.guardState != "") {
+	if n.signerAt != "" && (n.signingKey != "" || n.guard != nil || n.guardState != "") {
 		return errors.New("--signer-at has the place of --signing-key, --guard and --guard-state")
-	}
-	if len(n.guard) == 0 {
-		n.guard = []string{"ctguard"}
 	}
 	if (s.certificate == "") != (s.key == "") {
 		return errors.New("--tls-certificate and --tls-key go together")
@@ -375,9 +376,14 @@ func submitters(text string) (found []web.Submitter, err error) {
 	return found, nil
 }
 
-func command(into *[]string) func(string) error {
+// isOn reads true or false.
+func isOn(into **bool) func(string) error {
 	return func(text string) error {
-		*into = strings.Fields(text)
+		on, err := strconv.ParseBool(text)
+		if err != nil {
+			return fmt.Errorf("%q is neither true nor false (the guard is part of this program, and on if nothing is set)", text)
+		}
+		*into = &on
 		return nil
 	}
 }

@@ -420,9 +420,6 @@ func TestClocksWrongAlike(t *testing.T) {
 // told by how much.
 func TestMomentTooFar(t *testing.T) {
 	t.Parallel()
-	strict := func(edit string, command ...string) []string {
-		return append([]string{"sh", "-c", `sed -u "$0" | exec "$@"`, edit}, command...)
-	}
 	p, ctx, got, s := begun(t, 5, 5)
 	must(t, s.End(ctx))
 	refuses := func(config Config, beside string) {
@@ -442,15 +439,15 @@ func TestMomentTooFar(t *testing.T) {
 	})
 	refuses(config, "the log's newest head")
 	config = p.config(t)
-	closeAll(Config{Signer: config.Signer})
 	key, err := signer.OpenKey(filepath.Join(string(p), "key.pem"))
 	must(t, err)
 	state, err := stores.OpenFile(p.guardState())
 	must(t, err)
-	guard := strict(`s/"most_ahead":[0-9]*/"most_ahead":0/`, "python3", guardFile)
-	config.Signer, err = signer.Behind(ctx, key, signer.Guard{Command: guard, State: state, Within: longest})
+	config.Signer, err = signer.Behind(ctx, key, signer.Guard{State: state, Judge: func(lines []byte) ([]byte, error) {
+		var memory []byte
+		return wagtenib.GuardLines(&memory, "", false, ahead.ReplaceAll(lines, []byte(`"most_ahead":0`)))
+	}})
 	must(t, err)
-	t.Cleanup(func() { closeAll(Config{Signer: config.Signer}) })
 	refuses(config, "the signer's last head")
 	// The step was decided, and its head is signed once the guard lets it through.
 	p.goesOn(t, got, 5, 10)

@@ -123,12 +123,6 @@ func (p place) openOnce(ctx context.Context) (config Config, err error) {
 	return config, nil
 }
 
-// The guard is the proved program where it is built, and else a second one with the same lines.
-const (
-	guardBuilt = "../../crates/ctguard/out/ctguard"
-	guardFile  = "../../tests/guard/model.py"
-)
-
 // bareKey is the log's key alone.
 func (p place) bareKey() (signer.Signer, error) {
 	return signer.OpenKey(filepath.Join(string(p), "key.pem"))
@@ -149,11 +143,7 @@ func (p place) guarded(ctx context.Context) (signer.Signer, error) {
 
 // guardedOver puts a guard before a key, whose state is in a register.
 func guardedOver(ctx context.Context, key *signer.Key, state stores.Register) (signer.Signer, error) {
-	guard := []string{guardBuilt}
-	if _, err := os.Stat(guardBuilt); err != nil {
-		guard = []string{"python3", guardFile}
-	}
-	guarded, err := signer.Behind(ctx, key, signer.Guard{Command: guard, State: state, Create: true, Within: longest})
+	guarded, err := signer.Behind(ctx, key, signer.Guard{State: state, Create: true})
 	if err != nil {
 		return nil, err
 	}
@@ -170,9 +160,7 @@ func (p place) signedByKey(t testing.TB, config *Config) {
 	t.Helper()
 	s, err := p.bareKey()
 	must(t, err)
-	closeAll(Config{Signer: config.Signer})
 	config.Signer = s
-	t.Cleanup(func() { closeAll(Config{Signer: s}) })
 }
 
 // config opens the stores, and closes them at the test's end.
@@ -186,9 +174,6 @@ func (p place) config(t testing.TB) Config {
 
 // closeAll closes what was opened.
 func closeAll(config Config) {
-	if guarded, ok := config.Signer.(*signer.Guarded); ok {
-		guarded.Close()
-	}
 	if config.Places != nil {
 		config.Places.Close()
 	}

@@ -2,7 +2,6 @@ package witness
 
 import (
 	"bytes"
-	"context"
 	"encoding/json"
 	"errors"
 	"fmt"
@@ -10,16 +9,25 @@ import (
 
 	"golang.org/x/mod/sumdb/tlog"
 
-	"wagtenib/service/pipe"
+	"wagtenib/bindings/go/wagtenib"
 )
 
-// statuses has the status of each of the program's refusals (docs/WITNESS.md).
+// proved decides a request by the proved code in this process (docs/WITNESS.md). A reply that refuses the request as none is a reply.
+func proved(request []byte) (reply []byte, err error) {
+	var memory []byte
+	if reply, err = wagtenib.WitnessLine(&memory, request); errors.Is(err, wagtenib.ErrNotARequest) {
+		return reply, nil
+	}
+	return reply, err
+}
+
+// statuses has the status of each refusal (docs/WITNESS.md).
 var statuses = map[string]int{
 	"old-above": http.StatusBadRequest, "no-checkpoint": http.StatusBadRequest, "not-last": http.StatusConflict, "fork": http.StatusConflict,
 	"proof-not-empty": http.StatusUnprocessableEntity, "inconsistent": http.StatusUnprocessableEntity,
 }
 
-// asked is a line to the program.
+// asked is a request for a decision.
 type asked struct {
 	tree
 	Checkpoint string   `json:"checkpoint"`
@@ -28,7 +36,7 @@ type asked struct {
 	Time       uint64   `json:"time"`
 }
 
-// reply is one of the program's: the next tree and the bytes to sign, or a refusal.
+// reply is a decision: the next tree and the bytes to sign, or a refusal.
 type reply struct {
 	tree
 	Sign    []byte  `json:"sign"`
@@ -37,29 +45,17 @@ type reply struct {
 	Size    *uint64 `json:"size"`
 }
 
-// ask has the program decide. One that ended is started anew, once; one that gives no reply is ended.
-func (s *Server) ask(ctx context.Context, last tree, r Request, now uint64) (*reply, error) {
+// ask has a request decided.
+func (s *Server) ask(last tree, r Request, now uint64) (*reply, error) {
 	line, err := json.Marshal(asked{last, r.Text, r.Old, slices(r.Proof), now})
 	if err != nil {
 		return nil, fmt.Errorf("witness: %w", err)
 	}
-	line = append(line, '\n')
-	var said *reply
-	read := func(came [][]byte) (err error) {
-		said, err = readReply(came[0], last, r, now)
-		return err
-	}
-	err = s.program.Exchange(ctx, line, 1, read)
-	if errors.Is(err, pipe.ErrGone) && ctx.Err() == nil {
-		err = s.program.Exchange(ctx, line, 1, read)
-	}
-	if errors.Is(err, pipe.ErrGone) {
+	decided, err := s.of.Decide(line)
+	if err != nil {
 		return nil, fmt.Errorf("witness: %w", err)
 	}
-	if err != nil {
-		return nil, err
-	}
-	return said, nil
+	return readReply(decided, last, r, now)
 }
 
 func slices(hashes [][32]byte) [][]byte {
