@@ -5,8 +5,7 @@
 
 Each setup has a log of its own, over a folder, and its witnesses, by ctwitness-serve over files; all are made before the first turn and run to the end, so that
 the turns differ by nothing else. Some of the witnesses answer 100 ms late, or don't answer at all, or answer with no cosignature (`liar`); a head is
-published with as many as publish-with has by default, one more than the half.
-It prints of each setup the median of its turns: timestamps a second, and the median and the 99th
+published with as many as publish-with has by default, one more than the half. It prints of each setup the median of its turns: timestamps a second, and the median and the 99th
 percentile of the time from a submission to its timestamp. make service builds what it runs.
 """
 import argparse

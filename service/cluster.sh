@@ -57,13 +57,6 @@ addresses() {
   places=postgres://log@127.0.0.1:$(sed 's/.*port=\([0-9]*\).*/\1/' <<<"${STORES_POSTGRES-}")/postgres?log=log\&sslmode=disable
 }
 
-# command_of NAME MODEL: the command of a proved program where it is built, and else of its model.
-command_of() {
-  local built=$here/../crates/$1/out/$1
-  [ -x "$built" ] || built="python3 $here/../tests/$2"
-  echo "$built"
-}
-
 # numbers KIND: those of the nodes, or of the witnesses.
 numbers() { find "$folder" -maxdepth 1 -name "$1-*.conf" | sed "s/^.*$1-\([0-9]*\)\.conf\$/\1/" | sort -n; }
 

@@ -287,11 +287,6 @@ func runCheck(words []string, answers, faults io.Writer) error {
 			key.Close()
 		}
 		look("signing-key", said, err)
-		said = "on"
-		if !s.node.isGuarded() {
-			said = "off: the signer signs whatever it is asked for"
-		}
-		look("guard", said, nil)
 	}
 	roots, err := s.roots.Load()
 	said := ""
@@ -307,6 +302,13 @@ func runCheck(words []string, answers, faults io.Writer) error {
 	if s.certificate != "" {
 		_, err := web.LoadCertificate(s.certificate, s.key)
 		look("tls-certificate", s.certificate, err)
+	}
+	if s.node.signerAt == "" {
+		said = "on"
+		if !s.node.isGuarded() {
+			said = "off: the signer signs whatever it is asked for"
+		}
+		look("guard", said, nil)
 	}
 	for _, address := range []struct {
 		of, text string

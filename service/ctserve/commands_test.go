@@ -198,8 +198,8 @@ func TestCheck(t *testing.T) {
 	}
 }
 
-// TestCheckOfAFileInTheFoldersPlace has a file where the log's folder is to be: a start refuses it, so must check.
-func TestCheckOfAFileInTheFoldersPlace(t *testing.T) {
+// TestCheckOfAFolder has settings name a file in the folder's place: a start refuses it, so must check.
+func TestCheckOfAFolder(t *testing.T) {
 	folder, file := settingsFile(t)
 	if err := os.WriteFile(filepath.Join(folder, "log"), nil, 0o600); err != nil {
 		t.Fatal(err)
