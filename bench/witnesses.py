@@ -26,7 +26,7 @@ import time
 import urllib.parse
 
 HERE = pathlib.Path(__file__).resolve().parent
-SERVICE, CRATES, TESTS = (HERE.parent / name for name in ("service", "crates", "tests"))
+SERVICE = HERE.parent / "service"
 ORIGIN = "bench.example/log"
 LATE = 0.1
 # The setups: how many witnesses answer, answer late, are silent and lie, and witness-faults.
@@ -40,16 +40,6 @@ SETUPS = {
     "3, 1 silent": (2, 0, 1, 0, 0),
     "3, 1 liar": (2, 0, 0, 1, 0),
     "7, 1 silent, 1 liar, 1 late": (4, 1, 1, 1, 0),
-}
-
-
-def program(name, model):
-    """The words of a proved program where it is built, and else of its model."""
-    built = CRATES / name / "out" / name
-    return str(built) if built.exists() else f"{sys.executable} {TESTS / model}"
-
-
-PROGRAMS = {
 }
 
 
@@ -200,7 +190,7 @@ def main():
         finally:
             for setup in setups.values():
                 setup.end()
-    print(json.dumps({"programs": {name: "proved" if "python" not in it else "Python" for name, it in PROGRAMS.items()}, "load": [min(loads), max(loads)]}))
+    print(json.dumps({"load": [min(loads), max(loads)]}))
     print("| Witnesses | Timestamps a second | Median, ms | 99th percentile, ms |\n|---|---|---|---|")
     for name, setup in setups.items():
         rate, middle, high = (statistics.median(column) for column in zip(*setup.figures))

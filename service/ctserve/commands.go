@@ -256,10 +256,7 @@ func publicKey(s *settings, path string) ([]byte, error) {
 	return block.Bytes, nil
 }
 
-// answersWithin is how long a program may take to say its version.
-const answersWithin = 10 * time.Second
-
-// runCheck looks at all that a log's settings name, and starts nothing: the settings, the key, the roots, TLS, and whether the guard runs.
+// runCheck looks at all that a log's settings name, and starts nothing: the settings, the key, the roots and TLS.
 // Each gets a line; the first fault of each is told, and all are looked at.
 func runCheck(words []string, answers, faults io.Writer) error {
 	if len(words) == 1 && !strings.HasPrefix(words[0], "-") {
