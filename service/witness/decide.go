@@ -53,8 +53,8 @@ func slices(hashes [][32]byte) [][]byte {
 	return all
 }
 
-// readReply reads a reply to a request. What lets a tree through is believed where it is the checkpoint's, the bytes are those under this
-// moment's cosignature of it, and x/mod's tlog finds that the proof leads to it, too.
+// readReply reads a reply to a request. A reply that lets a tree through is believed if the tree is the checkpoint's, the bytes are those under this
+// timestamp's cosignature of it, and x/mod's tlog finds that the proof leads to it, too.
 func readReply(line []byte, last tree, r Request, now uint64) (*reply, error) {
 	wrong := func(why string) (*reply, error) { return nil, fmt.Errorf("%w: %s: %.200q", ErrReply, why, line) }
 	said := &reply{}
