@@ -11,7 +11,7 @@ use crate::head::{TreeHead, head_of, of_head, read_state, write_state};
 use crate::leaf;
 use crate::proofs;
 use ct_guard::{Guard, HeadRefusal, ReceiptRefusal, pass_receipt};
-use ct_tree::{Head, Sha256Hash, empty_root, is_same_digest};
+use ct_tree::{Head, NodeHash, Sha256Hash, is_same_digest};
 
 // The number of the refusal of a head.
 fn number_of_head(refusal: HeadRefusal) -> u32
@@ -43,7 +43,7 @@ fn may_be_first(head: &Head, named: &Head) -> bool
     ensures { MatchBool result (MayBeFirst sha256 head.now named.now) (MayBeFirst sha256 head.now named.now → ⊥) }
 {
     if head.tree_size == 0 {
-        is_same_digest(&head.root, &empty_root(&Sha256Hash))
+        is_same_digest(&head.root, &Sha256Hash.hash(&[]))
     } else {
         *head == *named
     }
