@@ -33,7 +33,6 @@ var commands = map[string]func(words []string, answers, faults io.Writer) error{
 	"key":        runKey,
 	"list-entry": runListEntry,
 	"check":      runCheck,
-	"nginx":      runNginx,
 	"places":     runPlaces,
 	"clock":      runClock,
 }

@@ -92,9 +92,6 @@ func TestPagesNameSettings(t *testing.T) {
 
 // TestPageSaysBounds: the bounds that service/README.md says of the program are those that are here.
 func TestPageSaysBounds(t *testing.T) {
-	trial.Says(t, trial.Page(t, "../README.md"), map[string]bool{
-		"So eight shards at most": mostShards == 8,
-	})
 	s, err := parse([]string{"--roots", "r", "--origin", "o.example", "--signing-key", "k"}, &bytes.Buffer{})
 	trial.Must(t, err)
 	trial.Says(t, trial.Page(t, "../README.md"), map[string]bool{

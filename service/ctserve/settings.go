@@ -69,7 +69,7 @@ var errUsage = errors.New("ctserve")
 // parse reads the command line, and the file that it names. What stands on the command line counts.
 func parse(words []string, help io.Writer) (*settings, error) {
 	s := &settings{limits: web.DefaultLimits()}
-	flags := settingsfile.Flags("ctserve", "ctserve serves a Certificate Transparency log over HTTP. Each word may also stand as a line 'name value' in the file of --config.\n'ctserve signer --help' says what its signer takes; 'ctserve key FILE' makes a key, 'ctserve check FILE' looks at settings without starting, 'ctserve list-entry' writes a log list's entry, 'ctserve nginx' a site of nginx, 'ctserve places FILE' builds the places anew, 'ctserve clock FILE DAY' names the day where nothing but the machine's clock does, each with --help.", help)
+	flags := settingsfile.Flags("ctserve", "ctserve serves a Certificate Transparency log over HTTP. Each word may also stand as a line 'name value' in the file of --config.\n'ctserve signer --help' says what its signer takes; 'ctserve key FILE' makes a key, 'ctserve check FILE' looks at settings without starting, 'ctserve list-entry' writes a log list's entry, 'ctserve places FILE' builds the places anew, 'ctserve clock FILE DAY' names the day where nothing but the machine's clock does, each with --help.", help)
 	flags.String("config", "", "`file` with a line 'name value' for each of these, and comments behind #")
 	flags.StringVar(&s.listen, "listen", "127.0.0.1:8618", "`address` for clients")
 	flags.StringVar(&s.operator, "operator-listen", "127.0.0.1:8619", "`address` for /metrics, /healthz and /readyz; none where it is empty")
@@ -117,7 +117,7 @@ func parse(words []string, help io.Writer) (*settings, error) {
 	flags.StringVar(&n.folder, "folder", "ct-log", "`folder` of the objects, the register and the places, where no other address is given")
 	flags.StringVar(&n.store, "store", "", "`address` of the objects: folder:PATH, s3://HOST/BUCKET")
 	flags.StringVar(&n.register, "register", "", "`address` of the register: file:PATH, etcd://HOST:PORT/PREFIX, postgres://HOST/DATABASE?log=NAME")
-	flags.StringVar(&n.places, "places", "", "`address` of the places of identities: sqlite:PATH, etcd://HOST:PORT/PREFIX[?entries=N], for so many entries at most (6000000, which etcd's usual quota bears), postgres://HOST/DATABASE?log=NAME")
+	flags.StringVar(&n.places, "places", "", "`address` of the places of identities: sqlite:PATH, postgres://HOST/DATABASE?log=NAME")
 	flags.DurationVar(&n.mostSkew, "most-clock-skew", 10*time.Second, "how far the machine's clock may be off, by the newest head, the stores' machines, another node or what elapsed, until nothing is taken")
 	flags.BoolVar(&n.synchronized, "clock-synchronized", false, "take nothing as long as the kernel doesn't say that its clock is synchronized (timedatectl)")
 	flags.StringVar(&n.latestHead, "latest-head", "", "`file` of this machine's own, apart from all stores and their backups, with the latest tree head that this node saw: a log that is older is refused (default FOLDER.latest-head, beside the folder)")
@@ -231,7 +231,7 @@ func (s *settings) settle() error {
 		return errors.New("--nodes-listen, --nodes-address and --nodes-secret go together")
 	}
 	if n.address != "" && strings.HasPrefix(n.places, "sqlite:") && !strings.HasPrefix(n.register, "file:") {
-		return errors.New("--nodes-address: nodes on several machines have one store of places, of etcd or PostgreSQL (--places), and no file of each's own")
+		return errors.New("--nodes-address: nodes on several machines share one store of places: name one of PostgreSQL (--places postgres://HOST/DATABASE?log=NAME), not a file of each machine")
 	}
 	if err := n.settleWitnesses(); err != nil {
 		return err

@@ -245,9 +245,6 @@ func (s *Sequencer) round(ctx context.Context) error {
 	if err := s.deleteUnneeded(ctx, t); err != nil {
 		return err
 	}
-	if err := s.bears(k); err != nil {
-		return err
-	}
 	most := s.config.MostBatch
 	if s.config.Witnesses != nil && k.state.IsBegin() {
 		// (the first head is one of no entries: witnesses that know this log of more say so)

@@ -47,11 +47,6 @@ func (f *Front) add(w http.ResponseWriter, r *http.Request, check func(context.C
 	ctx, cancel := context.WithTimeout(r.Context(), f.limits.Submission)
 	defer cancel()
 	entry, err := f.checked(ctx, body, check)
-	if chains.RefusalOf(err) == chains.OutsideWindow && f.hasShardsBehind(r) {
-		misdirected := refusalOf(err)
-		misdirected.status = http.StatusMisdirectedRequest
-		return misdirected
-	}
 	if err != nil {
 		return err
 	}
@@ -67,14 +62,6 @@ func (f *Front) add(w http.ResponseWriter, r *http.Request, check func(context.C
 
 func timestampOf(place log.Place) signedTimestamp {
 	return signedTimestamp{0, place.LogID[:], place.Timestamp, place.Extensions, place.Signature}
-}
-
-// ShardsBehind is the header by which a proxy says that other shards will be asked (ctserve nginx --submissions). What ends outside of this
-// one's window is answered 421 then.
-const ShardsBehind = "X-Shards-Behind"
-
-func (f *Front) hasShardsBehind(r *http.Request) bool {
-	return r.Header.Get(ShardsBehind) != "" && f.isProxy(addressOf(r.RemoteAddr))
 }
 
 // body reads a submission, and says how many bytes of the budget it took. A body whose length isn't said is refused: no client

@@ -778,44 +778,6 @@ func TestSubmitters(t *testing.T) {
 	}
 }
 
-// TestShardsBehind: a certificate that ends outside of the window is answered 421 where the proxy says that other shards will be asked, and 400
-// otherwise, whatever a client says. All else is answered as ever.
-func TestShardsBehind(t *testing.T) {
-	f := newFixture(t, 10*time.Millisecond, func(o *Options) { o.Proxies = []netip.Prefix{netip.MustParsePrefix("127.0.0.1/32")} })
-	outside, err := f.authority.Issue(false, ends.AddDate(2, 0, 0))
-	if err != nil {
-		t.Fatal(err)
-	}
-	for _, test := range []struct {
-		peer, header string
-		body         []byte
-		status       int
-		name         string
-	}{
-		{"127.0.0.1:7", "1", standin.Submission(outside), 421, "outside-window"},
-		{"127.0.0.1:7", "", standin.Submission(outside), 400, "outside-window"},
-		{"192.0.2.1:7", "1", standin.Submission(outside), 400, "outside-window"},
-		{"127.0.0.1:7", "1", standin.Submission(f.issue(true)), 400, "is-precertificate"},
-		{"127.0.0.1:7", "1", standin.Submission(), 400, "empty-chain"},
-	} {
-		r := httptest.NewRequest("POST", "/ct/v1/add-chain", bytes.NewReader(test.body))
-		r.RemoteAddr = test.peer
-		if test.header != "" {
-			r.Header.Set("X-Shards-Behind", test.header)
-		}
-		w := httptest.NewRecorder()
-		f.front.ServeHTTP(w, r)
-		refused(t, fmt.Sprint(test.peer, " ", test.header), w, test.status, test.name)
-	}
-	r := httptest.NewRequest("POST", "/ct/v1/add-chain", bytes.NewReader(standin.Submission(f.issue(false))))
-	r.RemoteAddr = "127.0.0.1:7"
-	r.Header.Set("X-Shards-Behind", "1")
-	w := httptest.NewRecorder()
-	if f.front.ServeHTTP(w, r); w.Code != 200 {
-		t.Errorf("within the window: %d %s", w.Code, w.Body)
-	}
-}
-
 func fingerprintOf(der []byte) string {
 	fingerprint := sha256.Sum256(der)
 	return hex.EncodeToString(fingerprint[:])
