@@ -25,8 +25,8 @@ use Rattle.ct_verify.specs.declared.fault.ProofFault.{ProofFault}
 use Rattle.ct_verify.specs.declared.fault.ProofFault.TheVariants.{IndexOutOfRange, PathTooLong, PathTooShort, RootMismatch, EmptyPath, FirstMismatch}
 use Rattle.ct_verify.specs.declared.fault.ProofFault.TheVariants.{SizesOutOfRange}
 use Rattle.libwagtenib.specs.Codes.{proof_code, leaf_code, head_code, receipt_code}
-use Rattle.libwagtenib.specs.Guard.{IsStateOf, IsOfNoHead, MayFollow, GuardsFirst, GuardsHead, GuardsReceipt}
-use Rattle.libwagtenib.specs.GuardLaws.{Over, no_state, the_state, LetsThrough, HeadCall, held_of, AreTaken, HoldsStateOf, step_of, steps_of, passed_step}
+use Rattle.libwagtenib.specs.Guard.{IsStateOf, IsOfNoHead, MayFollow, GuardsFirstHead, GuardsHead, GuardsReceipt}
+use Rattle.libwagtenib.specs.GuardLaws.{Over, no_state, the_state, LetsThrough, HeadCall, held_of, AreTaken, HoldsStateOf, head_step_of, head_steps_of, passed_step}
 use Rattle.libwagtenib.specs.GuardLaws.{TakenAreSteps, TakenAgree, TakenGoBack, ReceiptCall, ReceiptsStandInNewest, ReceiptsAreNoHeads}
 
 -- ---- 0 is the number of no refusal
@@ -84,7 +84,7 @@ followed H state head proof ahead before signed (inr (last, is, inl z)) = (last,
 followed H state head proof ahead before signed (inr (last, is, inr (inl far, same))) = absurd (omega (arith, far.0))
 followed H state head proof ahead before signed (inr (last, is, inr (inr (near, r, code, stops), same))) = absurd (omega (arith, code, above_0-head r))
 
-was_first : (H : List ℕ → List ℕ) (head named : Head) (before signed : List ℕ) → GuardsFirst H 0 head named before signed → IsStateOf head signed
+was_first : (H : List ℕ → List ℕ) (head named : Head) (before signed : List ℕ) → GuardsFirstHead H 0 head named before signed → IsStateOf head signed
 was_first H head named before signed (inl z) = z.2
 was_first H head named before signed (inr z) = absurd (omega (arith, z.0))
 
@@ -127,7 +127,7 @@ pub taken_are_steps : TakenAreSteps
 taken_are_steps H last held h calls a = go last held h calls a
   where
     go : (last : Option Head) (held : Option (List ℕ)) → HoldsStateOf last held → (calls : List (HeadCall H)) → AreTaken H held calls
-        → AreHeadSteps H last (steps_of calls)
+        → AreHeadSteps H last (head_steps_of calls)
     unfolding AreTaken AreHeadSteps
     go last held h [] a = tt
     go last held h (c ∷ calls) a =
@@ -154,7 +154,7 @@ taken_agree H sized last held h calls a passed e heads =
     passed_heads_agree H sized last passed (with_lists H last passed steps heads)
 
 pub taken_go_back : TakenGoBack
-taken_go_back H sized last held h calls a D newest = heads_go_back H sized last (steps_of calls) D (taken_are_steps H last held h calls a) newest
+taken_go_back H sized last held h calls a D newest = heads_go_back H sized last (head_steps_of calls) D (taken_are_steps H last held h calls a) newest
 
 -- ---- receipts
 let_through : (H : List ℕ → List ℕ) (state leaf : List ℕ) (index : ℕ) (path : List (List ℕ)) → GuardsReceipt H 0 state leaf index path
@@ -164,13 +164,13 @@ let_through H state leaf index path (inr (last, is, inl z)) = (last, is, z.1)
 let_through H state leaf index path (inr (last, is, inr (r, code, stops))) = absurd (omega (arith, code, above_0-receipt r))
 
 -- of heads of which each that has leaves is that of a beginning of a list, so is one among them
-of_one : (H : List ℕ → List ℕ) (D : List (List ℕ)) (calls : List (HeadCall H)) → All (λ (s : HeadStep). IsHeadOfFirst H D s.head) (steps_of calls)
+of_one : (H : List ℕ → List ℕ) (D : List (List ℕ)) (calls : List (HeadCall H)) → All (λ (s : HeadStep). IsHeadOfFirst H D s.head) (head_steps_of calls)
     → All (λ (c : HeadCall H). IsHeadOfFirst H D c.head) calls
 of_one H D [] all = All-nil (λ (c : HeadCall H). IsHeadOfFirst H D c.head)
 of_one H D (c ∷ calls) all =
     All-cons (λ (c : HeadCall H). IsHeadOfFirst H D c.head) c calls
-    (All-head (λ (s : HeadStep). IsHeadOfFirst H D s.head) (step_of c) (steps_of calls) all)
-    (of_one H D calls (All-tail (λ (s : HeadStep). IsHeadOfFirst H D s.head) (step_of c) (steps_of calls) all))
+    (All-head (λ (s : HeadStep). IsHeadOfFirst H D s.head) (head_step_of c) (head_steps_of calls) all)
+    (of_one H D calls (All-tail (λ (s : HeadStep). IsHeadOfFirst H D s.head) (head_step_of c) (head_steps_of calls) all))
 
 stands : (H : List ℕ → List ℕ) → ((x : List ℕ) → length (H x) ≡ 32) → (D : List (List ℕ)) (last : Head) (leaf : List ℕ) (index : ℕ)
     (path : List (List ℕ)) → IsHeadOfFirst H D last → AcceptsInclusion H (hash_leaf H leaf) index last.tree_size path last.root
@@ -190,7 +190,7 @@ receipts_stand H sized last held h calls a D newest c among r over =
     let is = wrote H c.over c.head c.proof c.ahead c.before c.signed c.returned in
     let same : p.0 ≡ c.head = same_head p.0 c.head r.state p.1 (subst (IsStateOf c.head) (sym over) is) in
     ⊎_elim
-    (λ (all : All (λ (s : HeadStep). IsHeadOfFirst H D s.head) (steps_of calls)).
+    (λ (all : All (λ (s : HeadStep). IsHeadOfFirst H D s.head) (head_steps_of calls)).
     stands H sized D p.0 r.leaf r.index r.path
     (subst (IsHeadOfFirst H D) (sym same) (All-contains (λ (c : HeadCall H). IsHeadOfFirst H D c.head) calls c (of_one H D calls all) among)) p.2.1)
     (λ (pair : SomeCollide H). inr pair)

@@ -33,8 +33,8 @@ abbrev pub MayBeFirst : (List ℕ → List ℕ) → Head → Head → Type 0
 MayBeFirst H head named = IsEmptyHead H head ⊎ ((0 < head.tree_size) × (head ≡ named))
 
 -- 0: the head may be the first, and its TreeHeadSignature is written. 40: it may not, and nothing is written.
-abbrev pub GuardsFirst : (List ℕ → List ℕ) → ℕ → Head → Head → List ℕ → List ℕ → Type 0
-GuardsFirst H code head named before after =
+abbrev pub GuardsFirstHead : (List ℕ → List ℕ) → ℕ → Head → Head → List ℕ → List ℕ → Type 0
+GuardsFirstHead H code head named before after =
     ((code ≡ 0) × MayBeFirst H head named × IsStateOf head after)
     ⊎ ((code ≡ 40) × (MayBeFirst H head named → ⊥) × (after ≡ before))
 
@@ -75,8 +75,8 @@ IsAtOrAfter seen head = (head ≡ seen) ⊎ ((seen.tree_size ≤ head.tree_size)
 
 -- 36: a state that was handed in is no TreeHeadSignature. 0: the state's head is written, and it is not before that of the state that was seen. 37: it is before it.
 -- Nothing is written but at 0.
-abbrev pub ReadsState : ℕ → List ℕ → List ℕ → TreeHead → TreeHead → Type 0
-ReadsState code seen state before after =
+abbrev pub ReadsGuardState : ℕ → List ℕ → List ℕ → TreeHead → TreeHead → Type 0
+ReadsGuardState code seen state before after =
     ((code ≡ 36) × (IsOfNoHead state ⊎ IsOfNoHead seen) × (after ≡ before))
     ⊎ ((head old : Head) × IsStateOf head state × IsStateOf old seen
     × (((code ≡ 0) × IsAtOrAfter old head × (head_of_c after ≡ head))

@@ -6,7 +6,7 @@ use Rattle.ct_guard.specs.NewestHead.{HeadStep, AreHeadSteps, NewestIsOf, IsHead
 use Rattle.ct_monitor.specs.Heads.{IsHeadOfAll}
 use Rattle.ct_tree.specs.declared.head.Head.{Head}
 use Rattle.ct_verify.specs.Laws.{SomeCollide}
-use Rattle.libwagtenib.specs.Guard.{GuardsFirst, GuardsHead, GuardsReceipt, IsStateOf, IsOfNoHead}
+use Rattle.libwagtenib.specs.Guard.{GuardsFirstHead, GuardsHead, GuardsReceipt, IsStateOf, IsOfNoHead}
 
 -- What a call was made over: no state, and the head that the operator named; or this state, the last TreeHeadSignature.
 pub data Over : Type 0 where
@@ -15,7 +15,7 @@ pub data Over : Type 0 where
 
 -- A call for this head returned 0 and wrote these bytes: of `wagtenib_guard_first_head`, to which no proof is handed in, or of `wagtenib_guard_head`.
 abbrev pub LetsThrough : (List ℕ → List ℕ) → Over → Head → List (List ℕ) → ℕ → List ℕ → List ℕ → Type 0
-LetsThrough H (no_state named) head proof ahead before signed = (proof ≡ []) × GuardsFirst H 0 head named before signed
+LetsThrough H (no_state named) head proof ahead before signed = (proof ≡ []) × GuardsFirstHead H 0 head named before signed
 LetsThrough H (the_state state) head proof ahead before signed = GuardsHead H 0 state head proof ahead before signed
 
 -- a call that let a head through: what was handed in, what stood in the caller's memory before, and what was written there
@@ -46,12 +46,12 @@ HoldsStateOf None held = held ≡ None
 HoldsStateOf (Some head) held = (state : List ℕ) × IsStateOf head state × (held ≡ Some state)
 
 -- a head that was let through, and its proof, as ct_guard's laws speak of them
-abbrev pub step_of : {H : List ℕ → List ℕ} → HeadCall H → HeadStep
-step_of c = record { head = c.head; proof = c.proof }
+abbrev pub head_step_of : {H : List ℕ → List ℕ} → HeadCall H → HeadStep
+head_step_of c = record { head = c.head; proof = c.proof }
 
 -- the heads that were signed, with their proofs
-abbrev pub steps_of : {H : List ℕ → List ℕ} → List (HeadCall H) → List HeadStep
-steps_of calls = map step_of calls
+abbrev pub head_steps_of : {H : List ℕ → List ℕ} → List (HeadCall H) → List HeadStep
+head_steps_of calls = map head_step_of calls
 
 -- the same of a head with a list of leaves whose head it is
 abbrev pub passed_step : Passed → HeadStep
@@ -61,7 +61,7 @@ passed_step p = record { head = p.head; proof = p.proof }
 abbrev pub TakenAreSteps : Type 0
 TakenAreSteps =
     (H : List ℕ → List ℕ) (last : Option Head) (held : Option (List ℕ)) → HoldsStateOf last held → (calls : List (HeadCall H)) → AreTaken H held calls
-    → AreHeadSteps H last (steps_of calls)
+    → AreHeadSteps H last (head_steps_of calls)
 
 -- Take any such heads, each of which is that of some list of leaves (passed): of every two of them the earlier one's list begins the later one's, or two
 -- different strings with one hash are given.
@@ -69,7 +69,7 @@ abbrev pub TakenAgree : Type 0
 TakenAgree =
     (H : List ℕ → List ℕ) → ((x : List ℕ) → length (H x) ≡ 32)
     → (last : Option Head) (held : Option (List ℕ)) → HoldsStateOf last held → (calls : List (HeadCall H)) → AreTaken H held calls
-    → (passed : List Passed) → map passed_step passed ≡ steps_of calls
+    → (passed : List Passed) → map passed_step passed ≡ head_steps_of calls
     → All (λ (p : Passed). IsHeadOfAll H p.leaves p.head) passed → AreBeginnings passed ⊎ SomeCollide H
 
 -- Take any such heads, of which the newest is that of a list of leaves: each of them that has leaves is that of a beginning of this list, or two different
@@ -78,8 +78,8 @@ abbrev pub TakenGoBack : Type 0
 TakenGoBack =
     (H : List ℕ → List ℕ) → ((x : List ℕ) → length (H x) ≡ 32)
     → (last : Option Head) (held : Option (List ℕ)) → HoldsStateOf last held → (calls : List (HeadCall H)) → AreTaken H held calls
-    → (D : List (List ℕ)) → NewestIsOf H D (steps_of calls)
-    → All (λ (s : HeadStep). IsHeadOfFirst H D s.head) (steps_of calls) ⊎ SomeCollide H
+    → (D : List (List ℕ)) → NewestIsOf H D (head_steps_of calls)
+    → All (λ (s : HeadStep). IsHeadOfFirst H D s.head) (head_steps_of calls) ⊎ SomeCollide H
 
 -- A call of `wagtenib_guard_receipt` returned 0.
 pub record ReceiptCall (H : List ℕ → List ℕ) : Type 0 where
@@ -95,7 +95,7 @@ abbrev pub ReceiptsStandInNewest : Type 0
 ReceiptsStandInNewest =
     (H : List ℕ → List ℕ) → ((x : List ℕ) → length (H x) ≡ 32)
     → (last : Option Head) (held : Option (List ℕ)) → HoldsStateOf last held → (calls : List (HeadCall H)) → AreTaken H held calls
-    → (D : List (List ℕ)) → NewestIsOf H D (steps_of calls)
+    → (D : List (List ℕ)) → NewestIsOf H D (head_steps_of calls)
     → (c : HeadCall H) → Contains calls c → (r : ReceiptCall H) → r.state ≡ c.signed
     → ((r.index < length D) × (r.leaf ≡ get_or D r.index [])) ⊎ SomeCollide H
 

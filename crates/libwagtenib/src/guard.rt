@@ -4,7 +4,7 @@ ghost use Rattle.std.specs.Prelude.{◌≡◌, MatchResult};
 ghost use Rattle.std.specs.Bool.{MatchBool};
 ghost use Rattle.sha2.specs.Sha256.{sha256};
 ghost use Rattle.libwagtenib.specs.Codes.{head_code, receipt_code};
-ghost use Rattle.libwagtenib.specs.Guard.{head_of_c, GuardsFirst, GuardsHead, GuardsReceipt, IsAtOrAfter, MayBeFirst, MayFollow, MayNotFollow, ReadsState};
+ghost use Rattle.libwagtenib.specs.Guard.{head_of_c, GuardsFirstHead, GuardsHead, GuardsReceipt, IsAtOrAfter, MayBeFirst, MayFollow, MayNotFollow, ReadsGuardState};
 
 use crate::codes;
 use crate::head::{TreeHead, head_of, of_head, read_state, write_state};
@@ -79,7 +79,7 @@ pub extern "C" fn wagtenib_guard_first_head(
     named: &TreeHead,
     signed_bytes: &mut [u8; 50],
 ) -> u32
-    ensures { GuardsFirst sha256 result (head_of_c head.now) (head_of_c named.now) signed_bytes.old signed_bytes.new }
+    ensures { GuardsFirstHead sha256 result (head_of_c head.now) (head_of_c named.now) signed_bytes.old signed_bytes.new }
 {
     let head = head_of(head);
     if !may_be_first(&head, &head_of(named)) {
@@ -141,7 +141,7 @@ pub extern "C" fn wagtenib_guard_receipt(
 /// no TreeHeadSignature. 37: the state was rolled back. Then nothing is written.
 #[unsafe(no_mangle)]
 pub extern "C" fn wagtenib_guard_state(seen: &[u8], state: &[u8], head: &mut TreeHead) -> u32
-    ensures { ReadsState result seen.now state.now head.old head.new }
+    ensures { ReadsGuardState result seen.now state.now head.old head.new }
 {
     let Some(found) = read_state(state) else {
         return codes::BAD_STATE;
