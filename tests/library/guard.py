@@ -28,7 +28,7 @@ from history import Log, leaf  # noqa: E402
 from merkle import sha256  # noqa: E402
 
 CODES = dict(re.findall(r"WAGTENIB_(\w+) = (\d+)", (ROOT / "include" / "wagtenib.h").read_text()))
-# What the model calls by another name than the header.
+# The refusals that have another name in the model than in the header.
 NAMES = {"moment-not-later": "TIMESTAMP_NOT_LATER", "moment-too-far": "TIMESTAMP_TOO_FAR"}
 # The faults that no call of the guard can return, of all codes: a consistency proof is read only between sizes that it can be for.
 NEVER = {"SIZES_OUT_OF_RANGE", "OUT_OF_MEMORY", "NO_ROOM", "BAD_ORIGIN", "NOT_A_REQUEST"}
@@ -67,7 +67,7 @@ def guard_at(state):
 
 
 def reply(code, written, room=50):
-    """What guard.c prints: what is written is there only at 0."""
+    """The line that guard.c prints. The memory is written only at 0."""
     return f"{code} {(written if code == 0 else FILL * room).hex() or '-'}"
 
 
@@ -168,7 +168,7 @@ class History:
         return f"state {shown(seen)} {shown(state)}", reply(int(CODES[code]), struct.pack("=QQ", *heads[1][:2]) + heads[1][2] if heads[1] else b"", 48)
 
     def call(self):
-        """A line for guard.c, and what it has to print."""
+        """A line for guard.c, and the line that it must print."""
         return self.chance.choices((self.head, self.receipt, self.read, self.first), (5, 4, 1, 1))[0]()
 
 

@@ -54,7 +54,7 @@ func GuardFirstHead(head, named TreeHead) (signed SignedBytes, err error) {
 // tree contains the last one's by the proof. Otherwise it returns the first reason of ErrState, ErrTimestampTooFar, ErrSizeFalls,
 // ErrTimestampNotLater, ErrFork, ErrEmptyPath, ErrPathTooLong, ErrPathTooShort, ErrFirstMismatch and ErrRootMismatch.
 //
-// The caller must store the bytes in place of last, where one process at a time can do so, before it signs them.
+// Before the caller signs the bytes, it must store them in place of last, in a place that one process at a time can change.
 func GuardHead(last []byte, head TreeHead, proof []Hash, maxAhead uint64) (signed SignedBytes, err error) {
 	next := head.inC()
 	err = result(C.wagtenib_guard_head(ofBytes(last), C.size_t(len(last)), &next, ofHashes(proof), C.size_t(len(proof)), C.uint64_t(maxAhead), ofSigned(&signed)))
@@ -65,7 +65,7 @@ func GuardHead(last []byte, head TreeHead, proof []Hash, maxAhead uint64) (signe
 // The bytes that the SCT signs are those of the leaf (section 3.2).
 //
 // It returns nil exactly if the path leads from the leaf at index to the root of that head, the leaf's timestamp is not later than the
-// head's, and its extensions are empty or contain the index alone. Otherwise it returns the first reason of ErrState, those of DecodeLeaf,
+// head's, and its extensions are empty or contain only the index. Otherwise it returns the first reason of ErrState, those of DecodeLeaf,
 // those of VerifyInclusion, ErrLaterLeaf and ErrOtherIndex.
 func GuardReceipt(last, leaf []byte, index uint64, path []Hash) error {
 	return result(C.wagtenib_guard_receipt(ofBytes(last), C.size_t(len(last)), ofBytes(leaf), C.size_t(len(leaf)), C.uint64_t(index), ofHashes(path), C.size_t(len(path))))

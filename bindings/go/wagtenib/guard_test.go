@@ -196,7 +196,7 @@ func (l *madeLog) receiptFault(t *testing.T, last wagtenib.TreeHead, leaf []byte
 	return nil
 }
 
-// wantsSigned fails the test unless a call came to what is due: the bytes that are to be signed, or a refusal by name and no bytes.
+// wantsSigned fails the test unless a call returned the due bytes, or the due refusal and no bytes.
 func wantsSigned(t *testing.T, what string, head wagtenib.TreeHead, signed wagtenib.SignedBytes, err, due error) {
 	t.Helper()
 	if !errors.Is(err, due) {
@@ -207,7 +207,7 @@ func wantsSigned(t *testing.T, what string, head wagtenib.TreeHead, signed wagte
 	}
 }
 
-// guarded is a history of one log and a fork of it, behind the guard.
+// guarded is a history of the guard's calls for one log and a fork of it.
 type guarded struct {
 	chance    *rand.Rand
 	log, fork madeLog

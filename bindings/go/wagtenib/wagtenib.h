@@ -1,4 +1,5 @@
-/* wagtenib: the proved checks of a Certificate Transparency log's proofs (RFC 6962, RFC 9162), and the proved decisions of its programs over lines.
+/* wagtenib: the proved checks of a Certificate Transparency log's proofs (RFC 6962, RFC 9162), and the proved decisions of what its key may sign and of its
+ * programs over lines.
  *
  * A hash is 32 bytes (SHA-256). A list of hashes is given by a pointer to its first byte and the number of hashes, which
  * stand one after the other. No call keeps a pointer or has any state, so every call may run in any thread at any time.
@@ -48,7 +49,7 @@ enum {
     WAGTENIB_BAD_STATE = 36,         /* a state is not the TreeHeadSignature of a head */
     WAGTENIB_STATE_ROLLED_BACK = 37, /* the state's head is before that of a state that was seen */
     WAGTENIB_LATER_LEAF = 38,        /* the leaf's timestamp is later than the last head's */
-    WAGTENIB_OTHER_INDEX = 39,       /* the leaf has extensions, and they are not its index alone */
+    WAGTENIB_OTHER_INDEX = 39,       /* the leaf has extensions, and they are not only its index */
     WAGTENIB_NOT_FIRST = 40          /* the head is neither that of the empty tree nor the named one */
 };
 
@@ -123,7 +124,7 @@ uint32_t wagtenib_guard_head(const uint8_t *last, size_t last_length, const stru
 
 /* Whether an SCT of this leaf (MerkleTreeLeaf, RFC 6962 section 3.4) may be signed after the head whose TreeHeadSignature is `last`. The bytes that an SCT
  * signs are those of its leaf (section 3.2). 0: the audit path leads from the leaf at leaf_index to the root of that head, the leaf's timestamp is not
- * later than the head's, and its extensions are empty or contain leaf_index alone (C2SP static-ct-api). Otherwise the first reason in this order: 36, 17
+ * later than the head's, and its extensions are empty or contain only leaf_index (C2SP static-ct-api). Otherwise the first reason in this order: 36, 17
  * to 22 of the leaf, 1 to 4 of the path, 38, 39. A log that signs an SCT before the leaf is in a tree calls wagtenib_decode_leaf instead. */
 uint32_t wagtenib_guard_receipt(const uint8_t *last, size_t last_length, const uint8_t *leaf, size_t leaf_length, uint64_t leaf_index,
                                 const uint8_t *path, size_t path_length);

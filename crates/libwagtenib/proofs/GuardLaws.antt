@@ -1,4 +1,4 @@
--- What follows over many calls of the guard.
+-- The laws of many calls of the guard.
 use Rattle.std.proofs.Common.{◌≡◌, ◌∙◌, ◌⊎◌, ◌<◌, ◌≤◌, ◌^◌, ℕ, List, [], ◌∷◌, length, map, take, get_or, Option, Some, None, All, sym, subst, ap, refl, inl, inr, ⊎_elim, arith}
 use Rattle.std.specs.Prelude.{Contains}
 use Rattle.std.proofs.lemmas.List.{get_or-take, length-take-le}
@@ -75,7 +75,7 @@ same_head a b state p q =
     let parts = signed_texts_stand_apart.heads a.timestamp b.timestamp a.tree_size b.tree_size a.root b.root p.timestamp q.timestamp p.size q.size (sym p.text ∙ q.text) in
     one_head a b parts.1 parts.0 parts.2
 
--- ---- what a call that returned 0 says
+-- ---- calls that returned 0
 followed : (H : List ℕ → List ℕ) (state : List ℕ) (head : Head) (proof : List (List ℕ)) (ahead : ℕ) (before signed : List ℕ)
     → GuardsHead H 0 state head proof ahead before signed
     → (last : Head) × IsStateOf last state × MayFollow H last head proof ahead × IsStateOf head signed
@@ -163,7 +163,7 @@ let_through H state leaf index path (inl z) = absurd (omega (arith, z.0))
 let_through H state leaf index path (inr (last, is, inl z)) = (last, is, z.1)
 let_through H state leaf index path (inr (last, is, inr (r, code, stops))) = absurd (omega (arith, code, above_0-receipt r))
 
--- of heads of which each that has leaves is that of a beginning of a list, so is one among them
+-- each head that has leaves is that of a beginning of a list, by its call
 of_one : (H : List ℕ → List ℕ) (D : List (List ℕ)) (calls : List (HeadCall H)) → All (λ (s : HeadStep). IsHeadOfFirst H D s.head) (head_steps_of calls)
     → All (λ (c : HeadCall H). IsHeadOfFirst H D c.head) calls
 of_one H D [] all = All-nil (λ (c : HeadCall H). IsHeadOfFirst H D c.head)

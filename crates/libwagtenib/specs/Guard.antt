@@ -1,4 +1,4 @@
--- What a call of the guard returns and writes. H is any hash function on byte lists; the library's is SHA-256.
+-- The codes and the bytes that a call of the guard returns and writes. H is any hash function on byte lists. The library's is SHA-256.
 use Rattle.std.specs.Prelude.{◌≡◌, ◌⊎◌, ◌+◌, ◌<◌, ◌≤◌, ◌^◌, ℕ, List, [], length, Some}
 use Rattle.ct_codec.specs.Signed.{tree_head_text}
 use Rattle.ct_guard.specs.Guarded.{PassesHead, StopsHead, PassesReceipt, StopsReceipt}

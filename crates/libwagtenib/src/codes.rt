@@ -18,7 +18,7 @@ pub const BAD_STATE: u32 = 36;
 pub const STATE_ROLLED_BACK: u32 = 37;
 /// The leaf's timestamp is later than the last head's.
 pub const LATER_LEAF: u32 = 38;
-/// The leaf has extensions, and they aren't its index alone.
+/// The leaf has extensions that are not only its index.
 pub const OTHER_INDEX: u32 = 39;
 /// The head is neither that of the empty tree nor the one that was named.
 pub const NOT_FIRST: u32 = 40;

@@ -1,4 +1,4 @@
-//! What a log's key may sign. The guard's state is the TreeHeadSignature that was signed last (RFC 6962, section 3.5), and belongs to the caller.
+//! The guard decides what a log's key may sign. Its state is the TreeHeadSignature that was signed last (RFC 6962, section 3.5), and belongs to the caller.
 
 ghost use Rattle.std.specs.Prelude.{◌≡◌, MatchResult};
 ghost use Rattle.std.specs.Bool.{MatchBool};
@@ -71,8 +71,8 @@ fn is_at_or_after(seen: &Head, head: &Head) -> bool
     *head == *seen || (seen.tree_size <= head.tree_size && seen.timestamp < head.timestamp)
 }
 
-/// Whether a head may be the first that a log signs, where no state is kept: the head of the empty tree, or the very head with leaves that the operator
-/// names. 0: `signed_bytes` is its TreeHeadSignature. 40: it may not, and nothing is written.
+/// Whether a head may be the first that a log signs, if no state is kept. 0: it is the head of the empty tree, or has leaves and is the head that the
+/// operator names, and `signed_bytes` is its TreeHeadSignature. 40: it is neither, and nothing is written.
 #[unsafe(no_mangle)]
 pub extern "C" fn wagtenib_guard_first_head(
     head: &TreeHead,
@@ -115,8 +115,8 @@ pub extern "C" fn wagtenib_guard_head(
     }
 }
 
-/// Whether a receipt of a leaf (a signed certificate timestamp) may be signed after the head whose TreeHeadSignature is `last`. What is signed are the
-/// leaf's own bytes. 0: the path leads from the leaf at this index to the root of that head, the leaf is not later than the head, and it names no other
+/// Whether a receipt of a leaf (a signed certificate timestamp) may be signed after the head whose TreeHeadSignature is `last`. The bytes that are signed
+/// are the leaf's own. 0: the path leads from the leaf at this index to the root of that head, the leaf is not later than the head, and it names no other
 /// index. Otherwise the number of the first reason why not, in this order: 36, 17 to 22, 1 to 4, 38, 39.
 #[unsafe(no_mangle)]
 pub extern "C" fn wagtenib_guard_receipt(
