@@ -123,20 +123,19 @@ passes H last held over head proof ahead before signed h (inl e) z = over_held H
 passes H last held over head proof ahead before signed h (inr e) z = held_already H last held head proof signed h e (wrote H over head proof ahead before signed z)
 
 -- ---- the laws
+steps_taken : (H : List ℕ → List ℕ) (last : Option Head) (held : Option (List ℕ)) → HoldsStateOf last held → (calls : List (HeadCall H))
+    → AreTaken H held calls → AreHeadSteps H last (head_steps_of calls)
+unfolding AreTaken AreHeadSteps
+steps_taken H last held h [] a = tt
+steps_taken H last held h (c ∷ calls) a =
+    let is = wrote H c.over c.head c.proof c.ahead c.before c.signed c.returned in (
+      passes H last held c.over c.head c.proof c.ahead c.before c.signed h a.0 c.returned,
+      of_hashes H c.over c.head c.proof c.ahead c.before c.signed c.returned,
+      steps_taken H (Some c.head) (Some c.signed) (c.signed, is, refl) calls a.1,
+    )
+
 pub taken_are_steps : TakenAreSteps
-taken_are_steps H last held h calls a = go last held h calls a
-  where
-    go : (last : Option Head) (held : Option (List ℕ)) → HoldsStateOf last held → (calls : List (HeadCall H)) → AreTaken H held calls
-        → AreHeadSteps H last (head_steps_of calls)
-    unfolding AreTaken AreHeadSteps
-    go last held h [] a = tt
-    go last held h (c ∷ calls) a =
-        let is = wrote H c.over c.head c.proof c.ahead c.before c.signed c.returned in
-        (
-          passes H last held c.over c.head c.proof c.ahead c.before c.signed h a.0 c.returned,
-          of_hashes H c.over c.head c.proof c.ahead c.before c.signed c.returned,
-          go (Some c.head) (Some c.signed) (c.signed, is, refl) calls a.1,
-        )
+taken_are_steps H last held h calls a = steps_taken H last held h calls a
 
 abbrev IsItsHead : (List ℕ → List ℕ) → Passed → Type 0
 IsItsHead H p = IsHeadOfAll H p.leaves p.head

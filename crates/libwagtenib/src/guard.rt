@@ -6,10 +6,8 @@ ghost use Rattle.sha2.specs.Sha256.{sha256};
 ghost use Rattle.libwagtenib.specs.Codes.{head_code, receipt_code};
 ghost use Rattle.libwagtenib.specs.Guard.{head_of_c, GuardsFirstHead, GuardsHead, GuardsReceipt, IsAtOrAfter, MayBeFirst, MayFollow, MayNotFollow, ReadsGuardState};
 
-use crate::codes;
 use crate::head::{TreeHead, head_of, of_head, read_state, write_state};
-use crate::leaf;
-use crate::proofs;
+use crate::{codes, leaf, proofs};
 use ct_guard::{Guard, HeadRefusal, ReceiptRefusal, pass_receipt};
 use ct_tree::{Head, NodeHash, Sha256Hash, is_same_digest};
 
