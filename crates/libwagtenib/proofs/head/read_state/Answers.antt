@@ -4,7 +4,7 @@ use Rattle.ct_codec.specs.Bytes.{num}
 use Rattle.ct_codec.proofs.Refusals.{length-num}
 use Rattle.ct_tree.specs.declared.head.Head.{Head}
 use Rattle.libwagtenib.specs.Guard.{IsStateOf, IsOfNoHead}
-use Rattle.libwagtenib.proofs.Head.{too_short, too_long, some_left, begins}
+use Rattle.libwagtenib.proofs.States.{too_short, too_long, some_left, begins}
 use Rattle.libwagtenib.proofs.head.read_state.Goals as goal
 use Rattle.libwagtenib.proofs.head.read_state.Goals.{else-version-eq0-via-then-version-eq0+then-signature_type-eq1+else-is_at_end, else-version-eq0-via-then-version-eq0+else-signature_type-eq1, else-version-eq0-via-else-version-eq0}
 
