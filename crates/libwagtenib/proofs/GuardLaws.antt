@@ -82,7 +82,7 @@ followed : (H : List ℕ → List ℕ) (state : List ℕ) (head : Head) (proof :
 followed H state head proof ahead before signed (inl z) = absurd (omega (arith, z.0))
 followed H state head proof ahead before signed (inr (last, is, inl z)) = (last, is, z.1, z.2)
 followed H state head proof ahead before signed (inr (last, is, inr (inl far, same))) = absurd (omega (arith, far.0))
-followed H state head proof ahead before signed (inr (last, is, inr (inr (near, r, code, stops), same))) = absurd (omega (arith, code, above_0-head r))
+followed H state head proof ahead before signed (inr (last, is, inr (inr (near, (r, code, stops)), same))) = absurd (omega (arith, code, above_0-head r))
 
 was_first : (H : List ℕ → List ℕ) (head named : Head) (before signed : List ℕ) → GuardsFirstHead H 0 head named before signed → IsStateOf head signed
 was_first H head named before signed (inl z) = z.2

@@ -13,7 +13,6 @@ pub fn signed_by_calls_are_steps()
 {}
 
 /// If each of these heads is that of some list of leaves, the lists are beginnings of one list, or two different strings with one hash are given.
-#[tactic(auto, using(crate::proofs::GuardLaws::taken_agree))]
 pub fn signed_by_calls_agree()
     ensures { TakenAgree }
 {}
@@ -27,7 +26,6 @@ pub fn signed_by_calls_go_back()
 
 /// If the newest of these heads is that of a list of leaves, the leaf of each receipt that was let through after any of them is in this list at its
 /// index, or two different strings with one hash are given.
-#[tactic(auto, using(crate::proofs::GuardLaws::receipts_stand))]
 pub fn receipts_stand_in_the_newest()
     ensures { ReceiptsStandInNewest }
 {}
