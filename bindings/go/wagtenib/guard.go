@@ -38,9 +38,9 @@ func (h TreeHead) inC() (head C.struct_wagtenib_head) {
 // ofSigned returns a pointer to the first byte.
 func ofSigned(signed *SignedBytes) *C.uint8_t { return (*C.uint8_t)(unsafe.Pointer(signed)) }
 
-// GuardFirstHead decides whether head may be the first head that a log signs, if no state is kept. It returns the bytes to sign exactly if head
-// is that of the empty tree, at any timestamp, or has leaves and is equal to named. Otherwise it returns ErrNotFirst. If the operator names no
-// head, named is the zero value.
+// GuardFirstHead decides whether head may be the first head that a log signs. It must be called when the log is created, or when the operator
+// asks for it, and never only because a state is missing. It returns the bytes to sign exactly if head is that of the empty tree, at any
+// timestamp, or has leaves and is equal to named. Otherwise it returns ErrNotFirst. If the operator names no head, named is the zero value.
 func GuardFirstHead(head, named TreeHead) (signed SignedBytes, err error) {
 	first, other := head.inC(), named.inC()
 	err = result(C.wagtenib_guard_first_head(&first, &other, ofSigned(&signed)))

@@ -110,9 +110,10 @@ struct wagtenib_head {
  * Then the log signs no fork, however many processes call the guard and wherever they are killed. A state of another length, or with other bytes, is never
  * taken for no state: it is refused as 36. No call takes memory. */
 
-/* Whether `head` may be the first head that a log signs, if no state is kept. 0: it is the head of the empty tree (no leaves, root SHA-256 of no bytes), at
- * any timestamp, or it has leaves and is equal to `named`, which the operator names; its TreeHeadSignature is in signed_bytes. 40: it is neither, and
- * nothing is written. If the operator names no head, `named` has the size 0. */
+/* Whether `head` may be the first head that a log signs. Call it when the log is created, or when the operator asks for it, and never only because a state
+ * is missing. 0: it is the head of the empty tree (no leaves, root SHA-256 of no bytes), at any timestamp, or it has leaves and is equal to `named`, which
+ * the operator names; its TreeHeadSignature is in signed_bytes. 40: it is neither, and nothing is written. If the operator names no head, `named` has the
+ * size 0. */
 uint32_t wagtenib_guard_first_head(const struct wagtenib_head *head, const struct wagtenib_head *named, uint8_t signed_bytes[50]);
 
 /* Whether `head` may be signed after the head whose TreeHeadSignature is `last`. `proof` is the consistency proof between them (RFC 6962 section 2.1.2); if
