@@ -172,6 +172,17 @@ func (l *madeLog) headFault(t *testing.T, last, head wagtenib.TreeHead, proof []
 	return l.proofFault(t, last, head, proof)
 }
 
+// extensionsOf returns the extensions of a leaf that holds a certificate (RFC 6962, section 3.4).
+func extensionsOf(leaf []byte) []byte {
+	certificate := int(leaf[12])<<16 | int(leaf[13])<<8 | int(leaf[14])
+	return leaf[15+certificate+2:]
+}
+
+// indexExtension returns the extension that contains a leaf's index in 40 bits (C2SP static-ct-api).
+func indexExtension(index uint64) []byte {
+	return append([]byte{0, 0, 5}, binary.BigEndian.AppendUint64(nil, index)[3:]...)
+}
+
 // receiptFault returns why an SCT of a leaf that is well formed may not be signed after the last head.
 func (l *madeLog) receiptFault(t *testing.T, last wagtenib.TreeHead, leaf []byte, index uint64, path []wagtenib.Hash) error {
 	t.Helper()
@@ -179,18 +190,14 @@ func (l *madeLog) receiptFault(t *testing.T, last wagtenib.TreeHead, leaf []byte
 		return wagtenib.ErrIndexOutOfRange
 	}
 	root, ok := rootByPath(index, last.TreeSize, sha256.Sum256(append([]byte{0}, leaf...)), path)
-	named := binary.BigEndian.AppendUint64([]byte{0, 0, 5}, index)
-	decoded, err := wagtenib.DecodeLeaf(leaf)
-	switch {
-	case err != nil:
-		t.Fatal(err)
+	switch extensions := extensionsOf(leaf); {
 	case !ok:
 		return longOrShort(len(path), len(l.path(t, index, last.TreeSize)))
 	case root != last.Root:
 		return wagtenib.ErrRootMismatch
 	case binary.BigEndian.Uint64(leaf[2:]) > last.Timestamp:
 		return wagtenib.ErrLaterLeaf
-	case len(decoded.Extensions) > 0 && !bytes.Equal(decoded.Extensions, append(named[:3:3], named[6:]...)):
+	case len(extensions) > 0 && !bytes.Equal(extensions, indexExtension(index)):
 		return wagtenib.ErrOtherIndex
 	}
 	return nil
@@ -236,7 +243,7 @@ func (g *guarded) leaf(index uint64) []byte {
 	certificate, extensions := make([]byte, 1+g.chance.Intn(20)), []byte{}
 	g.chance.Read(certificate)
 	if g.chance.Intn(3) == 0 {
-		extensions = append([]byte{0, 0, 5, 0, 0, 0, 0}, byte(index+uint64(g.chance.Intn(2))))
+		extensions = indexExtension(index + uint64(g.chance.Intn(2)))
 	}
 	return leafOf(uint64(g.chance.Intn(2000)), 0, opaque(3, certificate), extensions)
 }
