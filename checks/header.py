@@ -15,6 +15,8 @@ TYPES = {
     "usize": "size_t {}",
     "&[u8; 32]": "const uint8_t {}[32]",
     "&mut [u8; 32]": "uint8_t {}[32]",
+    "&mut [u8; 50]": "uint8_t {}[50]",
+    "[u8; 32]": "uint8_t {}[32]",
     "&[u8]": "const uint8_t *{}, size_t *",
     "&[[u8; 32]]": "const uint8_t *{}, size_t *",
     "&mut [[u8; 32]]": "uint8_t *{}, size_t *",
@@ -23,9 +25,11 @@ TYPES = {
     "&mut u64": "uint64_t *{}",
     "&mut usize": "size_t *{}",
     "&mut LeafInfo": "struct wagtenib_leaf_info *{}",
+    "&TreeHead": "const struct wagtenib_head *{}",
+    "&mut TreeHead": "struct wagtenib_head *{}",
     "Global": None,
 }
-ALIASES = {"LeafInfo": "wagtenib_leaf_info"}
+ALIASES = {"LeafInfo": "wagtenib_leaf_info", "TreeHead": "wagtenib_head"}
 # A fault of another crate that has another name in C.
 NAMES = {"Memory": "OutOfMemory"}
 
@@ -53,7 +57,7 @@ def declared_functions(text):
 def declared_structs(text):
     """The fields of each struct that C sees, in order."""
     for found in re.finditer(r"#\[repr\(C\)\](?:\s*#\[[^\]]*\])*\s*pub struct (\w+) \{([^}]*)\}", text):
-        fields = re.findall(r"pub (\w+): (\w+)", found.group(2))
+        fields = re.findall(r"pub (\w+): ([^,]+),", found.group(2))
         yield f"struct {ALIASES[found.group(1)]} {{ " + " ".join(TYPES[kind].format(word) + ";" for word, kind in fields) + " }"
 
 

@@ -1,4 +1,5 @@
-/* wagtenib: the proved checks of a Certificate Transparency log's proofs (RFC 6962, RFC 9162), and the proved decisions of its programs over lines.
+/* wagtenib: the proved checks of a Certificate Transparency log's proofs (RFC 6962, RFC 9162), and the proved decisions of what its key may sign and of its
+ * programs over lines.
  *
  * A hash is 32 bytes (SHA-256). A list of hashes is given by a pointer to its first byte and the number of hashes, which
  * stand one after the other. No call keeps a pointer or has any state, so every call may run in any thread at any time.
@@ -40,7 +41,16 @@ enum {
     WAGTENIB_BAD_LEAF_TYPE = 19,     /* the leaf type isn't 0 (timestamped_entry) */
     WAGTENIB_BAD_ENTRY_TYPE = 20,    /* the entry type is neither 0 (x509_entry) nor 1 (precert_entry) */
     WAGTENIB_EMPTY_VECTOR = 21,      /* a certificate or TBSCertificate of no bytes */
-    WAGTENIB_TRAILING = 22           /* bytes follow the leaf */
+    WAGTENIB_TRAILING = 22,          /* bytes follow the leaf */
+    WAGTENIB_SIZE_FALLS = 32,        /* the head has fewer leaves than the last one */
+    WAGTENIB_TIMESTAMP_NOT_LATER = 33, /* the head differs from the last one, and its timestamp is not later */
+    WAGTENIB_FORK = 34,              /* the head has the size of the last one, and another root */
+    WAGTENIB_TIMESTAMP_TOO_FAR = 35, /* the head's timestamp is more than max_ahead beyond the last one's */
+    WAGTENIB_BAD_STATE = 36,         /* a state is not the TreeHeadSignature of a head */
+    WAGTENIB_STATE_ROLLED_BACK = 37, /* the state's head is before that of a state that was seen */
+    WAGTENIB_LATER_LEAF = 38,        /* the leaf's timestamp is later than the last head's */
+    WAGTENIB_OTHER_INDEX = 39,       /* the leaf has extensions, and they are not only its index */
+    WAGTENIB_NOT_FIRST = 40          /* the head is neither that of the empty tree nor the named one */
 };
 
 /* out = SHA-256(00 || leaf), the hash of a leaf (RFC 6962 section 2.1). */
@@ -82,6 +92,47 @@ uint32_t wagtenib_push(uint64_t size, size_t count, uint8_t *subtrees, size_t pl
 
 /* out = MTH of the leaves whose perfect subtrees these are. */
 void wagtenib_subtrees_root(const uint8_t *subtrees, size_t count, uint8_t out[32]);
+
+/* A tree head without its signature (RFC 6962 section 3.5). */
+struct wagtenib_head {
+    uint64_t tree_size; /* leaves */
+    uint64_t timestamp; /* milliseconds since 1970 */
+    uint8_t root[32];
+};
+
+/* The guard decides what a log's key may sign. Its state is the TreeHeadSignature that was signed last, 50 bytes (RFC 6962 section 3.5), and belongs to the
+ * caller, who keeps it in a place that one process at a time can change: a locked file, or a register with compare-and-set. To sign a head:
+ *
+ *   1. read the state, and call wagtenib_guard_head with it (wagtenib_guard_first_head if no state is kept);
+ *   2. after 0, store `signed_bytes` as the new state, only if the old state is still there (or the new one already);
+ *   3. after that, sign `signed_bytes`.
+ *
+ * Then the log signs no fork, however many processes call the guard and wherever they are killed. A state of another length, or with other bytes, is never
+ * taken for no state: it is refused as 36. No call takes memory. */
+
+/* Whether `head` may be the first head that a log signs. Call it when the log is created, or when the operator asks for it, and never only because a state
+ * is missing. 0: it is the head of the empty tree (no leaves, root SHA-256 of no bytes), at any timestamp, or it has leaves and is equal to `named`, which
+ * the operator names; its TreeHeadSignature is in signed_bytes. 40: it is neither, and nothing is written. If the operator names no head, `named` has the
+ * size 0. */
+uint32_t wagtenib_guard_first_head(const struct wagtenib_head *head, const struct wagtenib_head *named, uint8_t signed_bytes[50]);
+
+/* Whether `head` may be signed after the head whose TreeHeadSignature is `last`. `proof` is the consistency proof between them (RFC 6962 section 2.1.2); if
+ * their sizes are equal, or the last size is 0, it is not read. 0: `head` is the last head again, or its timestamp is later, by at most max_ahead
+ * milliseconds, and its tree contains the last one's by the proof; its TreeHeadSignature is in signed_bytes. Otherwise nothing is written, and the result is
+ * the first reason in this order: 36, 35, 32, 33, 34, then 5, 2, 3, 6 or 4 of the proof. */
+uint32_t wagtenib_guard_head(const uint8_t *last, size_t last_length, const struct wagtenib_head *head, const uint8_t *proof, size_t proof_length,
+                             uint64_t max_ahead, uint8_t signed_bytes[50]);
+
+/* Whether an SCT of this leaf (MerkleTreeLeaf, RFC 6962 section 3.4) may be signed after the head whose TreeHeadSignature is `last`. The bytes that an SCT
+ * signs are those of its leaf (section 3.2). 0: the audit path leads from the leaf at leaf_index to the root of that head, the leaf's timestamp is not
+ * later than the head's, and its extensions are empty or contain only leaf_index (C2SP static-ct-api). Otherwise the first reason in this order: 36, 17
+ * to 22 of the leaf, 1 to 4 of the path, 38, 39. A log that signs an SCT before the leaf is in a tree calls wagtenib_decode_leaf instead. */
+uint32_t wagtenib_guard_receipt(const uint8_t *last, size_t last_length, const uint8_t *leaf, size_t leaf_length, uint64_t leaf_index,
+                                const uint8_t *path, size_t path_length);
+
+/* Reads a state. 0: its head is in `head`, and is the head of the state `seen`, or has a later timestamp and no fewer leaves. 36: one of both is not the
+ * TreeHeadSignature of a head. 37: the state was rolled back. Nothing is written unless the result is 0. To read a state without another, pass it twice. */
+uint32_t wagtenib_guard_state(const uint8_t *seen, size_t seen_length, const uint8_t *state, size_t state_length, struct wagtenib_head *head);
 
 /* The decisions of the programs over lines, as calls. A call writes, byte for byte, what the program of that name writes on its standard output for that
  * line. The replies are lines of JSON, and each ends with a line end.

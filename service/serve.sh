@@ -28,7 +28,7 @@ echo "The decisions of this log are proved code, compiled from dist/. To prove t
 mkdir -p "$(dirname "$folder")"
 folder=$(cd "$(dirname "$folder")" && pwd)/$(basename "$folder")
 
-# ctserve_at FOLDER WORD..: what calls ctserve over the log in a folder.
+# ctserve_at FOLDER SETTING..: puts the arguments of ctserve over the log in a folder into `settings`.
 ctserve_at() {
   local at=$1
   shift

@@ -553,7 +553,7 @@ class Soak:
 
     def stop_whole_node(self, chance):
         node, seconds = chance.choice(self.nodes), chance.choice([chance.uniform(1, 6), chance.uniform(10, 35)])
-        self.note(f"{node.name} stopped with all its signer for {seconds:.0f} s")
+        self.note(f"{node.name} stopped with its signer for {seconds:.0f} s")
         self.stopped([node.process.pid, *below(node.process.pid)] if node.alive() else [], seconds)
 
     @staticmethod

@@ -14,7 +14,7 @@ type asker struct {
 	open  func(context.Context) (*End, error)
 	limit time.Duration
 	opens atomic.Uint64
-	// turn holds the end, or nil where none is open; who took it asks.
+	// turn holds the end, or nil if none is open. The goroutine that took it asks.
 	turn chan *End
 	mu   sync.Mutex
 	// stop ends the exchange that runs; nil before the first.

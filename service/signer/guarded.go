@@ -61,7 +61,7 @@ type Guard struct {
 	// State keeps what it let through last, as the guard writes it. The signers of one log, if they are several, have one: of two that move it to
 	// two heads one wins. (Two that move it to the same head write one text, and both sign that head. No state comes again: moments rise.)
 	State stores.Register
-	// Create says that a state that was never created is to be.
+	// Create makes a state that was never created.
 	Create bool
 	// Judge decides. nil is the proved guard; only tests have another one.
 	Judge Judge
@@ -201,7 +201,7 @@ func (g *Guarded) ask(request guardRequest) (guardReply, error) {
 // askLine asks the guard a line, which has its end. The run begins with the state that the last one ended with.
 //
 // A guard that refuses that state judges the line as if nothing had ever been let through, and its output has one line more. So an output of another
-// number of lines is the end of this guard: nothing is signed behind it any more.
+// number of lines is the end of this guard: nothing is signed after it.
 func (g *Guarded) askLine(line []byte) (reply guardReply, err error) {
 	if g.ended != nil {
 		return reply, g.ended

@@ -32,8 +32,8 @@ func kept(t *testing.T, g *Guarded) string {
 	return text
 }
 
-// TestGuardThatFails has a guard give no reply, or a wrong one, once each: nothing is signed, the state stays, it isn't told that the state is wrong, and the next request is
-// judged as if that one had never been.
+// TestGuardThatFails has a guard give no reply, or a wrong one, once each. Nothing is signed, the state stays, and the error doesn't say that the state is wrong. The next request
+// is judged as if the failed one had never been.
 func TestGuardThatFails(t *testing.T) {
 	t.Parallel()
 	ctx, right := limited(t), listOf(t, 9, 9)
@@ -71,7 +71,7 @@ func TestGuardThatFails(t *testing.T) {
 	}
 }
 
-// TestWrongGuards has guards that reply other bytes than those of what was asked: nothing is signed, and the state stays.
+// TestWrongGuards has guards that reply other bytes than the request is for: nothing is signed, and the state stays.
 func TestWrongGuards(t *testing.T) {
 	t.Parallel()
 	ctx, right := limited(t), listOf(t, 2, 2)
@@ -142,8 +142,8 @@ func TestStateIsPassedOn(t *testing.T) {
 	}
 }
 
-// TestRefusedStateEndsTheGuard: the guard takes up only its own state, byte for byte. One with a blank more is refused, and a fork behind it would be let through as the first
-// head of all. So a guard that is given such a state is asked nothing any more, and signs nothing: no fork, no head that goes on, and no timestamp.
+// TestRefusedStateEndsTheGuard: the guard takes up only its own state, byte for byte. It refuses a state with a blank more, and would let a fork after it through as the first
+// head of all. So nothing is asked of a guard that got such a state, and nothing is signed: no fork, no head that goes on, and no timestamp.
 func TestRefusedStateEndsTheGuard(t *testing.T) {
 	t.Parallel()
 	ctx, right, fork := limited(t), listOf(t, 9, 9), listOf(t, 9, 0)
@@ -156,7 +156,7 @@ func TestRefusedStateEndsTheGuard(t *testing.T) {
 	wants(t, err, wagtenib.ErrNotARequest)
 	said := strings.Split(string(output), "\n")
 	if len(said) != 4 || said[0] != `{"refused":"bad-line"}` || !strings.HasPrefix(said[1], `{"sign":`) {
-		t.Fatalf("behind a state that it refuses, the guard says %q", said)
+		t.Fatalf("after a state that it refuses, the guard says %q", said)
 	}
 	for what, own := range map[string]string{"a blank more": blank + "\n", "no state": "x\n", "two states": none + "\n" + stateOf(&last) + "\n"} {
 		g := behind(t, newKey(t), t.TempDir())

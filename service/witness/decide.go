@@ -2,24 +2,12 @@ package witness
 
 import (
 	"bytes"
-	"encoding/json"
 	"errors"
 	"fmt"
 	"net/http"
 
 	"golang.org/x/mod/sumdb/tlog"
-
-	"wagtenib/bindings/go/wagtenib"
 )
-
-// proved decides a request by the proved code in this process (docs/WITNESS.md). A reply that refuses the request as none is a reply.
-func proved(request []byte) (reply []byte, err error) {
-	var memory []byte
-	if reply, err = wagtenib.WitnessLine(&memory, request); errors.Is(err, wagtenib.ErrNotARequest) {
-		return reply, nil
-	}
-	return reply, err
-}
 
 // statuses has the status of each refusal (docs/WITNESS.md).
 var statuses = map[string]int{
@@ -46,16 +34,15 @@ type reply struct {
 }
 
 // ask has a request decided.
-func (s *Server) ask(last tree, r Request, now uint64) (*reply, error) {
-	line, err := json.Marshal(asked{last, r.Text, r.Old, slices(r.Proof), now})
+func (s *Server) ask(last tree, r Request, now uint64) (said *reply, err error) {
+	err = s.decides.Call(asked{last, r.Text, r.Old, slices(r.Proof), now}, func(line []byte) (err error) {
+		said, err = readReply(line, last, r, now)
+		return err
+	})
 	if err != nil {
-		return nil, fmt.Errorf("witness: %w", err)
+		return nil, err
 	}
-	decided, err := s.of.Decide(line)
-	if err != nil {
-		return nil, fmt.Errorf("witness: %w", err)
-	}
-	return readReply(decided, last, r, now)
+	return said, nil
 }
 
 func slices(hashes [][32]byte) [][]byte {
@@ -66,8 +53,8 @@ func slices(hashes [][32]byte) [][]byte {
 	return all
 }
 
-// readReply reads a reply to a request. What lets a tree through is believed where it is the checkpoint's, the bytes are those under this
-// moment's cosignature of it, and x/mod's tlog finds that the proof leads to it, too.
+// readReply reads a reply to a request. A reply that lets a tree through is believed if the tree is the checkpoint's, the bytes are those under this
+// timestamp's cosignature of it, and x/mod's tlog finds that the proof leads to it, too.
 func readReply(line []byte, last tree, r Request, now uint64) (*reply, error) {
 	wrong := func(why string) (*reply, error) { return nil, fmt.Errorf("%w: %s: %.200q", ErrReply, why, line) }
 	said := &reply{}

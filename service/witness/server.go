@@ -17,6 +17,8 @@ import (
 
 	"golang.org/x/mod/sumdb/note"
 
+	"wagtenib/bindings/go/wagtenib"
+	"wagtenib/service/proved"
 	"wagtenib/service/stores"
 )
 
@@ -116,8 +118,8 @@ func (l Log) Create(ctx context.Context) error {
 type Options struct {
 	Name string
 	Key  ed25519.PrivateKey
-	// Decide returns the reply to a request (docs/WITNESS.md). It may be called at once. nil decides by the proved code; only tests have another one.
-	Decide func(request []byte) (reply []byte, err error)
+	// Decide returns the reply to a request (docs/WITNESS.md). nil is the proved code, wagtenib.WitnessLine; only tests have another one.
+	Decide proved.Function
 	// Tell is told what an operator has to look at; nil tells nobody.
 	Tell func(event string, words ...any)
 }
@@ -127,6 +129,7 @@ type Options struct {
 type Server struct {
 	of      Options
 	public  ed25519.PublicKey
+	decides *proved.Caller
 	room    chan struct{}
 	metrics *metrics
 	// now is the clock, in seconds.
@@ -144,13 +147,13 @@ func New(of Options) (*Server, error) {
 		return nil, fmt.Errorf("%w: a witness's name has neither spaces nor a plus sign", ErrKey)
 	}
 	if of.Decide == nil {
-		of.Decide = proved
+		of.Decide = wagtenib.WitnessLine
 	}
 	if of.Tell == nil {
 		of.Tell = func(string, ...any) {}
 	}
 	s := &Server{
-		of: of, public: of.Key.Public().(ed25519.PublicKey), room: make(chan struct{}, mostAtOnce), logs: map[string]*Log{}, seen: map[string]tree{},
+		of: of, decides: proved.NewCaller(of.Decide), public: of.Key.Public().(ed25519.PublicKey), room: make(chan struct{}, mostAtOnce), logs: map[string]*Log{}, seen: map[string]tree{},
 		now: func() uint64 { return uint64(time.Now().Unix()) },
 	}
 	s.metrics = newMetrics()

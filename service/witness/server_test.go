@@ -26,6 +26,7 @@ import (
 	"golang.org/x/mod/sumdb/tlog"
 
 	"wagtenib/bindings/go/wagtenib"
+	"wagtenib/service/proved"
 	"wagtenib/service/signer"
 	"wagtenib/service/stores"
 	"wagtenib/service/trial"
@@ -450,12 +451,12 @@ func TestStatePutBack(t *testing.T) {
 }
 
 // saying decides the same of every request.
-func saying(reply string) func([]byte) ([]byte, error) {
-	return func([]byte) ([]byte, error) { return []byte(reply + "\n"), nil }
+func saying(reply string) proved.Function {
+	return func(*[]byte, []byte) ([]byte, error) { return []byte(reply + "\n"), nil }
 }
 
 // lying lets everything through, with the right bytes.
-func lying(request []byte) ([]byte, error) {
+func lying(_ *[]byte, request []byte) ([]byte, error) {
 	var of asked
 	if err := json.Unmarshal(request, &of); err != nil {
 		return nil, err
@@ -464,7 +465,8 @@ func lying(request []byte) ([]byte, error) {
 	if err != nil {
 		return nil, err
 	}
-	return json.Marshal(map[string]any{"last_root": root[:], "last_size": size, "sign": Message(of.Time, of.Checkpoint)})
+	line, err := json.Marshal(map[string]any{"last_root": root[:], "last_size": size, "sign": Message(of.Time, of.Checkpoint)})
+	return append(line, '\n'), err
 }
 
 // TestWrongDecisions: wrong code in the place of the proved one gets nothing signed that doesn't follow the last tree, and moves no state.
@@ -488,13 +490,13 @@ func TestWrongDecisions(t *testing.T) {
 		return base64.StdEncoding.EncodeToString(Message(seconds, text))
 	}
 	text := checkpoint(origin, 5, one.root(t, 5))
-	through := func(of *leaves, size int, sign string) func([]byte) ([]byte, error) {
+	through := func(of *leaves, size int, sign string) proved.Function {
 		line, err := json.Marshal(map[string]any{"last_root": root(of, 5), "last_size": size, "sign": sign})
 		must(t, err)
 		return saying(string(line))
 	}
 	for name, test := range map[string]struct {
-		decide func([]byte) ([]byte, error)
+		decide proved.Function
 		body   []byte
 	}{
 		"a fork of as many":              {lying, request(3, nil, signed(other, 3))},
@@ -517,10 +519,10 @@ func TestWrongDecisions(t *testing.T) {
 		"a refusal with another size":    {saying(`{"refused":"not-last","size":4}`), grows},
 		"a refusal without the size":     {saying(`{"refused":"not-last"}`), grows},
 		"a refusal with a size too many": {saying(`{"refused":"inconsistent","size":3}`), grows},
-		"no memory":                      {func([]byte) ([]byte, error) { return nil, wagtenib.ErrMemory }, grows},
+		"no memory":                      {func(*[]byte, []byte) ([]byte, error) { return nil, wagtenib.ErrMemory }, grows},
 	} {
 		s := witnessOf(t, folder, key, by)
-		s.of.Decide = test.decide
+		s.decides = proved.NewCaller(test.decide)
 		s.now = func() uint64 { return moment }
 		var told []string
 		s.of.Tell = func(event string, words ...any) { told = append(told, event) }

@@ -4,6 +4,10 @@ use Rattle.ct_codec.specs.Leaf.{SignedEntry, LeafText, type_of, signed_of}
 use Rattle.ct_codec.specs.Faults.{LeafFaulty}
 use Rattle.ct_codec.specs.declared.fault.DecodeFault.{DecodeFault}
 use Rattle.ct_codec.specs.declared.fault.DecodeFault.TheVariants.{Truncated, BadVersion, BadLeafType, BadEntryType, EmptyVector, Trailing, Memory}
+use Rattle.ct_guard.specs.declared.refusal.HeadRefusal.{HeadRefusal}
+use Rattle.ct_guard.specs.declared.refusal.HeadRefusal.TheVariants.{SizeFalls, MomentNotLater, Fork, Inconsistent}
+use Rattle.ct_guard.specs.declared.refusal.ReceiptRefusal.{ReceiptRefusal}
+use Rattle.ct_guard.specs.declared.refusal.ReceiptRefusal.TheVariants.{NoHead, NoLeaf, NotThere, LaterLeaf, OtherIndex}
 use Rattle.ct_verify.specs.declared.fault.ProofFault.{ProofFault}
 use Rattle.ct_verify.specs.declared.fault.ProofFault.TheVariants.{IndexOutOfRange, PathTooLong, PathTooShort, RootMismatch, EmptyPath, FirstMismatch}
 use Rattle.ct_verify.specs.declared.fault.ProofFault.TheVariants.{SizesOutOfRange}
@@ -32,6 +36,21 @@ leaf_code BadLeafType = 19
 leaf_code BadEntryType = 20
 leaf_code EmptyVector = 21
 leaf_code Trailing = 22
+
+-- the number by which the refusal of a tree head is told in C; include/wagtenib.h has the same
+abbrev pub head_code : HeadRefusal → ℕ
+head_code SizeFalls = 32
+head_code MomentNotLater = 33
+head_code Fork = 34
+head_code (Inconsistent f) = proof_code f
+
+-- the number by which the refusal of a receipt is told in C; include/wagtenib.h has the same
+abbrev pub receipt_code : ReceiptRefusal → ℕ
+receipt_code NoHead = 36
+receipt_code (NoLeaf f) = leaf_code f
+receipt_code (NotThere f) = proof_code f
+receipt_code LaterLeaf = 38
+receipt_code OtherIndex = 39
 
 -- how long an entry's certificate or TBSCertificate is (RFC 6962, section 3.1)
 abbrev pub certificate_length : SignedEntry → ℕ

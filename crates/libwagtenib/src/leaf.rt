@@ -20,7 +20,7 @@ pub struct LeafInfo {
 }
 
 // The number of a leaf's fault.
-fn number_of(fault: DecodeFault) -> u32
+pub(crate) fn number_of(fault: DecodeFault) -> u32
     ensures { result ≡ leaf_code fault }
 {
     match fault {

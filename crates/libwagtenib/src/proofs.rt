@@ -10,7 +10,7 @@ use ct_verify::{ProofFault, verify_consistency, verify_inclusion};
 use std::alloc::{AllocError, Global};
 
 // The number of a proof's fault.
-fn number_of(fault: ProofFault) -> u32
+pub(crate) fn number_of(fault: ProofFault) -> u32
     ensures { result ≡ proof_code fault }
 {
     match fault {
