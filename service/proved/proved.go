@@ -7,6 +7,7 @@ import (
 	"errors"
 	"fmt"
 	"sync"
+	"sync/atomic"
 
 	"wagtenib/bindings/go/wagtenib"
 )
@@ -25,6 +26,8 @@ var ErrMemory = wagtenib.ErrMemory
 type Caller struct {
 	function Function
 	memories sync.Pool
+	// room is as much as the last reply had, and an eighth more. New memory begins with it, because a call without room is made twice.
+	room atomic.Int64
 }
 
 // NewCaller returns a caller of a function.
@@ -44,13 +47,15 @@ func (c *Caller) Call(request any, read func(reply []byte) error) error {
 func (c *Caller) CallLine(line []byte, read func(reply []byte) error) error {
 	memory, ok := c.memories.Get().(*[]byte)
 	if !ok {
-		memory = new([]byte)
+		made := make([]byte, c.room.Load())
+		memory = &made
 	}
 	defer c.memories.Put(memory)
 	reply, err := c.function(memory, line)
 	if err != nil && !errors.Is(err, wagtenib.ErrNotARequest) {
 		return fmt.Errorf("proved: %w", err)
 	}
+	c.room.Store(int64(len(reply) + len(reply)/8))
 	text, whole := bytes.CutSuffix(reply, []byte{'\n'})
 	if !whole || bytes.IndexByte(text, '\n') >= 0 {
 		return fmt.Errorf("%w: %.80q isn't a line", ErrReply, reply)

@@ -3,6 +3,7 @@ package proved_test
 import (
 	"errors"
 	"fmt"
+	"runtime"
 	"strings"
 	"sync"
 	"testing"
@@ -71,6 +72,30 @@ func TestRefusals(t *testing.T) {
 		if err := c.CallInto(1, &struct{}{}, func() error { return nil }); !errors.Is(err, proved.ErrReply) {
 			t.Errorf("%s: %v", reply, err)
 		}
+	}
+}
+
+// TestKeepsRoomForReplies: a reply as long as the one before has room at once, also after the collector took the memory.
+func TestKeepsRoomForReplies(t *testing.T) {
+	without := 0
+	c := proved.NewCaller(func(memory *[]byte, _ []byte) ([]byte, error) {
+		const length = 100_000
+		if len(*memory) < length {
+			without++
+			*memory = make([]byte, length)
+		}
+		(*memory)[length-1] = '\n'
+		return (*memory)[:length], nil
+	})
+	for range 10 {
+		if err := c.Call(1, func([]byte) error { return nil }); err != nil {
+			t.Fatal(err)
+		}
+		runtime.GC()
+		runtime.GC()
+	}
+	if without != 1 {
+		t.Errorf("%d of 10 calls had no room", without)
 	}
 }
 

@@ -37,6 +37,8 @@ const (
 // Stepper makes the steps of one log. It keeps nothing of the log from one call to the next. Its methods may be called at once.
 type Stepper struct {
 	caller *proved.Caller
+	// steps is the caller of Step, whose replies are long.
+	steps *proved.Caller
 	// lines has the memory of requests for steps, which are long.
 	lines sync.Pool
 }
@@ -49,7 +51,9 @@ func New(origin string) *Stepper {
 }
 
 // Over returns a stepper over another function than the proved one, for tests.
-func Over(function proved.Function) *Stepper { return &Stepper{caller: proved.NewCaller(function)} }
+func Over(function proved.Function) *Stepper {
+	return &Stepper{caller: proved.NewCaller(function), steps: proved.NewCaller(function)}
+}
 
 // Submission is one entry of a batch.
 type Submission struct {
@@ -152,7 +156,7 @@ func (s *Stepper) Step(line string, edge [][]byte, batch []Submission, now, most
 		return nil, fmt.Errorf("step: request: %w", err)
 	}
 	var stepped *Stepped
-	err = s.caller.CallLine(*spare, func(reply []byte) (err error) {
+	err = s.steps.CallLine(*spare, func(reply []byte) (err error) {
 		stepped, err = readStep(reply, line, before.Size, len(batch), now)
 		return err
 	})
