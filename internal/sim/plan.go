@@ -1,0 +1,166 @@
+package sim
+
+import (
+	"fmt"
+	"math/rand"
+	"strings"
+	"time"
+)
+
+// Kind is a kind of fault.
+type Kind int
+
+// The faults of a call.
+const (
+	// CallFails: the call is not done, and says so.
+	CallFails Kind = iota
+	// CallHangs: the call is not done, and gives no answer until the caller gives up.
+	CallHangs
+	// DoneSaysFailed: the call is done, and says that it failed.
+	DoneSaysFailed
+	// AnswersLate: the call is done, and its answer comes after the caller gave up.
+	AnswersLate
+	// DoneLate: the call is done after the caller gave up.
+	DoneLate
+	// KilledBefore and KilledAfter: the node is killed before the call is done, or after that.
+	KilledBefore
+	KilledAfter
+	// Paused: the node stands still at the call, and goes on later.
+	Paused
+	// Away: no call of the node reaches a store for a while.
+	Away
+	// StoreFull: no store takes anything for a while. ReadOnly: no store is changed for a while, not even by deleting.
+	StoreFull
+	ReadOnly
+	// ClockForward and ClockBack: the node's time of day is set.
+	ClockForward
+	ClockBack
+	// PutLost: a put is acknowledged, and the object is not there.
+	PutLost
+	// NewestLost: the newest object of the store is gone.
+	NewestLost
+	// ObjectBent: an object has another content. HeadForged: a head has a signature that is not the key's.
+	ObjectBent
+	HeadForged
+	// IndexLost: some of the newest places are gone from the index. IndexWrong: a place is another entry's.
+	IndexLost
+	IndexWrong
+	// MemoryLost: the machine's memory is gone, and the node is killed.
+	MemoryLost
+	// The stores are rolled back to an earlier state: the objects, the lock, the guard's state, two of these together, or all.
+	ObjectsRolledBack
+	LockRolledBack
+	GuardRolledBack
+	LockAndGuardRolledBack
+	ObjectsAndLockRolledBack
+	ObjectsAndGuardRolledBack
+	AllRolledBack
+	// LockGone: the lock's text is gone.
+	LockGone
+
+	kinds
+)
+
+var kindNames = [kinds]string{
+	"call fails", "call hangs", "done, says failed", "answers late", "done late", "killed before", "killed after", "paused", "away", "store full", "read-only",
+	"clock forward", "clock back", "put lost", "newest object lost", "object bent", "head forged", "index lost", "index wrong", "memory lost",
+	"objects rolled back", "lock rolled back", "guard rolled back", "lock, guard rolled back", "objects, lock rolled back", "objects, guard rolled back",
+	"all rolled back", "lock gone",
+}
+
+func (k Kind) String() string { return kindNames[k] }
+
+// isLoss reports whether a store does not keep what it acknowledged. A history has at most one of these: two may be a loss that no node can see.
+func (k Kind) isLoss() bool { return k >= PutLost }
+
+// Fault happens at one call of the history.
+type Fault struct {
+	// At is the number of the call, from 1 on, of all calls of all nodes.
+	At   int
+	Kind Kind
+	// Long is for how long it lasts, or by how much a clock is set, and Count how many changes are undone, or which object is meant.
+	Long  time.Duration
+	Count int
+}
+
+func (f Fault) String() string {
+	return fmt.Sprintf("%s at call %d (%v, %d)", f.Kind, f.At, f.Long, f.Count)
+}
+
+// Client submits one after the other. A number that another client or an earlier one had is a repeated chain.
+type Client struct {
+	Begins  time.Duration
+	Machine int
+	Numbers []int
+	// Burst says that all numbers are submitted at once.
+	Burst bool
+}
+
+// Plan is a history before it runs: what is not in it follows from Seed.
+type Plan struct {
+	Seed     int64
+	Machines int
+	Faults   []Fault
+	Clients  []Client
+}
+
+func (p Plan) String() string {
+	var text strings.Builder
+	fmt.Fprintf(&text, "seed %d, %d nodes", p.Seed, p.Machines)
+	for _, f := range p.Faults {
+		fmt.Fprintf(&text, "\n  fault: %v", f)
+	}
+	for _, c := range p.Clients {
+		fmt.Fprintf(&text, "\n  client: at %v of node %d, entries %v", c.Begins, c.Machine+1, c.Numbers)
+	}
+	return text.String()
+}
+
+// callsOfHistory is how many calls a history has, more or less.
+const callsOfHistory = 420
+
+// NewPlan returns the plan of a seed.
+func NewPlan(seed int64) Plan {
+	random := rand.New(rand.NewSource(seed))
+	plan := Plan{Seed: seed, Machines: 1 + random.Intn(3)}
+	for range random.Intn(10) {
+		plan.Faults = append(plan.Faults, newFault(random, Kind(random.Intn(int(PutLost)))))
+	}
+	if random.Intn(3) == 0 {
+		plan.Faults = append(plan.Faults, newFault(random, PutLost+Kind(random.Intn(int(kinds-PutLost)))))
+	}
+	next := 0
+	for range 1 + random.Intn(4) {
+		c := Client{Begins: time.Duration(random.Intn(6000)) * time.Millisecond, Machine: random.Intn(plan.Machines)}
+		for range 1 + random.Intn(5) {
+			if next > 0 && random.Intn(4) == 0 {
+				c.Numbers = append(c.Numbers, random.Intn(next))
+				continue
+			}
+			c.Numbers = append(c.Numbers, next)
+			next++
+		}
+		plan.Clients = append(plan.Clients, c)
+	}
+	if random.Intn(12) == 0 {
+		// A tile has 256 entries, so some histories have more.
+		burst := Client{Begins: time.Duration(random.Intn(3000)) * time.Millisecond, Machine: random.Intn(plan.Machines), Burst: true}
+		for range 245 + random.Intn(30) {
+			burst.Numbers = append(burst.Numbers, next)
+			next++
+		}
+		plan.Clients = append(plan.Clients, burst)
+	}
+	return plan
+}
+
+func newFault(random *rand.Rand, kind Kind) Fault {
+	f := Fault{At: 1 + random.Intn(callsOfHistory), Kind: kind, Count: 1 + random.Intn(12)}
+	switch kind {
+	case ClockForward, ClockBack:
+		f.Long = []time.Duration{3 * time.Second, 30 * time.Second, 50 * time.Minute, 3 * time.Hour, 400 * 24 * time.Hour}[random.Intn(5)]
+	default:
+		f.Long = []time.Duration{30 * time.Millisecond, 700 * time.Millisecond, 4 * time.Second, 25 * time.Second}[random.Intn(4)]
+	}
+	return f
+}

@@ -1,0 +1,88 @@
+package sim_test
+
+import (
+	"context"
+	"flag"
+	"fmt"
+	"os"
+	"os/exec"
+	"path/filepath"
+	"strconv"
+	"testing"
+	"time"
+
+	"wagtenib/internal/node"
+	"wagtenib/internal/sim"
+	"wagtenib/service/decider"
+	"wagtenib/service/step"
+)
+
+// programLimit is how long one line of a proved program may take.
+const programLimit = time.Minute
+
+// proved returns the proved decisions: the compiled code of dist/, as child programs.
+func proved(t testing.TB) node.Proved {
+	t.Helper()
+	steps, err := step.NewClient([]string{filepath.Join(programs, "bin", "cttile"), "--origin", sim.Origin}, programLimit)
+	if err != nil {
+		t.Fatal(err)
+	}
+	t.Cleanup(func() { steps.Close() })
+	next, err := decider.NewClient([]string{filepath.Join(programs, "bin", "ctnode")}, programLimit)
+	if err != nil {
+		t.Fatal(err)
+	}
+	t.Cleanup(func() { next.Close() })
+	return node.Proved{Decider: next, Steps: steps}
+}
+
+// programs is the folder with the proved programs.
+var programs string
+
+func TestMain(m *testing.M) {
+	flag.Parse()
+	folder, err := os.MkdirTemp("", "sim")
+	if err == nil {
+		var said []byte
+		if said, err = exec.Command("../../dist/programs.sh", folder).CombinedOutput(); err != nil {
+			err = fmt.Errorf("dist/programs.sh: %w: %s (install a C compiler)", err, said)
+		}
+	}
+	if err != nil {
+		fmt.Fprintln(os.Stderr, err)
+		os.Exit(1)
+	}
+	programs = folder
+	status := m.Run()
+	os.RemoveAll(folder)
+	os.Exit(status)
+}
+
+// count returns how many histories are run: those of the environment's variable, or so many.
+func count(t *testing.T, normal int) int {
+	t.Helper()
+	text := os.Getenv("SIM_HISTORIES")
+	if text == "" {
+		return normal
+	}
+	n, err := strconv.Atoi(text)
+	if err != nil || n <= 0 {
+		t.Fatalf("SIM_HISTORIES: %q is no number above 0", text)
+	}
+	return n
+}
+
+// TestHistories runs the histories of many seeds, and explains the first that breaks a rule.
+func TestHistories(t *testing.T) {
+	with, began := proved(t), time.Now()
+	histories := count(t, 200)
+	for seed := range histories {
+		plan := sim.NewPlan(int64(seed))
+		result := sim.Run(plan, with, false)
+		if result.Violation != nil {
+			t.Fatalf("%v\n%s", result.Violation, sim.Explain(plan, with))
+		}
+	}
+	t.Logf("%d histories, %.0f a second", histories, float64(histories)/time.Since(began).Seconds())
+	_ = context.Background
+}
