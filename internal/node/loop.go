@@ -202,9 +202,16 @@ func (l *Loop) read(ctx context.Context, text string) (*state, error) {
 type timekeeper struct {
 	of      Clock
 	maxSkew time.Duration
-	// believed is the time of day that was believed last, and since is Elapsed then.
-	believed time.Time
-	since    time.Duration
+	// read is the time of day that was read last and may be believed, and since is Elapsed then.
+	read  time.Time
+	since time.Duration
+	// isBelieved says that it was compared with a newest head.
+	isBelieved bool
+}
+
+// newTimekeeper reads the clock when the node starts, so that the node sees if the clock is set while it starts.
+func newTimekeeper(of Clock, maxSkew time.Duration) timekeeper {
+	return timekeeper{of: of, maxSkew: maxSkew, read: of.Now(), since: of.Elapsed()}
 }
 
 // maxStood is how far a node's first timestamp may be after the newest head's, if only this machine's clock says what time it is.
@@ -216,16 +223,13 @@ func (t *timekeeper) check(newest uint64) error {
 	if behind := time.UnixMilli(int64(newest)).Sub(now); behind > t.maxSkew {
 		return fmt.Errorf("%w: it is behind the newest head by %v (set it right)", ErrClock, behind.Round(time.Millisecond))
 	}
-	if t.believed.IsZero() {
-		if ahead := now.Sub(time.UnixMilli(int64(newest))); newest > 0 && ahead > maxStood {
-			return fmt.Errorf("%w: it is ahead of the newest head by %v, and nothing else says what time it is (set it right)", ErrClock, ahead.Round(time.Millisecond))
-		}
-	} else if off := now.Sub(t.believed) - (elapsed - t.since); off > t.maxSkew || -off > t.maxSkew {
+	if off := now.Sub(t.read) - (elapsed - t.since); off > t.maxSkew || -off > t.maxSkew {
 		return fmt.Errorf("%w: it was set by %v while this node ran (set it right)", ErrClock, off.Round(time.Millisecond))
-	} else {
-		return nil
 	}
-	t.believed, t.since = now, elapsed
+	if ahead := now.Sub(time.UnixMilli(int64(newest))); !t.isBelieved && newest > 0 && ahead > maxStood {
+		return fmt.Errorf("%w: it is ahead of the newest head by %v, and nothing else says what time it is (set it right)", ErrClock, ahead.Round(time.Millisecond))
+	}
+	t.read, t.since, t.isBelieved = now, elapsed, true
 	return nil
 }
 

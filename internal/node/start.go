@@ -18,7 +18,7 @@ func Start(ctx context.Context, config Config) (*Node, *Loop, error) {
 		return nil, nil, err
 	}
 	n := newNode(config)
-	l := &Loop{Node: n, edge: map[string][]byte{}, clock: timekeeper{of: config.Machine.Clock, maxSkew: config.Pace.MaxSkew}}
+	l := &Loop{Node: n, edge: map[string][]byte{}, clock: newTimekeeper(config.Machine.Clock, config.Pace.MaxSkew)}
 	remembered, err := config.Machine.Memory.Load(ctx)
 	if err != nil {
 		return nil, nil, fmt.Errorf("node: the memory: %w", err)

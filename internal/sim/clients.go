@@ -30,7 +30,7 @@ var errUnreachable = errors.New("sim: the node does not run")
 // submit has a client submit a number to a machine, and returns once it is answered, or the node dies, or the client gives up.
 func (w *world) submit(m *machine, number int) error {
 	p, n := m.process, m.node
-	if p.dead || n == nil {
+	if p == nil || p.dead || n == nil {
 		return errUnreachable
 	}
 	var err error

@@ -8,8 +8,8 @@ import (
 	"wagtenib/service/stores"
 )
 
-// befalls has a fault happen at a call of a machine. It reports true if the fault is the call's own fate; any other fault changes the world before the call.
-func (w *world) befalls(m *machine, f Fault, store, what string) bool {
+// befalls has a fault happen at a call of a machine. It returns the fault if that is the call's own fate; any other fault changes the world before the call.
+func (w *world) befalls(m *machine, f Fault, store string) *Fault {
 	if store == "memory" && (f.Kind == CallHangs || f.Kind == DoneLate || f.Kind == AnswersLate) {
 		// A disk of the machine's own either works or fails.
 		f.Kind = CallFails
@@ -18,7 +18,7 @@ func (w *world) befalls(m *machine, f Fault, store, what string) bool {
 	switch f.Kind {
 	case CallFails, CallHangs, DoneSaysFailed, AnswersLate, DoneLate, KilledBefore, KilledAfter:
 		w.judge.counts[f.Kind]++
-		return true
+		return &f
 	case Paused:
 		m.process.pausedUntil = w.now + f.Long
 	case Away:
@@ -40,7 +40,7 @@ func (w *world) befalls(m *machine, f Fault, store, what string) bool {
 		w.judge.counts[f.Kind]++
 		w.tell("world", f.String(), "", "")
 	}
-	return false
+	return nil
 }
 
 // loses has a store lose what it acknowledged, and reports whether there was something to lose.

@@ -64,7 +64,10 @@ func (w *world) ends() {
 	w.calm = true
 	w.stores.fullUntil, w.stores.readOnlyUntil = 0, 0
 	for _, m := range w.machines {
-		m.offset, m.away, m.process.pausedUntil = 0, 0, 0
+		m.offset, m.away = 0, 0
+		if m.process != nil {
+			m.process.pausedUntil = 0
+		}
 	}
 	w.tell("world", "calm: no fault happens any more", "", "")
 	for i, m := range w.machines {
@@ -105,7 +108,7 @@ func (w *world) goesOn(m *machine, number int) error {
 		if err == nil {
 			return nil
 		}
-		if m.refused != nil {
+		if errors.Is(err, errUnreachable) && m.refused != nil {
 			err = m.refused
 		}
 		w.tell("client", fmt.Sprintf("entry %d", number), err.Error(), "")
@@ -116,9 +119,13 @@ func (w *world) goesOn(m *machine, number int) error {
 	}
 }
 
-// Shrink drops faults and clients from a plan, one by one, as long as a rule is still broken.
+// Shrink drops faults and clients from a plan, one by one, as long as the same rule is broken.
 func Shrink(plan Plan, proved node.Proved) Plan {
-	breaks := func(p Plan) bool { return Run(p, proved, false).Violation != nil }
+	first := Run(plan, proved, false).Violation
+	breaks := func(p Plan) bool {
+		v := Run(p, proved, false).Violation
+		return v != nil && first != nil && v.Rule == first.Rule
+	}
 	for again := true; again; {
 		again = false
 		for i := range plan.Faults {

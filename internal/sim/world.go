@@ -44,7 +44,7 @@ type machine struct {
 	name    string
 	process *process
 	node    *node.Node
-	// refused is why the node did not start.
+	// refused is why the node did not start when that was tried last.
 	refused error
 	// offset is how far the time of day is off, and away until when no call reaches a store.
 	offset, away time.Duration
@@ -92,14 +92,18 @@ func (m *machine) operate() {
 	w := m.w
 	for {
 		p := &process{name: m.name}
-		m.process, m.node, m.refused = p, nil, nil
+		m.process, m.node = p, nil
 		m.signer = &guarded{m: m}
 		if m.offset > maxSkew || -m.offset > maxSkew {
 			w.excuses.ahead = true
 		}
 		w.tell(m.name, "starts", "", "")
-		w.spawn(p, func() { m.carry(p) })
-		w.wait(forever, func() bool { return p.dead || m.refused != nil })
+		ended := false
+		w.spawn(p, func() {
+			m.carry()
+			ended = true
+		})
+		w.wait(forever, func() bool { return p.dead || ended })
 		m.node = nil
 		p.dead = true
 		w.wait(time.Duration(50+w.random.Intn(3000))*time.Millisecond, nil)
@@ -107,7 +111,7 @@ func (m *machine) operate() {
 }
 
 // carry runs a node until it is killed.
-func (m *machine) carry(p *process) {
+func (m *machine) carry() {
 	ctx := m.w.background()
 	n, loop, err := node.Start(ctx, m.config())
 	if err != nil {
@@ -115,7 +119,7 @@ func (m *machine) carry(p *process) {
 		m.refused = err
 		return
 	}
-	m.node = n
+	m.node, m.refused = n, nil
 	// It ends with its process only.
 	_ = loop.Run(ctx)
 }
@@ -185,8 +189,8 @@ func (m *machine) call(ctx context.Context, store, what string, writes bool, do 
 	var fate *Fault
 	if !w.calm {
 		for _, f := range w.faults[n] {
-			if w.befalls(m, f, store, what) {
-				fate = &f
+			if own := w.befalls(m, f, store); own != nil {
+				fate = own
 			}
 		}
 	}
