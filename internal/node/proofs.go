@@ -110,16 +110,23 @@ func (n *Node) consistency(ctx context.Context, first uint64, head signer.Head, 
 	return proof, err
 }
 
-// path returns the audit path of an entry in a head's tree (RFC 6962, section 2.1.1).
-func path(ctx context.Context, index uint64, head signer.Head, read reader) (path [][32]byte, err error) {
+// paths returns the audit paths of entries in a head's tree (RFC 6962, section 2.1.1).
+func paths(ctx context.Context, indexes []uint64, head signer.Head, read reader) (all [][][32]byte, err error) {
 	err = prove(ctx, head, read, func(hashes tlog.HashReader) error {
-		made, err := tlog.ProveRecord(int64(head.Size), int64(index), hashes)
-		for _, hash := range made {
-			path = append(path, hash)
+		for _, index := range indexes {
+			made, err := tlog.ProveRecord(int64(head.Size), int64(index), hashes)
+			if err != nil {
+				return err
+			}
+			path := make([][32]byte, len(made))
+			for i := range made {
+				path[i] = made[i]
+			}
+			all = append(all, path)
 		}
-		return err
+		return nil
 	})
-	return path, err
+	return all, err
 }
 
 // signTimestamps has the timestamps of receipts signed, with their paths in the tree of the signer's last head. A head is the first one that is tried as the last.
@@ -132,16 +139,19 @@ func (n *Node) signTimestamps(ctx context.Context, receipts []step.Receipt, head
 				return nil, fmt.Errorf("node: the signer: %w", err)
 			}
 		}
-		asked := make([]signer.Receipt, len(receipts))
+		asked, indexes := make([]signer.Receipt, len(receipts)), make([]uint64, len(receipts))
 		for i, r := range receipts {
 			if last == nil || r.LeafIndex >= last.Size {
 				return nil, fmt.Errorf("node: entry %d is not in the signer's last head: %w", r.LeafIndex, signer.ErrRefused)
 			}
-			proof, err := path(ctx, r.LeafIndex, *last, read)
-			if err != nil {
-				return nil, err
-			}
-			asked[i] = signer.Receipt{Leaf: r.Sign, Index: r.LeafIndex, Path: proof}
+			asked[i], indexes[i] = signer.Receipt{Leaf: r.Sign, Index: r.LeafIndex}, r.LeafIndex
+		}
+		proofs, err := paths(ctx, indexes, *last, read)
+		if err != nil {
+			return nil, err
+		}
+		for i := range asked {
+			asked[i].Path = proofs[i]
 		}
 		signatures, err := n.config.Signer.SignTimestamps(ctx, asked)
 		if err == nil {

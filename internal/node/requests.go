@@ -88,13 +88,13 @@ func (n *Node) claimed(ctx context.Context, at *Snapshot, place stores.Place, r 
 	if identity(leaf.Type, leaf.IssuerKeyHash, leaf.Certificate) != r.identity || leaf.Timestamp != place.Timestamp {
 		return nil, nil
 	}
-	proof, err := path(ctx, place.Index, at.Head.Head, n.stored)
+	proofs, err := paths(ctx, []uint64{place.Index}, at.Head.Head, n.stored)
 	if err != nil {
 		return nil, err
 	}
-	hashesUp := make([][]byte, len(proof))
-	for i := range proof {
-		hashesUp[i] = proof[i][:]
+	hashesUp := make([][]byte, len(proofs[0]))
+	for i := range hashesUp {
+		hashesUp[i] = proofs[0][i][:]
 	}
 	receipt, err := n.config.Proved.Steps.Claim(ctx, at.Line, place.Index, place.Timestamp, hashesUp, r.submission)
 	if errors.Is(err, step.NoClaim) {

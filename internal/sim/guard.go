@@ -1,6 +1,7 @@
 package sim
 
 import (
+	"bytes"
 	"context"
 	"crypto"
 	"crypto/ecdsa"
@@ -12,6 +13,7 @@ import (
 	"errors"
 	"fmt"
 	"math/big"
+	"sync"
 	"time"
 
 	"github.com/transparency-dev/merkle/proof"
@@ -36,21 +38,29 @@ func newKey() (*ecdsa.PrivateKey, []byte) {
 	return k, der
 }
 
-// sign returns the DigitallySigned of a message (RFC 5246, section 4.7), which is the same each time.
+// signatures are those that the key made in this process, by what was signed. The key signs the same each time, and nobody else has it, so a signature is
+// the key's if it is one of these.
+var signatures sync.Map
+
+// sign returns the DigitallySigned of a message (RFC 5246, section 4.7).
 func sign(message []byte) []byte {
 	digest := sha256.Sum256(message)
+	if made, ok := signatures.Load(digest); ok {
+		return made.([]byte)
+	}
 	signature, err := key.Sign(nil, digest[:], crypto.SHA256)
 	if err != nil {
 		panic(err)
 	}
-	return append(binary.BigEndian.AppendUint16([]byte{4, 3}, uint16(len(signature))), signature...)
+	signed := append(binary.BigEndian.AppendUint16([]byte{4, 3}, uint16(len(signature))), signature...)
+	signatures.Store(digest, signed)
+	return signed
 }
 
 // isSigned reports whether a DigitallySigned is the key's over a message.
 func isSigned(message, signed []byte) bool {
-	digest := sha256.Sum256(message)
-	return len(signed) > 4 && signed[0] == 4 && signed[1] == 3 && int(binary.BigEndian.Uint16(signed[2:])) == len(signed)-4 &&
-		ecdsa.VerifyASN1(&key.PublicKey, digest[:], signed[4:])
+	made, ok := signatures.Load(sha256.Sum256(message))
+	return ok && bytes.Equal(made.([]byte), signed)
 }
 
 // headMessage is what is signed of a tree head (RFC 6962, section 3.5).

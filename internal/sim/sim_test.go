@@ -1,7 +1,6 @@
 package sim_test
 
 import (
-	"context"
 	"flag"
 	"fmt"
 	"os"
@@ -72,17 +71,21 @@ func count(t *testing.T, normal int) int {
 	return n
 }
 
-// TestHistories runs the histories of many seeds, and explains the first that breaks a rule.
+// TestHistories runs the histories of many seeds, and explains the first that breaks a rule. It prints how often each kind of fault happened.
 func TestHistories(t *testing.T) {
 	with, began := proved(t), time.Now()
-	histories := count(t, 200)
+	histories := count(t, 300)
+	var total sim.Totals
 	for seed := range histories {
 		plan := sim.NewPlan(int64(seed))
 		result := sim.Run(plan, with, false)
 		if result.Violation != nil {
 			t.Fatalf("%v\n%s", result.Violation, sim.Explain(plan, with))
 		}
+		total.Add(result)
 	}
-	t.Logf("%d histories, %.0f a second", histories, float64(histories)/time.Since(began).Seconds())
-	_ = context.Background
+	t.Logf("%d histories, %.1f a second\n%v", histories, float64(histories)/time.Since(began).Seconds(), &total)
+	if missing := total.Missing(); histories >= 300 && len(missing) > 0 {
+		t.Errorf("faults that never happened: %v", missing)
+	}
 }

@@ -97,6 +97,7 @@ func (m *machine) operate() {
 		if m.offset > maxSkew || -m.offset > maxSkew {
 			w.excuses.ahead = true
 		}
+		w.judge.stats.Starts++
 		w.tell(m.name, "starts", "", "")
 		ended := false
 		w.spawn(p, func() {
