@@ -201,6 +201,9 @@ func (n *Node) Snapshot() *Snapshot { return n.snapshot.Load() }
 // Fault returns what keeps the node from going on, or nil.
 func (n *Node) Fault() error { return n.health.now() }
 
+// Waiting returns how many submissions have no answer yet.
+func (n *Node) Waiting() int { return n.pool.count() }
+
 // show makes a head the one that readers see, unless they see a later one.
 func (n *Node) show(head Head, line string) {
 	if now := n.snapshot.Load(); now == nil || now.Head.before(head) {

@@ -124,6 +124,13 @@ func (p *pool) refuse(err error) {
 	}
 }
 
+// count returns how many tickets have no answer yet.
+func (p *pool) count() int {
+	p.mu.Lock()
+	defer p.mu.Unlock()
+	return p.open
+}
+
 // isEmpty reports whether no submission waits.
 func (p *pool) isEmpty() bool {
 	p.mu.Lock()

@@ -117,7 +117,7 @@ func (p Plan) String() string {
 }
 
 // callsOfHistory is how many calls a history has, more or less.
-const callsOfHistory = 420
+const callsOfHistory = 320
 
 // NewPlan returns the plan of a seed.
 func NewPlan(seed int64) Plan {
@@ -126,7 +126,7 @@ func NewPlan(seed int64) Plan {
 	for range random.Intn(10) {
 		plan.Faults = append(plan.Faults, newFault(random, Kind(random.Intn(int(PutLost)))))
 	}
-	if random.Intn(3) == 0 {
+	if random.Intn(2) == 0 {
 		plan.Faults = append(plan.Faults, newFault(random, PutLost+Kind(random.Intn(int(kinds-PutLost)))))
 	}
 	next := 0

@@ -26,6 +26,8 @@ const (
 	// scriptWithin is how long the clients' scripts may take, and calmWithin how long the log may take to go on after all faults have ended.
 	scriptWithin = 10 * time.Minute
 	calmWithin   = 3 * time.Minute
+	// settleWithin is how long a node that goes on may take to answer all that wait.
+	settleWithin = time.Minute
 )
 
 // Run runs the history of a plan over the proved decisions. Two runs of one plan are the same.
@@ -73,6 +75,7 @@ func (w *world) ends() {
 	for i, m := range w.machines {
 		err := w.goesOn(m, 1_000_000+i)
 		if err == nil {
+			w.forgets(m)
 			continue
 		}
 		w.stopped = err
@@ -84,6 +87,13 @@ func (w *world) ends() {
 		default:
 			w.judge.breaks("the log goes on", "%s", why)
 		}
+	}
+}
+
+// forgets judges whether a node that goes on has forgotten a submission.
+func (w *world) forgets(m *machine) {
+	if n := m.node; n != nil && !w.wait(settleWithin, func() bool { return m.node != n || n.Waiting() == 0 }) {
+		w.judge.breaks("no submission is forgotten", "%s goes on, and %d submissions wait for ever", m.name, n.Waiting())
 	}
 }
 

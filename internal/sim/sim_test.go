@@ -7,6 +7,7 @@ import (
 	"os/exec"
 	"path/filepath"
 	"strconv"
+	"strings"
 	"testing"
 	"time"
 
@@ -80,12 +81,45 @@ func TestHistories(t *testing.T) {
 		plan := sim.NewPlan(int64(seed))
 		result := sim.Run(plan, with, false)
 		if result.Violation != nil {
-			t.Fatalf("%v\n%s", result.Violation, sim.Explain(plan, with))
+			if os.Getenv("SIM_BRIEF") != "" {
+				t.Fatalf("broken by seed %d: %v", seed, result.Violation)
+			}
+			t.Fatalf("broken by seed %d: %v\n%s", seed, result.Violation, sim.Explain(plan, with))
 		}
 		total.Add(result)
 	}
 	t.Logf("%d histories, %.1f a second\n%v", histories, float64(histories)/time.Since(began).Seconds(), &total)
 	if missing := total.Missing(); histories >= 300 && len(missing) > 0 {
 		t.Errorf("faults that never happened: %v", missing)
+	}
+}
+
+// TestOneHistory prints the whole history of one seed, whether a rule is broken or not.
+func TestOneHistory(t *testing.T) {
+	text := os.Getenv("SIM_SEED")
+	if text == "" {
+		t.Skip("SIM_SEED says which seed's history is printed")
+	}
+	seed, err := strconv.ParseInt(text, 10, 64)
+	if err != nil {
+		t.Fatalf("SIM_SEED: %q is no number", text)
+	}
+	plan := sim.NewPlan(seed)
+	result := sim.Run(plan, proved(t), true)
+	t.Logf("%v\n%s", plan, strings.Join(result.Lines, "\n"))
+	if result.Violation != nil {
+		t.Error(result.Violation)
+	}
+}
+
+// TestSameHistory runs plans twice, and compares all lines.
+func TestSameHistory(t *testing.T) {
+	with := proved(t)
+	for seed := range int64(20) {
+		plan := sim.NewPlan(seed)
+		first, second := sim.Run(plan, with, true), sim.Run(plan, with, true)
+		if len(first.Lines) == 0 || strings.Join(first.Lines, "\n") != strings.Join(second.Lines, "\n") {
+			t.Errorf("seed %d has two histories, of %d and %d lines", seed, len(first.Lines), len(second.Lines))
+		}
 	}
 }
