@@ -49,7 +49,7 @@ func (w *world) loses(m *machine, f Fault) bool {
 	switch f.Kind {
 	case PutLost:
 		// It is counted when the put happens.
-		w.losesNext, w.excuses.loss = true, true
+		w.events.losesNext, w.excuses.loss = true, true
 	case NewestLost:
 		happened = w.losesNewest()
 	case ObjectBent:
@@ -57,9 +57,7 @@ func (w *world) loses(m *machine, f Fault) bool {
 	case HeadForged:
 		happened = w.bends(1, "heads/")
 	case IndexLost:
-		if happened = w.stores.rollBack(indexPart, f.Count); happened {
-			w.excuses.repeats = true
-		}
+		happened = w.losesPlaces(f.At - 10*f.Count)
 	case IndexWrong:
 		happened = w.misplaces(f.Count)
 	case MemoryLost:
@@ -115,6 +113,16 @@ func (w *world) bends(which int, prefixes ...string) bool {
 	return true
 }
 
+// losesPlaces rolls the index back, and nothing else. An identity whose place is lost may get one more entry.
+func (w *world) losesPlaces(call int) bool {
+	for _, c := range w.stores.changes[indexPart] {
+		if c.call > call {
+			w.excuses.again[[32]byte([]byte(c.name))] = true
+		}
+	}
+	return w.stores.rollBack(indexPart, call)
+}
+
 // misplaces gives an identity the place of another entry.
 func (w *world) misplaces(which int) bool {
 	ids := make([]stores.Identity, 0, len(w.stores.index))
@@ -129,7 +137,7 @@ func (w *world) misplaces(which int) bool {
 	place := w.stores.index[id]
 	place.Index = (place.Index + 1) % uint64(len(ids))
 	w.stores.index[id] = place
-	w.excuses.repeats = true
+	w.excuses.again[id] = true
 	return true
 }
 
@@ -146,12 +154,7 @@ func (w *world) rollsBack(f Fault) bool {
 	}
 	happened := false
 	for _, one := range of {
-		count := f.Count
-		if one == objectsPart || one == indexPart {
-			// A step changes more objects than cells.
-			count *= 4
-		}
-		happened = w.stores.rollBack(one, count) || happened
+		happened = w.stores.rollBack(one, f.At-10*f.Count) || happened
 	}
 	switch f.Kind {
 	case LockRolledBack, LockAndGuardRolledBack, ObjectsAndLockRolledBack, AllRolledBack:

@@ -34,6 +34,15 @@ type judge struct {
 	stats  Stats
 }
 
+// allows reports whether an identity may get a second entry: the index lost its place, or has a wrong one, since the last one.
+func (e *excuses) allows(identity [32]byte) bool {
+	if e.again[identity] {
+		delete(e.again, identity)
+		return true
+	}
+	return e.repeats
+}
+
 // Stats are what a history got done.
 type Stats struct {
 	Calls, Switches, Heads, Entries, Answers, Repeats, Reads, Starts int
@@ -208,7 +217,7 @@ func (j *judge) tile(prefix string, n, width uint64, name string) ([]byte, bool)
 func (j *judge) grow(added []leaf, name string) {
 	for _, one := range added {
 		index := len(j.leaves)
-		if before, ok := j.identities[one.identity]; ok && !j.w.excuses.repeats {
+		if before, ok := j.identities[one.identity]; ok && !j.w.excuses.allows(one.identity) {
 			j.breaks("one entry an identity", "%s: entry %d is the same as entry %d", name, index, before)
 		} else if !ok {
 			j.identities[one.identity] = index
@@ -283,7 +292,7 @@ func (j *judge) raises(p stores.Published) {
 // deletes judges a name that is deleted: a staged batch that is not the newest state's, or an object that has a wrong content.
 func (j *judge) deletes(name string) {
 	if strings.HasPrefix(name, "staging/") {
-		if now := cells(j.w.stores.text); now != nil && name == "staging/"+now.name {
+		if now := cells(j.w.stores.text); now != nil && name == "staging/"+now.name && !j.w.excuses.tiles {
 			j.breaks("the newest staged batch stays", "%s is deleted", name)
 		}
 		return

@@ -78,7 +78,7 @@ type Fault struct {
 	// At is the number of the call, from 1 on, of all calls of all nodes.
 	At   int
 	Kind Kind
-	// Long is for how long it lasts, or by how much a clock is set, and Count how many changes are undone, or which object is meant.
+	// Long is for how long it lasts, or by how much a clock is set, and Count for how many calls, in tens, a store is rolled back, or which object is meant.
 	Long  time.Duration
 	Count int
 }
@@ -116,18 +116,18 @@ func (p Plan) String() string {
 	return text.String()
 }
 
-// callsOfHistory is how many calls a history has, more or less.
-const callsOfHistory = 320
-
 // NewPlan returns the plan of a seed.
 func NewPlan(seed int64) Plan {
 	random := rand.New(rand.NewSource(seed))
 	plan := Plan{Seed: seed, Machines: 1 + random.Intn(3)}
 	for range random.Intn(10) {
-		plan.Faults = append(plan.Faults, newFault(random, Kind(random.Intn(int(PutLost)))))
+		plan.Faults = append(plan.Faults, newFault(random, Kind(random.Intn(int(PutLost))), 50+60*plan.Machines))
 	}
-	if random.Intn(2) == 0 {
-		plan.Faults = append(plan.Faults, newFault(random, PutLost+Kind(random.Intn(int(kinds-PutLost)))))
+	switch random.Intn(10) {
+	case 0, 1, 2, 3:
+		plan.Faults = append(plan.Faults, newFault(random, PutLost+Kind(random.Intn(int(kinds-PutLost))), 50+60*plan.Machines))
+	case 4:
+		plan.standStill(random)
 	}
 	next := 0
 	for range 1 + random.Intn(4) {
@@ -154,8 +154,26 @@ func NewPlan(seed int64) Plan {
 	return plan
 }
 
-func newFault(random *rand.Rand, kind Kind) Fault {
-	f := Fault{At: 1 + random.Intn(callsOfHistory), Kind: kind, Count: 1 + random.Intn(12)}
+// standStill has a node stand still, and then stores be rolled back to about that time: what the node saw last is the newest again, and others saw more.
+func (p *Plan) standStill(random *rand.Rand) {
+	p.Machines = 2 + random.Intn(2)
+	of := []Kind{LockRolledBack, LockAndGuardRolledBack, LockAndGuardRolledBack, ObjectsAndLockRolledBack}[random.Intn(4)]
+	still := Fault{At: 60 + random.Intn(160), Kind: Paused, Long: []time.Duration{900 * time.Millisecond, 1900 * time.Millisecond, 4 * time.Second}[random.Intn(3)]}
+	back := Fault{At: still.At + 30 + random.Intn(120), Kind: of}
+	back.Count = (back.At - still.At + 9) / 10
+	p.Faults = append(p.Faults[:len(p.Faults)/2], still, back)
+	for i := range p.Machines {
+		c := Client{Begins: time.Duration(random.Intn(200)) * time.Millisecond, Machine: i}
+		for n := range 8 {
+			c.Numbers = append(c.Numbers, 1000*(i+1)+n)
+		}
+		p.Clients = append(p.Clients, c)
+	}
+}
+
+// newFault returns a fault at one of the first calls.
+func newFault(random *rand.Rand, kind Kind, calls int) Fault {
+	f := Fault{At: 1 + random.Intn(calls), Kind: kind, Count: 1 + random.Intn(12)}
 	switch kind {
 	case ClockForward, ClockBack:
 		f.Long = []time.Duration{3 * time.Second, 30 * time.Second, 50 * time.Minute, 3 * time.Hour, 400 * 24 * time.Hour}[random.Intn(5)]

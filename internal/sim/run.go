@@ -26,6 +26,8 @@ const (
 	// scriptWithin is how long the clients' scripts may take, and calmWithin how long the log may take to go on after all faults have ended.
 	scriptWithin = 10 * time.Minute
 	calmWithin   = 3 * time.Minute
+	// namedWithin is how long a node that says why it stopped is asked again, if a store lost something.
+	namedWithin = 30 * time.Second
 	// settleWithin is how long a node that goes on may take to answer all that wait.
 	settleWithin = time.Minute
 )
@@ -44,7 +46,7 @@ func Run(plan Plan, proved node.Proved, tells bool) (result Result) {
 		if why := recover(); why != nil {
 			w.judge.breaks("no panic", "%v", why)
 		}
-		w.judge.stats.Calls, w.judge.stats.Switches = w.calls, w.switches
+		w.judge.stats.Calls, w.judge.stats.Switches = w.events.calls, w.switches
 		result.Violation, result.Counts, result.Stats, result.Lines = w.judge.violation, w.judge.counts, w.judge.stats, w.history.lines
 		result.Stopped = w.stopped
 	}()
@@ -63,7 +65,7 @@ func (w *world) script() {
 
 // ends has all faults end, sets the clocks right, and judges whether the log goes on or says why it does not.
 func (w *world) ends() {
-	w.calm = true
+	w.events.calm = true
 	w.stores.fullUntil, w.stores.readOnlyUntil = 0, 0
 	for _, m := range w.machines {
 		m.offset, m.away = 0, 0
@@ -76,6 +78,7 @@ func (w *world) ends() {
 		err := w.goesOn(m, 1_000_000+i)
 		if err == nil {
 			w.forgets(m)
+			w.repeats(m)
 			continue
 		}
 		w.stopped = err
@@ -94,6 +97,16 @@ func (w *world) ends() {
 func (w *world) forgets(m *machine) {
 	if n := m.node; n != nil && !w.wait(settleWithin, func() bool { return m.node != n || n.Waiting() == 0 }) {
 		w.judge.breaks("no submission is forgotten", "%s goes on, and %d submissions wait for ever", m.name, n.Waiting())
+	}
+}
+
+// repeats submits what clients have submitted once more, and twice, to a node that goes on. The judge compares the answers.
+func (w *world) repeats(m *machine) {
+	for number := range 4 {
+		for range 2 {
+			// The judge looks at answers only: a node may refuse what it cannot read.
+			_ = w.submit(m, number)
+		}
 	}
 }
 
@@ -122,7 +135,7 @@ func (w *world) goesOn(m *machine, number int) error {
 			err = m.refused
 		}
 		w.tell("client", fmt.Sprintf("entry %d", number), err.Error(), "")
-		if w.now >= end {
+		if w.now >= end || w.excuses.loss && isNamed(err) && w.now >= end-calmWithin+namedWithin {
 			return err
 		}
 		w.wait(3*time.Second, nil)

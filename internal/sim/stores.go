@@ -31,13 +31,15 @@ type memory struct {
 	// guard is the text of the guard's state, which is another cell of the lock's engine.
 	guard string
 	index map[stores.Identity]stores.Place
-	// changes are those of each part, from the first on, so that the newest can be undone.
+	// call is the number of the newest call. changes are those of each part, from the first on, so that the newest can be undone.
+	call                     int
 	changes                  [parts][]change
 	fullUntil, readOnlyUntil time.Duration
 }
 
-// change is one of a part: the object's name, and what undoes it.
+// change is one of a part: the number of its call, the object's name, and what undoes it.
 type change struct {
+	call int
 	name string
 	undo func()
 }
@@ -49,7 +51,7 @@ func newMemory() memory {
 // set gives an object a content, or none.
 func (s *memory) set(name string, content []byte) {
 	before, was := s.objects[name]
-	s.changes[objectsPart] = append(s.changes[objectsPart], change{name, func() {
+	s.changes[objectsPart] = append(s.changes[objectsPart], change{s.call, name, func() {
 		if was {
 			s.objects[name] = before
 		} else {
@@ -66,19 +68,19 @@ func (s *memory) set(name string, content []byte) {
 // setLock gives the lock a text and what is published.
 func (s *memory) setLock(text string, published stores.Published) {
 	before, was := s.text, s.published
-	s.changes[lockPart] = append(s.changes[lockPart], change{undo: func() { s.text, s.published = before, was }})
+	s.changes[lockPart] = append(s.changes[lockPart], change{call: s.call, undo: func() { s.text, s.published = before, was }})
 	s.text, s.published = text, published
 }
 
 func (s *memory) setGuard(text string) {
 	before := s.guard
-	s.changes[guardPart] = append(s.changes[guardPart], change{undo: func() { s.guard = before }})
+	s.changes[guardPart] = append(s.changes[guardPart], change{call: s.call, undo: func() { s.guard = before }})
 	s.guard = text
 }
 
 func (s *memory) setIndex(id stores.Identity, place stores.Place) {
 	before, was := s.index[id]
-	s.changes[indexPart] = append(s.changes[indexPart], change{undo: func() {
+	s.changes[indexPart] = append(s.changes[indexPart], change{call: s.call, name: string(id[:]), undo: func() {
 		if was {
 			s.index[id] = before
 		} else {
@@ -88,15 +90,16 @@ func (s *memory) setIndex(id stores.Identity, place stores.Place) {
 	s.index[id] = place
 }
 
-// rollBack undoes the newest changes of a part, and reports whether there were any.
-func (s *memory) rollBack(of part, count int) bool {
+// rollBack undoes the changes of a part that were made after a call, and reports whether there were any.
+func (s *memory) rollBack(of part, call int) bool {
 	all := s.changes[of]
-	count = min(count, len(all))
-	for i := range count {
-		all[len(all)-1-i].undo()
+	left := len(all)
+	for left > 0 && all[left-1].call > call {
+		left--
+		all[left].undo()
 	}
-	s.changes[of] = all[:len(all)-count]
-	return count > 0
+	s.changes[of] = all[:left]
+	return left < len(all)
 }
 
 // objects are the objects' store as a machine's node sees it.

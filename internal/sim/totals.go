@@ -2,6 +2,7 @@ package sim
 
 import (
 	"fmt"
+	"regexp"
 	"sort"
 	"strings"
 )
@@ -42,10 +43,13 @@ func (t *Totals) Add(r Result) {
 		if t.reasons == nil {
 			t.reasons = map[string]int{}
 		}
-		why := r.Stopped.Error()
-		t.reasons[why[:min(len(why), 70)]]++
+		why := numbers.ReplaceAllString(r.Stopped.Error(), "#")
+		t.reasons[why[:min(len(why), 100)]]++
 	}
 }
+
+// numbers are what differs between two reasons of one kind.
+var numbers = regexp.MustCompile(`-?[0-9][0-9a-fhms.]*`)
 
 // Missing returns the kinds of faults that never happened.
 func (t *Totals) Missing() (kinds []string) {

@@ -23,19 +23,24 @@ var epoch = time.Date(2027, 3, 1, 0, 0, 0, 0, time.UTC)
 type world struct {
 	scheduler
 	plan     Plan
-	faults   map[int][]Fault
+	events   events
 	stores   memory
 	machines []*machine
 	judge    *judge
 	excuses  excuses
 	history  history
-	// calls counts the calls to stores. calm says that no fault happens any more.
+	proved   node.Proved
+	// stopped is why the log stopped in the end.
+	stopped error
+}
+
+// events are the faults that are to come.
+type events struct {
+	// calls counts the calls to stores, and faults are by their number.
 	calls  int
-	calm   bool
-	proved node.Proved
-	// losesNext says that the next put is lost. stopped is why the log stopped in the end.
-	losesNext bool
-	stopped   error
+	faults map[int][]Fault
+	// losesNext says that the next put is lost, and calm that no fault happens any more.
+	losesNext, calm bool
 }
 
 // machine is where one node runs, is killed and starts again.
@@ -61,6 +66,8 @@ type excuses struct {
 	tiles, repeats, missing bool
 	// ahead says that a node may have started by a wrong clock.
 	ahead bool
+	// again has the identities that may get one more entry.
+	again map[[32]byte]bool
 }
 
 // errFails is a fault of a store; errAway is one of the way to it.
@@ -73,11 +80,11 @@ var (
 
 // newWorld returns the world of a plan.
 func newWorld(plan Plan, proved node.Proved, tells bool) *world {
-	w := &world{plan: plan, proved: proved, faults: map[int][]Fault{}, stores: newMemory(), history: history{tells: tells}}
+	w := &world{plan: plan, proved: proved, events: events{faults: map[int][]Fault{}}, stores: newMemory(), history: history{tells: tells}}
 	w.random = rand.New(rand.NewSource(plan.Seed ^ 0x5deece66d))
-	w.judge = newJudge(w)
+	w.judge, w.excuses.again = newJudge(w), map[[32]byte]bool{}
 	for _, f := range plan.Faults {
-		w.faults[f.At] = append(w.faults[f.At], f)
+		w.events.faults[f.At] = append(w.events.faults[f.At], f)
 	}
 	for i := range plan.Machines {
 		m := &machine{w: w, name: fmt.Sprintf("n%d", i+1)}
@@ -185,11 +192,12 @@ func (r remembering) Save(ctx context.Context, head signer.Head) error {
 // call carries out one call of a machine's node on a store, with all that befalls it.
 func (m *machine) call(ctx context.Context, store, what string, writes bool, do func() error) error {
 	w, of := m.w, ctx.(*simulated)
-	w.calls++
-	n := w.calls
+	w.events.calls++
+	n := w.events.calls
+	w.stores.call = n
 	var fate *Fault
-	if !w.calm {
-		for _, f := range w.faults[n] {
+	if !w.events.calm {
+		for _, f := range w.events.faults[n] {
 			if own := w.befalls(m, f, store); own != nil {
 				fate = own
 			}
@@ -238,8 +246,8 @@ func (m *machine) befallen(ctx *simulated, store, what string, writes bool, fate
 		return err, fault
 	}
 	err := do()
-	if w.losesNext && err == nil && store == "objects" && strings.HasPrefix(what, "put ") {
-		w.losesNext = false
+	if w.events.losesNext && err == nil && store == "objects" && strings.HasPrefix(what, "put ") {
+		w.events.losesNext = false
 		w.losesNewest()
 		w.judge.counts[PutLost]++
 		fault = PutLost.String()
