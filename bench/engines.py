@@ -3,7 +3,7 @@
 
     service/engines.sh run bench/engines.py [--turns 2] [--seconds 12] [--clients 16,64,256,1024] [--stores etcd,postgres] [--out OUT,..] [--crates CRATES]
 
-The engines are those of service/engines.sh: register, places and the guard's state are on etcd's three members or on PostgreSQL, objects always on S3. With
+The engines are those of service/engines.sh: the register and the guard's state are on etcd's three members or on PostgreSQL, the places always on PostgreSQL, objects always on S3. With
 several folders OUT of builds of ctserve (service/out by itself) each is a log of its own over the same engines. In each turn ctload submits to each log with so
 many clients for so many seconds, each client a new certificate as soon as its last one is answered. CRATES has the builds of the log's programs; what isn't
 built there a program in Python stands in for, which it says. `make service` builds ctserve and ctload.
@@ -38,7 +38,7 @@ def bucket(name):
 
 
 def address(store, name):
-    """Where a log's register and places are."""
+    """Where a log's register is, or its places."""
     if store == "etcd":
         return f"etcd://{os.environ['STORES_MEMBERS']}/{name}"
     at = dict(word.split("=") for word in os.environ["STORES_POSTGRES"].split())
@@ -50,8 +50,7 @@ class Node:
 
     def __init__(self, folder, number, store, out, crates):
         self.name, name = f"{store}{'' if out == SERVICE / 'out' else f', {out}'}", f"log{os.getpid()}-{number}"
-        at = address(store, name)
-        self.log = Log(folder, crates, out, store=bucket(name), register=at, places=at, guard_state=address(store, f"{name}-guard"))
+        self.log = Log(folder, crates, out, store=bucket(name), register=address(store, name), places=address("postgres", name), guard_state=address(store, f"{name}-guard"))
         self.rows, self.steps, self.calls, self.phases = [], 0, {}, {}
 
     def figures(self):
@@ -123,7 +122,7 @@ def main():
             models = nodes[0].log.models
             print(f"{words.turns} turns of {words.seconds} s on {os.cpu_count()} processors, at a load of {os.getloadavg()[0]:.1f} before" +
                   (f"; in Python: {', '.join(models)}" if models else "; ctserve's programs are the built ones"), flush=True)  # fmt: skip
-            print("| Clients | Register and places | Timestamps a second | Median, ms | 99th percentile, ms | Entries a step | Processor of the log, ms an entry | Of the engines | Processors that others had |\n" + "|---" * 9 + "|")
+            print("| Clients | Register | Timestamps a second | Median, ms | 99th percentile, ms | Entries a step | Processor of the log, ms an entry | Of the engines | Processors that others had |\n" + "|---" * 9 + "|")
             for clients in map(int, words.clients.split(",")):
                 for number in range(words.turns):
                     for node in nodes[:: 1 if number % 2 == 0 else -1]:

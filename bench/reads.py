@@ -1,5 +1,5 @@
 #!/usr/bin/env python3
-"""Times readers of a log of ctserve, straight and behind nginx with the site that `ctserve nginx` makes of its settings, on loopback.
+"""Times readers of a log of ctserve, straight and behind nginx with the example of its configuration, on loopback.
 
     reads.py [--seconds 10] [--turns 3] [--connections 48] [--entries 600] [--crates FOLDER]
 
@@ -30,19 +30,24 @@ scgi_temp_path {folder}/scgi;
 
 
 class Nginx:
-    """nginx before a log, in a folder, by the site that ctserve makes of the log's settings."""
+    """nginx in front of a log, in a folder, with the example of its configuration (service/ctserve.nginx.conf)."""
 
     def __init__(self, folder, log):
         folder.mkdir(mode=0o711)
         self.port, tls = free_port(), folder / NAME
         run("openssl", "req", "-x509", "-newkey", "ec", "-pkeyopt", "ec_paramgen_curve:P-256", "-nodes", "-keyout", f"{tls}.key", "-subj", f"/CN={NAME}", "-days", 30, "-out", f"{tls}.pem")
-        site = run(SERVICE / "out" / "ctserve", "nginx", "-listen", f"127.0.0.1:{self.port}", "-cache", folder / "cache", "-certificates", folder, log.settings)
+        site = (SERVICE / "ctserve.nginx.conf").read_text()
+        changes = {"log.example.org": NAME, "/etc/ssl": str(folder), "listen 443": f"listen 127.0.0.1:{self.port}", "127.0.0.1:8618": log.url.removeprefix("http://"),
+                   "/var/lib/nginx/ctserve": str(folder / "cache"), "limit_conn ctserve_clients 64": "limit_conn ctserve_clients 5000"}  # fmt: skip
+        for old, new in changes.items():
+            if old not in site:
+                stop(f"ctserve.nginx.conf does not have {old!r}")
+            site = site.replace(old, new)
         (folder / "nginx.conf").write_text(MAIN.format(folder=folder, site=site))
         run("nginx", "-t", "-p", folder, "-c", folder / "nginx.conf")
         self.process = subprocess.Popen(["nginx", "-p", folder, "-c", folder / "nginx.conf"])
         until(lambda: listens(self.port), "nginx doesn't answer", self.process, folder / "error.log")
-        # (the log's origin has a path, and its host is the site's name)
-        self.url = f"https://127.0.0.1:{self.port}/log"
+        self.url = f"https://127.0.0.1:{self.port}"
 
     def end(self):
         self.process.terminate()

@@ -13,7 +13,7 @@ SERVICE, CRATES, TESTS = (HERE.parent / name for name in ("service", "crates", "
 OUT = SERVICE / "out"
 ORIGIN = "bench.example/log"
 # The log's programs: the setting, the proved one, and its model in Python.
-PROGRAMS = {"step": ("cttile", "tiles/step.py"), "reader": ("ctproof", "tiles/step.py"), "decider": ("ctnode", "node/ctnode.py"), "guard": ("ctguard", "guard/model.py")}
+PROGRAMS = {"guard": ("ctguard", "guard/model.py")}
 TICK = os.sysconf("SC_CLK_TCK")
 # How long a process may take to serve, in seconds.
 PATIENCE = 120

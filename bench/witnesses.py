@@ -5,8 +5,8 @@
 
 Each setup has a log of its own, over a folder, and its witnesses, by ctwitness-serve over files; all are made before the first turn and run to the end, so that
 the turns differ by nothing else. Some of the witnesses answer 100 ms late, or don't answer at all, or answer with no cosignature (`liar`); a head is
-published with as many as publish-with has by default, one more than the half. cttile, ctguard, ctproof and ctwitness are used where they are built, and
-else the programs in Python with their lines, which it says. It prints of each setup the median of its turns: timestamps a second, and the median and the 99th
+published with as many as publish-with has by default, one more than the half. ctguard and ctwitness are used if they are built, and
+otherwise the programs in Python with their lines, which it says. It prints of each setup the median of its turns: timestamps a second, and the median and the 99th
 percentile of the time from a submission to its timestamp. make service builds what it runs.
 """
 import argparse
@@ -51,9 +51,6 @@ def program(name, model):
 
 
 PROGRAMS = {
-    "step": program("cttile", "tiles/step.py"),
-    "reader": program("ctproof", "tiles/step.py"),
-    "decider": program("ctnode", "node/ctnode.py"),
     "guard": program("ctguard", "guard/model.py"),
     "witness": program("ctwitness", "witness/model.py"),
 }
@@ -127,7 +124,7 @@ class Setup:
         self.port, operator = free_port(), free_port()
         words = {
             "origin": ORIGIN, "listen": f"127.0.0.1:{self.port}", "operator-listen": f"127.0.0.1:{operator}", "signing-key": folder / "log.key", "roots": folder / "roots.pem",
-            "folder": folder / "log", "step": PROGRAMS["step"], "guard": PROGRAMS["guard"], "reader": PROGRAMS["reader"], "decider": PROGRAMS["decider"], "interval": interval,
+            "folder": folder / "log", "guard": PROGRAMS["guard"], "interval": interval,
             "most-connections-by-address": 500,
         }  # fmt: skip
         kinds = [lambda url: url] * answering + [late] * late_ones + [silent] * silent_ones + [liar] * liars

@@ -8,6 +8,8 @@ of the kit's crates whose code is in it; and SOURCES, which says what all of thi
 with the checkout: a sum over the code of each crate that the library is made of (without comments and clauses, from which no code is made), and with the kit
 the kit's name. Otherwise it builds the library once more for each processor, over the crates as they are proved and built in crates/*/out, and compares each
 byte. It also has the kit's assembler make an object of the text, which must be the very object that the proved library is. With --write it writes the files.
+The Go package in bindings/go/wagtenib has copies of the assembly, of memory.c and of include/wagtenib.h, because `go build` compiles what its folder has. The
+script always compares these copies, byte for byte, and with --write it writes them too.
 It prints what differs, and ends with status 1 if something does.
 """
 import hashlib
@@ -28,6 +30,9 @@ TARGETS = {"amd64": ("x86_64-unknown-linux-gnu", "x86-64"), "arm64": ("aarch64-u
 # What the kit's assembler needs to fill gaps as its compiler does.
 PADDING = {"amd64": ["-march=x86-64-v2"], "arm64": []}
 REMEDY = "make dist makes it anew, with the kit"
+# The folder of the Go package, and the files of which it has copies.
+BINDINGS = ROOT / "bindings" / "go" / "wagtenib"
+COPIED = [*(DIST / f"{LIBRARY}_linux_{processor}.s" for processor in TARGETS), DIST / "memory.c", ROOT / "include" / "wagtenib.h"]
 COMMENT = re.compile(r"//[^\n]*|/\*.*?\*/|(\"(?:\\.|[^\"\\])*\"|'(?:\\.|[^'\\])')", re.S)
 # What the compiler calls once with -c, and once more for the text.
 CLANG = """#!/bin/sh
@@ -217,6 +222,11 @@ def differing(said, due):
     return next((f"line {number} is {one!r}, and is to be {other!r}" for number, (one, other) in enumerate(lines, 1) if one != other), "it ends too early or too late")
 
 
+def stale_copies():
+    """The copied files whose copy in the Go package is absent or has other bytes."""
+    return [of for of in COPIED if not (BINDINGS / of.name).exists() or (BINDINGS / of.name).read_bytes() != of.read_bytes()]
+
+
 def main():
     words = sys.argv[1:]
     if words not in ([], ["--sources"], ["--write"]):
@@ -227,10 +237,16 @@ def main():
     if words == ["--write"]:
         for name, text in due.items():
             (DIST / name).write_text(text)
+        for of in COPIED:
+            shutil.copyfile(of, BINDINGS / of.name)
     wrong = [(name, text) for name, text in due.items() if not (DIST / name).exists() or (DIST / name).read_text() != text]
     for name, text in wrong:
         print(f"dist/{name} is not what the sources make: {differing((DIST / name).read_text(), text) if (DIST / name).exists() else 'it is not there'} ({REMEDY})")
-    sys.exit(1 if wrong else 0)
+    stale = stale_copies()
+    for of in stale:
+        there, here = (path.relative_to(ROOT) for path in (of, BINDINGS))
+        print(f"{here}/{of.name} is not the copy of {there} that it must be (make dist writes the copies; so does cp {there} {here}/)")
+    sys.exit(1 if wrong or stale else 0)
 
 
 if __name__ == "__main__":

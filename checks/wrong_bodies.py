@@ -6,7 +6,7 @@
 crates/NAME/wrong-bodies/ has edits: a line 'file: PATH', and then pairs of lines 'old: TEXT' and 'new: TEXT', of which each old TEXT stands in
 that file exactly once. The gate (gate.py) tries those whose first line is 'tried: by each gate' each time, and those where it is 'tried: by every
 ninth gate' of a ninth of the crates, since one costs up to a minute of a processor, and a crate's first one a proof of the crate. Without a name
-this script looks, in a moment, whether all edits can be applied. With names it has rt try all edits of the crates, over a copy of the repository
+this script looks, in a moment, whether all edits can be applied, and whether checks/README.md names those that each gate tries. With names it has rt try all edits of the crates, over a copy of the repository
 with what is proved there. First it takes out of must-fail what a gate that was killed has left there; not while a gate is at work here.
 """
 import os
@@ -61,6 +61,17 @@ def looked():
     return not found
 
 
+def untold():
+    """Whether the table in README.md names just the edits that each gate tries; it prints each that it does not name, and each name that is no such edit."""
+    named = set(re.findall(r"`([a-z_0-9]+/[a-z_0-9]+)`", (ROOT / "checks" / "README.md").read_text()))
+    tried_each_time = {f"{edit.parent.parent.name}/{edit.stem}" for edit in CRATES.glob("*/wrong-bodies/*.edit") if edit.read_text().startswith(gate.EACH)}
+    for edit in sorted(tried_each_time - named):
+        print(f"crates/{edit.replace('/', '/wrong-bodies/')}.edit is tried by each gate, and the table in checks/README.md does not name it (name it there)")
+    for edit in sorted(name for name in named - tried_each_time if (CRATES / name.split("/")[0]).is_dir()):
+        print(f"checks/README.md names {edit}, which is no edit with the first line '{gate.EACH}' (write that line, or take the name out)")
+    return tried_each_time != {name for name in named if (CRATES / name.split("/")[0]).is_dir()}
+
+
 def passed_over(folder, names):
     """Of a folder's names those that no copy needs: what is made there, but for what is built, and what is no file (a socket, say)."""
     paths = {name: pathlib.Path(folder, name) for name in names}
@@ -99,4 +110,4 @@ def tried(names):
 if __name__ == "__main__":
     if left := gate.put_out_left():
         print(f"checks/wrong_bodies.py: {left} edits that a gate has left in must-fail were taken out", flush=True)
-    sys.exit(0 if looked() and (not sys.argv[1:] or tried(sys.argv[1:])) else 1)
+    sys.exit(0 if looked() and not untold() and (not sys.argv[1:] or tried(sys.argv[1:])) else 1)

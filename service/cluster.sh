@@ -1,13 +1,12 @@
 #!/usr/bin/env bash
-# A log on engines, on loopback and in a folder: three members of etcd with its register and places, Ceph's S3 with its objects, NODES=3
+# A log on engines, on loopback and in a folder: three members of etcd with its register, PostgreSQL with its index, Ceph's S3 with its objects, NODES=3
 # nodes of ctserve over them, WITNESSES=3 witnesses of its heads (0 for none), a loader and a reader.
 #   cluster.sh start FOLDER [PORT]   starts it, or goes on with the one that was stopped there, and says where to look
 #   cluster.sh status FOLDER         says what runs and what it said last
 #   cluster.sh stop FOLDER           ends it; ctcheck judges what it published and answered, and openssl who cosigned its last head
 # RATE=20 is how many submissions the loader sends a second, 0 as many as are answered; LOAD=no starts neither it nor the reader.
-# STEP is the program that makes the steps, cttile where it is built, and else a second program with its lines; READER the one that makes
-# readers' proofs, likewise for ctproof, GUARD the one before the key, likewise for ctguard, and WITNESS the one that decides what is cosigned, likewise for
-# ctwitness. One signer has the key, for all nodes.
+# GUARD is the program before the key, ctguard if it is built, and otherwise a second program with its lines. WITNESS is the one that decides what is
+# cosigned, likewise for ctwitness. One signer has the key, for all nodes.
 set -eu
 here=$(cd "$(dirname "$0")" && pwd)
 what=${1:-} folder=${2:-}
@@ -56,6 +55,7 @@ addresses() {
   bucket="${STORES_S3-}/log?tls=no"
   bucket=${bucket/http:/s3:}
   register=etcd://${STORES_MEMBERS-}/log
+  places=postgres://log@127.0.0.1:$(sed 's/.*port=\([0-9]*\).*/\1/' <<<"${STORES_POSTGRES-}")/postgres?log=log\&sslmode=disable
 }
 
 # command_of NAME MODEL: the command of a proved program where it is built, and else of its model.
@@ -83,11 +83,8 @@ nodes-address    http://127.0.0.1:$((port + 20 + i))/
 nodes-secret     $folder/secret
 signer-at        $folder/signer
 roots            $folder/roots.pem
-step             ${STEP:-$(command_of cttile tiles/step.py)}
-reader           ${READER:-$(command_of ctproof tiles/step.py)}
-decider          ${DECIDER:-$(command_of ctnode node/ctnode.py)}
 register         $register
-places           $register
+places           $places
 store            $bucket
 latest-head      $folder/node-$i.latest-head
 most-connections-by-address  500
@@ -141,9 +138,9 @@ start() {
   local port=${1:-8618} i all="" create="" who nothing roots loaded id words=""
   "$here/build.sh" build
   mkdir -p "$folder/engines"
-  ENGINES="members s3" PORT=$((port + 30)) "$here/engines.sh" start "$folder/engines"
+  ENGINES="members postgres s3" PORT=$((port + 30)) "$here/engines.sh" start "$folder/engines"
   addresses
-  if [ -z "${STORES_MEMBERS:-}" ] || [ -z "${STORES_S3:-}" ]; then
+  if [ -z "${STORES_MEMBERS:-}" ] || [ -z "${STORES_POSTGRES:-}" ] || [ -z "${STORES_S3:-}" ]; then
     "$here/engines.sh" stop "$folder/engines"
     rm -r "$folder/engines"
     exit 1
@@ -203,6 +200,7 @@ A log of ${all//,/, } runs:
   who cosigns   $(cut -d + -f 1 "$folder/witnesses" 2>/dev/null | paste -sd ' ')
   the bucket    $bucket
   etcd          $STORES_MEMBERS
+  PostgreSQL    $STORES_POSTGRES
   a death       kill -9 \$(cut -d ' ' -f 1 $folder/node-0.id); '$0 start $folder' starts what is gone
   its end       $0 stop $folder
 END_OF_TEXT

@@ -83,7 +83,7 @@ next_port() {
   while port=$((port + 1)); (exec 3<>"/dev/tcp/127.0.0.1/$port") 2>/dev/null; do :; done
 }
 
-# What has etcd forget the revisions that the register and the places leave behind: without it the quota of its storage fills.
+# What has etcd forget the revisions that the register leaves behind: without it the quota of its storage fills.
 compacting=(--auto-compaction-mode periodic --auto-compaction-retention 1h)
 
 # has NAME PACKAGE PROGRAM..: whether the programs are there.

@@ -50,6 +50,8 @@ class Repository:
             shutil.copy(ROOT / path, folder / path)
         (folder / "crates.txt").write_text("made_up:\n")
         (folder / "HANDLES").write_text("")
+        each_time = " and ".join(f"`made_up/{name.removesuffix('.edit')}`" for name, text in WRONG.items() if text.startswith("tried: by each gate"))
+        (folder / "checks" / "README.md").write_text(f"Each gate tries {each_time}.\n")
         self.put("src", {"lib.rt": "one\n"})
         self.put("wrong-bodies", WRONG)
         self.bin.mkdir()
@@ -179,6 +181,13 @@ def try_left(repository):
     ended, said = repository.run("checks/wrong_bodies.py")
     hold(f"wrong_bodies.py where an edit's first line says nothing of when says {said}", ended, 1)
     repository.put("wrong-bodies", WRONG)
+    table = repository.folder / "checks" / "README.md"
+    told = table.read_text()
+    for text, name in ((told.replace("`made_up/", "`made_up_/"), "does not name it"), (told + "`made_up/no_such_edit`\n", "made_up/no_such_edit, which is no edit")):
+        table.write_text(text)
+        ended, said = repository.run("checks/wrong_bodies.py")
+        hold(f"wrong_bodies.py where the table names other edits says {said}", (ended, name in said), (1, True))
+    table.write_text(told)
 
 
 def try_rooms(repository):

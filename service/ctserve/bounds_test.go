@@ -27,7 +27,7 @@ func TestEachBound(t *testing.T) {
 			t.Errorf("%s %d: %v", name, least-1, err)
 		}
 	}
-	for _, name := range []string{"end-within", "headers-within", "request-within", "submission-within", "answer-within", "idle-within", "step-within", "interval", "refresh", "open-within",
+	for _, name := range []string{"end-within", "headers-within", "request-within", "submission-within", "answer-within", "idle-within", "interval", "refresh", "open-within",
 		"sweep-after", "sweep-tiles-after", "read-again-every", "read-all-within", "most-clock-skew"} {
 		if _, err := with(name, time.Nanosecond); err != nil {
 			t.Errorf("%s: %v", name, err)

@@ -33,7 +33,6 @@ var commands = map[string]func(words []string, answers, faults io.Writer) error{
 	"key":        runKey,
 	"list-entry": runListEntry,
 	"check":      runCheck,
-	"nginx":      runNginx,
 	"places":     runPlaces,
 	"clock":      runClock,
 }
@@ -261,7 +260,7 @@ func publicKey(s *settings, path string) ([]byte, error) {
 // answersWithin is how long a program may take to say its version.
 const answersWithin = 10 * time.Second
 
-// runCheck looks at all that a log's settings name, and starts nothing: the settings, the key, the roots, TLS, and whether the programs run.
+// runCheck looks at all that a log's settings name, and starts nothing: the settings, the key, the roots, TLS, and whether the guard runs.
 // Each gets a line; the first fault of each is told, and all are looked at.
 func runCheck(words []string, answers, faults io.Writer) error {
 	if len(words) == 1 && !strings.HasPrefix(words[0], "-") {
@@ -308,18 +307,12 @@ func runCheck(words []string, answers, faults io.Writer) error {
 		_, err := web.LoadCertificate(s.certificate, s.key)
 		look("tls-certificate", s.certificate, err)
 	}
-	for _, program := range []struct {
-		of, name string
-		command  []string
-	}{{"step", "cttile", s.node.step}, {"reader", "ctproof", s.node.reader}, {"decider", "ctnode", s.node.decider}, {"guard", "ctguard", s.node.guard}} {
-		if s.node.signerAt != "" && program.of == "guard" || program.command[0] == noGuard && program.of == "guard" {
-			continue
+	if s.node.signerAt == "" && s.node.guard[0] != noGuard {
+		said, err := versionOf(s.node.guard)
+		if err == nil && !strings.HasPrefix(said, "ctguard ") {
+			err = fmt.Errorf("%s --version says %.40q (it must be a ctguard)", s.node.guard[0], said)
 		}
-		said, err := versionOf(program.command)
-		if err == nil && !strings.HasPrefix(said, program.name+" ") {
-			err = fmt.Errorf("%s --version says %.40q (it must be a %s)", program.command[0], said, program.name)
-		}
-		look(program.of, said, err)
+		look("guard", said, err)
 	}
 	for _, address := range []struct {
 		of, text string

@@ -40,14 +40,11 @@ func settingsFile(t *testing.T, lines ...string) (folder, file string) {
 	if status, _, told := does("key", filepath.Join(folder, "log.key")); status != 0 {
 		t.Fatalf("no key: %s", told)
 	}
-	for _, name := range []string{"cttile", "ctproof", "ctnode", "ctguard"} {
-		script := fmt.Sprintf("#!/bin/sh\n[ \"$*\" = --version ] && echo %s 7.7.7\n", name)
-		if err := os.WriteFile(filepath.Join(folder, name), []byte(script), 0o700); err != nil {
-			t.Fatal(err)
-		}
+	if err := os.WriteFile(filepath.Join(folder, "ctguard"), []byte("#!/bin/sh\n[ \"$*\" = --version ] && echo ctguard 7.7.7\n"), 0o700); err != nil {
+		t.Fatal(err)
 	}
 	text := []string{"origin log.example/2027h1", "signing-key " + folder + "/log.key", "roots " + folder + "/roots.pem", "folder " + folder + "/log",
-		"step " + folder + "/cttile", "reader " + folder + "/ctproof", "decider " + folder + "/ctnode", "guard " + folder + "/ctguard", "not-after-from 2027-01-01", "not-after-to 2027-07-01"}
+		"guard " + folder + "/ctguard", "not-after-from 2027-01-01", "not-after-to 2027-07-01"}
 	file = filepath.Join(folder, "settings")
 	if err := os.WriteFile(file, []byte(strings.Join(append(text, lines...), "\n")), 0o600); err != nil {
 		t.Fatal(err)
@@ -160,7 +157,7 @@ func TestCheck(t *testing.T) {
 	if status != 0 || told != "" {
 		t.Fatalf("status %d: %s%s", status, said, told)
 	}
-	for _, due := range []string{"log.example/2027h1", "1 roots", "cttile 7.7.7", "ctproof 7.7.7", "ctnode 7.7.7", "ctguard 7.7.7"} {
+	for _, due := range []string{"log.example/2027h1", "1 roots", "ctguard 7.7.7"} {
 		if !strings.Contains(said, due) {
 			t.Errorf("%q isn't said: %s", due, said)
 		}
@@ -191,7 +188,7 @@ func TestCheck(t *testing.T) {
 			t.Errorf("%q: status %d, %s", c.line, status, said)
 		}
 	}
-	for _, name := range []string{"roots.pem", "log.key", "cttile", "ctproof", "ctnode", "ctguard"} {
+	for _, name := range []string{"roots.pem", "log.key", "ctguard"} {
 		folder, file := settingsFile(t)
 		if err := os.Remove(filepath.Join(folder, name)); err != nil {
 			t.Fatal(err)
@@ -204,7 +201,7 @@ func TestCheck(t *testing.T) {
 
 // TestCheckOfOtherPrograms has settings name programs that run, and aren't those that they must be, and a file in the folder's place: a start refuses them, so must check.
 func TestCheckOfOtherPrograms(t *testing.T) {
-	for _, name := range []string{"cttile", "ctproof", "ctnode", "ctguard"} {
+	for _, name := range []string{"ctguard"} {
 		folder, file := settingsFile(t)
 		for _, script := range []string{"#!/bin/sh\necho \"$@\"\n", "#!/bin/sh\n", "#!/bin/sh\necho another 7.7.7\n"} {
 			if err := os.WriteFile(filepath.Join(folder, name), []byte(script), 0o700); err != nil {

@@ -238,7 +238,7 @@ func (p *place) write(name string, content []byte) {
 
 // patient are words by which nothing is given up that takes long, where a test doesn't look at that.
 func patient() (words []string) {
-	for _, name := range []string{"open-within", "step-within", "end-within", "submission-within", "headers-within", "request-within", "answer-within", "idle-within"} {
+	for _, name := range []string{"open-within", "end-within", "submission-within", "headers-within", "request-within", "answer-within", "idle-within"} {
 		words = append(words, "--"+name, trial.Longest.String())
 	}
 	return words
@@ -614,12 +614,12 @@ func TestSettings(t *testing.T) {
 		}
 	}
 	s, err := parse(append(file(needed+"# a comment\n  idle-within   5s # behind\nproxies 127.0.0.1, 10.1.2.3/8\nnot-after-from 2027-01-01\ncreate true\n"+
-		"nodes-listen 127.0.0.1:1\nnodes-address http://x/\nnodes-secret "+at.path("secret")+"\nmost-clock-skew 3s\nclock-synchronized true"), "--origin", "z", "--step", "a b"), io.Discard)
+		"nodes-listen 127.0.0.1:1\nnodes-address http://x/\nnodes-secret "+at.path("secret")+"\nmost-clock-skew 3s\nclock-synchronized true"), "--origin", "z"), io.Discard)
 	if err != nil {
 		t.Fatal(err)
 	}
 	if s.node.origin != "z" || s.node.mostSkew != 3*time.Second || !s.node.synchronized || s.limits.Idle != 5*time.Second || fmt.Sprint(s.proxies) != "[127.0.0.1/32 10.0.0.0/8]" || !s.node.create ||
-		s.window.From.Year() != 2027 || s.node.secret != "sixteen bytes or more" || strings.Join(s.node.step, " ") != "a b --origin z" ||
+		s.window.From.Year() != 2027 || s.node.secret != "sixteen bytes or more" ||
 		s.node.guardState != "file:ct-log.guard" || s.node.latestHead != "ct-log.latest-head" || s.node.namedDay != "ct-log.day" || strings.Join(s.node.guard, " ") != "ctguard" || s.node.store != "folder:ct-log/objects" || s.node.register != "file:ct-log/register" || s.node.places != "sqlite:ct-log/places" {
 		t.Errorf("%+v", s)
 	}
@@ -655,8 +655,7 @@ func TestSettings(t *testing.T) {
 	}
 }
 
-// realWords are those of a log on a folder, over plain programs beside the proved ones: tests/tiles' step, and the guard of
-// tests/guard where the proved one isn't built.
+// realWords are those of a log on a folder, with the guard of tests/guard where the proved one isn't built.
 func (p *place) realWords(more ...string) []string {
 	p.t.Helper()
 	python, err := exec.LookPath("python3")
@@ -673,8 +672,7 @@ func (p *place) realWords(more ...string) []string {
 		p.guard = python + " " + filepath.Join(here, "../../tests/guard/model.py")
 	}
 	return append(append(patient(), "--listen", "127.0.0.1:0", "--operator-listen", "127.0.0.1:0", "--origin", "log.example/test", "--roots", p.path("roots.pem"),
-		"--folder", p.path("log"), "--step", python+" "+filepath.Join(here, "../../tests/tiles/step.py"),
-		"--reader", python+" "+filepath.Join(here, "../../tests/tiles/step.py"), "--decider", python+" "+filepath.Join(here, "../../tests/node/ctnode.py"), "--interval", "50ms"), more...)
+		"--folder", p.path("log"), "--interval", "50ms"), more...)
 }
 
 // Over the real log, on a folder: a start makes no log unasked; what was answered is there after a kill, and a repeat has its

@@ -86,7 +86,7 @@ func TestHalfBodiesAtNginx(t *testing.T) {
 	t.Parallel()
 	at, most := newPlace(t), 5
 	p := started(t, "20ms", at.words("--proxies", "127.0.0.1")...)
-	address := nginxBefore(t, p.clients, fmt.Sprint("most-connections-by-address ", most))
+	address := nginxBefore(t, p.clients, most)
 	var halves []net.Conn
 	const begun = "POST /ct/v1/add-chain HTTP/1.1\r\nHost: log.example\r\nContent-Length: 1000000\r\n\r\n{"
 	for i := 0; i < most-1; i++ {
@@ -148,8 +148,7 @@ func TestHalfHeadersAtNginx(t *testing.T) {
 	at := newPlace(t)
 	p := started(t, "20ms", at.words("--proxies", "127.0.0.1")...)
 	address, folder := trial.Free(t), t.TempDir()
-	settings := settingsAt(t, folder, "one", "origin log.example", "proxies 127.0.0.1", "listen "+p.clients)
-	nginxHaving(t, siteOf(t, true, "--listen", address, "--cache", filepath.Join(folder, "cache"), settings), address, fmt.Sprintf("worker_rlimit_nofile %d; events { worker_connections %d; }", files, connections))
+	nginxHaving(t, siteInClear(t, address, p.clients, filepath.Join(folder, "cache"), 64), address, fmt.Sprintf("worker_rlimit_nofile %d; events { worker_connections %d; }", files, connections))
 	// (a machine that is slow enough has the first ones closed before others were answered, or sees late that they are, which says nothing)
 	for try := 0; ; try++ {
 		halves, opened := []net.Conn{}, time.Now()

@@ -3,7 +3,6 @@ package main
 import (
 	"bytes"
 	"crypto/tls"
-	"encoding/json"
 	"fmt"
 	"io"
 	"net"
@@ -19,7 +18,6 @@ import (
 
 	"wagtenib/service/trial"
 	"wagtenib/service/web"
-	"wagtenib/service/web/standin"
 )
 
 // nginxFound is the program, without which nothing of this is tried.
@@ -34,30 +32,32 @@ func nginxFound(t *testing.T) string {
 	return nginx
 }
 
-// siteOf is the site that ctserve nginx makes of a log at an address, of the settings that these lines add to, and of the other words; with what
-// it has of TLS, or without.
-func siteOf(t *testing.T, inClear bool, words ...string) string {
+// exampleSite is the example configuration that operators copy, with each of these texts replaced. A text that it does not have fails the test.
+func exampleSite(t *testing.T, replacements ...string) string {
 	t.Helper()
-	status, site, told := does(append([]string{"nginx"}, words...)...)
-	if status != 0 {
-		t.Fatalf("no site: %s", told)
+	text, err := os.ReadFile("../ctserve.nginx.conf")
+	trial.Must(t, err)
+	site := string(text)
+	for i := 0; i < len(replacements); i += 2 {
+		if !strings.Contains(site, replacements[i]) {
+			t.Fatalf("ctserve.nginx.conf does not have %q", replacements[i])
+		}
+		site = strings.ReplaceAll(site, replacements[i], replacements[i+1])
 	}
-	if !inClear {
-		return site
-	}
-	site = strings.ReplaceAll(site, " ssl http2;", ";")
-	return regexp.MustCompile(`(?m)^ +ssl_certificate.*\n`).ReplaceAllString(site, "")
+	return site
 }
 
-// settingsAt writes a shard's settings, by which nginx's site is made, and gives their file.
-func settingsAt(t *testing.T, folder, name string, lines ...string) string {
+// siteInClear is the example without TLS: nginx listens at one address, ctserve at another, tiles are kept in a folder, and one address may have so many
+// requests at once.
+func siteInClear(t *testing.T, address, clients, cache string, atOnce int) string {
 	t.Helper()
-	file := filepath.Join(folder, name+".conf")
-	text := append([]string{"roots /roots.pem", "signing-key /" + name + ".key", "folder /" + name}, lines...)
-	if err := os.WriteFile(file, []byte(strings.Join(text, "\n")), 0o600); err != nil {
-		t.Fatal(err)
-	}
-	return file
+	return exampleSite(t,
+		"    ssl_certificate /etc/ssl/log.example.org.pem;\n", "",
+		"    ssl_certificate_key /etc/ssl/log.example.org.key;\n", "",
+		"listen 443 ssl http2;", "listen "+address+";",
+		"server 127.0.0.1:8618;", "server "+clients+";",
+		"proxy_cache_path /var/lib/nginx/ctserve ", "proxy_cache_path "+cache+" ",
+		"limit_conn ctserve_clients 64;", fmt.Sprintf("limit_conn ctserve_clients %d;", atOnce))
 }
 
 // nginxWith starts nginx with a site, and waits until it answers at an address, whatever it does.
@@ -113,215 +113,74 @@ func nginxHaving(t *testing.T, site, address, main string) {
 	}
 }
 
-// nginxBefore starts nginx before a log, in the clear, by the site that is made of its settings, and gives its address.
-func nginxBefore(t *testing.T, clients string, lines ...string) string {
+// nginxBefore starts nginx in front of a log, without TLS, by the example, and returns nginx's address. One address may have so many requests at once.
+func nginxBefore(t *testing.T, clients string, atOnce int) string {
 	t.Helper()
 	nginxFound(t)
-	address, folder := trial.Free(t), t.TempDir()
-	settings := settingsAt(t, folder, "one", append([]string{"origin log.example", "proxies 127.0.0.1", "listen " + clients}, lines...)...)
-	nginxWith(t, siteOf(t, true, "--listen", address, "--cache", filepath.Join(folder, "cache"), settings), address)
+	address := trial.Free(t)
+	nginxWith(t, siteInClear(t, address, clients, filepath.Join(t.TempDir(), "cache"), atOnce), address)
 	return address
 }
 
-// TestFolderOfTiles: Debian's nginx can make the folder in which it keeps tiles where no other is said: it makes that alone, and none above it.
+// TestFolderOfTiles: Debian's nginx can make the folder in which the example keeps tiles. nginx makes that folder alone, and none above it.
 func TestFolderOfTiles(t *testing.T) {
 	nginxFound(t)
 	if !isThere("/etc/nginx/nginx.conf") {
 		t.Skip("it isn't Debian's nginx")
 	}
-	site := siteOf(t, false, settingsAt(t, t.TempDir(), "one", "origin log.example", "proxies 127.0.0.1"))
-	cache := regexp.MustCompile(`(?m)^proxy_cache_path (\S+) `).FindStringSubmatch(site)
+	cache := regexp.MustCompile(`(?m)^proxy_cache_path (\S+) `).FindStringSubmatch(exampleSite(t))
 	if cache == nil {
-		t.Fatalf("no tiles are kept: %.300s", site)
+		t.Fatal("the example keeps no tiles")
 	}
 	if above := filepath.Dir(cache[1]); !isThere(above) {
 		t.Errorf("%s isn't there", above)
 	}
 }
 
-// By its site nginx leaves idle connections before ctserve closes them.
-func TestNginxLeavesFirst(t *testing.T) {
-	for _, idle := range []time.Duration{web.DefaultLimits().Idle, 5 * time.Minute, 21 * time.Second, 20 * time.Second, 3 * time.Second} {
-		settings := settingsAt(t, t.TempDir(), "one", "origin log.example", "proxies 127.0.0.1", "idle-within "+idle.String())
-		_, upstream, _ := strings.Cut(siteOf(t, false, settings), "upstream ctserve_one {")
-		upstream, _, _ = strings.Cut(upstream, "}")
-		_, after, _ := strings.Cut(upstream, "keepalive_timeout ")
-		after, _, _ = strings.Cut(after, ";")
-		if leaves, err := time.ParseDuration(after); err != nil || leaves > idle-time.Second || leaves < idle/2 {
-			t.Errorf("it leaves after %q, %v, where %v are waited", after, err, idle)
+// TestExampleHasTheDefaults: the numbers of the example are those of ctserve's defaults, and nginx closes an idle connection well before ctserve does.
+func TestExampleHasTheDefaults(t *testing.T) {
+	site, limits := exampleSite(t), web.DefaultLimits()
+	defaults, err := parse([]string{"--roots", "a", "--origin", "b", "--signing-key", "c"}, io.Discard)
+	trial.Must(t, err)
+	for _, line := range []string{
+		"server " + defaults.listen + ";",
+		fmt.Sprintf("limit_conn ctserve_clients %d;", limits.ConnectionsByAddress),
+		fmt.Sprintf("client_header_timeout %ds;", int(limits.Headers.Seconds())),
+	} {
+		if strings.Count(site, line) != 1 {
+			t.Errorf("the example must have %q once", line)
 		}
+	}
+	found := regexp.MustCompile(`keepalive_timeout (\S+);`).FindStringSubmatch(site)
+	if found == nil {
+		t.Fatal("the example has no keepalive_timeout")
+	}
+	if leaves, err := time.ParseDuration(found[1]); err != nil || leaves > limits.Idle-time.Second || leaves < limits.Idle/2 {
+		t.Errorf("nginx closes an idle connection after %s, %v, and ctserve after %v", found[1], err, limits.Idle)
 	}
 }
 
-// TestSite: what a site has of several logs, of which two share a name; and what no site can be made of.
-func TestSite(t *testing.T) {
-	folder := t.TempDir()
-	a := settingsAt(t, folder, "2027h1", "origin log.example/2027h1", "proxies 127.0.0.1", "listen 127.0.0.1:9001", "not-after-from 2027-01-01", "not-after-to 2027-07-01",
-		"most-connections-by-address 70", "submitters 203.0.113.0/24=256,2001:db8::7=9")
-	b := settingsAt(t, folder, "2027h2", "origin log.example/2027h2", "proxies 127.0.0.1", "listen 127.0.0.1:9002", "not-after-from 2027-07-01", "not-after-to 2028-01-01",
-		"submitters 203.0.113.0/24=256")
-	other := settingsAt(t, folder, "other-log", "origin other.example", "proxies 10.0.0.1", "listen 10.0.0.2:9003")
-	frozen := settingsAt(t, folder, "2026", "origin log.example/2026", "proxies 127.0.0.1", "listen 127.0.0.1:9004", "read-only true")
-	site := siteOf(t, false, "--submissions", "submit.example", b, a, frozen)
-	for text, many := range map[string]int{
-		"server_name log.example;": 1, "server_name submit.example;": 1, "ssl_certificate_key /etc/ssl/submit.example.key;": 1, "listen 443 ssl http2;": 2,
-		"server 127.0.0.1:9001;": 1, "server 127.0.0.1:9004;": 1, "location /2027h1/ {": 1, "location ~ ^/2027h2/tile/data/ {": 1, "limit_conn ctserve_2027h1 70;": 3,
-		"limit_conn ctserve_all 70;": 1, "203.0.113.0/24 0;": 3, "2001:db8::7/128 0;": 2, "location @whole_1 {": 1, "location @whole_2 {": 0, "location @away_1 {": 1,
-		"proxy_pass http://ctserve_2026;": 2, "error_page 421 = @whole_1;": 1,
-		// (of log.example, and of the name for submissions)
-		"access_log off;": 2, "client_header_timeout 10s;": 2, "reset_timedout_connection on;": 2, "limit_conn_status 429;": 2,
-	} {
-		if count := strings.Count(site, text); count != many {
-			t.Errorf("%q stands there %d times, and not %d: %s", text, count, many, site)
-		}
-	}
-	if first := strings.Index(site, "location @whole_0 {"); !strings.Contains(site[first:strings.Index(site, "location @whole_1 {")], "http://ctserve_2027h1;") {
-		t.Error("the earlier shard isn't asked first")
-	}
-	if site := siteOf(t, false, "--listen", "8443", "--certificates", "/tls", other); !strings.Contains(site, "listen 8443 ssl http2;") || !strings.Contains(site, "/tls/other.example.pem;") ||
-		!strings.Contains(site, "upstream ctserve_other_log {") {
-		t.Errorf("words are lost: %s", site)
-	}
-	of := func(lines ...string) string { return settingsAt(t, t.TempDir(), "x", lines...) }
-	overlaps := of("origin o.example", "proxies 127.0.0.1", "listen 127.0.0.1:9009", "not-after-from 2027-06-01", "not-after-to 2027-08-01")
-	for what, words := range map[string][]string{
-		"no file":                     {},
-		"a word that isn't one":       {"--no-such-word", a},
-		"no such file":                {filepath.Join(folder, "absent.conf")},
-		"no proxy":                    {of("origin log.example")},
-		"another proxy":               {of("origin log.example", "proxies 10.0.0.1")},
-		"no proxy of another machine": {of("origin log.example", "listen 10.0.0.2:9003")},
-		"TLS":                         {of("origin log.example", "proxies 127.0.0.1", "tls-certificate /a", "tls-key /b")},
-		"an address without a port":   {of("origin log.example", "proxies 127.0.0.1", "listen 127.0.0.1")},
-		"an origin that is no name":   {of("origin log_example", "proxies 127.0.0.1")},
-		"an origin with a port":       {of("origin log.example:8443", "proxies 127.0.0.1")},
-		"the same twice":              {a, a},
-		"one address twice":           {a, of("origin b.example", "proxies 127.0.0.1", "listen 127.0.0.1:9001")},
-		"one origin twice":            {a, of("origin log.example/2027h1", "proxies 127.0.0.1", "listen 127.0.0.1:9005")},
-		"windows that overlap":        {"--submissions", "submit.example", a, overlaps},
-		"no window":                   {"--submissions", "submit.example", other},
-		"read-only logs alone":        {"--submissions", "submit.example", frozen},
-		"a name that is a log's":      {"--submissions", "log.example", a},
-		"a folder with a semicolon":   {"--certificates", "/etc;", a},
-		"a port with a brace":         {"--listen", "443{", a},
-	} {
-		if status, said, told := does(append([]string{"nginx"}, words...)...); status == 0 || said != "" || told == "" {
-			t.Errorf("%s: status %d: %s%s", what, status, said, told)
-		}
-	}
-	var many []string
-	for i := 0; i <= mostShards; i++ {
-		year := 2030 + i
-		many = append(many, settingsAt(t, folder, fmt.Sprint(year), fmt.Sprintf("origin log.example/%d", year), "proxies 127.0.0.1", fmt.Sprintf("listen 127.0.0.1:%d", 9100+i),
-			fmt.Sprintf("not-after-from %d-01-01", year), fmt.Sprintf("not-after-to %d-01-01", year+1)))
-	}
-	siteOf(t, false, append([]string{"--submissions", "submit.example"}, many[1:]...)...)
-	if status, _, _ := does(append([]string{"nginx", "--submissions", "submit.example"}, many...)...); status != 2 {
-		t.Errorf("%d shards: status %d", len(many), status)
-	}
-}
-
-// TestRoutedSubmissions: submissions to one name come to the shard in whose window their certificates end, through nginx over TLS, and a shard that
-// doesn't answer keeps no other from taking.
-func TestRoutedSubmissions(t *testing.T) {
+// TestExampleOverTLS: the example as it stands, but for addresses and folders, answers HTTP/2 over TLS with the log's calls.
+func TestExampleOverTLS(t *testing.T) {
 	nginxFound(t)
-	at, folder, address := newPlace(t), t.TempDir(), trial.Free(t)
-	years, files, shards := []int{2027, 2028, 2029}, []string{}, map[int]*program{}
-	for _, year := range years {
-		window := []string{"--not-after-from", fmt.Sprintf("%d-01-01", year), "--not-after-to", fmt.Sprintf("%d-01-01", year+1)}
-		p := started(t, "20ms", at.words(append(window, "--proxies", "127.0.0.1", "--origin", fmt.Sprintf("log.example/%d", year), "--log-requests")...)...)
-		shards[year] = p
-		files = append(files, settingsAt(t, folder, fmt.Sprint(year), fmt.Sprintf("origin log.example/%d", year), "proxies 127.0.0.1", "listen "+p.clients,
-			"not-after-from "+window[1], "not-after-to "+window[3]))
-	}
+	at, address := newPlace(t), trial.Free(t)
+	p := started(t, "20ms", at.words("--proxies", "127.0.0.1")...)
 	certificate, key, err := at.authority.KeyPair()
-	if err != nil {
-		t.Fatal(err)
-	}
-	for _, name := range []string{"log.example", "submit.example"} {
-		at.write(name+".pem", certificate)
-		at.write(name+".key", key)
-	}
-	words := []string{"--submissions", "submit.example", "--listen", address, "--cache", filepath.Join(folder, "cache"), "--certificates", at.folder}
-	nginxWith(t, siteOf(t, false, append(words, files...)...), address)
+	trial.Must(t, err)
+	at.write("log.example.pem", certificate)
+	at.write("log.example.key", key)
+	nginxWith(t, exampleSite(t, "/etc/ssl/log.example.org.", at.path("log.example."), "log.example.org", "log.example", "listen 443 ", "listen "+address+" ",
+		"127.0.0.1:8618", p.clients, "/var/lib/nginx/ctserve", filepath.Join(t.TempDir(), "cache")), address)
 	client := &http.Client{Transport: &http.Transport{TLSClientConfig: &tls.Config{InsecureSkipVerify: true}, ForceAttemptHTTP2: true}}
-	ask := func(host, path string, body []byte) (int, string) {
-		t.Helper()
-		method := "GET"
-		if body != nil {
-			method = "POST"
-		}
-		request, _ := http.NewRequest(method, "https://"+address+path, bytes.NewReader(body))
-		request.Host = host
+	for path, status := range map[string]int{"/ct/v1/get-sth": 200, "/ct/v1/get-roots": 200, "/checkpoint": 200, "/tile/data/009": 404, "/nothing": 404} {
+		request, err := http.NewRequest("GET", "https://"+address+path, nil)
+		trial.Must(t, err)
+		request.Host = "log.example"
 		answer, err := client.Do(request)
-		if err != nil {
-			t.Fatal(err)
-		}
-		defer answer.Body.Close()
-		text, err := io.ReadAll(answer.Body)
-		if err != nil || answer.ProtoMajor != 2 {
-			t.Fatalf("HTTP/%d: %v", answer.ProtoMajor, err)
-		}
-		return answer.StatusCode, string(text)
-	}
-	submission := func(year int) []byte {
-		der, err := at.authority.Issue(false, time.Date(year, 5, 1, 0, 0, 0, 0, time.UTC))
-		if err != nil {
-			t.Fatal(err)
-		}
-		return standin.Submission(der)
-	}
-	entries := func(year int) (size int) {
-		_, text := ask("log.example", fmt.Sprintf("/%d/ct/v1/get-sth", year), nil)
-		var head struct {
-			Size int `json:"tree_size"`
-		}
-		if err := json.Unmarshal([]byte(text), &head); err != nil {
-			t.Fatalf("%d: %s", year, text)
-		}
-		return head.Size
-	}
-	for _, year := range []int{2029, 2027, 2028, 2029} {
-		before := entries(year)
-		if status, text := ask("submit.example", "/ct/v1/add-chain", submission(year)); status != 200 {
-			t.Fatalf("%d: %d %s", year, status, text)
-		}
-		if after := entries(year); after != before+1 {
-			t.Errorf("%d: %d entries, and then %d", year, before, after)
-		}
-	}
-	if _, direct := ask("log.example", "/2028/tile/data/000.p/1", nil); direct == "" {
-		t.Error("a tile of one of three logs isn't read")
-	}
-	for _, path := range []string{"/2027/checkpoint", "/2028/", "/2029/ct/v1/get-roots"} {
-		if status, text := ask("log.example", path, nil); status != 200 {
-			t.Errorf("%s: %d %s", path, status, text)
-		}
-	}
-	for what, test := range map[string]struct {
-		path   string
-		body   []byte
-		status int
-		name   string
-	}{
-		"of no shard":     {"/ct/v1/add-chain", submission(2031), 400, "outside-window"},
-		"a bad chain":     {"/ct/v1/add-chain", []byte(`{"chain":["AAAA"]}`), 400, "no-certificate"},
-		"another call":    {"/checkpoint", nil, 404, ""},
-		"one of get-sth":  {"/ct/v1/get-sth", nil, 404, ""},
-		"the roots":       {"/ct/v1/get-roots", nil, 200, "certificates"},
-		"another's call":  {"/ct/v1/add-pre-chain", submission(2028), 400, "no-poison"},
-		"reads of a post": {"/ct/v1/add-chain", nil, 405, "method"},
-	} {
-		if status, text := ask("submit.example", test.path, test.body); status != test.status || !strings.Contains(text, test.name) {
-			t.Errorf("%s: %d %s", what, status, text)
-		}
-	}
-	// The middle one goes: the others take, and what would be its own is a passing refusal.
-	shards[2028].command.Process.Kill()
-	shards[2028].ends()
-	for year, due := range map[int]int{2027: 200, 2028: 503, 2029: 200} {
-		if status, text := ask("submit.example", "/ct/v1/add-chain", submission(year)); status != due {
-			t.Errorf("%d, without that of 2028: %d %s", year, status, text)
+		trial.Must(t, err)
+		answer.Body.Close()
+		if answer.StatusCode != status || answer.ProtoMajor != 2 {
+			t.Errorf("%s: %d by HTTP/%d, and not %d by HTTP/2", path, answer.StatusCode, answer.ProtoMajor, status)
 		}
 	}
 }
@@ -331,7 +190,7 @@ func TestRoutedSubmissions(t *testing.T) {
 func TestBehindNginx(t *testing.T) {
 	at := newPlace(t)
 	p := started(t, "20ms", at.words("--proxies", "127.0.0.1", "--most-connections-by-address", "1", "--log-requests")...)
-	address := nginxBefore(t, p.clients)
+	address := nginxBefore(t, p.clients, 64)
 	if status, text := post(address, at.submission()); status != 200 {
 		t.Fatalf("%d %s", status, text)
 	}
@@ -421,7 +280,7 @@ func TestBentTileBehindNginx(t *testing.T) {
 	at := newPlace(t)
 	words := at.realWords("--signing-key", at.path("log.pem"), "--proxies", "127.0.0.1", "--read-again-every", "1h", "--interval", "500ms", "--most-connections-by-address", "500")
 	p := started(t, "", append(words, "--guard", at.guard, "--create")...)
-	address := nginxBefore(t, p.clients)
+	address := nginxBefore(t, p.clients, 64)
 	const atOnce = 257
 	bodies, failed := [][]byte{}, make(chan string, atOnce)
 	for i := 0; i < atOnce; i++ {

@@ -46,10 +46,8 @@ func TestPagesNameSettings(t *testing.T) {
 	}
 	s, err := parse([]string{"--roots", "r", "--origin", "o.example", "--signing-key", "k"}, &bytes.Buffer{})
 	trial.Must(t, err)
-	for name, command := range map[string][]string{"step": s.node.step, "decider": s.node.decider, "reader": s.node.reader, "guard": s.node.guard} {
-		if said := fmt.Sprintf("default %q", command[0]); !strings.Contains(settings[name], said) {
-			t.Errorf("where %s isn't set it is %q: %s", name, command, settings[name])
-		}
+	if said := fmt.Sprintf("default %q", s.node.guard[0]); !strings.Contains(settings["guard"], said) {
+		t.Errorf("where guard isn't set it is %q: %s", s.node.guard, settings["guard"])
 	}
 	// What has a hyphen and is no setting.
 	others := map[string]bool{"list-entry": true, "made-again": true, "root-left-out": true, "read-only": true, "too-often": true, "statement_timeout": true, "pre-vote": true, "auto-compaction-mode=periodic": true}
@@ -72,9 +70,6 @@ func TestPagesNameSettings(t *testing.T) {
 		{"most-connections-by-address", "64 connections, or behind nginx requests, at once (`most-connections-by-address`)", "default 64)"},
 		{"most-clock-skew", "`most-clock-skew` (10 s)", "default 10s)"},
 		{"end-within", "`end-within` (30 s)", "default 30s)"},
-		{"step", "`step` makes the log's steps, by default `cttile`", `default "cttile"`},
-		{"decider", "`decider` says what a node does next, by default `ctnode`", `default "ctnode"`},
-		{"reader", "by default `ctproof`", `default "ctproof"`},
 		{"guard", "by default `ctguard`", `default "ctguard"`},
 		{"latest-head", "`latest-head`, by default `FOLDER.latest-head`", "default FOLDER.latest-head"},
 		{"guard-state", "`guard-state`, by default `FOLDER.guard`", "FOLDER.guard"},
@@ -92,9 +87,6 @@ func TestPagesNameSettings(t *testing.T) {
 
 // TestPageSaysBounds: the bounds that service/README.md says of the program are those that are here.
 func TestPageSaysBounds(t *testing.T) {
-	trial.Says(t, trial.Page(t, "../README.md"), map[string]bool{
-		"So eight shards at most": mostShards == 8,
-	})
 	s, err := parse([]string{"--roots", "r", "--origin", "o.example", "--signing-key", "k"}, &bytes.Buffer{})
 	trial.Must(t, err)
 	trial.Says(t, trial.Page(t, "../README.md"), map[string]bool{

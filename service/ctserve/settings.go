@@ -39,23 +39,22 @@ type settings struct {
 
 // node is what the log stands on.
 type node struct {
-	origin, signingKey                        string
-	guard                                     []string
-	guardState, signerAt                      string
-	folder, store, register, places           string
-	latestHead, namedDay                      string
-	mostSkew                                  time.Duration
-	synchronized                              bool
-	step, reader, decider                     []string
-	stepWithin, interval, refresh, openWithin time.Duration
-	sweepAfter, sweepTilesAfter               time.Duration
-	readEvery, readAllWithin                  time.Duration
-	mostQueue, mostBatch, mostProofs          int
-	mostWritten                               int
-	create, makesFolder                       bool
-	address, secret                           string
-	witnesses                                 []witness.One
-	quorums                                   witness.Quorums
+	origin, signingKey               string
+	guard                            []string
+	guardState, signerAt             string
+	folder, store, register, places  string
+	latestHead, namedDay             string
+	mostSkew                         time.Duration
+	synchronized                     bool
+	interval, refresh, openWithin    time.Duration
+	sweepAfter, sweepTilesAfter      time.Duration
+	readEvery, readAllWithin         time.Duration
+	mostQueue, mostBatch, mostProofs int
+	mostWritten                      int
+	create, makesFolder              bool
+	address, secret                  string
+	witnesses                        []witness.One
+	quorums                          witness.Quorums
 }
 
 // rests says whether steps leave their stores half of the time: one of them isn't this machine's own folder or file.
@@ -69,7 +68,7 @@ var errUsage = errors.New("ctserve")
 // parse reads the command line, and the file that it names. What stands on the command line counts.
 func parse(words []string, help io.Writer) (*settings, error) {
 	s := &settings{limits: web.DefaultLimits()}
-	flags := settingsfile.Flags("ctserve", "ctserve serves a Certificate Transparency log over HTTP. Each word may also stand as a line 'name value' in the file of --config.\n'ctserve signer --help' says what its signer takes; 'ctserve key FILE' makes a key, 'ctserve check FILE' looks at settings without starting, 'ctserve list-entry' writes a log list's entry, 'ctserve nginx' a site of nginx, 'ctserve places FILE' builds the places anew, 'ctserve clock FILE DAY' names the day where nothing but the machine's clock does, each with --help.", help)
+	flags := settingsfile.Flags("ctserve", "ctserve serves a Certificate Transparency log over HTTP. Each word may also stand as a line 'name value' in the file of --config.\n'ctserve signer --help' says what its signer takes; 'ctserve key FILE' makes a key, 'ctserve check FILE' looks at settings without starting, 'ctserve list-entry' writes a log list's entry, 'ctserve places FILE' builds the places anew, 'ctserve clock FILE DAY' names the day where nothing but the machine's clock does, each with --help.", help)
 	flags.String("config", "", "`file` with a line 'name value' for each of these, and comments behind #")
 	flags.StringVar(&s.listen, "listen", "127.0.0.1:8618", "`address` for clients")
 	flags.StringVar(&s.operator, "operator-listen", "127.0.0.1:8619", "`address` for /metrics, /healthz and /readyz; none where it is empty")
@@ -117,14 +116,10 @@ func parse(words []string, help io.Writer) (*settings, error) {
 	flags.StringVar(&n.folder, "folder", "ct-log", "`folder` of the objects, the register and the places, where no other address is given")
 	flags.StringVar(&n.store, "store", "", "`address` of the objects: folder:PATH, s3://HOST/BUCKET")
 	flags.StringVar(&n.register, "register", "", "`address` of the register: file:PATH, etcd://HOST:PORT/PREFIX, postgres://HOST/DATABASE?log=NAME")
-	flags.StringVar(&n.places, "places", "", "`address` of the places of identities: sqlite:PATH, etcd://HOST:PORT/PREFIX[?entries=N], for so many entries at most (6000000, which etcd's usual quota bears), postgres://HOST/DATABASE?log=NAME")
+	flags.StringVar(&n.places, "places", "", "`address` of the places of identities: sqlite:PATH, postgres://HOST/DATABASE?log=NAME")
 	flags.DurationVar(&n.mostSkew, "most-clock-skew", 10*time.Second, "how far the machine's clock may be off, by the newest head, the stores' machines, another node or what elapsed, until nothing is taken")
 	flags.BoolVar(&n.synchronized, "clock-synchronized", false, "take nothing as long as the kernel doesn't say that its clock is synchronized (timedatectl)")
 	flags.StringVar(&n.latestHead, "latest-head", "", "`file` of this machine's own, apart from all stores and their backups, with the latest tree head that this node saw: a log that is older is refused (default FOLDER.latest-head, beside the folder)")
-	flags.Func("step", "the `command` of the program that makes the steps, with its words (default \"cttile\"); it is given --origin", command(&n.step))
-	flags.Func("reader", "the `command` of the program that makes proofs for readers out of the tiles, with its words (default \"ctproof\")", command(&n.reader))
-	flags.Func("decider", "the `command` of the program that says what a node does next, with its words (default \"ctnode\")", command(&n.decider))
-	flags.DurationVar(&n.stepWithin, "step-within", 30*time.Second, "how long a step may take, until its program is killed")
 	flags.Func("interval", "how far two heads are apart at least, as a `duration`: 50ms are twenty a second at most; where none is set a folder's heads follow what a step takes and writes, and over other stores and with witnesses they are 50ms apart; over other stores twice as long as a step takes there, up to 500ms", above0(&n.interval))
 	flags.DurationVar(&n.refresh, "refresh", time.Hour, "how old a head gets before one without new entries is made")
 	flags.DurationVar(&n.sweepAfter, "sweep-after", time.Hour, "how long a head stands before older ones are deleted")
@@ -135,7 +130,7 @@ func parse(words []string, help io.Writer) (*settings, error) {
 	flags.IntVar(&n.mostQueue, "most-queue", 4096, "submissions that wait")
 	flags.IntVar(&n.mostWritten, "most-written", 16<<20, "bytes a second that steps write at most, over a while: where they have large certificates to write again, heads are farther apart")
 	flags.IntVar(&n.mostBatch, "most-batch", 1024, "entries of one step")
-	flags.IntVar(&n.mostProofs, "most-proofs", 64, "proofs for readers that are made, or wait to be")
+	flags.IntVar(&n.mostProofs, "most-proofs", 64, "proofs for readers that are made at once")
 	flags.BoolVar(&n.create, "create", false, "make a log where there is none; without it, an empty register ends the start")
 	flags.Func("witnesses", "`witnesses` that cosign the log's heads, with spaces between them: of each its URL, a comma, and its verifier key", func(text string) error {
 		n.witnesses = nil
@@ -187,7 +182,7 @@ func (s *settings) settle() error {
 	if !s.window.From.IsZero() && !s.window.To.IsZero() && !s.window.From.Before(s.window.To) {
 		return errors.New("--not-after-from isn't before --not-after-to")
 	}
-	for _, time := range []time.Duration{s.endWithin, l.Headers, l.Request, l.Submission, l.Answer, l.Idle, n.stepWithin, n.refresh, n.openWithin, n.sweepAfter, n.sweepTilesAfter, n.readEvery, n.readAllWithin, n.mostSkew} {
+	for _, time := range []time.Duration{s.endWithin, l.Headers, l.Request, l.Submission, l.Answer, l.Idle, n.refresh, n.openWithin, n.sweepAfter, n.sweepTilesAfter, n.readEvery, n.readAllWithin, n.mostSkew} {
 		if time <= 0 {
 			return errors.New("a time is above 0")
 		}
@@ -202,16 +197,6 @@ func (s *settings) settle() error {
 	if l.SubmissionRate < 0 || l.ReadRate < 0 {
 		return errors.New("a rate is 0, for none, or above")
 	}
-	if len(n.step) == 0 {
-		n.step = []string{"cttile"}
-	}
-	if len(n.reader) == 0 {
-		n.reader = []string{"ctproof"}
-	}
-	if len(n.decider) == 0 {
-		n.decider = []string{"ctnode"}
-	}
-	n.step = append(append([]string{}, n.step...), "--origin", n.origin)
 	for _, address := range []struct {
 		of   *string
 		text string
@@ -231,7 +216,7 @@ func (s *settings) settle() error {
 		return errors.New("--nodes-listen, --nodes-address and --nodes-secret go together")
 	}
 	if n.address != "" && strings.HasPrefix(n.places, "sqlite:") && !strings.HasPrefix(n.register, "file:") {
-		return errors.New("--nodes-address: nodes on several machines have one store of places, of etcd or PostgreSQL (--places), and no file of each's own")
+		return errors.New("--nodes-address: nodes on several machines share one store of places: name one of PostgreSQL (--places postgres://HOST/DATABASE?log=NAME), not a file of each machine")
 	}
 	if err := n.settleWitnesses(); err != nil {
 		return err

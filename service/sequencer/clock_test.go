@@ -7,11 +7,13 @@ import (
 	"net/http/httptest"
 	"os"
 	"path/filepath"
+	"regexp"
 	"strings"
 	"sync"
 	"testing"
 	"time"
 
+	"wagtenib/bindings/go/wagtenib"
 	"wagtenib/service/log"
 	"wagtenib/service/signer"
 	"wagtenib/service/step"
@@ -414,7 +416,7 @@ func TestClocksWrongAlike(t *testing.T) {
 	p.right(t, got)
 }
 
-// TestMomentTooFar has a step's program, and then a guard, that are told to let no moment be beyond the newest head's: each refuses, and who waits is
+// TestMomentTooFar has a step, and then a guard, that are told to let no moment be beyond the newest head's: each refuses, and who waits is
 // told by how much.
 func TestMomentTooFar(t *testing.T) {
 	t.Parallel()
@@ -434,11 +436,10 @@ func TestMomentTooFar(t *testing.T) {
 		must(t, s.End(ctx))
 	}
 	config := p.config(t)
-	steps, err := step.NewClient(strict(`s/"most_ahead":[0-9]*/"most_ahead":0/`, "python3", stepsFile, "--origin", origin), longest)
-	must(t, err)
-	t.Cleanup(func() { steps.Close() })
-	closeAll(Config{Step: config.Step})
-	config.Step = steps
+	ahead := regexp.MustCompile(`"most_ahead":[0-9]*`)
+	config.Step = step.Over(func(memory *[]byte, request []byte) ([]byte, error) {
+		return wagtenib.StepLine(memory, origin, ahead.ReplaceAll(request, []byte(`"most_ahead":0`)))
+	})
 	refuses(config, "the log's newest head")
 	config = p.config(t)
 	closeAll(Config{Signer: config.Signer})

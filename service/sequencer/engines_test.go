@@ -8,6 +8,7 @@ import (
 	"net/url"
 	"os"
 	"os/exec"
+	"path/filepath"
 	"strings"
 	"sync"
 	"testing"
@@ -29,9 +30,10 @@ var (
 type ground struct {
 	name    string
 	missing bool
-	// register is where the register and the places are, for a log's name; objects are in a bucket of that name, where s3 says so.
-	register func(name string) string
-	s3       bool
+	// register gives the register's address for a log's name, and places those of the places; without it they are a file. Objects are in a bucket
+	// of that name if s3 is set.
+	register, places func(name string) string
+	s3               bool
 }
 
 func onEtcd(members string) func(string) string {
@@ -52,7 +54,7 @@ func onPostgres(name string) string {
 var grounds = []ground{
 	{name: "folder"},
 	{name: "etcd", missing: etcdMember == "", register: onEtcd(etcdMember)},
-	{name: "postgres and s3", missing: postgresWord == "" || s3Address == "", register: onPostgres, s3: true},
+	{name: "postgres and s3", missing: postgresWord == "" || s3Address == "", register: onPostgres, places: onPostgres, s3: true},
 	{name: "three members of etcd and s3", missing: etcdMembers == "" || s3Address == "", register: onEtcd(etcdMembers), s3: true},
 }
 
@@ -73,8 +75,10 @@ func (p place) stands(t testing.TB, on ground, places string) {
 	must(t, err)
 	name := "log-" + hex.EncodeToString(chance[:])
 	at := addresses{"folder:" + p.objects(), on.register(name), places}
-	if places == "" {
-		at.Places = on.register(name)
+	if places == "" && on.places != nil {
+		at.Places = on.places(name)
+	} else if places == "" {
+		at.Places = "sqlite:" + filepath.Join(string(p), "places.db")
 	}
 	if on.s3 {
 		at.Objects = strings.Replace(s3Address, "http:", "s3:", 1) + "/" + name + "?tls=no"
@@ -116,8 +120,8 @@ func onEach(t *testing.T, test func(t *testing.T, on ground)) {
 	}
 }
 
-// TestNodesOnEtcd has two nodes carry one log whose register and places are in etcd, which is killed (-9) and started again
-// meanwhile. (Its objects are in a folder, where the checker finds them.)
+// TestNodesOnEtcd has two nodes carry one log whose register is in etcd, which is killed (-9) and started again meanwhile. (Its objects are
+// in a folder, where the checker finds them.)
 func TestNodesOnEtcd(t *testing.T) {
 	t.Parallel()
 	again := strings.Fields(os.Getenv("STORES_AGAIN"))

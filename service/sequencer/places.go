@@ -119,15 +119,6 @@ func (s *Sequencer) place(ctx context.Context, t *turn) error {
 	return err
 }
 
-// bears says whether the places' store bears those of one entry more than a state has: where it is full it may take the register with it.
-func (s *Sequencer) bears(k known) error {
-	bounded, ok := s.config.Places.(stores.Bounded)
-	if !ok || k.state.Size < bounded.Most() {
-		return nil
-	}
-	return fmt.Errorf("%w: the log has %d entries, and where they are (places) the places of %d are borne: they go to another store, as PostgreSQL, which ctserve places fills", ErrPlaces, k.state.Size, bounded.Most())
-}
-
 // Which places are the log's says an id of chance that stands in both: in the places as if it were an identity's place, and in the store as the name of an
 // object, places/ID. So a node with places of its own, or another log's, doesn't start, whatever entry these know.
 
@@ -248,16 +239,12 @@ func takesID(ctx context.Context, config Config) error {
 	return wrapped(config.Places.Replace(ctx, []stores.Placed{{Identity: placesIdentity, Place: id}}))
 }
 
-// startsWithPlaces sees at a start that the places are the log's, and bear more.
+// startsWithPlaces sees at a start that the places are the log's.
 func (s *Sequencer) startsWithPlaces(ctx context.Context) error {
-	k := s.newestKnown()
-	if err := s.bears(k); err != nil {
-		return err
-	}
 	if err := s.hasItsPlaces(ctx); err != nil {
 		return err
 	}
-	return s.knowsPublished(ctx, k)
+	return s.knowsPublished(ctx, s.newestKnown())
 }
 
 // knowsPublished is knowsPlaces where the state is published.

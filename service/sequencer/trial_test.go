@@ -38,10 +38,9 @@ import (
 )
 
 const (
-	origin    = "log.example/tried"
-	quick     = 20 * time.Millisecond
-	longest   = trial.Longest
-	stepsFile = "../../tests/tiles/step.py"
+	origin  = "log.example/tried"
+	quick   = 20 * time.Millisecond
+	longest = trial.Longest
 )
 
 var must, wants = trial.Must, trial.Wants
@@ -120,14 +119,7 @@ func (p place) openOnce(ctx context.Context) (config Config, err error) {
 	if config.Signer, err = p.guarded(ctx); err != nil {
 		return config, err
 	}
-	steps, err := step.NewClient([]string{"python3", stepsFile, "--origin", origin}, longest)
-	if err != nil {
-		return config, err
-	}
-	config.Step = steps
-	if config.Decider, err = decided(); err != nil {
-		return config, err
-	}
+	config.Step, config.Decider = step.New(origin), decider.New()
 	return config, nil
 }
 
@@ -136,21 +128,6 @@ const (
 	guardBuilt = "../../crates/ctguard/out/ctguard"
 	guardFile  = "../../tests/guard/model.py"
 )
-
-// The program that decides is the proved one where it is built, and else a second one with the same lines.
-const (
-	deciderBuilt = "../../crates/ctnode/out/ctnode"
-	deciderFile  = "../../tests/node/ctnode.py"
-)
-
-// decided is a client of it.
-func decided() (*decider.Client, error) {
-	command := []string{deciderBuilt}
-	if _, err := os.Stat(deciderBuilt); err != nil {
-		command = []string{"python3", deciderFile}
-	}
-	return decider.NewClient(command, longest)
-}
 
 // bareKey is the log's key alone.
 func (p place) bareKey() (signer.Signer, error) {
@@ -211,12 +188,6 @@ func (p place) config(t testing.TB) Config {
 func closeAll(config Config) {
 	if guarded, ok := config.Signer.(*signer.Guarded); ok {
 		guarded.Close()
-	}
-	if config.Step != nil {
-		config.Step.Close()
-	}
-	if config.Decider != nil {
-		config.Decider.Close()
 	}
 	if config.Places != nil {
 		config.Places.Close()

@@ -6,7 +6,6 @@ import (
 	"fmt"
 	"net/url"
 	"os"
-	"strconv"
 	"strings"
 
 	"go.etcd.io/etcd/client/v3"
@@ -90,8 +89,7 @@ func RegisterAt(ctx context.Context, address string) (Register, error) {
 	return nil, fmt.Errorf("%w: a register is at file:PATH, etcd://.. or postgres://.., not at %.20q", ErrAddress, kind)
 }
 
-// PlacesAt opens the places at an address: sqlite:PATH, a file, or one of etcd or PostgreSQL as RegisterAt has them; behind etcd's ?entries=N says how many
-// its quota bears, if not usualEntries.
+// PlacesAt opens the places at an address: sqlite:PATH, a file, or one of PostgreSQL as RegisterAt has them.
 func PlacesAt(ctx context.Context, address string) (Places, error) {
 	kind, rest, _ := strings.Cut(address, ":")
 	switch kind {
@@ -101,12 +99,6 @@ func PlacesAt(ctx context.Context, address string) (Places, error) {
 			return nil, err
 		}
 		return OpenSQLite(ctx, path)
-	case "etcd":
-		at, most, err := parseEtcdPlaces(address)
-		if err != nil {
-			return nil, err
-		}
-		return OpenEtcdPlaces(at, most)
 	case "postgres", "postgresql":
 		at, err := parsePostgres(address)
 		if err != nil {
@@ -114,7 +106,7 @@ func PlacesAt(ctx context.Context, address string) (Places, error) {
 		}
 		return OpenPostgresPlaces(ctx, at)
 	}
-	return nil, fmt.Errorf("%w: places are at sqlite:PATH, etcd://.. or postgres://.., not at %.20q", ErrAddress, kind)
+	return nil, fmt.Errorf("%w: places are at sqlite:PATH or postgres://.., not at %.20q", ErrAddress, kind)
 }
 
 // pathOf takes a path as it stands: it isn't a URL's, and a percent sign is one.
@@ -133,8 +125,7 @@ func CheckRegister(address string) error {
 // CheckPlaces is CheckObjects of places.
 func CheckPlaces(address string) error {
 	postgres := func() error { _, err := parsePostgres(address); return err }
-	etcd := func() error { _, _, err := parseEtcdPlaces(address); return err }
-	return checked(address, "places", map[string]func() error{"sqlite": nil, "etcd": etcd, "postgres": postgres, "postgresql": postgres})
+	return checked(address, "places", map[string]func() error{"sqlite": nil, "postgres": postgres, "postgresql": postgres})
 }
 
 // checked reads an address by what reads those of its kind; nil reads a path.
@@ -230,48 +221,21 @@ func parseS3(address string) (at S3, err error) {
 	return at, nothingElse(query, "s3")
 }
 
-func parseEtcd(address string) (Etcd, error) {
-	at, query, err := parseEtcdWith(address)
+func parseEtcd(address string) (at Etcd, err error) {
+	u, query, err := parsed(address, "etcd")
 	if err != nil {
 		return Etcd{}, err
 	}
-	return at, nothingElse(query, "etcd")
-}
-
-// parseEtcdPlaces reads an address of places, and of how many entries at most.
-func parseEtcdPlaces(address string) (at Etcd, most uint64, err error) {
-	at, query, err := parseEtcdWith(address)
-	if err != nil {
-		return Etcd{}, 0, err
-	}
-	entries, err := word(query, "entries")
-	if most = usualEntries; err == nil && entries != "" {
-		if most, err = strconv.ParseUint(entries, 10, 40); err != nil || most == 0 {
-			err = fmt.Errorf("%w: etcd: entries is a number above 0", ErrAddress)
-		}
-	}
-	if err != nil {
-		return Etcd{}, 0, err
-	}
-	return at, most, nothingElse(query, "etcd")
-}
-
-// parseEtcdWith reads an address, and gives what stands behind its question mark.
-func parseEtcdWith(address string) (at Etcd, query url.Values, err error) {
-	u, query, err := parsed(address, "etcd")
-	if err != nil {
-		return Etcd{}, nil, err
-	}
 	at.Prefix = strings.Trim(u.Path, "/")
 	if at.Prefix == "" {
-		return Etcd{}, nil, fmt.Errorf("%w: etcd wants a prefix behind the hosts", ErrAddress)
+		return Etcd{}, fmt.Errorf("%w: etcd wants a prefix behind the hosts", ErrAddress)
 	}
 	at.Config = clientv3.Config{Endpoints: strings.Split(u.Host, ",")}
 	if u.User != nil {
 		at.Config.Username = u.User.Username()
 		at.Config.Password, _ = u.User.Password()
 	}
-	return at, query, nil
+	return at, nothingElse(query, "etcd")
 }
 
 func parsePostgres(address string) (at Postgres, err error) {

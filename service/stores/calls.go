@@ -167,25 +167,11 @@ func (r countedRegister) Raise(ctx context.Context, published Published) error {
 // Places are these, and those of leaves, counted together.
 func (c *Calls) Places(of Places) Places {
 	counted := countedPlaces{of, c}
-	timed, tells := of.(Timed)
-	bounded, bears := of.(Bounded)
-	switch {
-	case tells && bears:
-		return struct {
-			Places
-			Timed
-			Bounded
-		}{counted, timed, bounded}
-	case tells:
+	if timed, tells := of.(Timed); tells {
 		return struct {
 			Places
 			Timed
 		}{counted, timed}
-	case bears:
-		return struct {
-			Places
-			Bounded
-		}{counted, bounded}
 	}
 	return counted
 }

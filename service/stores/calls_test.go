@@ -64,10 +64,6 @@ func (givenTime) Time(context.Context) (time.Time, time.Duration, error) {
 	return time.UnixMilli(9), 5, ErrSameMachine
 }
 
-type givenMost struct{}
-
-func (givenMost) Most() uint64 { return 11 }
-
 // asksAll makes each call once, in the order of All, and gives what came of each.
 func asksAll(ctx context.Context, objects Objects, register Register, places Places) (errs []error, values []any) {
 	add := func(err error, more ...any) { errs, values = append(errs, err), append(values, more...) }
@@ -153,7 +149,7 @@ func TestCallsAreCounted(t *testing.T) {
 	}
 }
 
-// TestCountedStores: a store that is counted is closed, says what time it is and how much it bears as it does itself, and says nothing that it doesn't; leaves' places count
+// TestCountedStores: a store that is counted is closed, says what time it is as it does itself, and says nothing that it doesn't; leaves' places count
 // as the others do.
 func TestCountedStores(t *testing.T) {
 	calls, of := &Calls{}, &given{}
@@ -171,13 +167,6 @@ func TestCountedStores(t *testing.T) {
 			t.Errorf("%T: %v, %v, %v", store, at, within, err)
 		}
 	}
-	bounded := func(store any, is bool) {
-		t.Helper()
-		one, bears := store.(Bounded)
-		if bears != is || bears && one.Most() != 11 {
-			t.Errorf("%T: bears so many: %v", store, bears)
-		}
-	}
 	for _, tells := range []bool{false, true} {
 		objects, register := Objects(givenObjects{of}), Register(givenRegister{of})
 		if tells {
@@ -192,7 +181,6 @@ func TestCountedStores(t *testing.T) {
 		}
 		for _, store := range []interface{ Close() error }{calls.Objects(objects), calls.Register(register)} {
 			timed(store, tells)
-			bounded(store, false)
 			if err := store.Close(); err == nil || err.Error() != "closed" {
 				t.Errorf("%T: it isn't closed: %v", store, err)
 			}
@@ -200,27 +188,17 @@ func TestCountedStores(t *testing.T) {
 	}
 	own := givenPlaces{of, leaves}
 	for _, each := range []struct {
-		of           Places
-		tells, bears bool
+		of    Places
+		tells bool
 	}{
-		{own, false, false},
+		{own, false},
 		{struct {
 			givenPlaces
 			givenTime
-		}{own, givenTime{}}, true, false},
-		{struct {
-			givenPlaces
-			givenMost
-		}{own, givenMost{}}, false, true},
-		{struct {
-			givenPlaces
-			givenTime
-			givenMost
-		}{own, givenTime{}, givenMost{}}, true, true},
+		}{own, givenTime{}}, true},
 	} {
 		places := calls.Places(each.of)
 		timed(places, each.tells)
-		bounded(places, each.bears)
 		must(t, places.Leaves().Add(limited(t), nil))
 		if err := places.Close(); err == nil || err.Error() != "closed" {
 			t.Errorf("they aren't closed: %v", err)
@@ -229,7 +207,7 @@ func TestCountedStores(t *testing.T) {
 	for _, call := range calls.All() {
 		due := uint64(0)
 		if call.Store == "places" && call.Name == "add" {
-			due = 4
+			due = 2
 		}
 		if call.Count != due {
 			t.Errorf("%+v, and not %d", call, due)

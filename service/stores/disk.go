@@ -7,7 +7,6 @@ import (
 	"os"
 	"path/filepath"
 	"sync"
-	"syscall"
 	"time"
 )
 
@@ -87,16 +86,8 @@ func (d *disk) sweep() error {
 	return nil
 }
 
-// write makes a file of the content that has no public name yet, on the disk, and gives its path. Where there is no room, what is being freed is waited for.
+// write makes a file of the content that has no public name yet, on the disk, and gives its path.
 func (d *disk) write(content []byte) (path string, err error) {
-	if path, err = d.writeOnce(content); errors.Is(err, syscall.ENOSPC) {
-		waitForFreed()
-		path, err = d.writeOnce(content)
-	}
-	return path, err
-}
-
-func (d *disk) writeOnce(content []byte) (path string, err error) {
 	file, err := os.CreateTemp(filepath.Join(d.root, temporary), "file-")
 	if err != nil {
 		return "", fmt.Errorf("stores: write: %w", err)
@@ -161,46 +152,6 @@ func (d *disk) forget(folder string) {
 	d.mu.Lock()
 	defer d.mu.Unlock()
 	delete(d.synced, folder)
-}
-
-// mostFreed is how many files are freed at once beside everything else.
-const mostFreed = 8
-
-var freeing = make(chan struct{}, mostFreed)
-
-// hold keeps a file whose name is taken away from being freed, until it is let go, and then has it be freed beside everything else: where the file system
-// tells the disk at once what is free (discard), that takes milliseconds. Where there is no such file it does nothing.
-func hold(path string) (let func()) {
-	file, err := os.OpenFile(path, os.O_RDONLY|syscall.O_NONBLOCK, 0)
-	if err != nil {
-		return func() {}
-	}
-	return func() {
-		select {
-		case freeing <- struct{}{}:
-			go func() {
-				file.Close()
-				<-freeing
-			}()
-		default:
-			file.Close()
-		}
-	}
-}
-
-// allFreed is held by who waits for all that is being freed.
-var allFreed sync.Mutex
-
-// waitForFreed waits until all is freed that is being freed now.
-func waitForFreed() {
-	allFreed.Lock()
-	defer allFreed.Unlock()
-	for i := 0; i < mostFreed; i++ {
-		freeing <- struct{}{}
-	}
-	for i := 0; i < mostFreed; i++ {
-		<-freeing
-	}
 }
 
 func syncFolder(path string) error {

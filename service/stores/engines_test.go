@@ -98,10 +98,6 @@ var identityStores = []implementation[Places]{
 		open: func(ctx context.Context, place string) (Places, error) {
 			return OpenSQLite(ctx, filepath.Join(place, "places.db"))
 		}},
-	{name: "etcd", missing: wants(etcdMembers, "etcd-server"),
-		open: func(_ context.Context, place string) (Places, error) {
-			return OpenEtcdPlaces(etcdAt(place), usualEntries)
-		}},
 	{name: "postgres", missing: wants(postgresURL, "postgresql"),
 		open: func(ctx context.Context, place string) (Places, error) {
 			return OpenPostgresPlaces(ctx, Postgres{postgresURL, place})

@@ -155,8 +155,6 @@ func (f *file) set(name, content string) error {
 	}
 	// (a file that has its name is no longer there to be removed)
 	defer os.Remove(whole)
-	let := hold(f.path(name))
-	defer let()
 	if err := os.Rename(whole, f.path(name)); err != nil {
 		return fmt.Errorf("stores: register: %w", err)
 	}

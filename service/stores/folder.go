@@ -132,8 +132,6 @@ func (f *folder) Delete(ctx context.Context, name string) error {
 	if err := ctx.Err(); err != nil {
 		return fmt.Errorf("stores: delete %s: %w", name, err)
 	}
-	let := hold(f.path(name))
-	defer let()
 	if err := syscall.Unlink(f.path(name)); err != nil && !isNoFile(err) {
 		return fmt.Errorf("stores: delete %s: %w", name, err)
 	}

@@ -39,8 +39,6 @@ func keepFile(path string, content []byte, mode fs.FileMode) error {
 	if closing := file.Close(); err == nil {
 		err = closing
 	}
-	let := hold(path)
-	defer let()
 	if err == nil {
 		err = os.Rename(file.Name(), path)
 	}

@@ -12,7 +12,5 @@ func TestPageSaysBounds(t *testing.T) {
 	trial.Says(t, trial.Page(t, "../README.md"), map[string]bool{
 		"Each call has 1.5 s at one member":                   mostCall == 1500*time.Millisecond,
 		"are left out, and looked at again ten seconds later": leftOutFor == 10*time.Second,
-		"Places in etcd are of 6,000,000 entries at most":     usualEntries == 6000000,
-		"places in etcd | at 6,000,000 entries, by its quota": usualEntries == 6000000,
 	})
 }

@@ -152,9 +152,6 @@ type Places interface {
 	Close() error
 }
 
-// Bounded are places that bear no more than so many entries.
-type Bounded interface{ Most() uint64 }
-
 // Timed is a store that says what time it is on its machine.
 type Timed interface {
 	// Time gives the time of day, and how far it is off at most by how it is said; both beside ErrSameMachine, where it is this machine's own.

@@ -29,7 +29,7 @@ func (f *Front) addPreChain(w http.ResponseWriter, r *http.Request) error {
 	return f.add(w, r, f.checker.Precertificate)
 }
 
-func (f *Front) add(w http.ResponseWriter, r *http.Request, check func(context.Context, [][]byte) (*chains.Entry, error)) error {
+func (f *Front) add(w http.ResponseWriter, r *http.Request, check func([][]byte) (*chains.Entry, error)) error {
 	if f.ending.Load() {
 		return refusal{status: http.StatusServiceUnavailable, name: "ended", after: 10, closes: true}
 	}
@@ -47,11 +47,6 @@ func (f *Front) add(w http.ResponseWriter, r *http.Request, check func(context.C
 	ctx, cancel := context.WithTimeout(r.Context(), f.limits.Submission)
 	defer cancel()
 	entry, err := f.checked(ctx, body, check)
-	if chains.RefusalOf(err) == chains.OutsideWindow && f.hasShardsBehind(r) {
-		misdirected := refusalOf(err)
-		misdirected.status = http.StatusMisdirectedRequest
-		return misdirected
-	}
 	if err != nil {
 		return err
 	}
@@ -67,14 +62,6 @@ func (f *Front) add(w http.ResponseWriter, r *http.Request, check func(context.C
 
 func timestampOf(place log.Place) signedTimestamp {
 	return signedTimestamp{0, place.LogID[:], place.Timestamp, place.Extensions, place.Signature}
-}
-
-// ShardsBehind is the header by which a proxy says that other shards will be asked (ctserve nginx --submissions). What ends outside of this
-// one's window is answered 421 then.
-const ShardsBehind = "X-Shards-Behind"
-
-func (f *Front) hasShardsBehind(r *http.Request) bool {
-	return r.Header.Get(ShardsBehind) != "" && f.isProxy(addressOf(r.RemoteAddr))
 }
 
 // body reads a submission, and says how many bytes of the budget it took. A body whose length isn't said is refused: no client
@@ -111,7 +98,7 @@ func (f *Front) body(r *http.Request, client netip.Addr) (body []byte, taken int
 }
 
 // checked makes an entry of a submission. Only so many are checked at once.
-func (f *Front) checked(ctx context.Context, body []byte, check func(context.Context, [][]byte) (*chains.Entry, error)) (*chains.Entry, error) {
+func (f *Front) checked(ctx context.Context, body []byte, check func([][]byte) (*chains.Entry, error)) (*chains.Entry, error) {
 	select {
 	case f.checks <- struct{}{}:
 	case <-ctx.Done():
@@ -124,7 +111,7 @@ func (f *Front) checked(ctx context.Context, body []byte, check func(context.Con
 	if err := json.Unmarshal(body, &submission); err != nil {
 		return nil, refusal{status: http.StatusBadRequest, name: "no-submission", detail: "the body isn't a JSON object whose chain is a list of texts in base64"}
 	}
-	return check(ctx, submission.Chain)
+	return check(submission.Chain)
 }
 
 // encodedRoots is the answer to get-roots for some roots.

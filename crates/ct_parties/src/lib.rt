@@ -15,7 +15,5 @@ mod serving;
 mod waiting;
 
 pub use closing::close;
-pub use front_work::do_front_task;
-pub use operator_work::{BATCH, do_operator_task};
 pub use serving::{Party, Sink, Source, serve_all};
-pub use waiting::{Bell, Waiting};
+pub use waiting::Waiting;

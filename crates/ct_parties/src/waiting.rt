@@ -7,7 +7,7 @@ ghost use Rattle.std.specs.Prelude.{◌≡◌, ◌<◌, ◌≤◌, ◌+◌, ◌-
 use std::array::from_fn;
 use std::hint::spin_loop;
 use std::sync::atomic::{AtomicBool, AtomicU64, Ordering};
-use std::sync::{Arc, Wait};
+use std::sync::Wait;
 use std::time::Duration;
 
 // So often a line that waits for a head glances at the bell, a load of a word, before it sleeps, and so many milliseconds it
@@ -122,13 +122,11 @@ pub struct Waiting {
     accepted: [Bell; FRONTS],
     // Whether a thread of the run didn't start, or had no memory: then no line waits any more.
     ended: AtomicBool,
-    // Whether the run is to end, if anything ends it: then no line waits any more.
-    stopped: Option<Arc<AtomicBool>>,
 }
 
 impl Waiting {
-    // Lines that wait so many turns, with bells that weren't rung, in a run that this flag ends, if there is one.
-    fn with(turns: u64, stopped: Option<Arc<AtomicBool>>) -> Waiting
+    /// Lines that wait so many turns, with bells that weren't rung.
+    pub fn new(turns: u64) -> Waiting
         ensures { result.turns ≡ turns }
     {
         Waiting {
@@ -136,22 +134,7 @@ impl Waiting {
             heads: Bell::new(GLANCES_FOR_HEADS, MILLISECONDS_FOR_HEADS),
             accepted: from_fn(|_| Bell::new(GLANCES_FOR_FRONT, MILLISECONDS_FOR_FRONT)),
             ended: AtomicBool::new(false),
-            stopped,
         }
-    }
-
-    /// Lines that wait so many turns, with bells that weren't rung.
-    pub fn new(turns: u64) -> Waiting
-        ensures { result.turns ≡ turns }
-    {
-        Waiting::with(turns, None)
-    }
-
-    /// The same in a run that may be broken off: once the flag is set, no line waits any more, and those that do are late.
-    pub fn until(turns: u64, stopped: Arc<AtomicBool>) -> Waiting
-        ensures { result.turns ≡ turns }
-    {
-        Waiting::with(turns, Some(stopped))
     }
 
     /// The bell of the front with this number, rung when it accepted a submission.
@@ -166,12 +149,6 @@ impl Waiting {
 
     /// Whether no line waits any more.
     pub fn is_over(&self) -> bool {
-        if self.ended.load(Ordering::SeqCst) {
-            return true;
-        }
-        match &self.stopped {
-            Some(stopped) => stopped.load(Ordering::SeqCst),
-            None => false,
-        }
+        self.ended.load(Ordering::SeqCst)
     }
 }

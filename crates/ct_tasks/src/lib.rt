@@ -15,4 +15,4 @@ pub use fault::Fault;
 pub use options::Options;
 pub use plan::{Plan, Shift, Work};
 pub use reading::read_plan;
-pub use task::{OperatorTask, Task, line_task};
+pub use task::{OperatorTask, Task};

@@ -1,5 +1,5 @@
 -- The lines of an input, and the next of them.
-use Rattle.std.specs.Prelude.{◌≡◌, ◌≢◌, ◌<◌, ◌≤◌, ◌+◌, ◌-◌, ℕ, Bool, true, false, List, [], ◌∷◌, ◌++◌, ◌==◌, if◌then◌else◌, All, length, slice_index, take, Option, Some, None, Result, Ok, IfSome, OnSome}
+use Rattle.std.specs.Prelude.{◌≡◌, ◌≢◌, ◌<◌, ◌≤◌, ◌-◌, ℕ, Bool, true, false, List, [], ◌∷◌, ◌++◌, ◌==◌, if◌then◌else◌, All, length, slice_index, take, Option, Some, Result, Ok, IfSome, OnSome}
 use Rattle.std.specs.Io.{StopsAt, IsEmptyOrEndsWith}
 use Rattle.std.specs.Io.KnownBytes.{Consumes, IsAtEnd}
 use Rattle.std.specs.Io.BufRead.{drop_through, strip_last, take_through}
@@ -33,12 +33,6 @@ IsFirstLine most left left_next line =
 abbrev pub TakesNext : ℕ → Option (List ℕ) → Option (List ℕ) → List ℕ → Bool → Type 0
 TakesNext most left left_then line true = IsFirstLine most left left_then line
 TakesNext most left left_then line false = IfSome left (λ xs. (xs ≡ []) × (left_then ≡ Some []))
-
--- The line with the number n was read, which is the next, and the number after it is the next then; or none was left. Of a line of more
--- than 1,048,577 bytes the first 1,048,578 are kept: so it is a request just where the whole line is one, which has at most 1,048,576.
-abbrev pub IsNextLine : ℕ → ℕ → Option (List ℕ) → Option (List ℕ) → List ℕ → Option ℕ → Type 0
-IsNextLine next next_then left left_then line (Some n) = (n ≡ next) × (next_then ≡ next + 1) × IsFirstLine 1048578 left left_then line
-IsNextLine next next_then left left_then line None = (next_then ≡ next) × IfSome left (λ xs. xs ≡ [])
 
 -- some bytes of a line that didn't end were taken, from left to left_then, and of these the first `most` are kept
 abbrev pub IsKeptOf : ℕ → Option (List ℕ) → Option (List ℕ) → List ℕ → Type 0

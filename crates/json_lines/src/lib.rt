@@ -1,7 +1,6 @@
 //! Lines of JSON (RFC 8259) in and out, bytes as base64 (RFC 4648, section 4): what a program over lines reads and writes.
 //!
-//! - `next_line` reads an input line by line, and holds no more of a line than is asked for; `NumberedLines` numbers request
-//!   lines.
+//! - `next_line` reads an input line by line, and holds no more of a line than is asked for.
 //! - `line_value` answers the JSON value that a line is, and `fields` reads what stands under a key of a JSON object;
 //!   `bytes_value` and `hashes_value` are bytes and hashes as JSON.
 //! - `write_whole` writes bytes, `send` hands them on as well, and `tell` doesn't say whether it could: for the programs,
@@ -20,6 +19,6 @@ mod value;
 mod wanting;
 
 pub use fault::{RunFault, Unwritten};
-pub use lines::{NumberedLines, READS, REQUEST_KEPT, content, cut_piece, next_line};
+pub use lines::{READS, REQUEST_KEPT, content, cut_piece, next_line};
 pub use sending::{send, tell, write_bytes, write_whole};
 pub use value::{LONGEST_REQUEST, bytes_value, hashes_value, line_value};

@@ -1,8 +1,8 @@
 //! An input cut into lines, as it comes, of each of which no more is held than is asked for.
 
-ghost use Rattle.std.specs.Prelude.{◌≡◌, ◌≢◌, ◌<◌, ◌≤◌, ◌-◌, ◌++◌, ◌^◌, [], All, take, length, IfOk, OnOk, OnErr};
+ghost use Rattle.std.specs.Prelude.{◌≡◌, ◌≢◌, ◌<◌, ◌≤◌, ◌-◌, ◌++◌, [], All, take, length, IfOk, OnOk, OnErr};
 ghost use Rattle.std.specs.Io.BufRead.{strip_last};
-ghost use Rattle.json_lines.specs.Lines.{IsPiece, IsKeptOf, IsNextLine, TakesNext, TakesPiece, TakesFirstLine};
+ghost use Rattle.json_lines.specs.Lines.{IsPiece, IsKeptOf, TakesNext, TakesPiece, TakesFirstLine};
 
 use std::alloc::AllocError;
 use std::io;
@@ -118,46 +118,4 @@ pub fn next_line<R: BufRead>(input: &mut R, most: usize, line: &mut Vec<u8>) -> 
     let end = content(line).len();
     line.truncate(end);
     Ok(true)
-}
-
-/// An input of request lines, of which the next one has this number. The first line has the number 0.
-#[derive(Drop)]
-pub struct NumberedLines<R: BufRead + Drop> {
-    pub input: R,
-    pub next: u64,
-    ghost few: { next ≤ 2 ^ 50 },
-}
-
-impl<R: BufRead + Drop> NumberedLines<R> {
-    /// The lines of an input, from its first one on.
-    pub fn new(input: R) -> NumberedLines<R>
-        ensures { (result.input ≡ input) × (result.next ≡ 0) }
-    {
-        NumberedLines { input, next: 0 }
-    }
-
-    /// Reads the next line into `line`, as `next_line` does, and answers the line's number, or none at the end of the input. Of
-    /// a line of more than 1,048,577 bytes the first 1,048,578 are kept.
-    ///
-    /// # Errors
-    ///
-    /// Those of `next_line`, and another one where there are more than 2^50 lines. The next line's number stays. `line` has what
-    /// was read of the line, as far as it is kept.
-    pub fn read(&mut self, line: &mut Vec<u8>) -> io::Result<Option<u64>>
-        ensures line { IfOk result (λ n. IsNextLine self.old.next self.new.next
-            (R.remaining self.old.input) (R.remaining self.new.input) line.new.items n) }
-        ensures same { OnErr result (self.new.next ≡ self.old.next) }
-        ensures none_lost { OnErr result (self.old.next < 2 ^ 50
-            → IsKeptOf 1048578 (R.remaining self.old.input) (R.remaining self.new.input) line.new.items) }
-    {
-        if self.next == READS {
-            return Err(io::Error::from(ErrorKind::Other));
-        }
-        if !next_line(&mut self.input, REQUEST_KEPT, line)? {
-            return Ok(None);
-        }
-        let number = self.next;
-        self.next = number + 1;
-        Ok(Some(number))
-    }
 }

@@ -1,0 +1,109 @@
+//go:build linux && (amd64 || arm64)
+
+// Package wagtenib calls the proved functions of libwagtenib, a library for Certificate Transparency logs, in this process.
+//
+// The functions check proofs (RFC 6962, RFC 9162) and make the decisions of a log, a node, a reader, a witness and a signer's guard. Their
+// code is the assembly in this folder. It is compiled from the proved crates of the repository, and no file here is needed but those of this
+// folder. `go build` needs Go 1.24, cgo and a C compiler.
+//
+// A call keeps no state, does no input or output, and returns for every input, by proof. It can be made from any number of goroutines at
+// once. Nothing may write to its arguments meanwhile.
+//
+// A call runs on the stack of an operating system's thread. The values' functions take at most 16 KB of it, and those over lines 128 KB.
+// The threads of Go have 8 MB with glibc (ulimit -s).
+package wagtenib
+
+// #cgo CFLAGS: -std=c11 -O2
+// #include "wagtenib.h"
+import "C"
+
+import (
+	"fmt"
+	"unsafe"
+)
+
+// HashSize is the number of bytes of a hash (SHA-256).
+const HashSize = 32
+
+// Hash holds the SHA-256 hash of a leaf or of a tree (RFC 6962, section 2.1).
+type Hash = [HashSize]byte
+
+// Code is an answer of the library (wagtenib.h) that reports a fault. It is the type of all errors of this package.
+type Code uint32
+
+// The faults of an audit path, of a consistency proof and of a leaf, and the reasons for which a call has no reply.
+const (
+	ErrIndexOutOfRange Code = C.WAGTENIB_INDEX_OUT_OF_RANGE // the index of the leaf isn't below the size of the tree
+	ErrPathTooLong     Code = C.WAGTENIB_PATH_TOO_LONG      // hashes are left after the last level of the tree
+	ErrPathTooShort    Code = C.WAGTENIB_PATH_TOO_SHORT     // the hashes end before the last level of the tree
+	ErrRootMismatch    Code = C.WAGTENIB_ROOT_MISMATCH      // the hashes lead to another root
+	ErrEmptyPath       Code = C.WAGTENIB_EMPTY_PATH         // the consistency proof has no hashes
+	ErrFirstMismatch   Code = C.WAGTENIB_FIRST_MISMATCH     // the consistency proof leads to another first root
+	ErrSizesOutOfRange Code = C.WAGTENIB_SIZES_OUT_OF_RANGE // not 0 < first < second
+	ErrMemory          Code = C.WAGTENIB_OUT_OF_MEMORY      // malloc refused memory
+	ErrOrigin          Code = C.WAGTENIB_BAD_ORIGIN         // the origin isn't UTF-8, or has a line end
+	ErrNotARequest     Code = C.WAGTENIB_NOT_A_REQUEST      // the line is no request; the reply says so too, and is returned
+	ErrTruncated       Code = C.WAGTENIB_TRUNCATED          // the leaf ends before a field is whole
+	ErrBadVersion      Code = C.WAGTENIB_BAD_VERSION        // the version isn't 0 (v1)
+	ErrBadLeafType     Code = C.WAGTENIB_BAD_LEAF_TYPE      // the leaf type isn't 0 (timestamped_entry)
+	ErrBadEntryType    Code = C.WAGTENIB_BAD_ENTRY_TYPE     // the entry type is neither 0 (x509_entry) nor 1 (precert_entry)
+	ErrEmptyVector     Code = C.WAGTENIB_EMPTY_VECTOR       // a certificate or TBSCertificate has no bytes
+	ErrTrailing        Code = C.WAGTENIB_TRAILING           // bytes follow the leaf
+)
+
+var texts = map[Code]string{
+	ErrIndexOutOfRange: "the index of the leaf is not below the size of the tree",
+	ErrPathTooLong:     "the proof has more hashes than the tree has levels for it",
+	ErrPathTooShort:    "the proof has fewer hashes than the tree has levels for it",
+	ErrRootMismatch:    "the proof leads to another root",
+	ErrEmptyPath:       "the consistency proof has no hashes",
+	ErrFirstMismatch:   "the consistency proof leads to another first root",
+	ErrSizesOutOfRange: "the sizes of a consistency proof must be 0 < first < second",
+	ErrMemory:          "out of memory (malloc refused)",
+	ErrOrigin:          "the origin is not UTF-8, or has a line end",
+	ErrNotARequest:     "the line is no request (the reply names the reason)",
+	ErrTruncated:       "the leaf ends before a field is whole",
+	ErrBadVersion:      "the leaf's version is not 0 (v1)",
+	ErrBadLeafType:     "the leaf's type is not 0 (timestamped_entry)",
+	ErrBadEntryType:    "the leaf's entry type is neither 0 (x509_entry) nor 1 (precert_entry)",
+	ErrEmptyVector:     "the leaf's certificate or TBSCertificate has no bytes",
+	ErrTrailing:        "bytes follow the leaf",
+}
+
+// Error returns the fault in words.
+func (c Code) Error() string {
+	if text, ok := texts[c]; ok {
+		return "wagtenib: " + text
+	}
+	return fmt.Sprintf("wagtenib: the library answered %d, which this package does not expect", uint32(c))
+}
+
+// result returns the error of an answer, which is nil for WAGTENIB_OK.
+func result(code C.uint32_t) error {
+	if code == C.WAGTENIB_OK {
+		return nil
+	}
+	return Code(code)
+}
+
+// noBytes is what an argument of no bytes points to, because no pointer may be NULL.
+var noBytes Hash
+
+// ofBytes returns a pointer to the first byte.
+func ofBytes(bytes []byte) *C.uint8_t {
+	if len(bytes) == 0 {
+		return ofHash(&noBytes)
+	}
+	return (*C.uint8_t)(unsafe.Pointer(unsafe.SliceData(bytes)))
+}
+
+// ofHash returns a pointer to the first byte of a hash.
+func ofHash(hash *Hash) *C.uint8_t { return (*C.uint8_t)(unsafe.Pointer(hash)) }
+
+// ofHashes returns a pointer to the first byte of hashes, which follow each other.
+func ofHashes(hashes []Hash) *C.uint8_t {
+	if len(hashes) == 0 {
+		return ofHash(&noBytes)
+	}
+	return (*C.uint8_t)(unsafe.Pointer(unsafe.SliceData(hashes)))
+}

@@ -1,0 +1,128 @@
+/* wagtenib: the proved checks of a Certificate Transparency log's proofs (RFC 6962, RFC 9162), and the proved decisions of its programs over lines.
+ *
+ * A hash is 32 bytes (SHA-256). A list of hashes is given by a pointer to its first byte and the number of hashes, which
+ * stand one after the other. No call keeps a pointer or has any state, so every call may run in any thread at any time.
+ * wagtenib_root and the functions whose names end in _line or _lines take memory (malloc), and give it back before they return. All other
+ * memory is the caller's. A length is a number of bytes.
+ *
+ * What the caller owes, and nothing checks: each pointer points to as many bytes as is said, readable, and writable where
+ * the pointer isn't const, which no other thread writes during the call (nor reads, where they are writable); what is
+ * written overlaps no other argument; a length in bytes is below 2^63. The stack has 16 KB left, or 128 KB for the functions whose names end in
+ * _line or _lines. No pointer is NULL: for a length of 0 any other pointer serves. Beyond that every number and every byte is allowed.
+ */
+#ifndef WAGTENIB_H
+#define WAGTENIB_H
+
+#include <stdbool.h>
+#include <stddef.h>
+#include <stdint.h>
+
+#ifdef __cplusplus
+extern "C" {
+#endif
+
+/* The answers. */
+enum {
+    WAGTENIB_OK = 0,
+    WAGTENIB_INDEX_OUT_OF_RANGE = 1, /* leaf_index >= tree_size */
+    WAGTENIB_PATH_TOO_LONG = 2,      /* hashes are left where the walk has ended */
+    WAGTENIB_PATH_TOO_SHORT = 3,     /* the walk hasn't ended where the hashes have */
+    WAGTENIB_ROOT_MISMATCH = 4,      /* the hashes lead to another root */
+    WAGTENIB_EMPTY_PATH = 5,         /* a consistency proof of no hashes */
+    WAGTENIB_FIRST_MISMATCH = 6,     /* a consistency proof leads to another first root */
+    WAGTENIB_SIZES_OUT_OF_RANGE = 7, /* not 0 < first < second */
+    WAGTENIB_OUT_OF_MEMORY = 8,      /* malloc refused; nothing is written */
+    WAGTENIB_NO_ROOM = 9,            /* the caller's memory is too small for the result; wagtenib_push writes nothing then, and the others only how long it is */
+    WAGTENIB_BAD_ORIGIN = 10,        /* the origin isn't UTF-8, or has a line end; nothing is written */
+    WAGTENIB_NOT_A_REQUEST = 11,     /* the reply is written, and refuses the request, or a line of several, as none */
+    WAGTENIB_TRUNCATED = 17,         /* the leaf ends before a field is whole */
+    WAGTENIB_BAD_VERSION = 18,       /* the version isn't 0 (v1) */
+    WAGTENIB_BAD_LEAF_TYPE = 19,     /* the leaf type isn't 0 (timestamped_entry) */
+    WAGTENIB_BAD_ENTRY_TYPE = 20,    /* the entry type is neither 0 (x509_entry) nor 1 (precert_entry) */
+    WAGTENIB_EMPTY_VECTOR = 21,      /* a certificate or TBSCertificate of no bytes */
+    WAGTENIB_TRAILING = 22           /* bytes follow the leaf */
+};
+
+/* out = SHA-256(00 || leaf), the hash of a leaf (RFC 6962 section 2.1). */
+void wagtenib_leaf_hash(const uint8_t *leaf, size_t leaf_length, uint8_t out[32]);
+
+/* Checks an audit path (RFC 9162 section 2.1.3.2). 0 exactly where the path leads from the leaf hash at leaf_index, counted
+ * from 0, to the root of a tree of tree_size leaves; else 1, 2, 3 or 4, the first fault in that order. */
+uint32_t wagtenib_verify_inclusion(const uint8_t leaf_hash[32], uint64_t leaf_index, uint64_t tree_size,
+                                   const uint8_t *path, size_t path_length, const uint8_t root[32]);
+
+/* Checks a consistency proof (RFC 9162 section 2.1.4.2). 0 exactly where it leads to the roots of the first `first` and of
+ * all `second` leaves; else 7, 5, 2, 3, 6 or 4, the first fault in that order. */
+uint32_t wagtenib_verify_consistency(uint64_t first, uint64_t second, const uint8_t first_root[32],
+                                     const uint8_t second_root[32], const uint8_t *path, size_t path_length);
+
+/* out = MTH of these leaf hashes (RFC 6962 section 2.1). 8 where memory is refused, and out is as it was. Takes at most 4 KB,
+ * whatever their number: below 2^58, since these are below 2^63 bytes. */
+uint32_t wagtenib_root(const uint8_t *leaf_hashes, size_t count, uint8_t out[32]);
+
+/* What stands in a leaf. */
+struct wagtenib_leaf_info {
+    uint64_t timestamp;          /* milliseconds */
+    uint64_t certificate_length; /* bytes; it begins at byte 15 (entry_type 0) or 47 (entry_type 1) of the leaf */
+    uint64_t extensions_length;  /* bytes; the extensions end the leaf */
+    uint32_t entry_type;         /* 0: a certificate. 1: a TBSCertificate, with its issuer key hash at byte 12 */
+};
+
+/* Reads a leaf (MerkleTreeLeaf, RFC 6962 section 3.4). 0 exactly where the bytes are one, all of them, and out describes it;
+ * else 17 to 22, the first fault from the left, and out is as it was. */
+uint32_t wagtenib_decode_leaf(const uint8_t *leaf, size_t leaf_length, struct wagtenib_leaf_info *out);
+
+/* A follower of a log, whose state is the caller's: `size` leaves, and the first `count` of the `places` hashes at
+ * `subtrees`, the roots of their perfect subtrees, largest first. It begins with size 0 and count 0; 64 places serve for
+ * every size. Any numbers and hashes are safe, and if they are those of a list of leaves, so are the new ones.
+ * 0: the leaf hash is appended, the first *new_count hashes are those of size + 1 leaves, and those behind them are as they
+ * were. Always so where count < places. 9: there is no place, and nothing has changed. */
+uint32_t wagtenib_push(uint64_t size, size_t count, uint8_t *subtrees, size_t places, const uint8_t leaf_hash[32],
+                       size_t *new_count);
+
+/* out = MTH of the leaves whose perfect subtrees these are. */
+void wagtenib_subtrees_root(const uint8_t *subtrees, size_t count, uint8_t out[32]);
+
+/* The decisions of the programs over lines, as calls. A call writes, byte for byte, what the program of that name writes on its standard output for that
+ * line. The replies are lines of JSON, and each ends with a line end.
+ *
+ *   request, request_length  one line of the program's input, without its line end, in UTF-8. Any bytes are allowed: what is no request is refused by the
+ *                            reply. An empty request is refused too, although a program passes over an empty line.
+ *   origin, origin_length    the origin of the log, as of the option --origin, in UTF-8; a length of 0 is a program without that option.
+ *   reply, room              the caller's memory for the reply, and its length. Bytes after the reply are unchanged.
+ *   length                   gets the length of the reply, also if it has no room.
+ *
+ * 0 (WAGTENIB_OK): the reply is written. 11 (WAGTENIB_NOT_A_REQUEST): it is written too, and refuses the request as none, which is the program's exit status
+ * 4. 9 (WAGTENIB_NO_ROOM): *length says how much room the reply needs, and nothing else is written; the call has done all its work, so give a
+ * second call at least that much. 8 (WAGTENIB_OUT_OF_MEMORY) and 10 (WAGTENIB_BAD_ORIGIN): neither reply nor *length is written.
+ *
+ * Measured, and not proved: a call has about twice the length of its request and reply as memory, and JSON that is made to be dear has up to 20 times the
+ * length of the request, or 120 KB. A request of real data takes 26 KB of stack, and JSON that nests as deep as is allowed (127) takes 84 KB.
+ */
+
+/* A step of a tiled log: what `cttile` replies to a line (docs/TILES.md). A request has at most 67,108,864 bytes. 0, 8, 9, 10 or 11. */
+uint32_t wagtenib_step_line(const uint8_t *origin, size_t origin_length, const uint8_t *request, size_t request_length,
+                            uint8_t *reply, size_t room, uint64_t *length);
+
+/* A node's next command: what `ctnode` replies to a line (docs/NODE.md). A request has at most 65,536 bytes. 0, 8, 9 or 11. */
+uint32_t wagtenib_node_line(const uint8_t *request, size_t request_length, uint8_t *reply, size_t room, uint64_t *length);
+
+/* A root, a path, a consistency proof or an entry for a reader: what `ctproof` replies to a line (docs/TILES.md). A request has at most 67,108,864 bytes.
+ * 0, 8, 9 or 11. */
+uint32_t wagtenib_proof_line(const uint8_t *request, size_t request_length, uint8_t *reply, size_t room, uint64_t *length);
+
+/* Whether a witness cosigns a checkpoint (C2SP tlog-witness): what `ctwitness` replies to a line (docs/WITNESS.md). A request has at most 1,048,576 bytes.
+ * 0, 8, 9 or 11. */
+uint32_t wagtenib_witness_line(const uint8_t *request, size_t request_length, uint8_t *reply, size_t room, uint64_t *length);
+
+/* What a log's key may sign: what a run of `ctguard` writes over these lines (docs/GUARD.md). `lines` has whole lines, each with its line end, of at most
+ * 1,048,576 bytes each; the first one may be the state that an earlier call ended with. `promised` is the option --receipts promised. The output has a reply
+ * to each line, and then the line of the state, which the next call begins with. 0, 8, 9, 10 or 11, which says that a line is no request. */
+uint32_t wagtenib_guard_lines(const uint8_t *origin, size_t origin_length, bool promised, const uint8_t *lines, size_t lines_length,
+                              uint8_t *output, size_t room, uint64_t *length);
+
+#ifdef __cplusplus
+}
+#endif
+
+#endif
