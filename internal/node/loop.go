@@ -161,7 +161,7 @@ func (l *Loop) learn(ctx context.Context) (*state, error) {
 	}
 	k := before
 	if text != before.text {
-		if k, err = l.read(ctx, text); err != nil {
+		if k, err = l.read(text); err != nil {
 			return nil, err
 		}
 		if k.head() != before.head() && !follows(k.Size, k.Moment, before.head()) {
@@ -178,12 +178,12 @@ func (l *Loop) learn(ctx context.Context) (*state, error) {
 }
 
 // read reads a text of the lock, from which the decider says what to do.
-func (l *Loop) read(ctx context.Context, text string) (*state, error) {
+func (l *Loop) read(text string) (*state, error) {
 	k, err := parseText(text)
 	if err != nil {
 		return nil, err
 	}
-	k.look, err = l.config.Proved.Decider.Next(ctx, decider.Begin(), decider.WasRead(text))
+	k.look, err = l.config.Proved.Decider.Next(decider.Begin(), decider.WasRead(text))
 	if errors.Is(err, decider.ErrRefused) {
 		return nil, fmt.Errorf("%w: the lock's text is not one of a log: %.40q", ErrDamaged, text)
 	}

@@ -82,19 +82,19 @@ type Signer interface {
 	SignTimestamps(ctx context.Context, receipts []signer.Receipt) ([][]byte, error)
 }
 
-// Decider is the proved order of a node: what it does next, and whether it may start (decider.Client, docs/NODE.md).
+// Decider is the proved order of a node: what it does next, and whether it may start (decider.Decider, docs/NODE.md).
 type Decider interface {
-	Next(ctx context.Context, command *decider.Command, told decider.Told) (*decider.Command, error)
-	Start(ctx context.Context, found decider.Found) (creates bool, err error)
+	Next(command *decider.Command, told decider.Told) (*decider.Command, error)
+	Start(found decider.Found) (creates bool, err error)
 }
 
-// Steps makes the proved steps of a log (step.Client, docs/TILES.md).
+// Steps makes the proved steps of a log (step.Stepper, docs/GROWTH.md).
 type Steps interface {
-	Begin(ctx context.Context, moment uint64) (string, error)
-	Needs(ctx context.Context, line string) ([]string, error)
-	Step(ctx context.Context, line string, edge [][]byte, batch []step.Submission, now, most uint64) (*step.Stepped, error)
-	Resume(ctx context.Context, line string, bundle []byte) (*step.Resumed, error)
-	Claim(ctx context.Context, line string, index, timestamp uint64, path [][]byte, submission step.Submission) (*step.Receipt, error)
+	Begin(moment uint64) (string, error)
+	Needs(line string) ([]string, error)
+	Step(line string, edge [][]byte, batch []step.Submission, now, most uint64) (*step.Stepped, error)
+	Resume(line string, bundle []byte) (*step.Resumed, error)
+	Claim(line string, index, timestamp uint64, path [][]byte, submission step.Submission) (*step.Receipt, error)
 }
 
 // Stores are those that all nodes of a log share.

@@ -42,8 +42,8 @@ type made struct {
 var errCommand = errors.New("node: no command of this node")
 
 // goOn tells the decider the outcome of a command, and takes the next one.
-func (p *pass) goOn(ctx context.Context, told decider.Told) error {
-	next, err := p.config.Proved.Decider.Next(ctx, p.command, told)
+func (p *pass) goOn(told decider.Told) error {
+	next, err := p.config.Proved.Decider.Next(p.command, told)
 	if err != nil {
 		return fmt.Errorf("node: %w", err)
 	}
@@ -82,7 +82,7 @@ func (p *pass) carryOut(ctx context.Context) (bool, error) {
 	if err != nil || told == nil {
 		return false, err
 	}
-	return true, p.goOn(ctx, told)
+	return true, p.goOn(told)
 }
 
 // reach gets to where a step may be made. If the newest state is not published, its own node does that, or this one. It reports false if the next round must
@@ -209,7 +209,7 @@ func (p *pass) step(ctx context.Context) error {
 	m.isNew, m.content, m.objects, m.head, m.receipts = true, stepped.Bundle, stepped.Objects, stepped.Head, stepped.Receipts
 	m.text, m.bundle = p.config.textAfter(p.from.Moment, stepped.Line, stepped.State, salt)
 	told := decider.Stepped(stepped.Line, p.config.where(), salt, references(stepped.Objects))
-	if err := p.goOn(ctx, told); err != nil {
+	if err := p.goOn(told); err != nil {
 		return err
 	}
 	if p.command.Do != decider.Stage {
@@ -220,7 +220,7 @@ func (p *pass) step(ctx context.Context) error {
 
 // stepOver has the step made. An edge that is missing or is not the state's is ErrDamaged.
 func (p *pass) stepOver(ctx context.Context) (*step.Stepped, error) {
-	names, err := p.config.Proved.Steps.Needs(ctx, p.from.line)
+	names, err := p.config.Proved.Steps.Needs(p.from.line)
 	if err != nil {
 		return nil, fmt.Errorf("node: %w", err)
 	}
@@ -243,7 +243,7 @@ func (p *pass) stepOver(ctx context.Context) (*step.Stepped, error) {
 	if err != nil {
 		return nil, err
 	}
-	stepped, err := p.config.Proved.Steps.Step(ctx, p.from.line, contents, batch, now, ahead)
+	stepped, err := p.config.Proved.Steps.Step(p.from.line, contents, batch, now, ahead)
 	switch {
 	case errors.Is(err, step.TooFar) || errors.Is(err, step.ClockBack):
 		return nil, fmt.Errorf("%w: the step refuses %d ms after %d ms: %v", ErrClock, now, p.from.Moment, err)
@@ -439,7 +439,7 @@ func (p *pass) answer(ctx context.Context) (decider.Told, error) {
 // deleteUnneeded deletes the staged batches that this node knows of, if the decider says that no node needs them any more.
 func (p *pass) deleteUnneeded(ctx context.Context) error {
 	for _, name := range p.last.unneeded {
-		if err := p.goOn(ctx, decider.Listed(name)); err != nil {
+		if err := p.goOn(decider.Listed(name)); err != nil {
 			return err
 		}
 		if p.command.Do == decider.Step {
@@ -483,7 +483,7 @@ func (l *Loop) resume(ctx context.Context, k *state) (*step.Resumed, error) {
 	if err != nil {
 		return nil, fmt.Errorf("node: the staged batch: %w", err)
 	}
-	resumed, err := l.config.Proved.Steps.Resume(ctx, k.line, bundle)
+	resumed, err := l.config.Proved.Steps.Resume(k.line, bundle)
 	var refusal step.Refusal
 	if errors.As(err, &refusal) {
 		return nil, fmt.Errorf("%w: %s: %v (put it back from a backup)", ErrDamaged, name, err)

@@ -96,7 +96,7 @@ func (n *Node) claimed(ctx context.Context, at *Snapshot, place stores.Place, r 
 	for i := range hashesUp {
 		hashesUp[i] = proofs[0][i][:]
 	}
-	receipt, err := n.config.Proved.Steps.Claim(ctx, at.Line, place.Index, place.Timestamp, hashesUp, r.submission)
+	receipt, err := n.config.Proved.Steps.Claim(at.Line, place.Index, place.Timestamp, hashesUp, r.submission)
 	if errors.Is(err, step.NoClaim) {
 		return nil, nil
 	}

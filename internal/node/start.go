@@ -52,7 +52,7 @@ func (l *Loop) takeUp(ctx context.Context, remembered *signer.Head) (bool, error
 	if err != nil {
 		return false, err
 	}
-	creates, err := l.config.Proved.Decider.Start(ctx, f.Found)
+	creates, err := l.config.Proved.Decider.Start(f.Found)
 	var refusal decider.Refusal
 	if errors.As(err, &refusal) {
 		if moved, err := l.movedSince(ctx, f); err != nil || moved {
@@ -90,7 +90,7 @@ func (l *Loop) find(ctx context.Context, remembered *signer.Head) (f found, err 
 		return f, err
 	}
 	if f.Register != "" {
-		if f.k, err = l.read(ctx, f.Register); err != nil {
+		if f.k, err = l.read(f.Register); err != nil {
 			return f, err
 		}
 	} else if f.Stands, err = l.hasLog(ctx); err != nil {
@@ -211,7 +211,7 @@ func (l *Loop) create(ctx context.Context) error {
 	if err != nil {
 		return err
 	}
-	line, err := l.config.Proved.Steps.Begin(ctx, now)
+	line, err := l.config.Proved.Steps.Begin(now)
 	if err != nil {
 		return fmt.Errorf("node: %w", err)
 	}

@@ -16,9 +16,7 @@ import (
 	"sync"
 	"time"
 
-	"github.com/transparency-dev/merkle/proof"
-	"github.com/transparency-dev/merkle/rfc6962"
-
+	"wagtenib/bindings/go/wagtenib"
 	"wagtenib/service/signer"
 	"wagtenib/service/stores"
 )
@@ -69,22 +67,68 @@ func headMessage(head signer.Head) []byte {
 	return append(binary.BigEndian.AppendUint64(message, head.Size), head.Root[:]...)
 }
 
-// guarded is the signer of a machine: the key behind a guard, which approves only what GUARD.md says, over a state in the lock's engine. It is a second
-// implementation beside the proved one.
+// guarded is the signer of a machine: the key behind the proved guard, over a state in the lock's engine (docs/GUARD.md).
 type guarded struct {
 	m *machine
 	// busy says that a call is at work: the signer takes one at a time.
 	busy bool
-	// seen is the newest head in the state that this process saw.
-	seen *signer.Head
+	// seen is the newest text of the state that this process saw.
+	seen   string
+	memory []byte
 }
 
 // noHead is the guard's state before the first head.
 const noHead = `{"guard":1,"last":null}`
 
-type guardState struct {
-	Guard int          `json:"guard"`
-	Last  *signer.Head `json:"last"`
+// asked is a line for the guard.
+type asked struct {
+	Text string `json:"text"`
+	Seen string `json:"seen,omitempty"`
+	*headLine
+	Consistency *[][]byte `json:"consistency,omitempty"`
+	MaxAhead    uint64    `json:"most_ahead,omitempty"`
+	Leaf        []byte    `json:"leaf_input,omitempty"`
+	Index       *uint64   `json:"leaf_index,omitempty"`
+	Path        *[][]byte `json:"audit_path,omitempty"`
+}
+
+// headLine is a head in the guard's lines.
+type headLine struct {
+	Root   []byte `json:"sha256_root_hash"`
+	Moment uint64 `json:"timestamp"`
+	Size   uint64 `json:"tree_size"`
+}
+
+// replied is the guard's reply to a line.
+type replied struct {
+	Sign           []byte
+	New            string
+	Last           *headLine
+	Refused, Fault string
+}
+
+// ask asks the guard some lines, and returns its replies.
+func (g *guarded) ask(lines ...asked) ([]replied, error) {
+	var input []byte
+	for _, line := range lines {
+		text, err := json.Marshal(line)
+		if err != nil {
+			return nil, err
+		}
+		input = append(append(input, text...), '\n')
+	}
+	output, err := wagtenib.GuardLines(&g.memory, Origin, false, input)
+	if err != nil && !errors.Is(err, wagtenib.ErrNotARequest) {
+		return nil, err
+	}
+	texts := bytes.Split(output, []byte("\n"))
+	replies := make([]replied, len(lines))
+	for i := range replies {
+		if err := json.Unmarshal(texts[i], &replies[i]); err != nil {
+			return nil, fmt.Errorf("%w: %.80q", signer.ErrReply, texts[i])
+		}
+	}
+	return replies, nil
 }
 
 func (g *guarded) Key() []byte { return keyDER }
@@ -103,7 +147,7 @@ func (g *guarded) turn(ctx context.Context) (*simulated, func(), error) {
 	return inner, func() { g.busy = false; cancel() }, nil
 }
 
-// state reads the guard's state.
+// state reads the guard's state, which the guard must take up.
 func (g *guarded) state(ctx context.Context) (text string, last *signer.Head, err error) {
 	err = g.m.call(ctx, "guard", "read", false, func() error {
 		text = g.m.w.stores.guard
@@ -112,15 +156,18 @@ func (g *guarded) state(ctx context.Context) (text string, last *signer.Head, er
 	if err != nil {
 		return "", nil, err
 	}
-	var state guardState
-	if err := json.Unmarshal([]byte(text), &state); err != nil {
-		return "", nil, fmt.Errorf("%w: %v", signer.ErrState, err)
+	replies, err := g.ask(asked{Text: text, Seen: g.seen})
+	if err != nil {
+		return "", nil, err
 	}
-	if g.seen != nil && (state.Last == nil || *state.Last != *g.seen && (state.Last.Moment <= g.seen.Moment || state.Last.Size < g.seen.Size)) {
-		return "", nil, fmt.Errorf("%w: it was rolled back", signer.ErrState)
+	if replies[0].Refused != "" {
+		return "", nil, fmt.Errorf("%w: %s", signer.ErrState, replies[0].Refused)
 	}
-	g.seen = state.Last
-	return text, state.Last, nil
+	g.seen = text
+	if of := replies[0].Last; of != nil {
+		last = &signer.Head{Size: of.Size, Moment: of.Moment, Root: [32]byte(of.Root)}
+	}
+	return text, last, nil
 }
 
 func (g *guarded) Last(ctx context.Context) (*signer.Head, error) {
@@ -133,102 +180,91 @@ func (g *guarded) Last(ctx context.Context) (*signer.Head, error) {
 	return last, err
 }
 
-// SignHead signs a head that may follow the last one, after the lock's engine has it as the last one.
+// SignHead signs a head that the guard lets through, after the lock's engine has the guard's new state.
 func (g *guarded) SignHead(ctx context.Context, head signer.Head, consistency [][32]byte) ([]byte, error) {
 	inner, done, err := g.turn(ctx)
 	if err != nil {
 		return nil, err
 	}
 	defer done()
-	text, last, err := g.state(inner)
+	text, _, err := g.state(inner)
 	if err != nil {
 		return nil, err
 	}
-	if refusal := mayFollow(last, head, consistency); refusal != "" {
-		return nil, signer.Refusal{Name: refusal}
-	}
-	next, err := json.Marshal(guardState{1, &head})
+	line := asked{Text: text, headLine: &headLine{head.Root[:], head.Moment, head.Size}, Consistency: listed(consistency), MaxAhead: head.Moment}
+	replies, err := g.ask(line)
 	if err != nil {
 		return nil, err
 	}
-	if string(next) != text {
-		if err := g.swap(inner, text, string(next)); err != nil {
-			return nil, err
-		}
+	if refused := replies[0].Refused; refused != "" {
+		return nil, signer.Refusal{Name: refused, Fault: replies[0].Fault}
 	}
-	g.seen = &head
+	if err := g.swap(inner, text, replies[0].New); err != nil {
+		return nil, err
+	}
 	g.m.w.judge.signs(head)
-	return sign(headMessage(head)), nil
+	if !bytes.Equal(replies[0].Sign, headMessage(head)) {
+		g.m.w.judge.breaks("a signed head is the list's", "the guard has other bytes signed")
+	}
+	return sign(replies[0].Sign), nil
+}
+
+// listed returns hashes as JSON has them.
+func listed(hashes [][32]byte) *[][]byte {
+	texts := make([][]byte, len(hashes))
+	for i := range hashes {
+		texts[i] = hashes[i][:]
+	}
+	return &texts
 }
 
 // swap replaces the guard's state.
 func (g *guarded) swap(ctx context.Context, old, new string) error {
 	s := &g.m.w.stores
-	err := g.m.call(ctx, "guard", "swap for "+new[:min(len(new), 60)], true, func() error {
-		if s.guard != old && s.guard != new {
-			return stores.ErrLost
-		}
-		if s.guard != new {
+	err := g.m.call(ctx, "guard", "swap for "+new[:min(len(new), 110)], true, func() error {
+		switch s.guard {
+		case new:
+			return nil
+		case old:
 			s.setGuard(new)
+			return nil
 		}
-		return nil
+		return stores.ErrLost
 	})
 	if errors.Is(err, stores.ErrLost) {
 		return signer.ErrMoved
 	}
+	if err == nil {
+		g.seen = new
+	}
 	return err
 }
 
-// mayFollow returns why a head may not follow the last one, or nothing (GUARD.md, "Replies").
-func mayFollow(last *signer.Head, head signer.Head, consistency [][32]byte) string {
-	switch {
-	case last == nil || *last == head:
-		return ""
-	case head.Size < last.Size:
-		return "size-falls"
-	case head.Moment <= last.Moment:
-		return "moment-not-later"
-	case head.Moment-last.Moment > uint64(366*24*time.Hour/time.Millisecond):
-		return "moment-too-far"
-	case head.Size == last.Size && head.Root != last.Root:
-		return "fork"
-	case head.Size == last.Size || last.Size == 0:
-		return ""
-	}
-	hashes := make([][]byte, len(consistency))
-	for i := range consistency {
-		hashes[i] = consistency[i][:]
-	}
-	if err := proof.VerifyConsistency(rfc6962.DefaultHasher, last.Size, head.Size, hashes, last.Root[:], head.Root[:]); err != nil {
-		return "inconsistent"
-	}
-	return ""
-}
-
-// SignTimestamps signs timestamps whose leaves are in the last head's tree, all or none.
+// SignTimestamps signs timestamps that the guard lets through, all or none.
 func (g *guarded) SignTimestamps(ctx context.Context, receipts []signer.Receipt) ([][]byte, error) {
 	inner, done, err := g.turn(ctx)
 	if err != nil {
 		return nil, err
 	}
 	defer done()
-	_, last, err := g.state(inner)
+	text, _, err := g.state(inner)
 	if err != nil {
 		return nil, err
 	}
-	var signatures [][]byte
-	for _, r := range receipts {
-		if last == nil {
-			return nil, signer.Refusal{Name: "no-head"}
-		}
-		hashes := make([][]byte, len(r.Path))
-		for i := range r.Path {
-			hashes[i] = r.Path[i][:]
-		}
-		if err := proof.VerifyInclusion(rfc6962.DefaultHasher, r.Index, last.Size, rfc6962.DefaultHasher.HashLeaf(r.Leaf), hashes, last.Root[:]); err != nil {
-			return nil, signer.Refusal{Name: "not-there"}
-		}
-		signatures = append(signatures, sign(r.Leaf))
+	lines := make([]asked, len(receipts))
+	for i, r := range receipts {
+		lines[i] = asked{Text: text, Leaf: r.Leaf, Index: &r.Index, Path: listed(r.Path)}
 	}
-	return signatures, nil
+	replies, err := g.ask(lines...)
+	if err != nil {
+		return nil, err
+	}
+	signed := make([][]byte, len(replies))
+	for i, reply := range replies {
+		if reply.Refused != "" {
+			return nil, signer.Refusal{Name: reply.Refused, Fault: reply.Fault}
+		}
+		signed[i] = sign(reply.Sign)
+	}
+	return signed, nil
 }

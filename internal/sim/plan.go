@@ -142,7 +142,7 @@ func NewPlan(seed int64) Plan {
 		}
 		plan.Clients = append(plan.Clients, c)
 	}
-	if random.Intn(12) == 0 {
+	if random.Intn(40) == 0 {
 		// A tile has 256 entries, so some histories have more.
 		burst := Client{Begins: time.Duration(random.Intn(3000)) * time.Millisecond, Machine: random.Intn(plan.Machines), Burst: true}
 		for range 245 + random.Intn(30) {

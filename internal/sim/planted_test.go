@@ -29,6 +29,9 @@ var all = []planted{
 	{"an error of the staging is ignored", []edit{{"pass.go", "		return nil, fmt.Errorf(\"node: the staged batch: %w\", err)\n	}\n	return decider.Done(), nil", "		_ = err\n	}\n	return decider.Done(), nil"}}},
 	{"a lost swap counts as won", []edit{{"pass.go", "			return false, nil\n		}\n		if l.config.Machine.Clock.Wait", "			return true, nil\n		}\n		if l.config.Machine.Clock.Wait"}}},
 	{"a swap of unknown outcome counts as won", []edit{{"pass.go", "		if err == nil {\n			return true, nil\n		}", "		if err == nil || errors.Is(err, stores.ErrUnknown) {\n			return true, nil\n		}"}}},
+	{"a swap of unknown outcome counts as won, and the text is not compared", []edit{
+		{"pass.go", "		if err == nil {\n			return true, nil\n		}", "		if err == nil || errors.Is(err, stores.ErrUnknown) {\n			return true, nil\n		}"},
+		{"pass.go", "	if k.text != p.command.New.Text {", "	if false {"}, {"pass.go", "	if p.command.New.Text != p.from.text {", "	if false {"}}},
 	{"the text after a swap is not compared", []edit{{"pass.go", "	if k.text != p.command.New.Text {", "	if false {"}, {"pass.go", "	if p.command.New.Text != p.from.text {", "	if false {"}}},
 	{"a state is not compared after the swap", []edit{{"pass.go", "	if err := p.descends(ctx, k, p.made.objects); err != nil {", "	if false {"}}},
 	{"a tile is not put", []edit{{"pass.go", "range p.made.objects {\n		calls", "range p.made.objects[1:] {\n		calls"}}},

@@ -102,7 +102,7 @@ func (w *world) forgets(m *machine) {
 
 // repeats submits what clients have submitted once more, and twice, to a node that goes on. The judge compares the answers.
 func (w *world) repeats(m *machine) {
-	for number := range 4 {
+	for number := range 3 {
 		for range 2 {
 			// The judge looks at answers only: a node may refuse what it cannot read.
 			_ = w.submit(m, number)

@@ -1,11 +1,7 @@
 package sim_test
 
 import (
-	"flag"
-	"fmt"
 	"os"
-	"os/exec"
-	"path/filepath"
 	"strconv"
 	"strings"
 	"testing"
@@ -17,46 +13,8 @@ import (
 	"wagtenib/service/step"
 )
 
-// programLimit is how long one line of a proved program may take.
-const programLimit = time.Minute
-
-// proved returns the proved decisions: the compiled code of dist/, as child programs.
-func proved(t testing.TB) node.Proved {
-	t.Helper()
-	steps, err := step.NewClient([]string{filepath.Join(programs, "bin", "cttile"), "--origin", sim.Origin}, programLimit)
-	if err != nil {
-		t.Fatal(err)
-	}
-	t.Cleanup(func() { steps.Close() })
-	next, err := decider.NewClient([]string{filepath.Join(programs, "bin", "ctnode")}, programLimit)
-	if err != nil {
-		t.Fatal(err)
-	}
-	t.Cleanup(func() { next.Close() })
-	return node.Proved{Decider: next, Steps: steps}
-}
-
-// programs is the folder with the proved programs.
-var programs string
-
-func TestMain(m *testing.M) {
-	flag.Parse()
-	folder, err := os.MkdirTemp("", "sim")
-	if err == nil {
-		var said []byte
-		if said, err = exec.Command("../../dist/programs.sh", folder).CombinedOutput(); err != nil {
-			err = fmt.Errorf("dist/programs.sh: %w: %s (install a C compiler)", err, said)
-		}
-	}
-	if err != nil {
-		fmt.Fprintln(os.Stderr, err)
-		os.Exit(1)
-	}
-	programs = folder
-	status := m.Run()
-	os.RemoveAll(folder)
-	os.Exit(status)
-}
+// proved are the proved decisions.
+var proved = node.Proved{Decider: decider.New(), Steps: step.New(sim.Origin)}
 
 // count returns how many histories are run: those of the environment's variable, or so many.
 func count(t *testing.T, normal int) int {
@@ -74,17 +32,17 @@ func count(t *testing.T, normal int) int {
 
 // TestHistories runs the histories of many seeds, and explains the first that breaks a rule. It prints how often each kind of fault happened.
 func TestHistories(t *testing.T) {
-	with, began := proved(t), time.Now()
+	began := time.Now()
 	histories := count(t, 300)
 	var total sim.Totals
 	for seed := range histories {
 		plan := sim.NewPlan(int64(seed))
-		result := sim.Run(plan, with, false)
+		result := sim.Run(plan, proved, false)
 		if result.Violation != nil {
 			if os.Getenv("SIM_BRIEF") != "" {
 				t.Fatalf("broken by seed %d: %v", seed, result.Violation)
 			}
-			t.Fatalf("broken by seed %d: %v\n%s", seed, result.Violation, sim.Explain(plan, with))
+			t.Fatalf("broken by seed %d: %v\n%s", seed, result.Violation, sim.Explain(plan, proved))
 		}
 		total.Add(result)
 	}
@@ -105,7 +63,7 @@ func TestOneHistory(t *testing.T) {
 		t.Fatalf("SIM_SEED: %q is no number", text)
 	}
 	plan := sim.NewPlan(seed)
-	result := sim.Run(plan, proved(t), true)
+	result := sim.Run(plan, proved, true)
 	t.Logf("%v\n%s", plan, strings.Join(result.Lines, "\n"))
 	if result.Violation != nil {
 		t.Error(result.Violation)
@@ -114,10 +72,9 @@ func TestOneHistory(t *testing.T) {
 
 // TestSameHistory runs plans twice, and compares all lines.
 func TestSameHistory(t *testing.T) {
-	with := proved(t)
 	for seed := range int64(20) {
 		plan := sim.NewPlan(seed)
-		first, second := sim.Run(plan, with, true), sim.Run(plan, with, true)
+		first, second := sim.Run(plan, proved, true), sim.Run(plan, proved, true)
 		if len(first.Lines) == 0 || strings.Join(first.Lines, "\n") != strings.Join(second.Lines, "\n") {
 			t.Errorf("seed %d has two histories, of %d and %d lines", seed, len(first.Lines), len(second.Lines))
 		}
