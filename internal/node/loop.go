@@ -23,7 +23,7 @@ type Loop struct {
 	faultSince time.Duration
 }
 
-// last is how far this node came by itself.
+// last is how far this node itself came.
 type last struct {
 	// published is the line of the newest state that this node knows to be published, and stepping the command to step from it.
 	published string
@@ -124,7 +124,7 @@ func (l *Loop) isStale(k *state) bool {
 	return k.IsBegin() || l.config.Machine.Clock.Now().UnixMilli()-int64(k.Moment) > l.config.Pace.Refresh.Milliseconds()
 }
 
-// withoutKnown returns those of a batch that the log does not have. The others have come into it since they were looked up, and are told so.
+// withoutKnown returns those of a batch that the log does not have. The others have come into it since they were looked up, and their tickets say so.
 func (l *Loop) withoutKnown(ctx context.Context, k *state, batch []*Ticket) (added []*Ticket, err error) {
 	if len(batch) == 0 {
 		return nil, nil
@@ -220,8 +220,8 @@ const maxStood = 24 * time.Hour
 // check returns ErrClock if the time of day was set since it was believed, or is before the newest head's.
 func (t *timekeeper) check(newest uint64) error {
 	now, elapsed := t.of.Now(), t.of.Elapsed()
-	if behind := time.UnixMilli(int64(newest)).Sub(now); behind > t.maxSkew {
-		return fmt.Errorf("%w: it is behind the newest head by %v (set it right)", ErrClock, behind.Round(time.Millisecond))
+	if early := time.UnixMilli(int64(newest)).Sub(now); early > t.maxSkew {
+		return fmt.Errorf("%w: it is earlier than the newest head by %v (set it right)", ErrClock, early.Round(time.Millisecond))
 	}
 	if off := now.Sub(t.read) - (elapsed - t.since); off > t.maxSkew || -off > t.maxSkew {
 		return fmt.Errorf("%w: it was set by %v while this node ran (set it right)", ErrClock, off.Round(time.Millisecond))

@@ -79,7 +79,7 @@ func (k *state) head() signer.Head {
 	return signer.Head{Size: k.Size, Moment: k.Moment, Root: k.Root}
 }
 
-// published returns what is published once the state is.
+// published returns how far the log is published once the state is.
 func (k *state) published() stores.Published {
 	return stores.Published{Size: k.Size, Moment: k.Moment}
 }

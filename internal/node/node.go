@@ -15,7 +15,7 @@ import (
 	"wagtenib/service/stores"
 )
 
-// What keeps a log from going on. Each is found by errors.Is.
+// The errors of a node that cannot continue. Each is found by errors.Is.
 var (
 	// ErrRolledBack: the lock is gone or was rolled back, or the store has a head that the lock's state does not descend from. The node takes no step.
 	ErrRolledBack = errors.New("node: the lock is older than the log")
@@ -74,7 +74,7 @@ type Clock interface {
 	Wait(ctx context.Context, long time.Duration, wake <-chan struct{}) error
 }
 
-// Signer signs heads and timestamps behind a guard, which approves each of them (signer.Signer).
+// Signer signs heads and timestamps that its guard approves (signer.Signer).
 type Signer interface {
 	Key() []byte
 	Last(ctx context.Context) (*signer.Head, error)
@@ -144,13 +144,13 @@ type Limits struct {
 	MaxQueue int
 }
 
-// Config is what a node stands on.
+// Config is what a node needs.
 type Config struct {
 	// Origin is the log's name in checkpoints (C2SP tlog-checkpoint).
 	Origin string
 	// Address names this node in the lock's text, so that others wait for it; it may be empty.
 	Address string
-	// Create says that a lock that was never created is to be created.
+	// Create says that the node creates a lock that was never created.
 	Create  bool
 	Stores  Stores
 	Proved  Proved

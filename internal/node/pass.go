@@ -41,7 +41,7 @@ type made struct {
 // errCommand: the decider gives a command that cannot be carried out here.
 var errCommand = errors.New("node: no command of this node")
 
-// goOn tells the decider the outcome of a command, and takes the next one.
+// goOn reports the outcome of a command to the decider, and takes the next one.
 func (p *pass) goOn(told decider.Told) error {
 	next, err := p.config.Proved.Decider.Next(p.command, told)
 	if err != nil {
@@ -94,7 +94,7 @@ func (p *pass) reach(ctx context.Context) (bool, error) {
 	}
 	for p.command.Do != decider.Step {
 		if p.command.Do == decider.Read {
-			// The state was published here. What was read may be old, so it is looked at again.
+			// The state was published here. The text may be old by now, so it is looked at again.
 			p.command = p.from.look
 		}
 		if goes, err := p.carryOut(ctx); !goes || err != nil {
@@ -453,7 +453,7 @@ func (p *pass) deleteUnneeded(ctx context.Context) error {
 	return nil
 }
 
-// keepEdge remembers what the next step may want: the partial tiles of this step, and those from before that are still the edge's.
+// keepEdge remembers what the next step may need: the partial tiles of this step, and those from before that are still the edge's.
 func (p *pass) keepEdge() {
 	p.edge = p.made.edge
 	for _, object := range p.made.objects {

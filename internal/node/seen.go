@@ -13,8 +13,8 @@ import (
 	"wagtenib/service/stores"
 )
 
-// A node goes on from no state that is behind what it accepted before, or behind what the store has: a lock that was rolled back would make it sign a second
-// history. What it accepted is kept in a memory of its machine's own, since the stores may all be rolled back together.
+// A node continues from no state that is older than what it accepted before, or older than what the store has: a lock that was rolled back would make it sign a second
+// history. The newest head that it accepted is kept in a memory of its machine's own, since the stores may all be rolled back together.
 
 // seen is what a node saw of the log.
 type seen struct {
@@ -52,7 +52,7 @@ func (l *Loop) keep(ctx context.Context, k *state) error {
 	return nil
 }
 
-// descends returns ErrRolledBack unless a state goes on from the newest that this node accepted, and the store has no head of another history.
+// descends returns ErrRolledBack unless a state continues from the newest that this node accepted, and the store has no head of another history.
 func (l *Loop) descends(ctx context.Context, k *state, objects []step.Object) error {
 	err := l.compare(ctx, k, objects)
 	if errors.Is(err, ErrRolledBack) && l.seen.accepted.text != "" {
@@ -66,7 +66,7 @@ func (l *Loop) descends(ctx context.Context, k *state, objects []step.Object) er
 func (l *Loop) compare(ctx context.Context, k *state, objects []step.Object) error {
 	accepted := l.seen.accepted
 	if k.head() != accepted.head() && !follows(k.Size, k.Moment, accepted.head()) {
-		return behind(k, accepted.head())
+		return isOlder(k, accepted.head())
 	}
 	isNext := accepted.line != "" && k.Before == step.Digest(accepted.line)
 	between, err := l.headsUpTo(ctx, k, isNext)
@@ -81,7 +81,7 @@ func (l *Loop) compare(ctx context.Context, k *state, objects []step.Object) err
 	}
 	head, err := l.readHead(ctx, between)
 	if errors.Is(err, ErrDamaged) || errors.Is(err, stores.ErrAbsent) {
-		// What the log's key did not sign says nothing, and an old head may be deleted.
+		// A head that the log's key did not sign says nothing, and an old head may be deleted.
 		return nil
 	}
 	if err != nil {
@@ -90,8 +90,8 @@ func (l *Loop) compare(ctx context.Context, k *state, objects []step.Object) err
 	return l.extends(ctx, k, head.Head, objects)
 }
 
-// behind is the refusal of a state that is behind a head that this node accepted.
-func behind(k *state, accepted signer.Head) error {
+// isOlder is the refusal of a state that is older than a head that this node accepted.
+func isOlder(k *state, accepted signer.Head) error {
 	if k.Size == accepted.Size && k.Moment == accepted.Moment {
 		return fmt.Errorf("%w: it has another root of %d entries at %d ms than this node accepted", ErrRolledBack, k.Size, k.Moment)
 	}
@@ -150,7 +150,7 @@ func (l *Loop) isLater(ctx context.Context, k *state, name string) error {
 	return foreign(k, name)
 }
 
-// extends checks by a consistency proof that a state's tree goes on from a head's (RFC 6962, section 2.1.2).
+// extends checks by a consistency proof that a state's tree continues a head's (RFC 6962, section 2.1.2).
 func (l *Loop) extends(ctx context.Context, k *state, head signer.Head, objects []step.Object) error {
 	if head.Size == 0 || head == k.head() {
 		return nil

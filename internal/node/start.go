@@ -11,8 +11,8 @@ import (
 	"wagtenib/service/stores"
 )
 
-// Start looks at the lock, the stores, the signer and the machine's memory, and returns a node if the log may be gone on with from there. The caller must then
-// call Run of the loop in one coroutine. What must not be gone on with is refused by ErrRolledBack, ErrDamaged, ErrIndex or signer.ErrState.
+// Start looks at the lock, the stores, the signer and the machine's memory, and returns a node if the node may continue from there. The caller must then
+// call Run of the loop in one coroutine. Otherwise it refuses with ErrRolledBack, ErrDamaged, ErrIndex or signer.ErrState.
 func Start(ctx context.Context, config Config) (*Node, *Loop, error) {
 	if err := config.check(); err != nil {
 		return nil, nil, err
@@ -38,7 +38,7 @@ func Start(ctx context.Context, config Config) (*Node, *Loop, error) {
 	return nil, nil, fmt.Errorf("%w: in %d tries it did not stay the same (start again)", ErrRolledBack, startOver)
 }
 
-// found is what is found of a log at the start: as the decider is told, and as it was read.
+// found is what is found of a log at the start, as the decider reads it and as it was read.
 type found struct {
 	decider.Found
 	k         *state
@@ -75,7 +75,7 @@ func (l *Loop) takeUp(ctx context.Context, remembered *signer.Head) (bool, error
 	return true, l.showNewest(ctx, f)
 }
 
-// rooted is a head as the decider is told it.
+// rooted returns a head as the decider reads it.
 func rooted(head *signer.Head) *decider.Rooted {
 	if head == nil {
 		return nil
@@ -182,7 +182,7 @@ func (l *Loop) movedSince(ctx context.Context, f found) (bool, error) {
 	return *last != *f.last, nil
 }
 
-// refused returns why the log is not gone on with.
+// refused returns why the node does not continue.
 func refused(refusal decider.Refusal, f found) error {
 	if f.k == nil {
 		return fmt.Errorf("%w: %s: there is no lock, and this is no new log (see \"Backup\" in OPERATING.md)", ErrRolledBack, refusal)
@@ -241,7 +241,7 @@ func (l *Loop) showNewest(ctx context.Context, f found) error {
 	}
 	head, err := l.headOf(ctx, f.k)
 	if errors.Is(err, stores.ErrAbsent) || errors.Is(err, ErrDamaged) {
-		// It is not served. The loop makes it again, or says what is wrong.
+		// It is not served. The loop makes it again, or says why it cannot.
 		return nil
 	}
 	if err != nil {

@@ -48,7 +48,7 @@ func (w *world) submit(m *machine, number int) error {
 	return err
 }
 
-// serve is what an HTTP handler does with a submission: it looks the entry up, and has it wait for a step if the log does not have it.
+// serve does what an HTTP handler does with a submission: it looks the entry up, and has it wait for a step if the log does not have it.
 func (w *world) serve(m *machine, n *node.Node, number int) error {
 	ctx, cancel := within(w.background(), requestWithin)
 	defer cancel()
@@ -84,7 +84,7 @@ func (w *world) serve(m *machine, n *node.Node, number int) error {
 
 // answers gives a client its answer, and judges it.
 func (w *world) answers(m *machine, number int, place node.Place) {
-	w.tell("client", fmt.Sprintf("entry %d", number), fmt.Sprintf("%s answers %d at %d ms", m.name, place.Index, place.Timestamp), "")
+	w.log("client", fmt.Sprintf("entry %d", number), fmt.Sprintf("%s answers %d at %d ms", m.name, place.Index, place.Timestamp), "")
 	w.judge.answered(m, number, place.Index, place.Timestamp, place.Signature)
 }
 
@@ -119,7 +119,7 @@ func (w *world) client(c Client, done func()) {
 			if err == nil {
 				break
 			}
-			w.tell("client", fmt.Sprintf("entry %d", number), fmt.Sprintf("%s: %v", w.machines[at].name, err), "")
+			w.log("client", fmt.Sprintf("entry %d", number), fmt.Sprintf("%s: %v", w.machines[at].name, err), "")
 			at = w.random.Intn(len(w.machines))
 			w.wait(time.Duration(w.random.Intn(2000))*time.Millisecond, nil)
 		}

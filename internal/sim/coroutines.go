@@ -17,11 +17,11 @@ type scheduler struct {
 	switches int
 }
 
-// process is what a kill ends: all coroutines of one run of a node.
+// process is all coroutines of one run of a node. A kill ends it.
 type process struct {
 	name string
 	dead bool
-	// pausedUntil is until when the process stands still.
+	// pausedUntil is until when the process is paused.
 	pausedUntil time.Duration
 }
 
@@ -31,7 +31,7 @@ type coroutine struct {
 	next  func() (struct{}, bool)
 	stop  func()
 	yield func(struct{}) bool
-	// at is when the coroutine goes on at the latest, and until what it waits for before that, if anything.
+	// at is when the coroutine continues at the latest. until is the condition for which it waits before that, or nil.
 	at       time.Duration
 	until    func() bool
 	happened bool
@@ -118,7 +118,7 @@ func (s *scheduler) run(most time.Duration, end func() bool) {
 	}
 }
 
-// wakes returns when a coroutine goes on by time alone.
+// wakes returns when a coroutine continues only because of the time.
 func (s *scheduler) wakes(c *coroutine) time.Duration {
 	if c.of != nil && c.of.pausedUntil > s.now {
 		return max(c.of.pausedUntil, min(c.at, forever))

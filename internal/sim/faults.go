@@ -8,7 +8,7 @@ import (
 	"wagtenib/service/stores"
 )
 
-// befalls has a fault happen at a call of a machine. It returns the fault if that is the call's own fate; any other fault changes the world before the call.
+// befalls has a fault happen at a call of a machine. It returns the fault if that is the outcome of this call. Any other fault changes the world before the call.
 func (w *world) befalls(m *machine, f Fault, store string) *Fault {
 	if store == "memory" && (f.Kind == CallHangs || f.Kind == DoneLate || f.Kind == AnswersLate) {
 		// A disk of the machine's own either works or fails.
@@ -38,7 +38,7 @@ func (w *world) befalls(m *machine, f Fault, store string) *Fault {
 	}
 	if happened {
 		w.judge.counts[f.Kind]++
-		w.tell("world", f.String(), "", "")
+		w.log("world", f.String(), "", "")
 	}
 	return nil
 }

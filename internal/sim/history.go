@@ -6,15 +6,15 @@ import (
 	"time"
 )
 
-// history is what happened, as lines that a person can read. Lines are only kept if somebody wants to read them.
+// history is what happened, as lines that a person can read. They are kept only if they are asked for.
 type history struct {
-	tells bool
-	lines []string
+	isKept bool
+	lines  []string
 }
 
-// tell adds a line: who did what, with which outcome, and the fault that befell it.
-func (w *world) tell(who, what, outcome, fault string) {
-	if !w.history.tells {
+// log adds a line: who did what, with which outcome, and the fault that befell it.
+func (w *world) log(who, what, outcome, fault string) {
+	if !w.history.isKept {
 		return
 	}
 	line := fmt.Sprintf("%12s  %-6s %s", w.now.Round(time.Microsecond), who, what)
@@ -27,21 +27,21 @@ func (w *world) tell(who, what, outcome, fault string) {
 	w.history.lines = append(w.history.lines, line)
 }
 
-// tellCall adds the line of a call.
-func (w *world) tellCall(n int, who, store, what string, err error, fault string) {
-	if !w.history.tells {
+// logCall adds the line of a call.
+func (w *world) logCall(n int, who, store, what string, err error, fault string) {
+	if !w.history.isKept {
 		return
 	}
 	outcome := "done"
 	if err != nil {
 		outcome = err.Error()
 	}
-	w.tell(who, fmt.Sprintf("%4d %s: %s", n, store, what), outcome, fault)
+	w.log(who, fmt.Sprintf("%4d %s: %s", n, store, what), outcome, fault)
 }
 
 // Violation is a rule of the judge that a history broke.
 type Violation struct {
-	// Rule is the rule's name, and Text what was found.
+	// Rule is the rule's name, and Text says what broke it.
 	Rule, Text string
 	// At is when, in virtual time.
 	At time.Duration

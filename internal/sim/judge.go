@@ -43,7 +43,7 @@ func (e *excuses) allows(identity [32]byte) bool {
 	return e.repeats
 }
 
-// Stats are what a history got done.
+// Stats are the numbers of a history.
 type Stats struct {
 	Calls, Switches, Heads, Entries, Answers, Repeats, Reads, Starts int
 }
@@ -88,8 +88,8 @@ func (j *judge) put(name string, content []byte) {
 	}
 }
 
-// putHead judges a head that is put: it is signed by the key, it has its name's size and timestamp, all of its tree is in the store, and the tree goes on from
-// the list.
+// putHead judges a head that is put: it is signed by the key, it has its name's size and timestamp, all of its tree is in the store, and the tree's leaves
+// begin with the list.
 func (j *judge) putHead(name, note string) {
 	head, err := readNote(note)
 	if err != nil {
@@ -202,11 +202,11 @@ func (j *judge) tile(prefix string, n, width uint64, name string) ([]byte, bool)
 		tile += fmt.Sprintf(".p/%d", width)
 	}
 	first, put := j.tiles[tile]
-	stored, stands := j.w.stores.objects[tile]
+	stored, isThere := j.w.stores.objects[tile]
 	switch {
 	case j.w.excuses.missing && put:
 		return first, true
-	case !stands:
+	case !isThere:
 		j.breaks("a head's tree is in the store", "%s: %s is missing", name, tile)
 		return nil, false
 	}
@@ -281,11 +281,11 @@ func cells(text string) *cell {
 	return c
 }
 
-// raises judges what the lock says is published: the head is in the store.
+// raises judges how far the lock says that the log is published: the head is in the store.
 func (j *judge) raises(p stores.Published) {
 	name := fmt.Sprintf("heads/%020d-%020d", p.Size, p.Moment)
 	if _, ok := j.w.stores.objects[name]; !ok && !j.w.excuses.missing {
-		j.breaks("what is published has a head", "%s is published and not in the store", name)
+		j.breaks("a published size has a head", "%s is published and not in the store", name)
 	}
 }
 
@@ -299,7 +299,7 @@ func (j *judge) deletes(name string) {
 	}
 	if first, ok := j.tiles[name]; !ok || bytes.Equal(first, j.w.stores.objects[name]) {
 		if !j.w.excuses.missing {
-			j.breaks("what is published stays", "%s is deleted", name)
+			j.breaks("published objects stay", "%s is deleted", name)
 		}
 	}
 }

@@ -25,7 +25,7 @@ const (
 	// KilledBefore and KilledAfter: the node is killed before the call is done, or after that.
 	KilledBefore
 	KilledAfter
-	// Paused: the node stands still at the call, and goes on later.
+	// Paused: the node is paused at the call, and continues later.
 	Paused
 	// Away: no call of the node reaches a store for a while.
 	Away
@@ -96,7 +96,7 @@ type Client struct {
 	Burst bool
 }
 
-// Plan is a history before it runs: what is not in it follows from Seed.
+// Plan is a history before it runs. Everything else follows from Seed.
 type Plan struct {
 	Seed     int64
 	Machines int
@@ -127,7 +127,7 @@ func NewPlan(seed int64) Plan {
 	case 0, 1, 2, 3:
 		plan.Faults = append(plan.Faults, newFault(random, PutLost+Kind(random.Intn(int(kinds-PutLost))), 50+60*plan.Machines))
 	case 4:
-		plan.standStill(random)
+		plan.pausesOne(random)
 	}
 	next := 0
 	for range 1 + random.Intn(4) {
@@ -154,8 +154,8 @@ func NewPlan(seed int64) Plan {
 	return plan
 }
 
-// standStill has a node stand still, and then stores be rolled back to about that time: what the node saw last is the newest again, and others saw more.
-func (p *Plan) standStill(random *rand.Rand) {
+// pausesOne pauses a node, and then rolls stores back to about that time. So the state that the node saw last is the newest again, and others saw more.
+func (p *Plan) pausesOne(random *rand.Rand) {
 	p.Machines = 2 + random.Intn(2)
 	of := []Kind{LockRolledBack, LockAndGuardRolledBack, LockAndGuardRolledBack, ObjectsAndLockRolledBack}[random.Intn(4)]
 	still := Fault{At: 60 + random.Intn(160), Kind: Paused, Long: []time.Duration{900 * time.Millisecond, 1900 * time.Millisecond, 4 * time.Second}[random.Intn(3)]}

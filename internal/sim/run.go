@@ -9,7 +9,7 @@ import (
 	"wagtenib/service/signer"
 )
 
-// Result is what became of a history.
+// Result is the outcome of a history.
 type Result struct {
 	// Violation is the first rule that was broken, or nil.
 	Violation *Violation
@@ -33,8 +33,8 @@ const (
 )
 
 // Run runs the history of a plan over the proved decisions. Two runs of one plan are the same.
-func Run(plan Plan, proved node.Proved, tells bool) (result Result) {
-	w := newWorld(plan, proved, tells)
+func Run(plan Plan, proved node.Proved, logs bool) (result Result) {
+	w := newWorld(plan, proved, logs)
 	over := false
 	w.spawn(nil, func() {
 		w.script()
@@ -54,7 +54,7 @@ func Run(plan Plan, proved node.Proved, tells bool) (result Result) {
 	return result
 }
 
-// script has all clients do what they want to do.
+// script runs all clients.
 func (w *world) script() {
 	left := len(w.plan.Clients)
 	for _, c := range w.plan.Clients {
@@ -73,7 +73,7 @@ func (w *world) ends() {
 			m.process.pausedUntil = 0
 		}
 	}
-	w.tell("world", "calm: no fault happens any more", "", "")
+	w.log("world", "calm: no fault happens any more", "", "")
 	for i, m := range w.machines {
 		err := w.goesOn(m, 1_000_000+i)
 		if err == nil {
@@ -134,7 +134,7 @@ func (w *world) goesOn(m *machine, number int) error {
 		if errors.Is(err, errUnreachable) && m.refused != nil {
 			err = m.refused
 		}
-		w.tell("client", fmt.Sprintf("entry %d", number), err.Error(), "")
+		w.log("client", fmt.Sprintf("entry %d", number), err.Error(), "")
 		if w.now >= end || w.excuses.loss && isNamed(err) && w.now >= end-calmWithin+namedWithin {
 			return err
 		}

@@ -7,7 +7,7 @@ import (
 	"strings"
 )
 
-// Totals are what many histories had together.
+// Totals are the numbers of many histories.
 type Totals struct {
 	Histories, Stopped int
 	Stats              Stats
@@ -48,7 +48,7 @@ func (t *Totals) Add(r Result) {
 	}
 }
 
-// numbers are what differs between two reasons of one kind.
+// numbers differ between two reasons of one kind.
 var numbers = regexp.MustCompile(`-?[0-9][0-9a-fhms.]*`)
 
 // Missing returns the kinds of faults that never happened.

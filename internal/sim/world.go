@@ -13,7 +13,7 @@ import (
 	"wagtenib/service/stores"
 )
 
-// Origin is the log's name in checkpoints: the proved steps must be given it.
+// Origin is the log's name in checkpoints: the proved steps need it.
 const Origin = "log.example/sim"
 
 // epoch is the true time at the beginning of each history.
@@ -34,7 +34,7 @@ type world struct {
 	stopped error
 }
 
-// events are the faults that are to come.
+// events are the faults of the plan, by their calls.
 type events struct {
 	// calls counts the calls to stores, and faults are by their number.
 	calls  int
@@ -58,7 +58,7 @@ type machine struct {
 	signer     *guarded
 }
 
-// excuses are what a history may do since a store did not keep what it acknowledged, or a clock was wrong.
+// excuses say what a history may do since a store did not keep what it acknowledged, or a clock was wrong.
 type excuses struct {
 	// loss says that the log may stop, if it says why. clock says that it may stop for its clock.
 	loss, clock bool
@@ -79,8 +79,8 @@ var (
 )
 
 // newWorld returns the world of a plan.
-func newWorld(plan Plan, proved node.Proved, tells bool) *world {
-	w := &world{plan: plan, proved: proved, events: events{faults: map[int][]Fault{}}, stores: newMemory(), history: history{tells: tells}}
+func newWorld(plan Plan, proved node.Proved, logs bool) *world {
+	w := &world{plan: plan, proved: proved, events: events{faults: map[int][]Fault{}}, stores: newMemory(), history: history{isKept: logs}}
 	w.random = rand.New(rand.NewSource(plan.Seed ^ 0x5deece66d))
 	w.judge, w.excuses.again = newJudge(w), map[[32]byte]bool{}
 	for _, f := range plan.Faults {
@@ -105,7 +105,7 @@ func (m *machine) operate() {
 			w.excuses.ahead = true
 		}
 		w.judge.stats.Starts++
-		w.tell(m.name, "starts", "", "")
+		w.log(m.name, "starts", "", "")
 		ended := false
 		w.spawn(p, func() {
 			m.carry()
@@ -123,7 +123,7 @@ func (m *machine) carry() {
 	ctx := m.w.background()
 	n, loop, err := node.Start(ctx, m.config())
 	if err != nil {
-		m.w.tell(m.name, "does not start", err.Error(), "")
+		m.w.log(m.name, "does not start", err.Error(), "")
 		m.refused = err
 		return
 	}
@@ -189,7 +189,7 @@ func (r remembering) Save(ctx context.Context, head signer.Head) error {
 	})
 }
 
-// call carries out one call of a machine's node on a store, with all that befalls it.
+// call carries out one call of a machine's node on a store, with its faults.
 func (m *machine) call(ctx context.Context, store, what string, writes bool, do func() error) error {
 	w, of := m.w, ctx.(*simulated)
 	w.events.calls++
@@ -204,7 +204,7 @@ func (m *machine) call(ctx context.Context, store, what string, writes bool, do 
 		}
 	}
 	err, fault := m.befallen(of, store, what, writes, fate, do)
-	w.tellCall(n, m.name, store, what, err, fault)
+	w.logCall(n, m.name, store, what, err, fault)
 	if m.process.dead {
 		panic(killed{})
 	}
@@ -228,9 +228,9 @@ func (m *machine) befallen(ctx *simulated, store, what string, writes bool, fate
 	case DoneLate:
 		w.spawn(nil, func() {
 			w.wait(ctx.left()+fate.Long, nil)
-			if m.stands(store, writes) == nil {
-				// Nobody hears what comes of it.
-				w.tell("store", what, fmt.Sprint(do()), "done late")
+			if m.takes(store, writes) == nil {
+				// No caller waits for the outcome any more.
+				w.log("store", what, fmt.Sprint(do()), "done late")
 			}
 		})
 		_ = w.sleep(ctx, forever)
@@ -242,7 +242,7 @@ func (m *machine) befallen(ctx *simulated, store, what string, writes bool, fate
 	if kind == CallFails {
 		return errFails, fault
 	}
-	if err := m.stands(store, writes); err != nil {
+	if err := m.takes(store, writes); err != nil {
 		return err, fault
 	}
 	err := do()
@@ -281,8 +281,8 @@ func (w *world) latency() time.Duration {
 	return time.Duration(1+w.random.Intn(6)) * time.Millisecond
 }
 
-// stands returns an error if a store does not take the call now. The memory is not a store.
-func (m *machine) stands(store string, writes bool) error {
+// takes returns an error if a store does not take the call now. The memory is not a store.
+func (m *machine) takes(store string, writes bool) error {
 	s := &m.w.stores
 	switch {
 	case store == "memory":
