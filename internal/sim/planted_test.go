@@ -6,7 +6,6 @@ import (
 	"os"
 	"os/exec"
 	"path/filepath"
-	"regexp"
 	"strings"
 	"testing"
 )
@@ -52,17 +51,17 @@ var all = []planted{
 	{"a start is never refused", []edit{{"start.go", "	if errors.As(err, &refusal) {", "	if errors.As(err, &refusal) && f.k != nil {\n		err = nil\n	} else if errors.As(err, &refusal) {"}}},
 	{"the head is not put", []edit{{"heads.go", "	err = l.config.Stores.Objects.Put(ctx, headName(k.Size, k.Moment), made.Note)", "	err = nil"}}},
 	{"nothing says that the head is published", []edit{{"heads.go", "		if err := l.config.Stores.Lock.Raise(ctx, head.published()); err != nil {", "		if err := error(nil); err != nil {"}}},
-	{"a head's signature is not checked", []edit{{"heads.go", "	if err != nil || !strings.HasPrefix(string(content[len(opened.Text):]), \"\\n\"+n.signatureLine()) {", "	var unverified *note.UnverifiedNoteError\n	if errors.As(err, &unverified) {\n		opened, err = unverified.Note, nil\n		opened.Sigs = opened.UnverifiedSigs\n	}\n	if invalid := (*note.InvalidSignatureError)(nil); errors.As(err, &invalid) {\n		opened, err = note.Open(content, note.VerifierList(any{n.verifier()}))\n	}\n	if err != nil {"}, {"heads.go", "func (n *Node) signatureLine()", "type any struct{ note.Verifier }\n\nfunc (any) Verify(msg, sig []byte) bool { return true }\n\nfunc (n *Node) signatureLine()"}}},
+	{"a head's signature is not checked", []edit{{"heads.go", "	if err != nil || !strings.HasPrefix(string(content[len(opened.Text):]), \"\\n\"+n.signatureLine()) {", "	var unverified *note.UnverifiedNoteError\n	if errors.As(err, &unverified) {\n		opened, err = unverified.Note, nil\n		opened.Sigs = opened.UnverifiedSigs\n	}\n	if invalid := (*note.InvalidSignatureError)(nil); errors.As(err, &invalid) {\n		opened, err = note.Open(content, note.VerifierList(unchecked{n.verifier()}))\n	}\n	if err != nil || !strings.HasPrefix(string(content), n.config.Origin) {"}, {"heads.go", "func (n *Node) signatureLine()", "type unchecked struct{ note.Verifier }\n\nfunc (unchecked) Verify(msg, sig []byte) bool { return true }\n\nfunc (n *Node) signatureLine()"}}},
 	{"a head is not compared with its state", []edit{{"heads.go", "	if head.Size != k.Size || head.Moment != k.Moment {", "	if false {"}, {"heads.go", "	if head.Root != k.Root {", "	if false {"}}},
 	{"readers see an older head again", []edit{{"node.go", "now == nil || now.Head.before(head)", "now == nil || true"}, {"heads.go", "	if k.IsBegin() || l.last.published == k.line {", "	if k.IsBegin() {"}}},
-	{"all in a batch get the first one's receipt", []edit{{"pass.go", "		r := p.made.receipts[i]\n		p.pool", "		r := p.made.receipts[0]\n		p.pool"}, {"pass.go", "Answer{Place: Place{r.LeafIndex, r.Timestamp, signatures[i]}}", "Answer{Place: Place{r.LeafIndex, r.Timestamp, signatures[0]}}"}}},
+	{"all in a batch get the first one's receipt", []edit{{"pass.go", "		r := p.made.receipts[i]\n		p.pool", "		r := p.made.receipts[0*i]\n		p.pool"}, {"pass.go", "Answer{Place: Place{r.LeafIndex, r.Timestamp, signatures[i]}}", "Answer{Place: Place{r.LeafIndex, r.Timestamp, signatures[0]}}"}}},
 	{"the answer comes before the head", []edit{{"pass.go", "	head, err := p.putHead(ctx, p.from, p.made.head, p.made.objects)", "	if len(p.batch) > 0 {\n		if _, err := p.signedHead(ctx, p.from, p.made.head, p.made.objects); err != nil {\n			return nil, err\n		}\n		if _, err := p.answer(ctx); err != nil {\n			return nil, err\n		}\n	}\n	head, err := p.putHead(ctx, p.from, p.made.head, p.made.objects)"}}},
 	{"a failed round forgets its batch", []edit{{"loop.go", "	defer func() { l.pool.giveBack(batch) }()", "	defer func() {}()"}}},
 	{"a failed round answers its batch with nothing", []edit{{"loop.go", "	defer func() { l.pool.giveBack(batch) }()", "	defer func() {\n		for _, t := range batch {\n			l.pool.resolve(t, Answer{})\n		}\n	}()"}}},
-	{"the round does not ask the index", []edit{{"loop.go", "		if ok && place.Index < k.Size && (t.wrong == nil || *t.wrong != place) {", "		if false {"}}},
+	{"the round does not ask the index", []edit{{"loop.go", "		if ok && place.Index < k.Size && (t.wrong == nil || *t.wrong != place) {", "		if ok && place.Index > 1<<50 {"}}},
 	{"a submission is not looked up", []edit{{"requests.go", "	if now == nil || now.Head.Size == 0 {", "	if true {"}}},
 	{"the index is believed", []edit{{"requests.go", "	if identity(leaf.Type, leaf.IssuerKeyHash, leaf.Certificate) != r.identity || leaf.Timestamp != place.Timestamp {\n		return nil, nil\n	}", ""}, {"requests.go", "	if errors.Is(err, step.NoClaim) {\n		return nil, nil\n	}", "	if errors.Is(err, step.NoClaim) {\n		return &step.Receipt{LeafIndex: place.Index, Timestamp: place.Timestamp, Sign: leaf.Input()}, nil\n	}"}}},
-	{"the index may lack the newest entry", []edit{{"start.go", "	if len(places) == 0 {", "	if false {"}}},
+	{"the index may lack the newest entry", []edit{{"start.go", "	if len(places) == 0 {", "	if len(places) > 1 {"}}},
 	{"the clock is believed", []edit{{"loop.go", "	if off := now.Sub(t.read) - (elapsed - t.since); off > t.maxSkew || -off > t.maxSkew {", "	if off := 0 * time.Second; off > t.maxSkew {"}}},
 	{"a clock that is behind stops the log", []edit{{"loop.go", "	now = max(uint64(max(t.of.Now().UnixMilli(), 1)), newest+1)", "	now = uint64(max(t.of.Now().UnixMilli(), 1))"}}},
 	{"a staged batch is deleted without asking", []edit{{"pass.go", "	p.keepEdge()\n", "	p.keepEdge()\n	_ = p.config.Stores.Objects.Delete(ctx, p.command.New.Bundle)\n"}}},
@@ -72,73 +71,120 @@ var all = []planted{
 	{"a restored object is not put", []edit{{"pass.go", "	return l.config.Stores.Objects.Put(ctx, name, content)\n}", "	return nil\n}"}}},
 }
 
-// TestPlanted plants each fault into a copy of the node, and has the histories find it. It is for a long run: SIM_PLANTED says how many seeds each one gets.
+// TestPlanted plants each fault into a copy of the node, and has the histories find it. It is for a long run: SIM_PLANTED says how many seeds each one gets, and
+// SIM_ONLY which faults, by a part of their names.
 func TestPlanted(t *testing.T) {
 	seeds := os.Getenv("SIM_PLANTED")
 	if seeds == "" {
 		t.Skip("SIM_PLANTED says how many seeds each planted fault gets")
 	}
-	only := os.Getenv("SIM_ONLY")
-	for _, p := range all {
-		if !strings.Contains(p.name, only) {
-			continue
+	copies := &copies{folder: t.TempDir(), replaced: map[string]string{}}
+	for at, p := range all {
+		if strings.Contains(p.name, os.Getenv("SIM_ONLY")) {
+			copies.plant(t, at, p)
 		}
-		found, seed, rule := find(t, p, seeds)
-		t.Logf("| %s | %s | %s |", p.name, rule, seed)
-		if !found {
-			t.Errorf("%s: not found by %s seeds", p.name, seeds)
-		}
+	}
+	overlay := copies.finish(t)
+	command := exec.Command("go", "test", "-count=1", "-vet=off", "-trimpath", "-timeout=3h", "-v", "-overlay", overlay, "wagtenib/internal/planted")
+	command.Env = append(os.Environ(), "SIM_PLANTED="+seeds)
+	said, err := command.CombinedOutput()
+	t.Logf("%s", said)
+	if err != nil {
+		t.Errorf("some planted faults are not found: %v", err)
 	}
 }
 
-var (
-	seedOf = regexp.MustCompile(`broken by seed (\d+)`)
-	ruleOf = regexp.MustCompile(`rule "([^"]*)"`)
-)
+// copies are the copies of node and sim, each with one planted fault. They exist only in the overlay of one go command.
+type copies struct {
+	folder         string
+	replaced       map[string]string
+	imports, cases strings.Builder
+}
 
-// find builds the node with a planted fault, and runs histories until one breaks a rule.
-func find(t *testing.T, p planted, seeds string) (found bool, seed, rule string) {
+// plant adds the copies of one fault.
+func (c *copies) plant(t *testing.T, at int, p planted) {
 	t.Helper()
-	folder := t.TempDir()
-	replaced := map[string]string{}
-	for _, e := range p.edits {
-		path, err := filepath.Abs(filepath.Join("..", "node", e.file))
+	name := fmt.Sprintf("p%02d", at)
+	edits := p.edits
+	for _, of := range []string{"node", "sim"} {
+		sources, err := filepath.Glob(filepath.Join("..", of, "*.go"))
 		if err != nil {
 			t.Fatal(err)
 		}
-		from := path
-		if copied, ok := replaced[path]; ok {
-			from = copied
-		}
-		content, err := os.ReadFile(from)
-		if err != nil {
-			t.Fatal(err)
-		}
-		if times := strings.Count(string(content), e.old); times != 1 {
-			t.Fatalf("%s: %s has %d times: %s", p.name, e.file, times, e.old)
-		}
-		replaced[path] = filepath.Join(folder, e.file)
-		if err := os.WriteFile(replaced[path], []byte(strings.Replace(string(content), e.old, e.new, 1)), 0o600); err != nil {
-			t.Fatal(err)
+		for _, source := range sources {
+			if strings.HasSuffix(source, "_test.go") {
+				continue
+			}
+			content, err := os.ReadFile(source)
+			if err != nil {
+				t.Fatal(err)
+			}
+			text := string(content)
+			for _, e := range edits {
+				if of != "node" || e.file != filepath.Base(source) {
+					continue
+				}
+				if times := strings.Count(text, e.old); times != 1 {
+					t.Fatalf("%s: %s has %d times: %s", p.name, e.file, times, e.old)
+				}
+				text = strings.Replace(text, e.old, e.new, 1)
+			}
+			text = strings.ReplaceAll(text, `"wagtenib/internal/node"`, fmt.Sprintf(`"wagtenib/internal/planted/%s/node"`, name))
+			c.write(t, filepath.Join(name, of, filepath.Base(source)), text)
 		}
 	}
-	overlay, err := json.Marshal(map[string]any{"Replace": replaced})
+	fmt.Fprintf(&c.imports, "\t%snode \"wagtenib/internal/planted/%s/node\"\n\t%s \"wagtenib/internal/planted/%s/sim\"\n", name, name, name, name)
+	fmt.Fprintf(&c.cases, "\tfinds(t, %q, func(seed int64) string {\n\t\tr := %s.Run(%s.NewPlan(seed), %snode.Proved{Decider: next, Steps: steps}, false)\n"+
+		"\t\tif r.Violation == nil {\n\t\t\treturn \"\"\n\t\t}\n\t\treturn r.Violation.Rule\n\t})\n", p.name, name, name, name)
+}
+
+// write adds a file of the folder internal/planted, which does not exist, to the overlay.
+func (c *copies) write(t *testing.T, name, text string) {
+	t.Helper()
+	file := filepath.Join(c.folder, strings.ReplaceAll(name, string(filepath.Separator), "-"))
+	path, err := filepath.Abs(filepath.Join("..", "planted", name))
+	if err == nil {
+		err = os.WriteFile(file, []byte(text), 0o600)
+	}
 	if err != nil {
 		t.Fatal(err)
 	}
-	file := filepath.Join(folder, "overlay.json")
-	if err := os.WriteFile(file, overlay, 0o600); err != nil {
+	c.replaced[path] = file
+}
+
+// finish writes the test that runs all copies, and returns the overlay's file.
+func (c *copies) finish(t *testing.T) string {
+	t.Helper()
+	c.write(t, "planted_test.go", "package planted\n\nimport (\n\t\"os\"\n\t\"strconv\"\n\t\"testing\"\n\n"+c.imports.String()+
+		"\n\t\"wagtenib/internal/sim\"\n\t\"wagtenib/service/decider\"\n\t\"wagtenib/service/step\"\n)\n"+runner+
+		"\nfunc TestAll(t *testing.T) {\n"+c.cases.String()+"}\n")
+	c.write(t, "planted.go", "package planted\n")
+	overlay, err := json.Marshal(map[string]any{"Replace": c.replaced})
+	file := filepath.Join(c.folder, "overlay.json")
+	if err == nil {
+		err = os.WriteFile(file, overlay, 0o600)
+	}
+	if err != nil {
 		t.Fatal(err)
 	}
-	command := exec.Command("go", "test", "-count=1", "-vet=off", "-overlay", file, "-run", "^TestHistories$", ".")
-	command.Env = append(os.Environ(), "SIM_HISTORIES="+seeds, "SIM_BRIEF=1", "SIM_PLANTED=")
-	said, err := command.CombinedOutput()
-	of := seedOf.FindSubmatch(said)
-	if err == nil {
-		return false, "", ""
-	}
-	if of == nil {
-		t.Fatalf("%s: %v: %s", p.name, err, said[:min(len(said), 3000)])
-	}
-	return true, string(of[1]), fmt.Sprintf("%s", ruleOf.FindSubmatch(said)[1])
+	return file
 }
+
+// runner runs the histories of one copy until one breaks a rule.
+const runner = `
+var next, steps = decider.New(), step.New(sim.Origin)
+
+func finds(t *testing.T, name string, broken func(seed int64) string) {
+	seeds, err := strconv.Atoi(os.Getenv("SIM_PLANTED"))
+	if err != nil {
+		t.Fatal(err)
+	}
+	for seed := range int64(seeds) {
+		if rule := broken(seed); rule != "" {
+			t.Logf("| %s | %s | %d |", name, rule, seed)
+			return
+		}
+	}
+	t.Errorf("| %s | not found | %d |", name, seeds)
+}
+`
