@@ -22,7 +22,7 @@
 // # In which order to read it
 //
 //  1. node.go has the interfaces, and start.go says from which state a node continues.
-//  2. loop.go has the loop and its rounds, and pass.go carries out each command.
+//  2. loop.go has the loop and its rounds, and pass.go and staged.go carry out each command.
 //  3. seen.go refuses a lock that was rolled back. heads.go and proofs.go publish.
 //  4. requests.go answers submissions that the log has already, and pool.go holds those that wait.
 package node

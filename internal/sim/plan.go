@@ -35,7 +35,8 @@ const (
 	// ClockForward and ClockBack: the node's time of day is set.
 	ClockForward
 	ClockBack
-	// PutLost: a put is acknowledged, and the object is not there.
+	// PutLost: a put is acknowledged, and the object is not there. From here on the faults are losses: a store does not keep what it acknowledged. A history
+	// has at most one of these, since two may be a loss that no node can see.
 	PutLost
 	// NewestLost: the newest object of the store is gone.
 	NewestLost
@@ -69,9 +70,6 @@ var kindNames = [kinds]string{
 }
 
 func (k Kind) String() string { return kindNames[k] }
-
-// isLoss reports whether a store does not keep what it acknowledged. A history has at most one of these: two may be a loss that no node can see.
-func (k Kind) isLoss() bool { return k >= PutLost }
 
 // Fault happens at one call of the history.
 type Fault struct {

@@ -68,7 +68,7 @@ var all = []planted{
 	{"a step goes on from an unpublished state", []edit{{"heads.go", "	if published.Size < k.Size {\n		return false, nil\n	}", "	if published.Size < k.Size {\n		return true, nil\n	}"}}},
 	{"a call has no time limit", []edit{{"calls.go", "	ctx, cancel := l.clock.Within(ctx, l.long)\n	defer cancel()\n", ""}}},
 	{"the signer's refusal is retried for ever", []edit{{"heads.go", "		if try+1 == maxAsked || !l.moved(ctx, lastHead, err) {", "		if !errors.Is(err, signer.ErrRefused) {"}}},
-	{"a restored object is not put", []edit{{"pass.go", "	return l.config.Stores.Objects.Put(ctx, name, content)\n}", "	return nil\n}"}}},
+	{"a restored object is not put", []edit{{"staged.go", "	return l.config.Stores.Objects.Put(ctx, name, content)\n}", "	return nil\n}"}}},
 }
 
 // TestPlanted plants each fault into a copy of the node, and has the histories find it. It is for a long run: SIM_PLANTED says how many seeds each one gets, and

@@ -203,7 +203,7 @@ func (m *machine) call(ctx context.Context, store, what string, writes bool, do 
 			}
 		}
 	}
-	err, fault := m.befallen(of, store, what, writes, fate, do)
+	fault, err := m.befallen(of, store, what, writes, fate, do)
 	w.logCall(n, m.name, store, what, err, fault)
 	if m.process.dead {
 		panic(killed{})
@@ -211,20 +211,20 @@ func (m *machine) call(ctx context.Context, store, what string, writes bool, do 
 	return err
 }
 
-// befallen does a call, or does not, by its fate.
-func (m *machine) befallen(ctx *simulated, store, what string, writes bool, fate *Fault, do func() error) (error, string) {
+// befallen does a call, or does not, by its fate. It returns the fault's name.
+func (m *machine) befallen(ctx *simulated, store, what string, writes bool, fate *Fault, do func() error) (fault string, err error) {
 	w := m.w
-	kind, fault := kinds, ""
+	kind := kinds
 	if fate != nil {
 		kind, fault = fate.Kind, fate.Kind.String()
 	}
 	switch kind {
 	case CallHangs:
 		_ = w.sleep(ctx, forever)
-		return unknown(ctx.Err()), fault
+		return fault, unknown(ctx.Err())
 	case KilledBefore:
 		m.process.dead = true
-		return errAway, fault
+		return fault, errAway
 	case DoneLate:
 		w.spawn(nil, func() {
 			w.wait(ctx.left()+fate.Long, nil)
@@ -234,18 +234,18 @@ func (m *machine) befallen(ctx *simulated, store, what string, writes bool, fate
 			}
 		})
 		_ = w.sleep(ctx, forever)
-		return unknown(ctx.Err()), fault
+		return fault, unknown(ctx.Err())
 	}
 	if err := w.sleep(ctx, w.latency()); err != nil {
-		return unknown(err), fault
+		return fault, unknown(err)
 	}
 	if kind == CallFails {
-		return errFails, fault
+		return fault, errFails
 	}
 	if err := m.takes(store, writes); err != nil {
-		return err, fault
+		return fault, err
 	}
-	err := do()
+	err = do()
 	if w.events.losesNext && err == nil && store == "objects" && strings.HasPrefix(what, "put ") {
 		w.events.losesNext = false
 		w.losesNewest()
@@ -259,15 +259,15 @@ func (m *machine) befallen(ctx *simulated, store, what string, writes bool, fate
 		if err == nil {
 			err = unknown(errFails)
 		}
-		return err, fault
+		return fault, err
 	case AnswersLate:
 		_ = w.sleep(ctx, forever)
-		return unknown(ctx.Err()), fault
+		return fault, unknown(ctx.Err())
 	}
 	if late := w.sleep(ctx, w.latency()/2); late != nil {
-		return unknown(late), fault
+		return fault, unknown(late)
 	}
-	return err, fault
+	return fault, err
 }
 
 // unknown is an error that does not say whether the call was done.
