@@ -87,9 +87,8 @@ func TestPlanted(t *testing.T) {
 	overlay := copies.finish(t)
 	command := exec.Command("go", "test", "-count=1", "-vet=off", "-trimpath", "-timeout=3h", "-v", "-overlay", overlay, "wagtenib/internal/planted")
 	command.Env = append(os.Environ(), "SIM_PLANTED="+seeds)
-	said, err := command.CombinedOutput()
-	t.Logf("%s", said)
-	if err != nil {
+	command.Stdout, command.Stderr = os.Stdout, os.Stderr
+	if err := command.Run(); err != nil {
 		t.Errorf("some planted faults are not found: %v", err)
 	}
 }
