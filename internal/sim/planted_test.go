@@ -85,7 +85,12 @@ func TestPlanted(t *testing.T) {
 		}
 	}
 	overlay := copies.finish(t)
-	command := exec.Command("go", "test", "-count=1", "-vet=off", "-trimpath", "-timeout=3h", "-v", "-overlay", overlay, "wagtenib/internal/planted")
+	binary := filepath.Join(copies.folder, "planted.test")
+	build := exec.Command("go", "test", "-c", "-vet=off", "-trimpath", "-o", binary, "-overlay", overlay, "wagtenib/internal/planted")
+	if said, err := build.CombinedOutput(); err != nil {
+		t.Fatalf("%v: %s", err, said)
+	}
+	command := exec.Command(binary, "-test.v", "-test.timeout=3h")
 	command.Env = append(os.Environ(), "SIM_PLANTED="+seeds)
 	command.Stdout, command.Stderr = os.Stdout, os.Stderr
 	if err := command.Run(); err != nil {
