@@ -57,7 +57,7 @@ func (w *world) loses(m *machine, f Fault) bool {
 	case HeadForged:
 		happened = w.bends(1, "heads/")
 	case IndexLost:
-		happened = w.losesPlaces(f.At - 10*f.Count)
+		happened = w.losesPlaces(w.events.calls - 10*f.Count)
 	case IndexWrong:
 		happened = w.misplaces(f.Count)
 	case MemoryLost:
@@ -154,7 +154,13 @@ func (w *world) rollsBack(f Fault) bool {
 	}
 	happened := false
 	for _, one := range of {
-		happened = w.stores.rollBack(one, f.At-10*f.Count) || happened
+		happened = w.stores.rollBack(one, w.events.calls-10*f.Count) || happened
+	}
+	if f.Kind == AllRolledBack {
+		// An operator stops all nodes before the stores are put back.
+		for _, m := range w.machines {
+			m.process.dead = true
+		}
 	}
 	switch f.Kind {
 	case LockRolledBack, LockAndGuardRolledBack, ObjectsAndLockRolledBack, AllRolledBack:

@@ -73,8 +73,9 @@ func (k Kind) String() string { return kindNames[k] }
 
 // Fault happens at one call of the history.
 type Fault struct {
-	// At is the number of the call, from 1 on, of all calls of all nodes.
+	// At is the number of the call, from 1 on, of all calls of all nodes. On is how the call begins: the fault happens at the first such call from At on.
 	At   int
+	On   string
 	Kind Kind
 	// Long is for how long it lasts, or by how much a clock is set, and Count for how many calls, in tens, a store is rolled back, or which object is meant.
 	Long  time.Duration
@@ -82,7 +83,7 @@ type Fault struct {
 }
 
 func (f Fault) String() string {
-	return fmt.Sprintf("%s at call %d (%v, %d)", f.Kind, f.At, f.Long, f.Count)
+	return fmt.Sprintf("%s from call %d on, at the first %q (%v, %d)", f.Kind, f.At, f.On, f.Long, f.Count)
 }
 
 // Client submits one after the other. A number that another client or an earlier one had is a repeated chain.
@@ -157,8 +158,9 @@ func (p *Plan) pausesOne(random *rand.Rand) {
 	p.Machines = 2 + random.Intn(2)
 	of := []Kind{LockRolledBack, LockAndGuardRolledBack, LockAndGuardRolledBack, ObjectsAndLockRolledBack}[random.Intn(4)]
 	still := Fault{At: 60 + random.Intn(160), Kind: Paused, Long: []time.Duration{900 * time.Millisecond, 1900 * time.Millisecond, 4 * time.Second}[random.Intn(3)]}
+	still.On = []string{"lock: swap", "objects: put staging", ""}[random.Intn(3)]
 	back := Fault{At: still.At + 30 + random.Intn(120), Kind: of}
-	back.Count = (back.At - still.At + 9) / 10
+	back.Count = (back.At-still.At)/10 - random.Intn(2)
 	p.Faults = append(p.Faults[:len(p.Faults)/2], still, back)
 	for i := range p.Machines {
 		c := Client{Begins: time.Duration(random.Intn(200)) * time.Millisecond, Machine: i}
@@ -169,9 +171,17 @@ func (p *Plan) pausesOne(random *rand.Rand) {
 	}
 }
 
-// newFault returns a fault at one of the first calls.
+// moments are the calls between which a step may be cut off, as their lines begin.
+var moments = []string{
+	"objects: put staging", "lock: swap", "lock: swap", "lock: read", "objects: put tile", "index: add", "memory: save", "guard: swap", "objects: put heads", "lock: raise",
+}
+
+// newFault returns a fault at one of the first calls. Half of the faults of a call happen at one of the calls that decide.
 func newFault(random *rand.Rand, kind Kind, calls int) Fault {
 	f := Fault{At: 1 + random.Intn(calls), Kind: kind, Count: 1 + random.Intn(12)}
+	if kind <= Paused && random.Intn(2) == 0 {
+		f.On = moments[random.Intn(len(moments))]
+	}
 	switch kind {
 	case ClockForward, ClockBack:
 		f.Long = []time.Duration{3 * time.Second, 30 * time.Second, 50 * time.Minute, 3 * time.Hour, 400 * 24 * time.Hour}[random.Intn(5)]

@@ -6,6 +6,7 @@ import (
 	"os"
 	"os/exec"
 	"path/filepath"
+	"regexp"
 	"strings"
 	"testing"
 )
@@ -72,15 +73,19 @@ var all = []planted{
 }
 
 // TestPlanted plants each fault into a copy of the node, and has the histories find it. It is for a long run: SIM_PLANTED says how many seeds each one gets, and
-// SIM_ONLY which faults, by a part of their names.
+// SIM_ONLY which faults, by a regular expression.
 func TestPlanted(t *testing.T) {
 	seeds := os.Getenv("SIM_PLANTED")
 	if seeds == "" {
 		t.Skip("SIM_PLANTED says how many seeds each planted fault gets")
 	}
+	only, err := regexp.Compile(os.Getenv("SIM_ONLY"))
+	if err != nil {
+		t.Fatalf("SIM_ONLY: %v", err)
+	}
 	copies := &copies{folder: t.TempDir(), replaced: map[string]string{}}
 	for at, p := range all {
-		if strings.Contains(p.name, os.Getenv("SIM_ONLY")) {
+		if only.MatchString(p.name) {
 			copies.plant(t, at, p)
 		}
 	}

@@ -5,6 +5,7 @@ import (
 	"errors"
 	"fmt"
 	"math/rand"
+	"slices"
 	"strings"
 	"time"
 
@@ -36,11 +37,23 @@ type world struct {
 
 // events are the faults of the plan, by their calls.
 type events struct {
-	// calls counts the calls to stores, and faults are by their number.
+	// calls counts the calls to stores, and faults are those that have not happened yet.
 	calls  int
-	faults map[int][]Fault
+	faults []Fault
 	// losesNext says that the next put is lost, and calm that no fault happens any more.
 	losesNext, calm bool
+}
+
+// due returns the faults that happen at a call, once each.
+func (e *events) due(n int, call string) (now []Fault) {
+	for i := 0; i < len(e.faults); i++ {
+		if f := e.faults[i]; f.At <= n && strings.HasPrefix(call, f.On) {
+			now = append(now, f)
+			e.faults = slices.Delete(e.faults, i, i+1)
+			i--
+		}
+	}
+	return now
 }
 
 // machine is where one node runs, is killed and starts again.
@@ -80,12 +93,9 @@ var (
 
 // newWorld returns the world of a plan.
 func newWorld(plan Plan, proved node.Proved, logs bool) *world {
-	w := &world{plan: plan, proved: proved, events: events{faults: map[int][]Fault{}}, stores: newMemory(), history: history{isKept: logs}}
+	w := &world{plan: plan, proved: proved, events: events{faults: slices.Clone(plan.Faults)}, stores: newMemory(), history: history{isKept: logs}}
 	w.random = rand.New(rand.NewSource(plan.Seed ^ 0x5deece66d))
 	w.judge, w.excuses.again = newJudge(w), map[[32]byte]bool{}
-	for _, f := range plan.Faults {
-		w.events.faults[f.At] = append(w.events.faults[f.At], f)
-	}
 	for i := range plan.Machines {
 		m := &machine{w: w, name: fmt.Sprintf("n%d", i+1)}
 		w.machines = append(w.machines, m)
@@ -197,11 +207,14 @@ func (m *machine) call(ctx context.Context, store, what string, writes bool, do 
 	w.stores.call = n
 	var fate *Fault
 	if !w.events.calm {
-		for _, f := range w.events.faults[n] {
+		for _, f := range w.events.due(n, store+": "+what) {
 			if own := w.befalls(m, f, store); own != nil {
 				fate = own
 			}
 		}
+	}
+	if m.process.dead {
+		panic(killed{})
 	}
 	fault, err := m.befallen(of, store, what, writes, fate, do)
 	w.logCall(n, m.name, store, what, err, fault)
