@@ -21,7 +21,7 @@ case $what in
     if [ -n "$package" ]; then
       go test -count=1 "$@" "./$package"
     else
-      go test -count=1 "$@" ./... ../bindings/...
+      go test -count=1 "$@" ./... ../bindings/... ../internal/...
       # (with orders that no log may have, for which nothing else is built)
       go test -count=1 -tags=$tags,wrong_order -run WrongOrder "$@" ./sequencer
     fi
@@ -29,7 +29,7 @@ case $what in
   vet)
     cd ..
     # (each line is a file in Go)
-    unformatted=$(find bench bindings deps release service tests -name '*.go' -exec gofmt -l {} +)
+    unformatted=$(find bench bindings deps internal release service tests -name '*.go' -exec gofmt -l {} +)
     [ -z "$unformatted" ] || { echo "gofmt would change $unformatted" >&2; exit 1; }
     go vet ./...
     # (staticcheck has this name in Debian)

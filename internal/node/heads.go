@@ -1,0 +1,248 @@
+package node
+
+import (
+	"context"
+	"encoding/base64"
+	"encoding/binary"
+	"errors"
+	"fmt"
+	"strings"
+
+	"golang.org/x/mod/sumdb/note"
+
+	"wagtenib/service/signer"
+	"wagtenib/service/step"
+	"wagtenib/service/stores"
+	"wagtenib/service/witness"
+)
+
+// Head is a signed tree head, with its note (C2SP tlog-checkpoint).
+type Head struct {
+	signer.Head
+	Note []byte
+}
+
+func (h Head) published() stores.Published {
+	return stores.Published{Size: h.Size, Moment: h.Moment}
+}
+
+func (h Head) before(other Head) bool { return h.published().Before(other.published()) }
+
+var (
+	// errOtherHead: the object under a head's name is not that head.
+	errOtherHead = errors.New("node: a head's object is not that head")
+	errNote      = errors.New("it is not a signed head of this log")
+)
+
+// isPublished reports whether a state's head is published. Then all of the state is.
+func (l *Loop) isPublished(ctx context.Context, k *state) (bool, error) {
+	if k.IsBegin() || l.last.published == k.line {
+		return true, nil
+	}
+	published, err := l.config.Stores.Lock.Published(ctx)
+	if err != nil {
+		return false, fmt.Errorf("node: the lock: %w", err)
+	}
+	if published.Size < k.Size {
+		return false, nil
+	}
+	head, err := l.headOf(ctx, k)
+	if !published.Before(k.published()) && (errors.Is(err, stores.ErrAbsent) || errors.Is(err, errOtherHead)) {
+		// It was published, so all of the state was in the store.
+		restored, failed := l.restore(ctx, k)
+		if !errors.Is(failed, errNoBundle) {
+			head, err = restored, failed
+		}
+	}
+	if errors.Is(err, stores.ErrAbsent) {
+		return false, nil
+	}
+	if err != nil {
+		return false, err
+	}
+	if err := l.accept(ctx, k, nil); err != nil {
+		return false, err
+	}
+	if err := l.knowsNewest(ctx, k); err != nil {
+		return false, err
+	}
+	if err := l.raise(ctx, published, head, k.line); err != nil {
+		return false, err
+	}
+	l.last.published = k.line
+	return true, nil
+}
+
+// headOf reads the head of a state. A head that is not the state's is an error.
+func (l *Loop) headOf(ctx context.Context, k *state) (Head, error) {
+	head, err := l.readHead(ctx, headName(k.Size, k.Moment))
+	if err != nil {
+		return Head{}, err
+	}
+	return head, matches(head, k)
+}
+
+// matches returns an error unless a head is a state's.
+func matches(head Head, k *state) error {
+	name := headName(k.Size, k.Moment)
+	if head.Size != k.Size || head.Moment != k.Moment {
+		return fmt.Errorf("%w: %w: %s has the head of %d entries at %d ms", ErrDamaged, errOtherHead, name, head.Size, head.Moment)
+	}
+	if head.Root != k.Root {
+		return fmt.Errorf("%w: the lock's text has another root than the signed head %s", ErrDamaged, name)
+	}
+	return nil
+}
+
+// raise says that a head is published, all of which is in the store, and shows it to readers.
+func (l *Loop) raise(ctx context.Context, published stores.Published, head Head, line string) error {
+	if published.Before(head.published()) {
+		if err := l.config.Stores.Lock.Raise(ctx, head.published()); err != nil {
+			return fmt.Errorf("node: the lock: %w", err)
+		}
+	}
+	l.show(head, line)
+	return nil
+}
+
+// restore makes the newest state whole again, as far as its staged batch goes: objects that are missing or have another content, and its head.
+func (l *Loop) restore(ctx context.Context, k *state) (Head, error) {
+	newest, err := l.learn(ctx)
+	if err != nil {
+		return Head{}, err
+	}
+	if newest.text != k.text {
+		return Head{}, errMoves
+	}
+	l.edge = map[string][]byte{}
+	resumed, err := l.resume(ctx, k)
+	if err != nil {
+		return Head{}, err
+	}
+	if err := l.accept(ctx, k, resumed.Objects); err != nil {
+		return Head{}, err
+	}
+	for _, object := range resumed.Objects {
+		if err := l.putRight(ctx, object.Name, object.Content); err != nil {
+			return Head{}, fmt.Errorf("node: %w", err)
+		}
+	}
+	head, err := l.headOf(ctx, k)
+	if !errors.Is(err, stores.ErrAbsent) && !errors.Is(err, errOtherHead) {
+		return head, err
+	}
+	if head, err = l.signedHead(ctx, k, resumed.Head, resumed.Objects); err != nil {
+		return Head{}, err
+	}
+	if err := l.putRight(ctx, headName(k.Size, k.Moment), head.Note); err != nil {
+		return Head{}, fmt.Errorf("node: %w", err)
+	}
+	return head, nil
+}
+
+// putHead has a state's head signed, and puts it. If another node put one, that is the head: the signatures of one head differ. The signer refuses a head that is
+// older than its last one; then the other node's is in the store, or a later one.
+func (l *Loop) putHead(ctx context.Context, k *state, of step.Head, objects []step.Object) (Head, error) {
+	made, err := l.signedHead(ctx, k, of, objects)
+	if errors.Is(err, signer.ErrRefused) {
+		if stored, absent := l.headOf(ctx, k); absent == nil {
+			return stored, nil
+		}
+		if newest, learned := l.learn(ctx); learned == nil && newest.text != k.text {
+			return Head{}, errMoves
+		}
+	}
+	if err != nil {
+		return Head{}, err
+	}
+	err = l.config.Stores.Objects.Put(ctx, headName(k.Size, k.Moment), made.Note)
+	if errors.Is(err, stores.ErrOther) {
+		return l.headOf(ctx, k)
+	}
+	if err != nil {
+		return Head{}, fmt.Errorf("node: the head: %w", err)
+	}
+	return made, nil
+}
+
+// maxAsked is how often the signer is asked again, since another node had it approve a head meanwhile.
+const maxAsked = 5
+
+// signedHead has a state's head signed, over a proof from the signer's last head.
+func (l *Loop) signedHead(ctx context.Context, k *state, of step.Head, objects []step.Object) (Head, error) {
+	var signed []byte
+	for try := 0; ; try++ {
+		lastHead, err := l.config.Signer.Last(ctx)
+		if err != nil {
+			return Head{}, fmt.Errorf("node: the signer: %w", err)
+		}
+		var proof [][32]byte
+		if lastHead != nil && lastHead.Size < k.Size {
+			if proof, err = l.consistency(ctx, lastHead.Size, k.head(), l.reading(objects)); err != nil {
+				return Head{}, err
+			}
+		}
+		if signed, err = l.config.Signer.SignHead(ctx, k.head(), proof); err == nil {
+			break
+		}
+		if try+1 == maxAsked || !l.moved(ctx, lastHead, err) {
+			return Head{}, fmt.Errorf("node: the signer: a head of %d entries at %d ms: %w", k.Size, k.Moment, err)
+		}
+	}
+	blob := binary.BigEndian.AppendUint32(nil, l.verifier().KeyHash())
+	blob = append(binary.BigEndian.AppendUint64(blob, k.Moment), signed...)
+	made, err := l.parseNote([]byte(of.Checkpoint + "\n" + l.signatureLine() + base64.StdEncoding.EncodeToString(blob) + "\n"))
+	if err != nil || matches(made, k) != nil {
+		return Head{}, fmt.Errorf("node: the step's note is not one of %s: %w", l.config.Origin, errNote)
+	}
+	return made, nil
+}
+
+// moved reports whether the signer refused since its last head is another one by now.
+func (n *Node) moved(ctx context.Context, last *signer.Head, err error) bool {
+	if errors.Is(err, signer.ErrMoved) {
+		return true
+	}
+	if !errors.Is(err, signer.ErrRefused) {
+		return false
+	}
+	now, err := n.config.Signer.Last(ctx)
+	return err == nil && now != nil && (last == nil || *now != *last)
+}
+
+func (n *Node) signatureLine() string { return "— " + n.config.Origin + " " }
+
+// verifier verifies the log's own signature of a note (C2SP static-ct-api, signatures of type 5).
+func (n *Node) verifier() note.Verifier {
+	return witness.OfRFC6962(n.config.Origin, n.config.Signer.Key())
+}
+
+// readHead reads a head and checks its signature.
+func (n *Node) readHead(ctx context.Context, name string) (Head, error) {
+	content, err := n.config.Stores.Objects.Get(ctx, name, maxNote)
+	if err != nil {
+		return Head{}, fmt.Errorf("node: %s: %w", name, err)
+	}
+	head, err := n.parseNote(content)
+	if err != nil {
+		return Head{}, fmt.Errorf("%w: %w: %s: %v", ErrDamaged, errOtherHead, name, err)
+	}
+	return head, nil
+}
+
+// parseNote reads a head's note. The first signature must be the log's, and it must be right.
+func (n *Node) parseNote(content []byte) (Head, error) {
+	opened, err := note.Open(content, note.VerifierList(n.verifier()))
+	if err != nil || !strings.HasPrefix(string(content[len(opened.Text):]), "\n"+n.signatureLine()) {
+		return Head{}, errNote
+	}
+	size, root, err := witness.TreeOf(opened.Text)
+	if err != nil {
+		return Head{}, errNote
+	}
+	blob, err := base64.StdEncoding.DecodeString(opened.Sigs[0].Base64)
+	if err != nil || len(blob) < 12 {
+		return Head{}, errNote
+	}
+	return Head{signer.Head{Size: size, Moment: binary.BigEndian.Uint64(blob[4:12]), Root: root}, content}, nil
+}

@@ -1,0 +1,470 @@
+package node
+
+import (
+	"context"
+	"errors"
+	"fmt"
+	"strings"
+
+	"wagtenib/service/decider"
+	"wagtenib/service/step"
+	"wagtenib/service/stores"
+)
+
+// pass is one way through the decider's commands, from a text that the lock had. It ends with its round.
+type pass struct {
+	*Loop
+	// from is the state that the command is about: the one that was read, and after the swap the one that was made.
+	from    *state
+	command *decider.Command
+	made    made
+	batch   []*Ticket
+}
+
+// made is a step of this node, or another node's out of its staged batch.
+type made struct {
+	// text and bundle are the lock's text that this node's step leads to, and the name of its staged batch; both are empty of another node's step.
+	text, bundle string
+	content      []byte
+	objects      []step.Object
+	head         step.Head
+	edge         map[string][]byte
+	receipts     []step.Receipt
+	placed       []stores.Placed
+	// replaced are the places that the index has wrong.
+	replaced []stores.Placed
+	// isNew says that the step was made in this pass.
+	isNew bool
+}
+
+// errCommand: the decider gives a command that cannot be carried out here.
+var errCommand = errors.New("node: no command of this node")
+
+// goOn reports the outcome of a command to the decider, and takes the next one.
+func (p *pass) goOn(told decider.Told) error {
+	next, err := p.config.Proved.Decider.Next(p.command, told)
+	if err != nil {
+		return fmt.Errorf("node: %w", err)
+	}
+	p.command = next
+	return nil
+}
+
+// carryOut carries the command out and takes the next one. It reports false if the round must end and look again.
+func (p *pass) carryOut(ctx context.Context) (bool, error) {
+	var told decider.Told
+	var err error
+	switch p.command.Do {
+	case decider.Look:
+		told, err = p.look(ctx)
+	case decider.Stage:
+		told, err = p.stage(ctx)
+	case decider.Swap:
+		told, err = p.swap(ctx)
+	case decider.Put:
+		told, err = p.put(ctx)
+	case decider.Place:
+		told, err = p.place(ctx)
+	case decider.Head:
+		told, err = p.publish(ctx)
+	case decider.Answer:
+		told, err = p.answer(ctx)
+	case decider.Delete:
+		// An object that stays takes room only, so the outcome does not matter.
+		told = decider.Lost()
+		if p.config.Stores.Objects.Delete(ctx, p.command.Bundle) == nil {
+			told = decider.Done()
+		}
+	default:
+		err = fmt.Errorf("%w: %s", errCommand, p.command.Do)
+	}
+	if err != nil || told == nil {
+		return false, err
+	}
+	return true, p.goOn(told)
+}
+
+// reach gets to where a step may be made. If the newest state is not published, its own node does that, or this one. It reports false if the next round must
+// look again.
+func (p *pass) reach(ctx context.Context) (bool, error) {
+	if l := p.last; l.stepping != nil && l.published == p.from.line && l.stepping.Seen.Text == p.from.text {
+		p.command = l.stepping
+		return true, nil
+	}
+	for p.command.Do != decider.Step {
+		if p.command.Do == decider.Read {
+			// The state was published here. The text may be old by now, so it is looked at again.
+			p.command = p.from.look
+		}
+		if goes, err := p.carryOut(ctx); !goes || err != nil {
+			return false, err
+		}
+	}
+	if p.command.Seen.Text != p.from.text {
+		return false, fmt.Errorf("%w: a step from another text", errCommand)
+	}
+	p.Loop.last.stepping = p.command
+	return true, nil
+}
+
+// advance has a step made of a batch, and has that decided and published.
+func (p *pass) advance(ctx context.Context, batch []*Ticket) error {
+	p.batch = batch
+	if err := p.step(ctx); err != nil {
+		return err
+	}
+	for p.command.Do != decider.Read {
+		if goes, err := p.carryOut(ctx); !goes || err != nil {
+			return err
+		}
+	}
+	return nil
+}
+
+// look looks whether the head of the state is published. If it is not for a while, the staged batch is read.
+func (p *pass) look(ctx context.Context) (decider.Told, error) {
+	done, err := p.isPublished(ctx, p.from)
+	if err != nil {
+		return nil, err
+	}
+	if done {
+		return decider.Published(), nil
+	}
+	if p.waitsForOther() {
+		return nil, nil
+	}
+	resumed, err := p.resume(ctx, p.from)
+	if errors.Is(err, errNoBundle) {
+		if newest, learned := p.learn(ctx); learned != nil || newest.text != p.from.text {
+			return nil, learned
+		}
+	}
+	if err != nil {
+		return nil, err
+	}
+	placed, err := placesIn(resumed.Objects)
+	if err != nil {
+		return nil, err
+	}
+	if err := p.accept(ctx, p.from, resumed.Objects); err != nil {
+		return nil, err
+	}
+	p.made = made{objects: resumed.Objects, head: resumed.Head, placed: placed}
+	return decider.Bundled(references(resumed.Objects)), nil
+}
+
+// waitsForOther reports whether the node that made the state may still publish it.
+func (p *pass) waitsForOther() bool {
+	if p.from.node == p.config.Address && p.from.node != "" {
+		return false
+	}
+	return p.config.Machine.Clock.Elapsed()-p.from.readAt < p.config.Pace.Help
+}
+
+// references names objects for the decider.
+func references(objects []step.Object) []string {
+	named := make([]string, len(objects))
+	for i, object := range objects {
+		named[i] = reference(object)
+	}
+	return named
+}
+
+// step has the proved step made of the batch, over the edge that is remembered, or over the store's if that one is not the state's. If the store's is damaged,
+// what the staged batch has of it is put again.
+func (p *pass) step(ctx context.Context) error {
+	stepped, err := p.stepOver(ctx)
+	if errors.Is(err, ErrDamaged) && len(p.edge) > 0 {
+		p.edge = map[string][]byte{}
+		stepped, err = p.stepOver(ctx)
+	}
+	if errors.Is(err, ErrDamaged) {
+		if _, failed := p.restore(ctx, p.from); failed == nil {
+			stepped, err = p.stepOver(ctx)
+		}
+	}
+	if err != nil {
+		return err
+	}
+	salt, err := p.config.Machine.Random()
+	if err != nil {
+		return fmt.Errorf("node: %w", err)
+	}
+	next := p.from.Size
+	for i, t := range p.batch {
+		// The same entry may be in a batch twice. The second one has the receipt of the first.
+		r := stepped.Receipts[i]
+		if r.LeafIndex != next {
+			continue
+		}
+		next++
+		placed := stores.Placed{Identity: t.identity, Place: stores.Place{Index: r.LeafIndex, Timestamp: r.Timestamp}}
+		p.made.placed = append(p.made.placed, placed)
+		if t.misplaced {
+			p.made.replaced = append(p.made.replaced, placed)
+		}
+	}
+	m := &p.made
+	m.isNew, m.content, m.objects, m.head, m.receipts = true, stepped.Bundle, stepped.Objects, stepped.Head, stepped.Receipts
+	m.text, m.bundle = p.config.textAfter(p.from.Moment, stepped.Line, stepped.State, salt)
+	told := decider.Stepped(stepped.Line, p.config.where(), salt, references(stepped.Objects))
+	if err := p.goOn(told); err != nil {
+		return err
+	}
+	if p.command.Do != decider.Stage {
+		return fmt.Errorf("%w: %s after a step", errCommand, p.command.Do)
+	}
+	return nil
+}
+
+// stepOver has the step made. An edge that is missing or is not the state's is ErrDamaged.
+func (p *pass) stepOver(ctx context.Context) (*step.Stepped, error) {
+	names, err := p.config.Proved.Steps.Needs(p.from.line)
+	if err != nil {
+		return nil, fmt.Errorf("node: %w", err)
+	}
+	contents, calls := make([][]byte, len(names)), make([]func(context.Context) error, len(names))
+	read := p.reading(nil)
+	for at, name := range names {
+		calls[at] = func(ctx context.Context) (err error) {
+			contents[at], err = read(ctx, name)
+			return err
+		}
+	}
+	if err := p.config.Machine.Parallel(ctx, calls...); err != nil {
+		return nil, err
+	}
+	batch := make([]step.Submission, 0, len(p.batch))
+	for _, t := range p.batch {
+		batch = append(batch, t.submission)
+	}
+	now, ahead, err := p.clock.timestamp(p.from.Moment)
+	if err != nil {
+		return nil, err
+	}
+	stepped, err := p.config.Proved.Steps.Step(p.from.line, contents, batch, now, ahead)
+	switch {
+	case errors.Is(err, step.TooFar) || errors.Is(err, step.ClockBack):
+		return nil, fmt.Errorf("%w: the step refuses %d ms after %d ms: %v", ErrClock, now, p.from.Moment, err)
+	case errors.Is(err, step.Edge) || errors.Is(err, step.Entries):
+		return nil, fmt.Errorf("%w: %s: %v", ErrDamaged, strings.Join(names, ", "), err)
+	case err != nil:
+		return nil, fmt.Errorf("node: %w", err)
+	}
+	p.made.edge = map[string][]byte{}
+	for at, name := range names {
+		p.made.edge[name] = contents[at]
+	}
+	return stepped, nil
+}
+
+// isMade returns an error unless the command is about this pass's own step: from the text that was read to the text, the staged batch and the objects that it
+// made. A lock that is swapped to any other text could not be gone on from.
+func (p *pass) isMade() error {
+	of, m := p.command, &p.made
+	if !m.isNew || of.Seen.Text != p.from.text || of.New.Text != m.text || of.New.Bundle != m.bundle {
+		return fmt.Errorf("%w: %s of another step than this round's", errCommand, of.Do)
+	}
+	return p.hasObjects()
+}
+
+// hasObjects returns an error unless the command is about the objects that this pass has.
+func (p *pass) hasObjects() error {
+	named := references(p.made.objects)
+	if len(named) != len(p.command.Objects) {
+		return fmt.Errorf("%w: %s of %d objects and not of %d", errCommand, p.command.Do, len(p.command.Objects), len(named))
+	}
+	for i := range named {
+		if named[i] != p.command.Objects[i] {
+			return fmt.Errorf("%w: %s of %.200q, which is not there", errCommand, p.command.Do, p.command.Objects[i])
+		}
+	}
+	return nil
+}
+
+// isFrom returns an error unless the command is about the state that this pass is at.
+func (p *pass) isFrom() error {
+	if p.command.New.Text != p.from.text {
+		return fmt.Errorf("%w: %s of another text", errCommand, p.command.Do)
+	}
+	return nil
+}
+
+// stage keeps what a step writes, before the lock decides on it.
+func (p *pass) stage(ctx context.Context) (decider.Told, error) {
+	if err := p.isMade(); err != nil {
+		return nil, err
+	}
+	if err := p.config.Stores.Objects.Put(ctx, p.command.New.Bundle, p.made.content); err != nil {
+		return nil, fmt.Errorf("node: the staged batch: %w", err)
+	}
+	return decider.Done(), nil
+}
+
+// swap has the lock decide on a step.
+func (p *pass) swap(ctx context.Context) (decider.Told, error) {
+	if err := p.isMade(); err != nil {
+		return nil, err
+	}
+	won, err := p.swapped(ctx, p.command.Seen.Text, p.command.New.Text)
+	if err != nil {
+		return nil, err
+	}
+	p.last.decided = true
+	if !won {
+		p.last.unneeded = append(p.last.unneeded, p.command.New.Bundle)
+		return decider.Lost(), nil
+	}
+	p.last.unneeded = append(p.last.unneeded, p.command.Seen.Bundle)
+	p.keepEdge()
+	k, err := p.learn(ctx)
+	if err != nil {
+		return nil, err
+	}
+	if k.text != p.command.New.Text {
+		// Another node was quick enough to publish this state and to go on. The waiting submissions are found by the next round.
+		return nil, nil
+	}
+	p.from = k
+	if err := p.descends(ctx, k, p.made.objects); err != nil {
+		return nil, err
+	}
+	return decider.Done(), nil
+}
+
+// swapped swaps, and again if the outcome is unknown: that settles it, since a lock that has the new text says so. If it stays unknown, the next round's reading
+// settles it.
+func (l *Loop) swapped(ctx context.Context, old, new string) (won bool, err error) {
+	for range maxSwaps {
+		err = l.config.Stores.Lock.Swap(ctx, old, new)
+		if err == nil {
+			return true, nil
+		}
+		if errors.Is(err, stores.ErrLost) {
+			return false, nil
+		}
+		if l.config.Machine.Clock.Wait(ctx, swapPause, nil) != nil {
+			break
+		}
+	}
+	return false, fmt.Errorf("node: the swap: %w", err)
+}
+
+// put puts a state's objects under their public names. Beside that it adds the places of its entries, and keeps the state as the newest one that this node
+// accepted. None of these needs another one, and the head needs all.
+func (p *pass) put(ctx context.Context) (decider.Told, error) {
+	if err := errors.Join(p.isFrom(), p.hasObjects()); err != nil {
+		return nil, err
+	}
+	calls := []func(context.Context) error{
+		func(ctx context.Context) error { return p.index(ctx) },
+		func(ctx context.Context) error {
+			if p.isAccepted(p.from) {
+				return nil
+			}
+			return p.keep(ctx, p.from)
+		},
+	}
+	for _, object := range p.made.objects {
+		calls = append(calls, func(ctx context.Context) error {
+			err := p.config.Stores.Objects.Put(ctx, object.Name, object.Content)
+			if errors.Is(err, stores.ErrOther) {
+				return fmt.Errorf("%w: %w", ErrDamaged, err)
+			}
+			return err
+		})
+	}
+	if err := p.config.Machine.Parallel(ctx, calls...); err != nil {
+		return nil, fmt.Errorf("node: %w", err)
+	}
+	return decider.Done(), nil
+}
+
+// index adds the places of the entries, so many at once as the index takes.
+func (p *pass) index(ctx context.Context) error {
+	for placed := p.made.placed; len(placed) > 0; {
+		some := placed[:min(len(placed), stores.MostPlaces)]
+		if err := p.config.Stores.Index.Add(ctx, some); err != nil {
+			return fmt.Errorf("node: the index: %w", err)
+		}
+		placed = placed[len(some):]
+	}
+	if len(p.made.replaced) == 0 {
+		return nil
+	}
+	if err := p.config.Stores.Index.Replace(ctx, p.made.replaced); err != nil {
+		return fmt.Errorf("node: the index: %w", err)
+	}
+	return nil
+}
+
+// place does nothing: the places were added beside the objects.
+func (p *pass) place(context.Context) (decider.Told, error) {
+	return decider.Done(), p.isFrom()
+}
+
+// publish has a state's head signed, puts it, and says that it is published.
+func (p *pass) publish(ctx context.Context) (decider.Told, error) {
+	if err := p.isFrom(); err != nil {
+		return nil, err
+	}
+	head, err := p.putHead(ctx, p.from, p.made.head, p.made.objects)
+	if err != nil {
+		return nil, err
+	}
+	if err := p.raise(ctx, stores.Published{}, head, p.from.line); err != nil {
+		return nil, err
+	}
+	p.last.published = p.from.line
+	return decider.Done(), nil
+}
+
+// answer signs the timestamps of the batch and answers it. Its entries are under a published head.
+func (p *pass) answer(ctx context.Context) (decider.Told, error) {
+	if err := p.isFrom(); err != nil || len(p.batch) == 0 {
+		return decider.Done(), err
+	}
+	signatures, err := p.signTimestamps(ctx, p.made.receipts, p.from.head(), p.reading(p.made.objects))
+	if err != nil {
+		return nil, err
+	}
+	for i, t := range p.batch {
+		r := p.made.receipts[i]
+		p.pool.resolve(t, Answer{Place: Place{r.LeafIndex, r.Timestamp, signatures[i]}})
+	}
+	return decider.Done(), nil
+}
+
+// deleteUnneeded deletes the staged batches that this node knows of, if the decider says that no node needs them any more.
+func (p *pass) deleteUnneeded(ctx context.Context) error {
+	for _, name := range p.last.unneeded {
+		if err := p.goOn(decider.Listed(name)); err != nil {
+			return err
+		}
+		if p.command.Do == decider.Step {
+			continue
+		}
+		if _, err := p.carryOut(ctx); err != nil {
+			return err
+		}
+	}
+	p.last.unneeded = nil
+	return nil
+}
+
+// keepEdge remembers what the next step may need: the partial tiles of this step, and those from before that are still the edge's.
+func (p *pass) keepEdge() {
+	p.edge = p.made.edge
+	for _, object := range p.made.objects {
+		if !strings.Contains(object.Name, ".p/") {
+			continue
+		}
+		level := object.Name[:strings.IndexByte(object.Name[len(tilesPrefix):], '/')+len(tilesPrefix)+1]
+		for name := range p.edge {
+			if strings.HasPrefix(name, level) {
+				delete(p.edge, name)
+			}
+		}
+		p.edge[object.Name] = object.Content
+	}
+}

@@ -1,0 +1,201 @@
+package node
+
+import (
+	"context"
+	"errors"
+	"fmt"
+	"time"
+
+	"golang.org/x/mod/sumdb/tlog"
+
+	"wagtenib/service/signer"
+	"wagtenib/service/step"
+	"wagtenib/service/stores"
+)
+
+// A node continues from no state that is older than what it accepted before, or older than what the store has: a lock that was rolled back would make it sign a second
+// history. The newest head that it accepted is kept in a memory of its machine's own, since the stores may all be rolled back together.
+
+// seen is what a node saw of the log.
+type seen struct {
+	// accepted is the newest state that this node accepted. Its line and text are empty if only the memory has it.
+	accepted state
+	// newest is the state of the text that was read last, and heard is when that was, by Elapsed.
+	newest *state
+	heard  time.Duration
+}
+
+// maxUnheard is for how long a node may not have read the lock, until it looks for heads that are later than what it reads.
+const maxUnheard = 3 * time.Second
+
+// isAccepted reports whether a state is the newest that this node accepted, or the one that all logs begin with.
+func (l *Loop) isAccepted(k *state) bool { return k.IsBegin() || l.seen.accepted.line == k.line }
+
+// accept checks a state and then keeps it as the newest one. It must be called before anything of the state is published or signed, and before a step is made
+// from it. Objects are those of the state that may not be in the store yet.
+func (l *Loop) accept(ctx context.Context, k *state, objects []step.Object) error {
+	if l.isAccepted(k) {
+		return nil
+	}
+	if err := l.descends(ctx, k, objects); err != nil {
+		return err
+	}
+	return l.keep(ctx, k)
+}
+
+// keep has the machine's memory keep a state as the newest one.
+func (l *Loop) keep(ctx context.Context, k *state) error {
+	if err := l.config.Machine.Memory.Save(ctx, k.head()); err != nil {
+		return fmt.Errorf("node: the memory: %w", err)
+	}
+	l.seen.accepted = *k
+	return nil
+}
+
+// descends returns ErrRolledBack unless a state continues from the newest that this node accepted, and the store has no head of another history.
+func (l *Loop) descends(ctx context.Context, k *state, objects []step.Object) error {
+	err := l.compare(ctx, k, objects)
+	if errors.Is(err, ErrRolledBack) && l.seen.accepted.text != "" {
+		// The lock must not be held to the state that was refused: it may come back from there.
+		accepted := l.seen.accepted
+		l.seen.newest = &accepted
+	}
+	return err
+}
+
+func (l *Loop) compare(ctx context.Context, k *state, objects []step.Object) error {
+	accepted := l.seen.accepted
+	if k.head() != accepted.head() && !follows(k.Size, k.Moment, accepted.head()) {
+		return isOlder(k, accepted.head())
+	}
+	isNext := accepted.line != "" && k.Before == step.Digest(accepted.line)
+	between, err := l.headsUpTo(ctx, k, isNext)
+	if err != nil || isNext {
+		return err
+	}
+	if err := l.extends(ctx, k, accepted.head(), objects); err != nil {
+		return err
+	}
+	if between == "" {
+		return nil
+	}
+	head, err := l.readHead(ctx, between)
+	if errors.Is(err, ErrDamaged) || errors.Is(err, stores.ErrAbsent) {
+		// A head that the log's key did not sign says nothing, and an old head may be deleted.
+		return nil
+	}
+	if err != nil {
+		return err
+	}
+	return l.extends(ctx, k, head.Head, objects)
+}
+
+// isOlder is the refusal of a state that is older than a head that this node accepted.
+func isOlder(k *state, accepted signer.Head) error {
+	if k.Size == accepted.Size && k.Moment == accepted.Moment {
+		return fmt.Errorf("%w: it has another root of %d entries at %d ms than this node accepted", ErrRolledBack, k.Size, k.Moment)
+	}
+	return fmt.Errorf("%w: it has %d entries at %d ms, and this node accepted %d at %d ms", ErrRolledBack, k.Size, k.Moment, accepted.Size, accepted.Moment)
+}
+
+// headsUpTo compares the names of the store's heads from the newest accepted one on. In one history they are in the order of their timestamps and end with the
+// state's, unless other nodes went on meanwhile. If the state is the very next, there is none between. The last one before the state's is returned.
+func (l *Loop) headsUpTo(ctx context.Context, k *state, isNext bool) (last string, err error) {
+	after, before, own := "", l.seen.accepted.head(), headName(k.Size, k.Moment)
+	if before.Moment > 0 {
+		after = headName(before.Size, before.Moment)
+	}
+	for {
+		names, err := l.config.Stores.Objects.List(ctx, headsPrefix, after, stores.MostListed)
+		if err != nil {
+			return "", fmt.Errorf("node: the heads: %w", err)
+		}
+		for _, name := range names {
+			if name > own {
+				return last, l.isLater(ctx, k, name)
+			}
+			if name == own {
+				continue
+			}
+			size, moment, err := headNamed(name)
+			if err != nil {
+				return "", err
+			}
+			if isNext || !follows(size, moment, before) || !follows(k.Size, k.Moment, signer.Head{Size: size, Moment: moment}) {
+				return "", foreign(k, name)
+			}
+			last, before = name, signer.Head{Size: size, Moment: moment}
+		}
+		if len(names) < stores.MostListed {
+			return last, nil
+		}
+		after = names[len(names)-1]
+	}
+}
+
+// foreign is the refusal of a state beside which the store has a head of another history.
+func foreign(k *state, name string) error {
+	return fmt.Errorf("%w: it has %d entries at %d ms, and the store has %s", ErrRolledBack, k.Size, k.Moment, name)
+}
+
+// isLater says what a later head than a state's is: other nodes went on meanwhile, or the lock was rolled back.
+func (l *Loop) isLater(ctx context.Context, k *state, name string) error {
+	again, err := l.config.Stores.Lock.Read(ctx)
+	if err != nil {
+		return fmt.Errorf("node: the lock: %w", err)
+	}
+	if again != k.text {
+		return errMoves
+	}
+	return foreign(k, name)
+}
+
+// extends checks by a consistency proof that a state's tree continues a head's (RFC 6962, section 2.1.2).
+func (l *Loop) extends(ctx context.Context, k *state, head signer.Head, objects []step.Object) error {
+	if head.Size == 0 || head == k.head() {
+		return nil
+	}
+	goesOn := head.Size == k.Size && head.Root == k.Root
+	if head.Size < k.Size {
+		hashes, err := l.consistency(ctx, head.Size, k.head(), l.reading(objects))
+		if err != nil {
+			return err
+		}
+		proof := make(tlog.TreeProof, len(hashes))
+		for i := range hashes {
+			proof[i] = hashes[i]
+		}
+		goesOn = tlog.CheckTree(proof, int64(k.Size), tlog.Hash(k.Root), int64(head.Size), tlog.Hash(head.Root)) == nil
+	}
+	if !goesOn {
+		return fmt.Errorf("%w: its %d entries at %d ms do not begin with the %d at %d ms that the log had", ErrRolledBack, k.Size, k.Moment, head.Size, head.Moment)
+	}
+	return nil
+}
+
+// looksBack checks that neither the store nor the lock knows a later head than the state of the lock's text. This node could not read the lock for a while, so
+// it does not know what was decided meanwhile.
+func (l *Loop) looksBack(ctx context.Context, k *state) error {
+	later, err := l.config.Stores.Objects.List(ctx, headsPrefix, headName(k.Size, k.Moment), 1)
+	if err != nil {
+		return fmt.Errorf("node: the heads: %w", err)
+	}
+	if len(later) > 0 {
+		return l.isLater(ctx, k, later[0])
+	}
+	published, err := l.config.Stores.Lock.Published(ctx)
+	if err != nil {
+		return fmt.Errorf("node: the lock: %w", err)
+	}
+	if !k.published().Before(published) {
+		return nil
+	}
+	again, err := l.config.Stores.Lock.Read(ctx)
+	if err != nil {
+		return fmt.Errorf("node: the lock: %w", err)
+	}
+	if again != k.text {
+		return errMoves
+	}
+	return fmt.Errorf("%w: it has %d entries at %d ms, and %d at %d ms are published", ErrRolledBack, k.Size, k.Moment, published.Size, published.Moment)
+}

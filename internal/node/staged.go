@@ -1,0 +1,52 @@
+package node
+
+import (
+	"bytes"
+	"context"
+	"errors"
+	"fmt"
+
+	"wagtenib/service/step"
+	"wagtenib/service/stores"
+)
+
+// errNoBundle: the newest state's staged batch is missing.
+var errNoBundle = errors.New("node: no staged batch")
+
+// resume reads the staged batch of a state.
+func (l *Loop) resume(ctx context.Context, k *state) (*step.Resumed, error) {
+	name := k.look.Seen.Bundle
+	bundle, err := l.config.Stores.Objects.Get(ctx, name, stores.MostObject)
+	if errors.Is(err, stores.ErrAbsent) {
+		return nil, fmt.Errorf("%w: %s: %w (put it back from a backup)", ErrDamaged, name, errNoBundle)
+	}
+	if err != nil {
+		return nil, fmt.Errorf("node: the staged batch: %w", err)
+	}
+	resumed, err := l.config.Proved.Steps.Resume(k.line, bundle)
+	var refusal step.Refusal
+	if errors.As(err, &refusal) {
+		return nil, fmt.Errorf("%w: %s: %v (put it back from a backup)", ErrDamaged, name, err)
+	}
+	if err != nil {
+		return nil, fmt.Errorf("node: %w", err)
+	}
+	return resumed, nil
+}
+
+// putRight puts an object whose only content is known over anything else under its name.
+func (l *Loop) putRight(ctx context.Context, name string, content []byte) error {
+	stored, err := l.config.Stores.Objects.Get(ctx, name, stores.MostObject)
+	if err == nil && bytes.Equal(stored, content) {
+		return nil
+	}
+	if err != nil && !errors.Is(err, stores.ErrAbsent) && !errors.Is(err, stores.ErrTooLong) {
+		return err
+	}
+	if !errors.Is(err, stores.ErrAbsent) {
+		if err := l.config.Stores.Objects.Delete(ctx, name); err != nil {
+			return err
+		}
+	}
+	return l.config.Stores.Objects.Put(ctx, name, content)
+}

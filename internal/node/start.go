@@ -1,0 +1,279 @@
+package node
+
+import (
+	"context"
+	"encoding/hex"
+	"errors"
+	"fmt"
+
+	"wagtenib/service/decider"
+	"wagtenib/service/signer"
+	"wagtenib/service/stores"
+)
+
+// Start looks at the lock, the stores, the signer and the machine's memory, and returns a node if the node may continue from there. The caller must then
+// call Run of the loop in one coroutine. Otherwise it refuses with ErrRolledBack, ErrDamaged, ErrIndex or signer.ErrState.
+func Start(ctx context.Context, config Config) (*Node, *Loop, error) {
+	if err := config.check(); err != nil {
+		return nil, nil, err
+	}
+	n := newNode(config)
+	l := &Loop{Node: n, edge: map[string][]byte{}, clock: newTimekeeper(config.Machine.Clock, config.Pace.MaxSkew)}
+	remembered, err := config.Machine.Memory.Load(ctx)
+	if err != nil {
+		return nil, nil, fmt.Errorf("node: the memory: %w", err)
+	}
+	if remembered != nil {
+		l.seen.accepted.Size, l.seen.accepted.Moment, l.seen.accepted.Root = remembered.Size, remembered.Moment, remembered.Root
+	}
+	for range startOver {
+		started, err := l.takeUp(ctx, remembered)
+		if err != nil {
+			return nil, nil, err
+		}
+		if started {
+			return n, l, nil
+		}
+	}
+	return nil, nil, fmt.Errorf("%w: in %d tries it did not stay the same (start again)", ErrRolledBack, startOver)
+}
+
+// found is what is found of a log at the start, as the decider reads it and as it was read.
+type found struct {
+	decider.Found
+	k         *state
+	published stores.Published
+	last      *signer.Head
+}
+
+// takeUp looks once. It reports false if another node went on meanwhile, or if the lock was created just now.
+func (l *Loop) takeUp(ctx context.Context, remembered *signer.Head) (bool, error) {
+	f, err := l.find(ctx, remembered)
+	if err != nil {
+		return false, err
+	}
+	creates, err := l.config.Proved.Decider.Start(f.Found)
+	var refusal decider.Refusal
+	if errors.As(err, &refusal) {
+		if moved, err := l.movedSince(ctx, f); err != nil || moved {
+			return false, err
+		}
+		return false, refused(refusal, f)
+	}
+	if err != nil {
+		return false, fmt.Errorf("node: %w", err)
+	}
+	if creates {
+		return false, l.create(ctx)
+	}
+	l.seen.newest, l.seen.heard = f.k, l.config.Machine.Clock.Elapsed()
+	if !f.published.Before(f.k.published()) {
+		if err := l.knowsNewest(ctx, f.k); err != nil {
+			return false, err
+		}
+	}
+	return true, l.showNewest(ctx, f)
+}
+
+// rooted returns a head as the decider reads it.
+func rooted(head *signer.Head) *decider.Rooted {
+	if head == nil {
+		return nil
+	}
+	return &decider.Rooted{Point: decider.Point{Size: head.Size, Moment: head.Moment}, Root: hex.EncodeToString(head.Root[:])}
+}
+
+// find reads the lock, and after that everything that may be ahead of it.
+func (l *Loop) find(ctx context.Context, remembered *signer.Head) (f found, err error) {
+	f.Creates, f.Guarded, f.Seen = l.config.Create, true, rooted(remembered)
+	if f.Register, err = l.lockText(ctx); err != nil {
+		return f, err
+	}
+	if f.Register != "" {
+		if f.k, err = l.read(f.Register); err != nil {
+			return f, err
+		}
+	} else if f.Stands, err = l.hasLog(ctx); err != nil {
+		return f, err
+	}
+	f.published, err = l.config.Stores.Lock.Published(ctx)
+	if err != nil && !errors.Is(err, stores.ErrAbsent) {
+		return f, fmt.Errorf("node: the lock: %w", err)
+	}
+	if f.published != (stores.Published{}) {
+		f.Published = &decider.Point{Size: f.published.Size, Moment: f.published.Moment}
+	}
+	if f.last, err = l.config.Signer.Last(ctx); err != nil {
+		return f, fmt.Errorf("node: the signer: %w", err)
+	}
+	f.Guard = rooted(f.last)
+	f.Listed, err = l.newestListed(ctx, f)
+	return f, err
+}
+
+// lockText reads the lock's text, which is empty if the lock was never created.
+func (l *Loop) lockText(ctx context.Context) (string, error) {
+	text, err := l.config.Stores.Lock.Read(ctx)
+	if errors.Is(err, stores.ErrAbsent) {
+		return "", nil
+	}
+	if err != nil {
+		return "", fmt.Errorf("node: the lock: %w", err)
+	}
+	return text, nil
+}
+
+// hasLog reports whether the store has any object of a log.
+func (l *Loop) hasLog(ctx context.Context) (bool, error) {
+	for _, prefix := range []string{headsPrefix, tilesPrefix, stagingPrefix} {
+		names, err := l.config.Stores.Objects.List(ctx, prefix, "", 1)
+		if err != nil {
+			return false, fmt.Errorf("node: the objects: %w", err)
+		}
+		if len(names) > 0 {
+			return true, nil
+		}
+	}
+	return false, nil
+}
+
+// newestListed returns the newest head in the store that is after the lock's or after the signer's last one, or nil.
+func (l *Loop) newestListed(ctx context.Context, f found) (*decider.Point, error) {
+	after := ""
+	if f.k != nil && f.last != nil {
+		after = min(headName(f.k.Size, f.k.Moment), headName(f.last.Size, f.last.Moment))
+	}
+	newest, err := l.newestHead(ctx, after)
+	if err != nil || newest == "" {
+		return nil, err
+	}
+	size, moment, err := headNamed(newest)
+	return &decider.Point{Size: size, Moment: moment}, err
+}
+
+// newestHead returns the name of the newest head in the store after a name, or nothing.
+func (l *Loop) newestHead(ctx context.Context, after string) (newest string, err error) {
+	for {
+		names, err := l.config.Stores.Objects.List(ctx, headsPrefix, after, stores.MostListed)
+		if err != nil {
+			return "", fmt.Errorf("node: the heads: %w", err)
+		}
+		if len(names) == 0 {
+			return newest, nil
+		}
+		after = names[len(names)-1]
+		newest = after
+	}
+}
+
+// movedSince reports whether another node set the lock, or had a head signed, since this was found.
+func (l *Loop) movedSince(ctx context.Context, f found) (bool, error) {
+	text, err := l.lockText(ctx)
+	if err != nil || text != f.Register {
+		return true, err
+	}
+	last, err := l.config.Signer.Last(ctx)
+	if err != nil {
+		return false, fmt.Errorf("node: the signer: %w", err)
+	}
+	if last == nil || f.last == nil {
+		return (last == nil) != (f.last == nil), nil
+	}
+	return *last != *f.last, nil
+}
+
+// refused returns why the node does not continue.
+func refused(refusal decider.Refusal, f found) error {
+	if f.k == nil {
+		return fmt.Errorf("%w: %s: there is no lock, and this is no new log (see \"Backup\" in OPERATING.md)", ErrRolledBack, refusal)
+	}
+	of := fmt.Sprintf("the lock has %d entries at %d ms", f.k.Size, f.k.Moment)
+	switch refusal {
+	case decider.TwoRoots:
+		return fmt.Errorf("%w: %s, and the signer approved another root of these", ErrDamaged, of)
+	case decider.GuardBehind:
+		return fmt.Errorf("%w: it is older than the store's newest head (see \"Backup\" in OPERATING.md)", signer.ErrState)
+	case decider.BehindGuard:
+		return fmt.Errorf("%w: %s, and the signer approved %d at %d ms", ErrRolledBack, of, f.last.Size, f.last.Moment)
+	case decider.BehindSeen:
+		return fmt.Errorf("%w: %s, and this machine accepted %d at %d ms, or another root", ErrRolledBack, of, f.Seen.Size, f.Seen.Moment)
+	case decider.BehindListed:
+		return fmt.Errorf("%w: %s, and the store has a head of %d at %d ms", ErrRolledBack, of, f.Listed.Size, f.Listed.Moment)
+	case decider.BehindPublished:
+		return fmt.Errorf("%w: %s, and %d at %d ms are published", ErrRolledBack, of, f.published.Size, f.published.Moment)
+	}
+	return fmt.Errorf("%w: %s: %s", ErrRolledBack, refusal, of)
+}
+
+// create makes the lock of a new log.
+func (l *Loop) create(ctx context.Context) error {
+	now, _, err := l.clock.timestamp(0)
+	if err != nil {
+		return err
+	}
+	line, err := l.config.Proved.Steps.Begin(now)
+	if err != nil {
+		return fmt.Errorf("node: %w", err)
+	}
+	salt, err := l.config.Machine.Random()
+	if err != nil {
+		return fmt.Errorf("node: %w", err)
+	}
+	text := fmt.Sprintf("%s\n%s%s\n%s%016x%016x\n", line, nodeWord, l.config.where(), saltWord, 0, salt)
+	err = l.config.Stores.Lock.Create(ctx, text)
+	if errors.Is(err, stores.ErrExists) {
+		// Another node created it; or its text is gone, and the engine still knows that it was created.
+		if _, err := l.config.Stores.Lock.Read(ctx); errors.Is(err, stores.ErrAbsent) {
+			return fmt.Errorf("%w: its text is gone (see \"Backup\" in OPERATING.md)", ErrRolledBack)
+		}
+		return nil
+	}
+	if err != nil && !errors.Is(err, stores.ErrUnknown) {
+		return fmt.Errorf("node: the lock: %w", err)
+	}
+	return nil
+}
+
+// showNewest shows readers the head of the lock's state if the store has it, so that they need not wait for the first round.
+func (l *Loop) showNewest(ctx context.Context, f found) error {
+	if f.k.IsBegin() || f.published.Before(f.k.published()) {
+		return nil
+	}
+	head, err := l.headOf(ctx, f.k)
+	if errors.Is(err, stores.ErrAbsent) || errors.Is(err, ErrDamaged) {
+		// It is not served. The loop makes it again, or says why it cannot.
+		return nil
+	}
+	if err != nil {
+		return err
+	}
+	l.show(head, f.k.line)
+	return nil
+}
+
+// knowsNewest returns ErrIndex if the index lacks the newest entry of a published state: its node added all places before it published the head. If the entry
+// cannot be read, the step says so.
+func (l *Loop) knowsNewest(ctx context.Context, k *state) error {
+	if k.Size == 0 {
+		return nil
+	}
+	name := tileName(dataTile(k.Size-1, k.Size))
+	content, err := l.reading(nil)(ctx, name)
+	if err != nil {
+		return nil
+	}
+	leaves, err := leavesOf(name, content)
+	if err != nil || len(leaves) == 0 {
+		return nil
+	}
+	newest := &leaves[len(leaves)-1]
+	id := identity(newest.Type, newest.IssuerKeyHash, newest.Certificate)
+	places, err := l.config.Stores.Index.Find(ctx, []stores.Identity{id})
+	if err != nil {
+		return fmt.Errorf("node: the index: %w", err)
+	}
+	if len(places) == 0 {
+		return fmt.Errorf("%w: it lacks the newest entry, %d (build it from the tiles again)", ErrIndex, k.Size-1)
+	}
+	return nil
+}

@@ -1,0 +1,152 @@
+package sim
+
+import (
+	"crypto/sha256"
+	"errors"
+	"fmt"
+	"time"
+
+	"wagtenib/internal/node"
+	"wagtenib/service/signer"
+	"wagtenib/service/step"
+)
+
+// certificateOf returns the certificate of a number. Nobody here reads it, so any bytes serve.
+func certificateOf(number int) []byte { return fmt.Appendf(nil, "certificate %d", number) }
+
+// identityOf returns the identity of a number's entry: SHA-256 over the type and the certificate.
+func identityOf(number int) [32]byte {
+	return sha256.Sum256(append([]byte{0, 0}, certificateOf(number)...))
+}
+
+// requestWithin is how long a client waits for an answer, and tries how often it submits one entry.
+const (
+	requestWithin = 20 * time.Second
+	tries         = 3
+)
+
+var errUnreachable = errors.New("sim: the node does not run")
+
+// submit has a client submit a number to a machine, and returns once it is answered, or the node dies, or the client gives up.
+func (w *world) submit(m *machine, number int) error {
+	p, n := m.process, m.node
+	if p == nil || p.dead || n == nil {
+		return errUnreachable
+	}
+	var err error
+	answered := false
+	w.spawn(p, func() {
+		err = w.serve(m, n, number)
+		answered = true
+	})
+	if !w.wait(requestWithin, func() bool { return answered || p.dead }) {
+		return fmt.Errorf("sim: no answer in %v", requestWithin)
+	}
+	if !answered {
+		return errUnreachable
+	}
+	return err
+}
+
+// serve does what an HTTP handler does with a submission: it looks the entry up, and has it wait for a step if the log does not have it.
+func (w *world) serve(m *machine, n *node.Node, number int) error {
+	ctx, cancel := within(w.background(), requestWithin)
+	defer cancel()
+	request := n.Request(step.Submission{Chain: [][]byte{}, LeafCertificate: certificateOf(number)})
+	for range 4 {
+		place, err := request.Lookup(ctx)
+		if err != nil {
+			return err
+		}
+		if place != nil {
+			w.judge.stats.Repeats++
+			w.answers(m, number, *place)
+			return nil
+		}
+		ticket, err := request.Enqueue()
+		if err != nil {
+			return err
+		}
+		if !w.wait(ctx.left(), func() bool { return isClosed(ticket.Done()) }) {
+			return fmt.Errorf("sim: the ticket has no answer: %w", ctx.Err())
+		}
+		answer := ticket.Answer()
+		if answer.Err != nil {
+			return answer.Err
+		}
+		if !answer.Known {
+			w.answers(m, number, answer.Place)
+			return nil
+		}
+	}
+	return fmt.Errorf("sim: entry %d is known and is not found", number)
+}
+
+// answers gives a client its answer, and judges it.
+func (w *world) answers(m *machine, number int, place node.Place) {
+	w.log("client", fmt.Sprintf("entry %d", number), fmt.Sprintf("%s answers %d at %d ms", m.name, place.Index, place.Timestamp), "")
+	w.judge.answered(m, number, place.Index, place.Timestamp, place.Signature)
+}
+
+func isClosed(done <-chan struct{}) bool {
+	select {
+	case <-done:
+		return true
+	default:
+		return false
+	}
+}
+
+// client submits its numbers, each some times until it is answered.
+func (w *world) client(c Client, done func()) {
+	defer done()
+	w.wait(c.Begins, nil)
+	at := c.Machine
+	if c.Burst {
+		left := len(c.Numbers)
+		for _, number := range c.Numbers {
+			w.spawn(nil, func() {
+				_ = w.submit(w.machines[at], number)
+				left--
+			})
+		}
+		w.wait(forever, func() bool { return left == 0 })
+		return
+	}
+	for _, number := range c.Numbers {
+		for range tries {
+			err := w.submit(w.machines[at], number)
+			if err == nil {
+				break
+			}
+			w.log("client", fmt.Sprintf("entry %d", number), fmt.Sprintf("%s: %v", w.machines[at].name, err), "")
+			at = w.random.Intn(len(w.machines))
+			w.wait(time.Duration(w.random.Intn(2000))*time.Millisecond, nil)
+		}
+	}
+}
+
+// reader reads the head that each machine shows, now and then.
+func (w *world) reader() {
+	type seen struct {
+		of   *process
+		head signer.Head
+	}
+	last := make([]seen, len(w.machines))
+	for {
+		w.wait(time.Duration(20+w.random.Intn(400))*time.Millisecond, nil)
+		for i, m := range w.machines {
+			if m.process != last[i].of {
+				last[i] = seen{of: m.process}
+			}
+			if m.node == nil || m.node.Snapshot() == nil {
+				continue
+			}
+			now := m.node.Snapshot().Head
+			if now.Head != last[i].head {
+				w.judge.read(m, now.Head, string(now.Note), last[i].head)
+			}
+			last[i].head = now.Head
+		}
+	}
+}

@@ -1,0 +1,231 @@
+package sim
+
+import (
+	"context"
+	"iter"
+	"math/rand"
+	"time"
+)
+
+// scheduler runs coroutines one at a time. The seed chooses which of those that can run is next, and time passes only while none can.
+type scheduler struct {
+	random  *rand.Rand
+	now     time.Duration
+	all     []*coroutine
+	current *coroutine
+	// switches counts how often a coroutine was resumed.
+	switches int
+}
+
+// process is all coroutines of one run of a node. A kill ends it.
+type process struct {
+	name string
+	dead bool
+	// pausedUntil is until when the process is paused.
+	pausedUntil time.Duration
+}
+
+// coroutine is one of a process, or of the world if it has none.
+type coroutine struct {
+	of    *process
+	next  func() (struct{}, bool)
+	stop  func()
+	yield func(struct{}) bool
+	// at is when the coroutine continues at the latest. until is the condition for which it waits before that, or nil.
+	at       time.Duration
+	until    func() bool
+	happened bool
+	ended    bool
+}
+
+// killed is what unwinds a coroutine whose process is dead.
+type killed struct{}
+
+// forever is later than any history.
+const forever = time.Duration(1<<63 - 1)
+
+// spawn makes a coroutine, which begins at the next switch.
+func (s *scheduler) spawn(of *process, do func()) *coroutine {
+	c := &coroutine{of: of, at: s.now}
+	c.next, c.stop = iter.Pull(func(yield func(struct{}) bool) {
+		defer func() {
+			c.ended = true
+			if why := recover(); why != nil {
+				if _, ok := why.(killed); !ok {
+					panic(why)
+				}
+			}
+		}()
+		c.yield = yield
+		do()
+	})
+	s.all = append(s.all, c)
+	return c
+}
+
+// wait stops the current coroutine until a condition holds, or for a while. It reports whether the condition held. All that takes time in a history is this call.
+func (s *scheduler) wait(long time.Duration, until func() bool) bool {
+	c := s.current
+	if c.of != nil && c.of.dead {
+		panic(killed{})
+	}
+	c.at, c.until, c.happened = forever, until, false
+	if long < forever-s.now {
+		c.at = s.now + long
+	}
+	if !c.yield(struct{}{}) || c.of != nil && c.of.dead {
+		panic(killed{})
+	}
+	return c.happened
+}
+
+// canRun reports whether a coroutine goes on now.
+func (s *scheduler) canRun(c *coroutine) bool {
+	if c.of != nil && c.of.pausedUntil > s.now {
+		return false
+	}
+	return c.at <= s.now || c.until != nil && c.until()
+}
+
+// run goes on until the end returns true, no coroutine is left, or time is over.
+func (s *scheduler) run(most time.Duration, end func() bool) {
+	defer s.stopAll()
+	var ready []*coroutine
+	for !end() {
+		s.bury()
+		ready = ready[:0]
+		next := forever
+		for _, c := range s.all {
+			if s.canRun(c) {
+				ready = append(ready, c)
+			} else {
+				next = min(next, s.wakes(c))
+			}
+		}
+		if len(ready) == 0 {
+			if next > most {
+				return
+			}
+			s.now = next
+			continue
+		}
+		c := ready[s.random.Intn(len(ready))]
+		c.happened = c.until != nil && c.until()
+		s.current = c
+		s.switches++
+		c.next()
+		s.current = nil
+	}
+}
+
+// wakes returns when a coroutine continues only because of the time.
+func (s *scheduler) wakes(c *coroutine) time.Duration {
+	if c.of != nil && c.of.pausedUntil > s.now {
+		return max(c.of.pausedUntil, min(c.at, forever))
+	}
+	return c.at
+}
+
+// bury removes coroutines that ended, and unwinds those whose process is dead.
+func (s *scheduler) bury() {
+	left := s.all[:0]
+	for _, c := range s.all {
+		if !c.ended && c.of != nil && c.of.dead {
+			c.stop()
+			c.ended = true
+		}
+		if !c.ended {
+			left = append(left, c)
+		}
+	}
+	clear(s.all[len(left):])
+	s.all = left
+}
+
+// stopAll unwinds all coroutines.
+func (s *scheduler) stopAll() {
+	for _, c := range s.all {
+		if c.of != nil {
+			c.of.dead = true
+		}
+		c.stop()
+	}
+	s.all = nil
+}
+
+// simulated is a context in virtual time. It has no channel, so nothing but the simulation's calls can wait for its end.
+type simulated struct {
+	context.Context
+	world    *scheduler
+	before   *simulated
+	deadline time.Duration
+	ended    error
+}
+
+// background is the context of a process.
+func (s *scheduler) background() *simulated {
+	return &simulated{Context: context.Background(), world: s, deadline: forever}
+}
+
+// within returns a context that ends after a while, or by the function.
+func within(ctx context.Context, long time.Duration) (*simulated, context.CancelFunc) {
+	before := ctx.(*simulated)
+	inner := &simulated{Context: before.Context, world: before.world, before: before, deadline: before.world.now + long}
+	return inner, func() { inner.end(context.Canceled) }
+}
+
+func (c *simulated) end(why error) {
+	if c.ended == nil {
+		c.ended = why
+	}
+}
+
+// Err returns why the context has ended, or nil.
+func (c *simulated) Err() error {
+	if c.ended == nil && c.deadline <= c.world.now {
+		c.ended = context.DeadlineExceeded
+	}
+	if c.ended == nil && c.before != nil {
+		c.ended = c.before.Err()
+	}
+	return c.ended
+}
+
+// Deadline says that there is none in real time.
+func (c *simulated) Deadline() (time.Time, bool) { return time.Time{}, false }
+
+// left is for how long the context lasts by its deadlines.
+func (c *simulated) left() time.Duration {
+	left := forever
+	for at := c; at != nil; at = at.before {
+		if at.deadline != forever {
+			left = min(left, at.deadline-c.world.now)
+		}
+	}
+	return left
+}
+
+// sleep waits for a while, and returns the context's error if it ends before.
+func (s *scheduler) sleep(ctx *simulated, long time.Duration) error {
+	s.wait(min(long, max(ctx.left(), 0)), func() bool { return ctx.Err() != nil })
+	return ctx.Err()
+}
+
+// parallel calls functions side by side in coroutines of the current process, as node.Machine.Parallel must.
+func (s *scheduler) parallel(ctx context.Context, all ...func(context.Context) error) error {
+	inner, cancel := within(ctx, forever-s.now-1)
+	defer cancel()
+	of, left := s.current.of, len(all)
+	var first error
+	for _, call := range all {
+		s.spawn(of, func() {
+			err := call(inner)
+			if left--; err != nil && first == nil {
+				first = err
+				cancel()
+			}
+		})
+	}
+	s.wait(forever, func() bool { return left == 0 })
+	return first
+}

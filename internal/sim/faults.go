@@ -1,0 +1,181 @@
+package sim
+
+import (
+	"bytes"
+	"sort"
+	"strings"
+
+	"wagtenib/service/stores"
+)
+
+// befalls has a fault happen at a call of a machine. It returns the fault if that is the outcome of this call. Any other fault changes the world before the call.
+func (w *world) befalls(m *machine, f Fault, store string) *Fault {
+	if store == "memory" && (f.Kind == CallHangs || f.Kind == DoneLate || f.Kind == AnswersLate) {
+		// A disk of the machine's own either works or fails.
+		f.Kind = CallFails
+	}
+	happened := true
+	switch f.Kind {
+	case CallFails, CallHangs, DoneSaysFailed, AnswersLate, DoneLate, KilledBefore, KilledAfter:
+		w.judge.counts[f.Kind]++
+		return &f
+	case Paused:
+		m.process.pausedUntil = w.now + f.Long
+	case Away:
+		m.away = w.now + f.Long
+	case StoreFull:
+		w.stores.fullUntil = w.now + f.Long
+	case ReadOnly:
+		w.stores.readOnlyUntil = w.now + f.Long
+	case ClockForward:
+		m.offset += f.Long
+		w.excuses.clock = true
+	case ClockBack:
+		m.offset -= f.Long
+		w.excuses.clock = true
+	default:
+		happened = w.loses(m, f)
+	}
+	if happened {
+		w.judge.counts[f.Kind]++
+		w.log("world", f.String(), "", "")
+	}
+	return nil
+}
+
+// loses has a store lose what it acknowledged, and reports whether there was something to lose.
+func (w *world) loses(m *machine, f Fault) bool {
+	happened := false
+	switch f.Kind {
+	case PutLost:
+		// It is counted when the put happens.
+		w.events.losesNext, w.excuses.loss = true, true
+	case NewestLost:
+		happened = w.losesNewest()
+	case ObjectBent:
+		happened = w.bends(f.Count, "tile/", "staging/")
+	case HeadForged:
+		happened = w.bends(1, "heads/")
+	case IndexLost:
+		happened = w.losesPlaces(w.events.calls - 10*f.Count)
+	case IndexWrong:
+		happened = w.misplaces(f.Count)
+	case MemoryLost:
+		happened = m.remembered != nil
+		m.remembered = nil
+		m.process.dead = true
+		return happened
+	case LockGone:
+		happened = w.stores.text != ""
+		w.stores.text, w.stores.published = "", stores.Published{}
+	default:
+		happened = w.rollsBack(f)
+	}
+	w.excuses.loss = w.excuses.loss || happened
+	return happened
+}
+
+// losesNewest takes away the object that was put last.
+func (w *world) losesNewest() bool {
+	changes := w.stores.changes[objectsPart]
+	for i := len(changes) - 1; i >= 0; i-- {
+		if _, ok := w.stores.objects[changes[i].name]; ok {
+			delete(w.stores.objects, changes[i].name)
+			w.excuses.missing = true
+			return true
+		}
+	}
+	return false
+}
+
+// bends changes a byte of an object.
+func (w *world) bends(which int, prefixes ...string) bool {
+	var names []string
+	for _, prefix := range prefixes {
+		names = append(names, w.stores.list(prefix, "")...)
+	}
+	if len(names) == 0 {
+		return false
+	}
+	name := names[len(names)-1-(which-1)%len(names)]
+	content := bytes.Clone(w.stores.objects[name])
+	at := len(content) - 4
+	if strings.HasPrefix(name, "heads/") {
+		// A byte of the signature, so that all else of the head is right.
+		at = len(content) - 12
+	}
+	if at < 0 {
+		return false
+	}
+	content[at] ^= 1
+	w.stores.objects[name] = content
+	w.excuses.missing = true
+	return true
+}
+
+// losesPlaces rolls the index back, and nothing else. An identity whose place is lost may get one more entry.
+func (w *world) losesPlaces(call int) bool {
+	for _, c := range w.stores.changes[indexPart] {
+		if c.call > call {
+			w.excuses.again[[32]byte([]byte(c.name))] = true
+		}
+	}
+	return w.stores.rollBack(indexPart, call)
+}
+
+// misplaces gives an identity the place of another entry.
+func (w *world) misplaces(which int) bool {
+	ids := make([]stores.Identity, 0, len(w.stores.index))
+	for id := range w.stores.index {
+		ids = append(ids, id)
+	}
+	if len(ids) < 2 {
+		return false
+	}
+	sort.Slice(ids, func(i, j int) bool { return bytes.Compare(ids[i][:], ids[j][:]) < 0 })
+	id := ids[which%len(ids)]
+	place := w.stores.index[id]
+	place.Index = (place.Index + 1) % uint64(len(ids))
+	w.stores.index[id] = place
+	w.excuses.again[id] = true
+	return true
+}
+
+// rollsBack sets parts of the stores back by the same time.
+func (w *world) rollsBack(f Fault) bool {
+	of := map[Kind][]part{
+		ObjectsRolledBack: {objectsPart}, LockRolledBack: {lockPart}, GuardRolledBack: {guardPart}, LockAndGuardRolledBack: {lockPart, guardPart},
+		ObjectsAndLockRolledBack: {objectsPart, lockPart}, ObjectsAndGuardRolledBack: {objectsPart, guardPart},
+		AllRolledBack: {objectsPart, lockPart, guardPart, indexPart},
+	}[f.Kind]
+	if f.Kind == AllRolledBack && !w.allRemember() {
+		// Nothing would show a machine that did not accept the newest head that all stores are old together (OPERATING.md, "Backup").
+		return false
+	}
+	happened := false
+	for _, one := range of {
+		happened = w.stores.rollBack(one, w.events.calls-10*f.Count) || happened
+	}
+	if f.Kind == AllRolledBack {
+		// An operator stops all nodes before the stores are put back.
+		for _, m := range w.machines {
+			m.process.dead = true
+		}
+	}
+	switch f.Kind {
+	case LockRolledBack, LockAndGuardRolledBack, ObjectsAndLockRolledBack, AllRolledBack:
+		w.excuses.tiles, w.excuses.repeats = true, true
+	}
+	w.excuses.missing = true
+	return happened
+}
+
+// allRemember reports whether every machine's memory has the newest head that is published.
+func (w *world) allRemember() bool {
+	for _, m := range w.machines {
+		if m.remembered == nil || m.remembered.Size < uint64(len(w.judge.leaves)) || m.remembered.Moment < w.judge.newest.Moment {
+			return false
+		}
+	}
+	return true
+}

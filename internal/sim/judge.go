@@ -1,0 +1,404 @@
+package sim
+
+import (
+	"bytes"
+	"crypto/sha256"
+	"encoding/base64"
+	"encoding/binary"
+	"encoding/hex"
+	"fmt"
+	"strings"
+	"time"
+
+	"github.com/transparency-dev/merkle/compact"
+	"github.com/transparency-dev/merkle/rfc6962"
+
+	"wagtenib/service/signer"
+	"wagtenib/service/stores"
+)
+
+// judge looks at each object as it is put, at each head as it is signed, and at each answer as it is given. It has one list of leaves, which only grows. It uses
+// none of the code that it judges.
+type judge struct {
+	w         *world
+	violation *Violation
+	// leaves are those under the largest head that was put, and roots the root of each size up to theirs.
+	leaves     []leaf
+	roots      [][32]byte
+	tree       *compact.Range
+	identities map[[32]byte]int
+	// newest is the newest head that was put, and tiles the first content of each tile.
+	newest signer.Head
+	tiles  map[string][]byte
+	counts [kinds]int
+	stats  Stats
+}
+
+// allows reports whether an identity may get a second entry: the index lost its place, or has a wrong one, since the last one.
+func (e *excuses) allows(identity [32]byte) bool {
+	if e.again[identity] {
+		delete(e.again, identity)
+		return true
+	}
+	return e.repeats
+}
+
+// Stats are the numbers of a history.
+type Stats struct {
+	Calls, Switches, Heads, Entries, Answers, Repeats, Reads, Starts int
+}
+
+// leaf is an entry of the list.
+type leaf struct {
+	// tile is its TileLeaf, and merkle its MerkleTreeLeaf.
+	tile, merkle []byte
+	identity     [32]byte
+	timestamp    uint64
+}
+
+func newJudge(w *world) *judge {
+	empty := rfc6962.DefaultHasher.EmptyRoot()
+	return &judge{
+		w: w, identities: map[[32]byte]int{}, tiles: map[string][]byte{}, roots: [][32]byte{[32]byte(empty)},
+		tree: (&compact.RangeFactory{Hash: rfc6962.DefaultHasher.HashChildren}).NewEmptyRange(0),
+	}
+}
+
+// breaks keeps the first violation.
+func (j *judge) breaks(rule, what string, of ...any) {
+	if j.violation == nil {
+		j.violation = &Violation{Rule: rule, Text: fmt.Sprintf(what, of...), At: j.w.now}
+	}
+}
+
+// put judges an object that is put.
+func (j *judge) put(name string, content []byte) {
+	switch {
+	case strings.HasPrefix(name, "tile/"):
+		if first, ok := j.tiles[name]; ok && !bytes.Equal(first, content) && !j.w.excuses.tiles {
+			j.breaks("a tile has one content", "%s gets a second content", name)
+		}
+		if _, ok := j.tiles[name]; !ok {
+			j.tiles[name] = content
+		}
+	case strings.HasPrefix(name, "heads/"):
+		j.putHead(name, string(content))
+	case !strings.HasPrefix(name, "staging/"):
+		j.breaks("names", "%s is put, which is no name of a log's object", name)
+	}
+}
+
+// putHead judges a head that is put: it is signed by the key, it has its name's size and timestamp, all of its tree is in the store, and the tree's leaves
+// begin with the list.
+func (j *judge) putHead(name, note string) {
+	head, err := readNote(note)
+	if err != nil {
+		j.breaks("a head is signed", "%s: %v", name, err)
+		return
+	}
+	if want := fmt.Sprintf("heads/%020d-%020d", head.Size, head.Moment); name != want {
+		j.breaks("a head has its name", "%s has the head %s", name, want)
+	}
+	added, ok := j.treeOf(head, name)
+	if !ok {
+		return
+	}
+	j.grow(added, name)
+	if root := j.roots[head.Size]; root != head.Root {
+		j.breaks("a head is the list's", "%s has the root %x and not %x", name, head.Root[:4], root[:4])
+	}
+	j.judgeTime(head, name)
+	if head.Moment == j.newest.Moment && head != j.newest {
+		j.breaks("one head a timestamp", "%s and the head of %d entries have one timestamp", name, j.newest.Size)
+	}
+	if head.Moment > j.newest.Moment != (head.Size >= j.newest.Size) && head.Size != j.newest.Size {
+		j.breaks("heads do not go back", "%s is put after the head of %d entries at %d ms", name, j.newest.Size, j.newest.Moment)
+	}
+	if head.Moment > j.newest.Moment {
+		j.newest = head
+	}
+	j.stats.Heads++
+}
+
+// judgeTime judges a head's timestamp by the true time.
+func (j *judge) judgeTime(head signer.Head, name string) {
+	now := epoch.Add(j.w.now)
+	if ahead := time.UnixMilli(int64(head.Moment)).Sub(now); ahead > maxSkew && !j.w.excuses.ahead {
+		j.breaks("no timestamp of the future", "%s is %v ahead of the true time", name, ahead)
+	}
+}
+
+// signs judges a head that the key signs. All of its tree must be in the store by then.
+func (j *judge) signs(head signer.Head) {
+	name := fmt.Sprintf("a signed head of %d entries at %d ms", head.Size, head.Moment)
+	added, ok := j.treeOf(head, name)
+	if !ok {
+		return
+	}
+	tree := (&compact.RangeFactory{Hash: rfc6962.DefaultHasher.HashChildren}).NewEmptyRange(0)
+	for i := range head.Size {
+		one := added
+		var of leaf
+		if i < uint64(len(j.leaves)) {
+			of = j.leaves[i]
+		} else {
+			of = one[i-uint64(len(j.leaves))]
+		}
+		if tree.Append(rfc6962.DefaultHasher.HashLeaf(of.merkle), nil) != nil {
+			j.breaks("a signed head is the list's", "%s: no such tree", name)
+			return
+		}
+	}
+	root := rfc6962.DefaultHasher.EmptyRoot()
+	if head.Size > 0 {
+		root, _ = tree.GetRootHash(nil)
+	}
+	if !bytes.Equal(root, head.Root[:]) {
+		j.breaks("a signed head is the list's", "%s has the root %x and not %x", name, head.Root[:4], root[:4])
+	}
+}
+
+// treeOf reads the tiles of a head's tree, compares them with the list, and returns the leaves that come after it.
+func (j *judge) treeOf(head signer.Head, name string) (added []leaf, ok bool) {
+	for first := uint64(0); first < head.Size; first += 256 {
+		width := min(head.Size-first, 256)
+		content, ok := j.tile("tile/data/", first/256, width, name)
+		if !ok {
+			return nil, false
+		}
+		leaves, err := readTile(content)
+		if err != nil || uint64(len(leaves)) != width {
+			j.breaks("a tile is whole", "%s: the data tile of %d entries from %d on: %v", name, width, first, err)
+			return nil, false
+		}
+		hashes, ok := j.tile("tile/0/", first/256, width, name)
+		if !ok {
+			return nil, false
+		}
+		for i, one := range leaves {
+			index := int(first) + i
+			if end := 32 * (i + 1); len(hashes) < end || !bytes.Equal(hashes[end-32:end], rfc6962.DefaultHasher.HashLeaf(one.merkle)) {
+				j.breaks("a tile is whole", "%s: the hash of entry %d in its tile is another one", name, index)
+				return nil, false
+			}
+			switch {
+			case index < len(j.leaves):
+				if !bytes.Equal(one.tile, j.leaves[index].tile) {
+					j.breaks("one growing list", "%s: entry %d is another one than before", name, index)
+					return nil, false
+				}
+			default:
+				added = append(added, one)
+			}
+		}
+	}
+	return added, true
+}
+
+// tile returns a tile of a tree. It must be in the store, unless the store lost or bent something.
+func (j *judge) tile(prefix string, n, width uint64, name string) ([]byte, bool) {
+	tile := fmt.Sprintf("%s%03d", prefix, n)
+	if width < 256 {
+		tile += fmt.Sprintf(".p/%d", width)
+	}
+	first, put := j.tiles[tile]
+	stored, isThere := j.w.stores.objects[tile]
+	switch {
+	case j.w.excuses.missing && put:
+		return first, true
+	case !isThere:
+		j.breaks("a head's tree is in the store", "%s: %s is missing", name, tile)
+		return nil, false
+	}
+	return stored, true
+}
+
+// grow adds leaves to the list.
+func (j *judge) grow(added []leaf, name string) {
+	for _, one := range added {
+		index := len(j.leaves)
+		if before, ok := j.identities[one.identity]; ok && !j.w.excuses.allows(one.identity) {
+			j.breaks("one entry an identity", "%s: entry %d is the same as entry %d", name, index, before)
+		} else if !ok {
+			j.identities[one.identity] = index
+		}
+		j.leaves = append(j.leaves, one)
+		root, err := [32]byte{}, j.tree.Append(rfc6962.DefaultHasher.HashLeaf(one.merkle), nil)
+		if err == nil {
+			var hash []byte
+			if hash, err = j.tree.GetRootHash(nil); err == nil {
+				root = [32]byte(hash)
+			}
+		}
+		if err != nil {
+			j.breaks("one growing list", "%s: %v", name, err)
+		}
+		j.roots = append(j.roots, root)
+	}
+	j.stats.Entries = len(j.leaves)
+}
+
+// swaps judges a step on which the lock decides: it is made of the text before, whose head is published, and its staged batch is in the store.
+func (j *judge) swaps(old, new string) {
+	before, after := cells(old), cells(new)
+	if before == nil || after == nil {
+		j.breaks("a step is staged", "the lock gets the text %.60q", new)
+		return
+	}
+	if digest := sha256.Sum256([]byte(before.line)); after.before != hex.EncodeToString(digest[:]) {
+		j.breaks("a step is made of the lock's state", "the text of %d entries names another one before", after.size)
+	}
+	staged, ok := j.w.stores.objects["staging/"+after.name]
+	if digest := sha256.Sum256(staged); !j.w.excuses.missing && (!ok || hex.EncodeToString(digest[:]) != after.bundle) {
+		j.breaks("a step is staged", "the lock gets the text of %d entries, whose staged batch %s is not in the store", after.size, after.name)
+	}
+	if _, ok := j.w.stores.objects[fmt.Sprintf("heads/%020d-%020d", before.size, before.moment)]; !ok && !before.isBegin() && !j.w.excuses.missing {
+		j.breaks("a step is made of a published state", "the lock gets the text of %d entries, and the state before has no head", after.size)
+	}
+}
+
+// cell is a text of the lock, read by its digits (docs/NODE.md).
+type cell struct {
+	line, before, bundle, name string
+	size, moment               uint64
+}
+
+func (c *cell) isBegin() bool { return c.bundle == strings.Repeat("0", 64) }
+
+func cells(text string) *cell {
+	lines := strings.Split(text, "\n")
+	if len(lines) != 4 {
+		return nil
+	}
+	digits, salt := strings.TrimPrefix(lines[0], "growth "), strings.TrimPrefix(lines[2], "salt ")
+	if len(digits) != 32+4*64 || len(salt) != 32 {
+		return nil
+	}
+	c := &cell{line: lines[0], bundle: digits[32+64 : 32+128], before: digits[32+192:], name: digits[16:32] + salt}
+	if _, err := fmt.Sscanf(digits[:32], "%016x%016x", &c.size, &c.moment); err != nil {
+		return nil
+	}
+	return c
+}
+
+// raises judges how far the lock says that the log is published: the head is in the store.
+func (j *judge) raises(p stores.Published) {
+	name := fmt.Sprintf("heads/%020d-%020d", p.Size, p.Moment)
+	if _, ok := j.w.stores.objects[name]; !ok && !j.w.excuses.missing {
+		j.breaks("a published size has a head", "%s is published and not in the store", name)
+	}
+}
+
+// deletes judges a name that is deleted: a staged batch that is not the newest state's, or an object that has a wrong content.
+func (j *judge) deletes(name string) {
+	if strings.HasPrefix(name, "staging/") {
+		if now := cells(j.w.stores.text); now != nil && name == "staging/"+now.name && !j.w.excuses.tiles {
+			j.breaks("the newest staged batch stays", "%s is deleted", name)
+		}
+		return
+	}
+	if first, ok := j.tiles[name]; !ok || bytes.Equal(first, j.w.stores.objects[name]) {
+		if !j.w.excuses.missing {
+			j.breaks("published objects stay", "%s is deleted", name)
+		}
+	}
+}
+
+// answered judges a timestamp that a client gets, when it gets it.
+func (j *judge) answered(m *machine, number int, index, timestamp uint64, signed []byte) {
+	j.stats.Answers++
+	what := fmt.Sprintf("%s answers entry %d with index %d at %d ms", m.name, number, index, timestamp)
+	if index >= uint64(len(j.leaves)) {
+		j.breaks("a promise is under a published head", "%s, and %d entries are under a head", what, len(j.leaves))
+		return
+	}
+	at := j.leaves[index]
+	if at.identity != identityOf(number) || at.timestamp != timestamp {
+		j.breaks("a promise is kept", "%s, and another entry is there", what)
+	}
+	if !isSigned(at.merkle, signed) {
+		j.breaks("a promise is signed", "%s, and the signature is not the key's over that entry", what)
+	}
+	if !j.w.excuses.loss && j.w.stores.published.Size <= index {
+		j.breaks("a promise is under a published head", "%s, and %d entries are published", what, j.w.stores.published.Size)
+	}
+}
+
+// read judges a head that a reader sees.
+func (j *judge) read(m *machine, head signer.Head, note string, before signer.Head) {
+	j.stats.Reads++
+	what := fmt.Sprintf("%s shows the head of %d entries at %d ms", m.name, head.Size, head.Moment)
+	read, err := readNote(note)
+	switch {
+	case err != nil || read != head:
+		j.breaks("a head is signed", "%s: %v", what, err)
+	case head.Size >= uint64(len(j.roots)) || j.roots[head.Size] != head.Root:
+		j.breaks("a reader sees the list", "%s, which is not the list's", what)
+	case head.Size < before.Size || head.Moment < before.Moment:
+		j.breaks("a reader sees no older head", "%s after one of %d entries at %d ms", what, before.Size, before.Moment)
+	case !j.w.excuses.loss && j.w.stores.published.Before(stores.Published{Size: head.Size, Moment: head.Moment}):
+		j.breaks("a reader sees published heads", "%s, which is not published", what)
+	}
+}
+
+// readNote reads a signed head: its text has three lines, and its signature is of type 5 (C2SP static-ct-api, tlog-checkpoint).
+func readNote(note string) (head signer.Head, err error) {
+	text, signatures, ok := strings.Cut(note, "\n\n")
+	lines := strings.Split(text, "\n")
+	if !ok || len(lines) != 3 || lines[0] != Origin {
+		return head, fmt.Errorf("no note of %s", Origin)
+	}
+	root, err := base64.StdEncoding.DecodeString(lines[2])
+	if err != nil || len(root) != 32 {
+		return head, fmt.Errorf("no root: %v", err)
+	}
+	if _, err := fmt.Sscanf(lines[1], "%d", &head.Size); err != nil {
+		return head, err
+	}
+	head.Root = [32]byte(root)
+	first, _, _ := strings.Cut(signatures, "\n")
+	blob, err := base64.StdEncoding.DecodeString(strings.TrimPrefix(first, "— "+Origin+" "))
+	if err != nil || len(blob) < 12 {
+		return head, fmt.Errorf("no signature: %v", err)
+	}
+	head.Moment = binary.BigEndian.Uint64(blob[4:12])
+	id := sha256.Sum256(keyDER)
+	if want := sha256.Sum256(append([]byte(Origin+"\n\x05"), id[:]...)); !bytes.Equal(blob[:4], want[:4]) {
+		return head, fmt.Errorf("a signature of another key")
+	}
+	if !isSigned(headMessage(head), blob[12:]) {
+		return head, fmt.Errorf("the signature is not the key's")
+	}
+	return head, nil
+}
+
+// readTile reads a data tile of certificates (C2SP static-ct-api, "Log Entries").
+func readTile(content []byte) (leaves []leaf, err error) {
+	for rest := content; len(rest) > 0; {
+		whole := rest
+		// The timestamp, the type 0, and a length of three bytes.
+		if len(rest) < 13 || rest[8] != 0 || rest[9] != 0 {
+			return nil, fmt.Errorf("entry %d is not a certificate's", len(leaves))
+		}
+		length := int(rest[10])<<16 | int(rest[11])<<8 | int(rest[12])
+		end := 13 + length
+		if len(rest) < end+2 {
+			return nil, fmt.Errorf("entry %d is cut off", len(leaves))
+		}
+		extensions := int(binary.BigEndian.Uint16(rest[end:]))
+		entry := end + 2 + extensions
+		if len(rest) < entry+2 {
+			return nil, fmt.Errorf("entry %d is cut off", len(leaves))
+		}
+		chain := int(binary.BigEndian.Uint16(rest[entry:]))
+		if len(rest) < entry+2+chain {
+			return nil, fmt.Errorf("entry %d is cut off", len(leaves))
+		}
+		leaves = append(leaves, leaf{
+			tile: whole[:entry+2+chain], merkle: append([]byte{0, 0}, whole[:entry]...),
+			identity: sha256.Sum256(append([]byte{0, 0}, rest[13:end]...)), timestamp: binary.BigEndian.Uint64(rest),
+		})
+		rest = rest[entry+2+chain:]
+	}
+	return leaves, nil
+}

@@ -1,0 +1,225 @@
+package sim_test
+
+import (
+	"encoding/json"
+	"fmt"
+	"os"
+	"os/exec"
+	"path/filepath"
+	"regexp"
+	"strings"
+	"testing"
+)
+
+// edit replaces one text of a file of internal/node, which the file must have once.
+type edit struct{ file, old, new string }
+
+// planted is a fault in the node.
+type planted struct {
+	name  string
+	edits []edit
+}
+
+// all are faults in the order of the node, in what it checks and in what it remembers.
+var all = []planted{
+	{"nothing is staged", []edit{{"pass.go", "err := p.config.Stores.Objects.Put(ctx, p.command.New.Bundle, p.made.content)", "err := error(nil)"}}},
+	{"the swap comes before the staging", []edit{
+		{"pass.go", "told, err = p.stage(ctx)", "told = decider.Done()"},
+		{"pass.go", "	p.last.decided = true\n	if !won {", "	if won {\n		_ = p.config.Stores.Objects.Put(ctx, p.command.New.Bundle, p.made.content)\n	}\n	p.last.decided = true\n	if !won {"}}},
+	{"an error of the staging is ignored", []edit{{"pass.go", "		return nil, fmt.Errorf(\"node: the staged batch: %w\", err)\n	}\n	return decider.Done(), nil", "		_ = err\n	}\n	return decider.Done(), nil"}}},
+	{"a lost swap counts as won", []edit{{"pass.go", "			return false, nil\n		}\n		if l.config.Machine.Clock.Wait", "			return true, nil\n		}\n		if l.config.Machine.Clock.Wait"}}},
+	{"a swap of unknown outcome counts as won", []edit{{"pass.go", "		if err == nil {\n			return true, nil\n		}", "		if err == nil || errors.Is(err, stores.ErrUnknown) {\n			return true, nil\n		}"}}},
+	{"a swap of unknown outcome counts as won, and the text is not compared", []edit{
+		{"pass.go", "		if err == nil {\n			return true, nil\n		}", "		if err == nil || errors.Is(err, stores.ErrUnknown) {\n			return true, nil\n		}"},
+		{"pass.go", "	if k.text != p.command.New.Text {", "	if false {"}, {"pass.go", "	if p.command.New.Text != p.from.text {", "	if false {"}}},
+	{"the text after a swap is not compared", []edit{{"pass.go", "	if k.text != p.command.New.Text {", "	if false {"}, {"pass.go", "	if p.command.New.Text != p.from.text {", "	if false {"}}},
+	{"a state is not compared after the swap", []edit{{"pass.go", "	if err := p.descends(ctx, k, p.made.objects); err != nil {", "	if false {"}}},
+	{"a tile is not put", []edit{{"pass.go", "range p.made.objects {\n		calls", "range p.made.objects[1:] {\n		calls"}}},
+	{"an error of a tile's put is ignored", []edit{{"pass.go", "				return fmt.Errorf(\"%w: %w\", ErrDamaged, err)\n			}\n			return err", "				return fmt.Errorf(\"%w: %w\", ErrDamaged, err)\n			}\n			return nil"}}},
+	{"the head is put before the tiles", []edit{{"pass.go", "	if err := errors.Join(p.isFrom(), p.hasObjects()); err != nil {", "	if _, err := p.publish(ctx); err != nil {"}}},
+	{"no place is added", []edit{{"pass.go", "return p.index(ctx) }", "return nil }"}}},
+	{"a wrong place is not replaced", []edit{{"pass.go", "		if t.misplaced {", "		if false {"}}},
+	{"the memory keeps nothing", []edit{{"seen.go", "	if err := l.config.Machine.Memory.Save(ctx, k.head()); err != nil {", "	if err := error(nil); err != nil {"}}},
+	{"the seen head is forgotten", []edit{{"seen.go", "	l.seen.accepted = *k", "	_ = k"}}},
+	{"a state behind the accepted one is accepted", []edit{{"seen.go", "	if k.head() != accepted.head() && !follows(k.Size, k.Moment, accepted.head()) {", "	if false {"}}},
+	{"the store's heads are not compared", []edit{{"seen.go", "	between, err := l.headsUpTo(ctx, k, isNext)", "	between, err := \"\", error(nil)"}}},
+	{"a state need not go on from the accepted one", []edit{{"seen.go", "	if err != nil || isNext {", "	if true {"}}},
+	{"nothing is compared at all", []edit{{"seen.go", "	if l.isAccepted(k) {", "	if true {"}, {"pass.go", "	if err := p.descends(ctx, k, p.made.objects); err != nil {", "	if false {"}}},
+	{"an older text of the lock is taken", []edit{{"loop.go", "		if k.head() != before.head() && !follows(k.Size, k.Moment, before.head()) {", "		if false {"}}},
+	{"an older text is taken and nothing is compared", []edit{{"loop.go", "		if k.head() != before.head() && !follows(k.Size, k.Moment, before.head()) {", "		if false {"}, {"seen.go", "	if l.isAccepted(k) {", "	if true {"}, {"pass.go", "	if err := p.descends(ctx, k, p.made.objects); err != nil {", "	if false {"}}},
+	{"a node that was away does not look back", []edit{{"loop.go", "	if l.config.Machine.Clock.Elapsed()-l.seen.heard > maxUnheard {", "	if false {"}}},
+	{"a lock that is gone is made again", []edit{{"start.go", "		return false, refused(refusal, f)", "		return false, l.create(ctx)"}}},
+	{"a start is never refused", []edit{{"start.go", "	if errors.As(err, &refusal) {", "	if errors.As(err, &refusal) && f.k != nil {\n		err = nil\n	} else if errors.As(err, &refusal) {"}}},
+	{"the head is not put", []edit{{"heads.go", "	err = l.config.Stores.Objects.Put(ctx, headName(k.Size, k.Moment), made.Note)", "	err = nil"}}},
+	{"nothing says that the head is published", []edit{{"heads.go", "		if err := l.config.Stores.Lock.Raise(ctx, head.published()); err != nil {", "		if err := error(nil); err != nil {"}}},
+	{"a head's signature is not checked", []edit{{"heads.go", "	if err != nil || !strings.HasPrefix(string(content[len(opened.Text):]), \"\\n\"+n.signatureLine()) {", "	var unverified *note.UnverifiedNoteError\n	if errors.As(err, &unverified) {\n		opened, err = unverified.Note, nil\n		opened.Sigs = opened.UnverifiedSigs\n	}\n	if invalid := (*note.InvalidSignatureError)(nil); errors.As(err, &invalid) {\n		opened, err = note.Open(content, note.VerifierList(unchecked{n.verifier()}))\n	}\n	if err != nil || !strings.HasPrefix(string(content), n.config.Origin) {"}, {"heads.go", "func (n *Node) signatureLine()", "type unchecked struct{ note.Verifier }\n\nfunc (unchecked) Verify(msg, sig []byte) bool { return true }\n\nfunc (n *Node) signatureLine()"}}},
+	{"a head is not compared with its state", []edit{{"heads.go", "	if head.Size != k.Size || head.Moment != k.Moment {", "	if false {"}, {"heads.go", "	if head.Root != k.Root {", "	if false {"}}},
+	{"readers see an older head again", []edit{{"node.go", "now == nil || now.Head.before(head)", "now == nil || true"}, {"heads.go", "	if k.IsBegin() || l.last.published == k.line {", "	if k.IsBegin() {"}}},
+	{"all in a batch get the first one's receipt", []edit{{"pass.go", "		r := p.made.receipts[i]\n		p.pool", "		r := p.made.receipts[0*i]\n		p.pool"}, {"pass.go", "Answer{Place: Place{r.LeafIndex, r.Timestamp, signatures[i]}}", "Answer{Place: Place{r.LeafIndex, r.Timestamp, signatures[0]}}"}}},
+	{"the answer comes before the head", []edit{{"pass.go", "	head, err := p.putHead(ctx, p.from, p.made.head, p.made.objects)", "	if len(p.batch) > 0 {\n		if _, err := p.signedHead(ctx, p.from, p.made.head, p.made.objects); err != nil {\n			return nil, err\n		}\n		if _, err := p.answer(ctx); err != nil {\n			return nil, err\n		}\n	}\n	head, err := p.putHead(ctx, p.from, p.made.head, p.made.objects)"}}},
+	{"a failed round forgets its batch", []edit{{"loop.go", "	defer func() { l.pool.giveBack(batch) }()", "	defer func() {}()"}}},
+	{"a failed round answers its batch with nothing", []edit{{"loop.go", "	defer func() { l.pool.giveBack(batch) }()", "	defer func() {\n		for _, t := range batch {\n			l.pool.resolve(t, Answer{})\n		}\n	}()"}}},
+	{"the round does not ask the index", []edit{{"loop.go", "		if ok && place.Index < k.Size && (t.wrong == nil || *t.wrong != place) {", "		if ok && place.Index > 1<<50 {"}}},
+	{"a submission is not looked up", []edit{{"requests.go", "	if now == nil || now.Head.Size == 0 {", "	if true {"}}},
+	{"the index is believed", []edit{{"requests.go", "	if identity(leaf.Type, leaf.IssuerKeyHash, leaf.Certificate) != r.identity || leaf.Timestamp != place.Timestamp {\n		return nil, nil\n	}", ""}, {"requests.go", "	if errors.Is(err, step.NoClaim) {\n		return nil, nil\n	}", "	if errors.Is(err, step.NoClaim) {\n		return &step.Receipt{LeafIndex: place.Index, Timestamp: place.Timestamp, Sign: leaf.Input()}, nil\n	}"}}},
+	{"the index may lack the newest entry", []edit{{"start.go", "	if len(places) == 0 {", "	if len(places) > 1 {"}}},
+	{"the clock is believed", []edit{{"loop.go", "	if off := now.Sub(t.read) - (elapsed - t.since); off > t.maxSkew || -off > t.maxSkew {", "	if off := 0 * time.Second; off > t.maxSkew {"}}},
+	{"a clock that is behind stops the log", []edit{{"loop.go", "	now = max(uint64(max(t.of.Now().UnixMilli(), 1)), newest+1)", "	now = uint64(max(t.of.Now().UnixMilli(), 1))"}}},
+	{"a staged batch is deleted without asking", []edit{{"pass.go", "	p.keepEdge()\n", "	p.keepEdge()\n	_ = p.config.Stores.Objects.Delete(ctx, p.command.New.Bundle)\n"}}},
+	{"a step goes on from an unpublished state", []edit{{"heads.go", "	if published.Size < k.Size {\n		return false, nil\n	}", "	if published.Size < k.Size {\n		return true, nil\n	}"}}},
+	{"a call has no time limit", []edit{{"calls.go", "	ctx, cancel := l.clock.Within(ctx, l.long)\n	defer cancel()\n", ""}}},
+	{"the signer's refusal is retried for ever", []edit{{"heads.go", "		if try+1 == maxAsked || !l.moved(ctx, lastHead, err) {", "		if !errors.Is(err, signer.ErrRefused) {"}}},
+	{"a restored object is not put", []edit{{"staged.go", "	return l.config.Stores.Objects.Put(ctx, name, content)\n}", "	return nil\n}"}}},
+}
+
+// missed are the planted faults that 120 seeds do not find, with the check that finds the same thing if one is known.
+var missed = map[string]string{
+	"a lost swap counts as won":                                             "the text is read again after each swap",
+	"a swap of unknown outcome counts as won":                               "the text is read again after each swap",
+	"the text after a swap is not compared":                                 "the head must match the state",
+	"the seen head is forgotten":                                            "an older text than the last one is refused",
+	"a state behind the accepted one is accepted":                           "an older text than the last one is refused",
+	"an older text of the lock is taken":                                    "the state is compared with the accepted one",
+	"a lock that is gone is made again":                                     "an engine refuses to create a lock twice",
+	"a swap of unknown outcome counts as won, and the text is not compared": "",
+	"a state is not compared after the swap":                                "",
+	"the memory keeps nothing":                                              "",
+	"a state need not go on from the accepted one":                          "",
+	"a node that was away does not look back":                               "",
+	"a start is never refused":                                              "",
+	"a head is not compared with its state":                                 "",
+	"readers see an older head again":                                       "",
+	"the index may lack the newest entry":                                   "",
+	"a clock that is behind stops the log":                                  "",
+	"a restored object is not put":                                          "",
+}
+
+// TestPlanted plants each fault into a copy of the node, and has the histories find it. It is for a long run: SIM_PLANTED says how many seeds each one gets, and
+// SIM_ONLY which faults, by a regular expression.
+func TestPlanted(t *testing.T) {
+	seeds := os.Getenv("SIM_PLANTED")
+	if seeds == "" {
+		t.Skip("SIM_PLANTED says how many seeds each planted fault gets")
+	}
+	only, err := regexp.Compile(os.Getenv("SIM_ONLY"))
+	if err != nil {
+		t.Fatalf("SIM_ONLY: %v", err)
+	}
+	copies := &copies{folder: t.TempDir(), replaced: map[string]string{}}
+	for at, p := range all {
+		if only.MatchString(p.name) {
+			copies.plant(t, at, p)
+		}
+	}
+	overlay := copies.finish(t)
+	binary := filepath.Join(copies.folder, "planted.test")
+	build := exec.Command("go", "test", "-c", "-vet=off", "-trimpath", "-o", binary, "-overlay", overlay, "wagtenib/internal/planted")
+	if said, err := build.CombinedOutput(); err != nil {
+		t.Fatalf("%v: %s", err, said)
+	}
+	command := exec.Command(binary, "-test.v", "-test.timeout=3h")
+	command.Env = append(os.Environ(), "SIM_PLANTED="+seeds)
+	command.Stdout, command.Stderr = os.Stdout, os.Stderr
+	if err := command.Run(); err != nil {
+		t.Errorf("some planted faults are not found: %v", err)
+	}
+}
+
+// copies are the copies of node and sim, each with one planted fault. They exist only in the overlay of one go command.
+type copies struct {
+	folder         string
+	replaced       map[string]string
+	imports, cases strings.Builder
+}
+
+// plant adds the copies of one fault.
+func (c *copies) plant(t *testing.T, at int, p planted) {
+	t.Helper()
+	name := fmt.Sprintf("p%02d", at)
+	edits := p.edits
+	for _, of := range []string{"node", "sim"} {
+		sources, err := filepath.Glob(filepath.Join("..", of, "*.go"))
+		if err != nil {
+			t.Fatal(err)
+		}
+		for _, source := range sources {
+			if strings.HasSuffix(source, "_test.go") {
+				continue
+			}
+			content, err := os.ReadFile(source)
+			if err != nil {
+				t.Fatal(err)
+			}
+			text := string(content)
+			for _, e := range edits {
+				if of != "node" || e.file != filepath.Base(source) {
+					continue
+				}
+				if times := strings.Count(text, e.old); times != 1 {
+					t.Fatalf("%s: %s has %d times: %s", p.name, e.file, times, e.old)
+				}
+				text = strings.Replace(text, e.old, e.new, 1)
+			}
+			text = strings.ReplaceAll(text, `"wagtenib/internal/node"`, fmt.Sprintf(`"wagtenib/internal/planted/%s/node"`, name))
+			c.write(t, filepath.Join(name, of, filepath.Base(source)), text)
+		}
+	}
+	fmt.Fprintf(&c.imports, "\t%snode \"wagtenib/internal/planted/%s/node\"\n\t%s \"wagtenib/internal/planted/%s/sim\"\n", name, name, name, name)
+	_, isMissed := missed[p.name]
+	fmt.Fprintf(&c.cases, "\tfinds(t, %q, %t, func(seed int64) string {\n\t\tr := %s.Run(%s.NewPlan(seed), %snode.Proved{Decider: next, Steps: steps}, false)\n"+
+		"\t\tif r.Violation == nil {\n\t\t\treturn \"\"\n\t\t}\n\t\treturn r.Violation.Rule\n\t})\n", p.name, isMissed, name, name, name)
+}
+
+// write adds a file of the folder internal/planted, which does not exist, to the overlay.
+func (c *copies) write(t *testing.T, name, text string) {
+	t.Helper()
+	file := filepath.Join(c.folder, strings.ReplaceAll(name, string(filepath.Separator), "-"))
+	path, err := filepath.Abs(filepath.Join("..", "planted", name))
+	if err == nil {
+		err = os.WriteFile(file, []byte(text), 0o600)
+	}
+	if err != nil {
+		t.Fatal(err)
+	}
+	c.replaced[path] = file
+}
+
+// finish writes the test that runs all copies, and returns the overlay's file.
+func (c *copies) finish(t *testing.T) string {
+	t.Helper()
+	c.write(t, "planted_test.go", "package planted\n\nimport (\n\t\"os\"\n\t\"strconv\"\n\t\"testing\"\n\n"+c.imports.String()+
+		"\n\t\"wagtenib/internal/sim\"\n\t\"wagtenib/service/decider\"\n\t\"wagtenib/service/step\"\n)\n"+runner+
+		"\nfunc TestAll(t *testing.T) {\n"+c.cases.String()+"}\n")
+	c.write(t, "planted.go", "package planted\n")
+	overlay, err := json.Marshal(map[string]any{"Replace": c.replaced})
+	file := filepath.Join(c.folder, "overlay.json")
+	if err == nil {
+		err = os.WriteFile(file, overlay, 0o600)
+	}
+	if err != nil {
+		t.Fatal(err)
+	}
+	return file
+}
+
+// runner runs the histories of one copy until one breaks a rule.
+const runner = `
+var next, steps = decider.New(), step.New(sim.Origin)
+
+func finds(t *testing.T, name string, isMissed bool, broken func(seed int64) string) {
+	seeds, err := strconv.Atoi(os.Getenv("SIM_PLANTED"))
+	if err != nil {
+		t.Fatal(err)
+	}
+	for seed := range int64(seeds) {
+		if rule := broken(seed); rule != "" {
+			t.Logf("| %s | %s | %d |", name, rule, seed)
+			return
+		}
+	}
+	t.Logf("| %s | not found | %d |", name, seeds)
+	if !isMissed {
+		t.Fail()
+	}
+}
+`

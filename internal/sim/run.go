@@ -1,0 +1,178 @@
+package sim
+
+import (
+	"errors"
+	"fmt"
+	"time"
+
+	"wagtenib/internal/node"
+	"wagtenib/service/signer"
+)
+
+// Result is the outcome of a history.
+type Result struct {
+	// Violation is the first rule that was broken, or nil.
+	Violation *Violation
+	// Counts says how often each kind of fault happened.
+	Counts [kinds]int
+	Stats  Stats
+	// Stopped is why the log stopped in the end, if it may, and nil if it went on.
+	Stopped error
+	// Lines are the history, if they were asked for.
+	Lines []string
+}
+
+const (
+	// scriptWithin is how long the clients' scripts may take, and calmWithin how long the log may take to go on after all faults have ended.
+	scriptWithin = 10 * time.Minute
+	calmWithin   = 3 * time.Minute
+	// namedWithin is how long a node that says why it stopped is asked again, if a store lost something.
+	namedWithin = 30 * time.Second
+	// settleWithin is how long a node that goes on may take to answer all that wait.
+	settleWithin = time.Minute
+)
+
+// Run runs the history of a plan over the proved decisions. Two runs of one plan are the same.
+func Run(plan Plan, proved node.Proved, logs bool) (result Result) {
+	w := newWorld(plan, proved, logs)
+	over := false
+	w.spawn(nil, func() {
+		w.script()
+		w.ends()
+		over = true
+	})
+	w.spawn(nil, w.reader)
+	defer func() {
+		if why := recover(); why != nil {
+			w.judge.breaks("no panic", "%v", why)
+		}
+		w.judge.stats.Calls, w.judge.stats.Switches = w.events.calls, w.switches
+		result.Violation, result.Counts, result.Stats, result.Lines = w.judge.violation, w.judge.counts, w.judge.stats, w.history.lines
+		result.Stopped = w.stopped
+	}()
+	w.run(forever-1, func() bool { return over || w.judge.violation != nil })
+	return result
+}
+
+// script runs all clients.
+func (w *world) script() {
+	left := len(w.plan.Clients)
+	for _, c := range w.plan.Clients {
+		w.spawn(nil, func() { w.client(c, func() { left-- }) })
+	}
+	w.wait(scriptWithin, func() bool { return left == 0 })
+}
+
+// ends has all faults end, sets the clocks right, and judges whether the log goes on or says why it does not.
+func (w *world) ends() {
+	w.events.calm = true
+	w.stores.fullUntil, w.stores.readOnlyUntil = 0, 0
+	for _, m := range w.machines {
+		m.offset, m.away = 0, 0
+		if m.process != nil {
+			m.process.pausedUntil = 0
+		}
+	}
+	w.log("world", "calm: no fault happens any more", "", "")
+	for i, m := range w.machines {
+		err := w.goesOn(m, 1_000_000+i)
+		if err == nil {
+			w.forgets(m)
+			w.repeats(m)
+			continue
+		}
+		w.stopped = err
+		why := fmt.Sprintf("after all faults have ended, %s answers nothing in %v: %v", m.name, calmWithin, err)
+		switch {
+		case !isNamed(err):
+			w.judge.breaks("a stop is named", "%s", why)
+		case w.excuses.loss, w.excuses.clock && errors.Is(err, node.ErrClock):
+		default:
+			w.judge.breaks("the log goes on", "%s", why)
+		}
+	}
+}
+
+// forgets judges whether a node that goes on has forgotten a submission.
+func (w *world) forgets(m *machine) {
+	if n := m.node; n != nil && !w.wait(settleWithin, func() bool { return m.node != n || n.Waiting() == 0 }) {
+		w.judge.breaks("no submission is forgotten", "%s goes on, and %d submissions wait for ever", m.name, n.Waiting())
+	}
+}
+
+// repeats submits what clients have submitted once more, and twice, to a node that goes on. The judge compares the answers.
+func (w *world) repeats(m *machine) {
+	for number := range 3 {
+		for range 2 {
+			// The judge looks at answers only: a node may refuse what it cannot read.
+			_ = w.submit(m, number)
+		}
+	}
+}
+
+// isNamed reports whether an error says why a node does not go on.
+func isNamed(err error) bool {
+	for _, named := range []error{node.ErrRolledBack, node.ErrDamaged, node.ErrIndex, node.ErrClock, signer.ErrState, signer.ErrRefused} {
+		if errors.Is(err, named) {
+			return true
+		}
+	}
+	return false
+}
+
+// goesOn submits a new entry to a machine until it is answered, and then once more. It returns why it is not.
+func (w *world) goesOn(m *machine, number int) error {
+	end := w.now + calmWithin
+	for {
+		err := w.submit(m, number)
+		if err == nil {
+			err = w.submit(m, number)
+		}
+		if err == nil {
+			return nil
+		}
+		if errors.Is(err, errUnreachable) && m.refused != nil {
+			err = m.refused
+		}
+		w.log("client", fmt.Sprintf("entry %d", number), err.Error(), "")
+		if w.now >= end || w.excuses.loss && isNamed(err) && w.now >= end-calmWithin+namedWithin {
+			return err
+		}
+		w.wait(3*time.Second, nil)
+	}
+}
+
+// Shrink drops faults and clients from a plan, one by one, as long as the same rule is broken.
+func Shrink(plan Plan, proved node.Proved) Plan {
+	first := Run(plan, proved, false).Violation
+	breaks := func(p Plan) bool {
+		v := Run(p, proved, false).Violation
+		return v != nil && first != nil && v.Rule == first.Rule
+	}
+	for again := true; again; {
+		again = false
+		for i := range plan.Faults {
+			smaller := plan
+			smaller.Faults = append(append([]Fault{}, plan.Faults[:i]...), plan.Faults[i+1:]...)
+			if breaks(smaller) {
+				plan, again = smaller, true
+				break
+			}
+		}
+		for i := 0; !again && i < len(plan.Clients); i++ {
+			smaller := plan
+			smaller.Clients = append(append([]Client{}, plan.Clients[:i]...), plan.Clients[i+1:]...)
+			if breaks(smaller) {
+				plan, again = smaller, true
+			}
+		}
+	}
+	return plan
+}
+
+// Explain shrinks a plan that breaks a rule, and returns its history as text.
+func Explain(plan Plan, proved node.Proved) string {
+	plan = Shrink(plan, proved)
+	result := Run(plan, proved, true)
+	return format(plan, result.Lines, result.Violation)
+}

@@ -1,0 +1,287 @@
+package sim
+
+import (
+	"bytes"
+	"context"
+	"fmt"
+	"sort"
+	"strings"
+	"time"
+
+	"wagtenib/service/stores"
+)
+
+// part is what can be rolled back by itself.
+type part int
+
+const (
+	objectsPart part = iota
+	lockPart
+	guardPart
+	indexPart
+	parts
+)
+
+// memory has all that the simulated stores keep.
+type memory struct {
+	objects   map[string][]byte
+	text      string
+	created   bool
+	published stores.Published
+	// guard is the text of the guard's state, which is another cell of the lock's engine.
+	guard string
+	index map[stores.Identity]stores.Place
+	// call is the number of the newest call. changes are those of each part, from the first on, so that the newest can be undone.
+	call                     int
+	changes                  [parts][]change
+	fullUntil, readOnlyUntil time.Duration
+}
+
+// change is one of a part: the number of its call, the object's name, and what undoes it.
+type change struct {
+	call int
+	name string
+	undo func()
+}
+
+func newMemory() memory {
+	return memory{objects: map[string][]byte{}, index: map[stores.Identity]stores.Place{}, guard: noHead}
+}
+
+// set gives an object a content, or none.
+func (s *memory) set(name string, content []byte) {
+	before, was := s.objects[name]
+	s.changes[objectsPart] = append(s.changes[objectsPart], change{s.call, name, func() {
+		if was {
+			s.objects[name] = before
+		} else {
+			delete(s.objects, name)
+		}
+	}})
+	if content == nil {
+		delete(s.objects, name)
+		return
+	}
+	s.objects[name] = content
+}
+
+// setLock gives the lock a text and what is published.
+func (s *memory) setLock(text string, published stores.Published) {
+	before, was := s.text, s.published
+	s.changes[lockPart] = append(s.changes[lockPart], change{call: s.call, undo: func() { s.text, s.published = before, was }})
+	s.text, s.published = text, published
+}
+
+func (s *memory) setGuard(text string) {
+	before := s.guard
+	s.changes[guardPart] = append(s.changes[guardPart], change{call: s.call, undo: func() { s.guard = before }})
+	s.guard = text
+}
+
+func (s *memory) setIndex(id stores.Identity, place stores.Place) {
+	before, was := s.index[id]
+	s.changes[indexPart] = append(s.changes[indexPart], change{call: s.call, name: string(id[:]), undo: func() {
+		if was {
+			s.index[id] = before
+		} else {
+			delete(s.index, id)
+		}
+	}})
+	s.index[id] = place
+}
+
+// rollBack undoes the changes of a part that were made after a call, and reports whether there were any.
+func (s *memory) rollBack(of part, call int) bool {
+	all := s.changes[of]
+	left := len(all)
+	for left > 0 && all[left-1].call > call {
+		left--
+		all[left].undo()
+	}
+	s.changes[of] = all[:left]
+	return left < len(all)
+}
+
+// objects are the objects' store as a machine's node sees it.
+type objects struct{ m *machine }
+
+func (o objects) Put(ctx context.Context, name string, content []byte) error {
+	w := o.m.w
+	content = bytes.Clone(content)
+	return o.m.call(ctx, "objects", fmt.Sprintf("put %s (%d bytes)", name, len(content)), true, func() error {
+		if stored, ok := w.stores.objects[name]; ok && !bytes.Equal(stored, content) {
+			return stores.ErrOther
+		}
+		w.judge.put(name, content)
+		w.stores.set(name, content)
+		return nil
+	})
+}
+
+func (o objects) Get(ctx context.Context, name string, max int64) (content []byte, err error) {
+	err = o.m.call(ctx, "objects", "get "+name, false, func() error {
+		stored, ok := o.m.w.stores.objects[name]
+		if !ok {
+			return stores.ErrAbsent
+		}
+		if int64(len(stored)) > max {
+			return stores.TooLong{Length: int64(len(stored))}
+		}
+		content = bytes.Clone(stored)
+		return nil
+	})
+	if err != nil {
+		return nil, err
+	}
+	return content, nil
+}
+
+func (o objects) List(ctx context.Context, prefix, after string, max int) (names []string, err error) {
+	err = o.m.call(ctx, "objects", fmt.Sprintf("list %s after %q", prefix, after), false, func() error {
+		names = o.m.w.stores.list(prefix, after)
+		names = names[:min(len(names), max)]
+		return nil
+	})
+	if err != nil {
+		return nil, err
+	}
+	return names, nil
+}
+
+// list returns the names of objects in the order of their bytes.
+func (s *memory) list(prefix, after string) []string {
+	var names []string
+	for name := range s.objects {
+		if strings.HasPrefix(name, prefix) && name > after {
+			names = append(names, name)
+		}
+	}
+	sort.Strings(names)
+	return names
+}
+
+func (o objects) Delete(ctx context.Context, name string) error {
+	return o.m.call(ctx, "objects", "delete "+name, true, func() error {
+		o.m.w.judge.deletes(name)
+		if _, ok := o.m.w.stores.objects[name]; ok {
+			o.m.w.stores.set(name, nil)
+		}
+		return nil
+	})
+}
+
+// lock is the lock as a machine's node sees it.
+type lock struct{ m *machine }
+
+func (l lock) Create(ctx context.Context, text string) error {
+	s := &l.m.w.stores
+	return l.m.call(ctx, "lock", "create "+short(text), true, func() error {
+		if s.created {
+			return stores.ErrExists
+		}
+		s.created = true
+		s.setLock(text, stores.Published{})
+		return nil
+	})
+}
+
+func (l lock) Read(ctx context.Context) (text string, err error) {
+	err = l.m.call(ctx, "lock", "read", false, func() error {
+		if text = l.m.w.stores.text; text == "" {
+			return stores.ErrAbsent
+		}
+		return nil
+	})
+	if err != nil {
+		return "", err
+	}
+	return text, nil
+}
+
+func (l lock) Swap(ctx context.Context, old, new string) error {
+	s := &l.m.w.stores
+	return l.m.call(ctx, "lock", "swap "+short(old)+" for "+short(new), true, func() error {
+		switch s.text {
+		case "":
+			return stores.ErrAbsent
+		case new:
+			return nil
+		case old:
+			l.m.w.judge.swaps(old, new)
+			s.setLock(new, s.published)
+			return nil
+		}
+		return stores.ErrLost
+	})
+}
+
+func (l lock) Published(ctx context.Context) (published stores.Published, err error) {
+	err = l.m.call(ctx, "lock", "published", false, func() error {
+		published = l.m.w.stores.published
+		return nil
+	})
+	if err != nil {
+		return stores.Published{}, err
+	}
+	return published, nil
+}
+
+func (l lock) Raise(ctx context.Context, published stores.Published) error {
+	s := &l.m.w.stores
+	return l.m.call(ctx, "lock", fmt.Sprintf("raise %d %d", published.Size, published.Moment), true, func() error {
+		if s.text == "" {
+			return stores.ErrAbsent
+		}
+		if s.published.Before(published) {
+			l.m.w.judge.raises(published)
+			s.setLock(s.text, published)
+		}
+		return nil
+	})
+}
+
+// short is a text of the lock for a line: its size, its timestamp and its salt.
+func short(text string) string {
+	if len(text) < 60 {
+		return "?"
+	}
+	return text[len("growth "):len("growth ")+32] + ".." + text[len(text)-5:len(text)-1]
+}
+
+// index is the index as a machine's node sees it.
+type index struct{ m *machine }
+
+func (i index) Find(ctx context.Context, identities []stores.Identity) (found map[stores.Identity]stores.Place, err error) {
+	err = i.m.call(ctx, "index", fmt.Sprintf("find %d", len(identities)), false, func() error {
+		found = map[stores.Identity]stores.Place{}
+		for _, id := range identities {
+			if place, ok := i.m.w.stores.index[id]; ok {
+				found[id] = place
+			}
+		}
+		return nil
+	})
+	if err != nil {
+		return nil, err
+	}
+	return found, nil
+}
+
+func (i index) Add(ctx context.Context, placed []stores.Placed) error {
+	return i.change(ctx, "add", placed, false)
+}
+
+func (i index) Replace(ctx context.Context, placed []stores.Placed) error {
+	return i.change(ctx, "replace", placed, true)
+}
+
+func (i index) change(ctx context.Context, what string, placed []stores.Placed, replaces bool) error {
+	return i.m.call(ctx, "index", fmt.Sprintf("%s %d", what, len(placed)), true, func() error {
+		for _, one := range placed {
+			if _, ok := i.m.w.stores.index[one.Identity]; !ok || replaces {
+				i.m.w.stores.setIndex(one.Identity, one.Place)
+			}
+		}
+		return nil
+	})
+}

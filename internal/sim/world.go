@@ -1,0 +1,311 @@
+package sim
+
+import (
+	"context"
+	"errors"
+	"fmt"
+	"math/rand"
+	"slices"
+	"strings"
+	"time"
+
+	"wagtenib/internal/node"
+	"wagtenib/service/signer"
+	"wagtenib/service/stores"
+)
+
+// Origin is the log's name in checkpoints: the proved steps need it.
+const Origin = "log.example/sim"
+
+// epoch is the true time at the beginning of each history.
+var epoch = time.Date(2027, 3, 1, 0, 0, 0, 0, time.UTC)
+
+// world is what one history has: the stores, the machines, and the judge of all that is put and answered.
+type world struct {
+	scheduler
+	plan     Plan
+	events   events
+	stores   memory
+	machines []*machine
+	judge    *judge
+	excuses  excuses
+	history  history
+	proved   node.Proved
+	// stopped is why the log stopped in the end.
+	stopped error
+}
+
+// events are the faults of the plan, by their calls.
+type events struct {
+	// calls counts the calls to stores, and faults are those that have not happened yet.
+	calls  int
+	faults []Fault
+	// losesNext says that the next put is lost, and calm that no fault happens any more.
+	losesNext, calm bool
+}
+
+// due returns the faults that happen at a call, once each.
+func (e *events) due(n int, call string) (now []Fault) {
+	for i := 0; i < len(e.faults); i++ {
+		if f := e.faults[i]; f.At <= n && strings.HasPrefix(call, f.On) {
+			now = append(now, f)
+			e.faults = slices.Delete(e.faults, i, i+1)
+			i--
+		}
+	}
+	return now
+}
+
+// machine is where one node runs, is killed and starts again.
+type machine struct {
+	w       *world
+	name    string
+	process *process
+	node    *node.Node
+	// refused is why the node did not start when that was tried last.
+	refused error
+	// offset is how far the time of day is off, and away until when no call reaches a store.
+	offset, away time.Duration
+	// remembered is the newest head that the machine's memory has.
+	remembered *signer.Head
+	signer     *guarded
+}
+
+// excuses say what a history may do since a store did not keep what it acknowledged, or a clock was wrong.
+type excuses struct {
+	// loss says that the log may stop, if it says why. clock says that it may stop for its clock.
+	loss, clock bool
+	// tiles says that a tile's name may get two contents, repeats that an identity may have two entries, and missing that objects may be missing or bent.
+	tiles, repeats, missing bool
+	// ahead says that a node may have started by a wrong clock.
+	ahead bool
+	// again has the identities that may get one more entry.
+	again map[[32]byte]bool
+}
+
+// errFails is a fault of a store; errAway is one of the way to it.
+var (
+	errFails    = errors.New("sim: the store fails")
+	errAway     = errors.New("sim: the store does not answer")
+	errFull     = errors.New("sim: the store is full")
+	errReadOnly = errors.New("sim: the store is read-only")
+)
+
+// newWorld returns the world of a plan.
+func newWorld(plan Plan, proved node.Proved, logs bool) *world {
+	w := &world{plan: plan, proved: proved, events: events{faults: slices.Clone(plan.Faults)}, stores: newMemory(), history: history{isKept: logs}}
+	w.random = rand.New(rand.NewSource(plan.Seed ^ 0x5deece66d))
+	w.judge, w.excuses.again = newJudge(w), map[[32]byte]bool{}
+	for i := range plan.Machines {
+		m := &machine{w: w, name: fmt.Sprintf("n%d", i+1)}
+		w.machines = append(w.machines, m)
+		w.spawn(nil, m.operate)
+	}
+	return w
+}
+
+// operate starts the node of a machine again and again.
+func (m *machine) operate() {
+	w := m.w
+	for {
+		p := &process{name: m.name}
+		m.process, m.node = p, nil
+		m.signer = &guarded{m: m}
+		if m.offset > maxSkew || -m.offset > maxSkew {
+			w.excuses.ahead = true
+		}
+		w.judge.stats.Starts++
+		w.log(m.name, "starts", "", "")
+		ended := false
+		w.spawn(p, func() {
+			m.carry()
+			ended = true
+		})
+		w.wait(forever, func() bool { return p.dead || ended })
+		m.node = nil
+		p.dead = true
+		w.wait(time.Duration(50+w.random.Intn(3000))*time.Millisecond, nil)
+	}
+}
+
+// carry runs a node until it is killed.
+func (m *machine) carry() {
+	ctx := m.w.background()
+	n, loop, err := node.Start(ctx, m.config())
+	if err != nil {
+		m.w.log(m.name, "does not start", err.Error(), "")
+		m.refused = err
+		return
+	}
+	m.node, m.refused = n, nil
+	// It ends with its process only.
+	_ = loop.Run(ctx)
+}
+
+// maxSkew is how far a clock may be off by the nodes' configuration.
+const maxSkew = 10 * time.Second
+
+// config is the configuration of a machine's node.
+func (m *machine) config() node.Config {
+	return node.Config{
+		Origin: Origin, Address: m.name, Create: true,
+		Stores:  node.Stores{Objects: objects{m}, Lock: lock{m}, Index: index{m}},
+		Proved:  m.w.proved,
+		Signer:  m.signer,
+		Machine: node.Machine{Clock: clock{m}, Memory: remembering{m}, Parallel: m.w.parallel, Random: func() (uint64, error) { return m.w.random.Uint64(), nil }},
+		Pace: node.Pace{
+			Look: time.Second, Refresh: time.Hour, Help: 400*time.Millisecond + time.Duration(m.w.random.Intn(400))*time.Millisecond,
+			Call: 2 * time.Second, Round: 60 * time.Second, Patience: 5 * time.Second, MaxSkew: maxSkew,
+		},
+		Limits: node.Limits{MaxBatch: 300, MaxQueue: 1000},
+	}
+}
+
+// clock is a machine's.
+type clock struct{ m *machine }
+
+func (c clock) Now() time.Time         { return epoch.Add(c.m.w.now + c.m.offset) }
+func (c clock) Elapsed() time.Duration { return c.m.w.now }
+
+func (c clock) Within(ctx context.Context, long time.Duration) (context.Context, context.CancelFunc) {
+	return within(ctx, long)
+}
+
+func (c clock) Wait(ctx context.Context, long time.Duration, wake <-chan struct{}) error {
+	of := ctx.(*simulated)
+	c.m.w.wait(min(long, max(of.left(), 0)), func() bool { return len(wake) > 0 || of.Err() != nil })
+	select {
+	case <-wake:
+	default:
+	}
+	return of.Err()
+}
+
+// remembering is the memory of a machine: a file on its disk.
+type remembering struct{ m *machine }
+
+func (r remembering) Load(ctx context.Context) (head *signer.Head, err error) {
+	err = r.m.call(ctx, "memory", "load", false, func() error {
+		head = r.m.remembered
+		return nil
+	})
+	return head, err
+}
+
+func (r remembering) Save(ctx context.Context, head signer.Head) error {
+	return r.m.call(ctx, "memory", fmt.Sprintf("save %d %d", head.Size, head.Moment), false, func() error {
+		r.m.remembered = &head
+		return nil
+	})
+}
+
+// call carries out one call of a machine's node on a store, with its faults.
+func (m *machine) call(ctx context.Context, store, what string, writes bool, do func() error) error {
+	w, of := m.w, ctx.(*simulated)
+	w.events.calls++
+	n := w.events.calls
+	w.stores.call = n
+	var fate *Fault
+	if !w.events.calm {
+		for _, f := range w.events.due(n, store+": "+what) {
+			if own := w.befalls(m, f, store); own != nil {
+				fate = own
+			}
+		}
+	}
+	if m.process.dead {
+		panic(killed{})
+	}
+	fault, err := m.befallen(of, store, what, writes, fate, do)
+	w.logCall(n, m.name, store, what, err, fault)
+	if m.process.dead {
+		panic(killed{})
+	}
+	return err
+}
+
+// befallen does a call, or does not, by its fate. It returns the fault's name.
+func (m *machine) befallen(ctx *simulated, store, what string, writes bool, fate *Fault, do func() error) (fault string, err error) {
+	w := m.w
+	kind := kinds
+	if fate != nil {
+		kind, fault = fate.Kind, fate.Kind.String()
+	}
+	switch kind {
+	case CallHangs:
+		_ = w.sleep(ctx, forever)
+		return fault, unknown(ctx.Err())
+	case KilledBefore:
+		m.process.dead = true
+		return fault, errAway
+	case DoneLate:
+		w.spawn(nil, func() {
+			w.wait(ctx.left()+fate.Long, nil)
+			if m.takes(store, writes) == nil {
+				// No caller waits for the outcome any more.
+				w.log("store", what, fmt.Sprint(do()), "done late")
+			}
+		})
+		_ = w.sleep(ctx, forever)
+		return fault, unknown(ctx.Err())
+	}
+	if err := w.sleep(ctx, w.latency()); err != nil {
+		return fault, unknown(err)
+	}
+	if kind == CallFails {
+		return fault, errFails
+	}
+	if err := m.takes(store, writes); err != nil {
+		return fault, err
+	}
+	err = do()
+	if w.events.losesNext && err == nil && store == "objects" && strings.HasPrefix(what, "put ") {
+		w.events.losesNext = false
+		w.losesNewest()
+		w.judge.counts[PutLost]++
+		fault = PutLost.String()
+	}
+	switch kind {
+	case KilledAfter:
+		m.process.dead = true
+	case DoneSaysFailed:
+		if err == nil {
+			err = unknown(errFails)
+		}
+		return fault, err
+	case AnswersLate:
+		_ = w.sleep(ctx, forever)
+		return fault, unknown(ctx.Err())
+	}
+	if late := w.sleep(ctx, w.latency()/2); late != nil {
+		return fault, unknown(late)
+	}
+	return fault, err
+}
+
+// unknown is an error that does not say whether the call was done.
+func unknown(err error) error { return fmt.Errorf("%w: %w", stores.ErrUnknown, err) }
+
+// latency is how long a call takes: mostly some milliseconds.
+func (w *world) latency() time.Duration {
+	if w.random.Intn(30) == 0 {
+		return time.Duration(50+w.random.Intn(400)) * time.Millisecond
+	}
+	return time.Duration(1+w.random.Intn(6)) * time.Millisecond
+}
+
+// takes returns an error if a store does not take the call now. The memory is not a store.
+func (m *machine) takes(store string, writes bool) error {
+	s := &m.w.stores
+	switch {
+	case store == "memory":
+		return nil
+	case m.away > m.w.now:
+		return errAway
+	case writes && s.readOnlyUntil > m.w.now:
+		return errReadOnly
+	case writes && s.fullUntil > m.w.now:
+		return errFull
+	}
+	return nil
+}

@@ -1,0 +1,101 @@
+package sim_test
+
+import (
+	"testing"
+
+	"wagtenib/internal/node"
+	"wagtenib/internal/sim"
+	"wagtenib/service/decider"
+	"wagtenib/service/step"
+)
+
+// wrapped is the proved decider, and changes what it says.
+type wrapped struct {
+	*decider.Decider
+	// told changes an outcome before the decider gets it, and next the command that follows.
+	told func(command *decider.Command, told decider.Told) decider.Told
+	next func(w *wrapped, command, next *decider.Command, err error) (*decider.Command, error)
+}
+
+func (w *wrapped) Next(command *decider.Command, told decider.Told) (*decider.Command, error) {
+	if w.told != nil {
+		told = w.told(command, told)
+	}
+	next, err := w.Decider.Next(command, told)
+	if w.next != nil {
+		return w.next(w, command, next, err)
+	}
+	return next, err
+}
+
+// skips returns a decider that leaves one command out, as if it were done.
+func skips(do string) node.Decider {
+	return &wrapped{Decider: decider.New(), next: func(w *wrapped, _, next *decider.Command, err error) (*decider.Command, error) {
+		if err != nil || next.Do != do {
+			return next, err
+		}
+		return w.Decider.Next(next, decider.Done())
+	}}
+}
+
+// ahead makes steps with timestamps that are an hour ahead.
+type ahead struct{ *step.Stepper }
+
+func (a ahead) Step(line string, edge [][]byte, batch []step.Submission, now, most uint64) (*step.Stepped, error) {
+	return a.Stepper.Step(line, edge, batch, now+3_000_000, most+3_000_000)
+}
+
+// other makes steps of another certificate than the last one that was submitted.
+type other struct{ *step.Stepper }
+
+func (o other) Step(line string, edge [][]byte, batch []step.Submission, now, most uint64) (*step.Stepped, error) {
+	if len(batch) > 0 {
+		batch = append([]step.Submission{}, batch...)
+		batch[len(batch)-1].LeafCertificate = append([]byte("another "), batch[len(batch)-1].LeafCertificate...)
+	}
+	return o.Stepper.Step(line, edge, batch, now, most)
+}
+
+// TestWrappedDecisions changes the order and the steps from outside, and has the judge find each change within a few seeds, by the rule that says so.
+func TestWrappedDecisions(t *testing.T) {
+	steps := step.New(sim.Origin)
+	for _, of := range []struct {
+		name, rule string
+		with       node.Proved
+	}{
+		{"nothing is staged", "a stop is named", node.Proved{Decider: skips(decider.Stage), Steps: steps}},
+		{"no object is put", "a head's tree is in the store", node.Proved{Decider: skips(decider.Put), Steps: steps}},
+		{"no head is put", "a stop is named", node.Proved{Decider: skips(decider.Head), Steps: steps}},
+		{"a step goes on from a state that is not published", "a step is made of a published state", node.Proved{Steps: steps, Decider: &wrapped{
+			Decider: decider.New(),
+			told: func(command *decider.Command, told decider.Told) decider.Told {
+				if command.Do == decider.Look {
+					return decider.Published()
+				}
+				return told
+			},
+		}}},
+		{"the newest staged batch is deleted", "the newest staged batch stays", node.Proved{Steps: steps, Decider: &wrapped{
+			Decider: decider.New(),
+			next: func(_ *wrapped, command, next *decider.Command, err error) (*decider.Command, error) {
+				if err == nil && command.Do == decider.Step && next.Do == decider.Delete {
+					next.Bundle = next.Seen.Bundle
+				}
+				return next, err
+			},
+		}}},
+		{"timestamps are of the future", "no timestamp of the future", node.Proved{Decider: decider.New(), Steps: ahead{steps}}},
+		{"another certificate is logged", "a promise is kept", node.Proved{Decider: decider.New(), Steps: other{steps}}},
+	} {
+		found := ""
+		for seed := int64(0); seed < 40 && found == ""; seed++ {
+			if v := sim.Run(sim.NewPlan(seed), of.with, false).Violation; v != nil {
+				found = v.Rule
+				t.Logf("%s: found by seed %d: %v", of.name, seed, v)
+			}
+		}
+		if found != of.rule {
+			t.Errorf("%s: found by rule %q and not by %q", of.name, found, of.rule)
+		}
+	}
+}
