@@ -41,10 +41,10 @@ check: ## for daily work: proves what changed
 	@PYTHONDONTWRITEBYTECODE=1 python3 checks/prove.py
 	@$(MAKE) --silent sources
 
-serve: ## serves a log over HTTP at PORT=8618 out of the folder FOLDER=ct-log, by ctserve over cttile, ctnode, ctguard and ctproof; builds what isn't built
+serve: ## serves a log over HTTP at PORT=8618 out of the folder FOLDER=ct-log, by ctserve, which it builds over the proved code of dist/, without the kit
 	@service/serve.sh "$(FOLDER:~/%=$(HOME)/%)" "$(PORT)"
 
-serve-witness: ## serves a witness at WITNESS_PORT=8640 out of WITNESS=ct-witness, by ctwitness-serve over ctwitness, of the log of make serve in FOLDER=ct-log; builds what isn't built
+serve-witness: ## serves a witness at WITNESS_PORT=8640 out of WITNESS=ct-witness, of the log of make serve in FOLDER=ct-log, by ctwitness-serve, which it builds likewise
 	@service/serve-witness.sh "$(WITNESS:~/%=$(HOME)/%)" "$(WITNESS_PORT)" "$(FOLDER:~/%=$(HOME)/%)"
 
 service: ## builds service/out/ctserve, the service in Go (docs/OPERATING.md), ctwitness-serve, and ctcheck, ctload and ctread
@@ -107,7 +107,7 @@ install: $(PROGRAMS:%=install-%) install-library ## installs what is built, belo
 
 $(PROGRAMS:%=install-%): install-%:
 	@if [ -x "$(BUILT)/$*/out/$*" ]; then install -d "$(TO)/bin" && install -m 755 "$(BUILT)/$*/out/$*" "$(TO)/bin" && echo "$(PREFIX)/bin/$*"; \
-	else echo "$* isn't built: make demo builds ctlog and ctmonitor, make serve cttile, ctnode, ctguard and ctproof, make serve-witness ctwitness, and rt run in its folder any other"; fi
+	else echo "$* isn't built: make demo builds ctlog and ctmonitor, and rt run in its folder any other"; fi
 	@if [ $* = ctmonitor ] && [ -x "$(BUILT)/$*/out/$*" ]; then for script in $(WATCHING); do \
 	  install -m 755 "examples/monitor/$${script#*=}" "$(TO)/bin/ctmonitor-$${script%=*}" && echo "$(PREFIX)/bin/ctmonitor-$${script%=*}" || exit 1; done; fi
 
@@ -134,7 +134,7 @@ programs: ## proves and builds all programs and libwagtenib, and builds the serv
 release: ## puts what is built into release/out: a tarball, Debian packages, SHA256SUMS and what they are made of
 	@PYTHONDONTWRITEBYTECODE=1 release/release.py --built "$(BUILT)"
 
-# As root, with mmdebstrap. Where a program of the crates isn't built, one in Python stands in for it.
+# As root, with mmdebstrap. A program of the crates that isn't built is compiled from dist/, or a program in Python stands in for it.
 bare: ## makes a release's packages, installs them on a bare Debian, and runs the lines of docs/OPERATING.md there as they stand
 	@checks/needs.sh service
 	@PYTHONDONTWRITEBYTECODE=1 tests/bare/bare.py --built "$(BUILT)"

@@ -1,12 +1,12 @@
 #!/usr/bin/env python3
 """Times one node of ctserve over engines on loopback, by turns: what it carries, and what a step asks of which store.
 
-    service/engines.sh run bench/engines.py [--turns 2] [--seconds 12] [--clients 16,64,256,1024] [--stores etcd,postgres] [--out OUT,..] [--crates CRATES]
+    service/engines.sh run bench/engines.py [--turns 2] [--seconds 12] [--clients 16,64,256,1024] [--stores etcd,postgres] [--out OUT,..]
 
 The engines are those of service/engines.sh: the register and the guard's state are on etcd's three members or on PostgreSQL, the places always on PostgreSQL, objects always on S3. With
 several folders OUT of builds of ctserve (service/out by itself) each is a log of its own over the same engines. In each turn ctload submits to each log with so
-many clients for so many seconds, each client a new certificate as soon as its last one is answered. CRATES has the builds of the log's programs; what isn't
-built there a program in Python stands in for, which it says. `make service` builds ctserve and ctload.
+many clients for so many seconds, each client a new certificate as soon as its last one is answered.
+`make service` builds ctserve and ctload.
 
 It prints, of each turn: timestamps a second, the median and 99th percentile of the time to one, how many entries a step took in, the processor time of the log's
 processes and of each engine an entry until a signed head has all of them, and how many processors others had meanwhile. Then, of all turns together, how often
@@ -23,7 +23,7 @@ import time
 import urllib.request
 
 from peers import size_of
-from served import CRATES, SERVICE, Log, busy_time, load, processor_time, run, stop, until
+from served import SERVICE, Log, busy_time, load, processor_time, run, stop, until
 
 WANTED = ("STORES_MEMBERS", "STORES_POSTGRES", "STORES_S3", "STORES_AGAIN")
 SUMMARY = re.compile(r'^ctserve_(store|step)_seconds_(sum|count)\{(.*)\} (\S+)$', re.M)
@@ -48,9 +48,9 @@ def address(store, name):
 class Node:
     """A log of one node, whose stores are engines."""
 
-    def __init__(self, folder, number, store, out, crates):
+    def __init__(self, folder, number, store, out):
         self.name, name = f"{store}{'' if out == SERVICE / 'out' else f', {out}'}", f"log{os.getpid()}-{number}"
-        self.log = Log(folder, crates, out, store=bucket(name), register=address(store, name), places=address("postgres", name), guard_state=address(store, f"{name}-guard"))
+        self.log = Log(folder, out, store=bucket(name), register=address(store, name), places=address("postgres", name), guard_state=address(store, f"{name}-guard"))
         self.rows, self.steps, self.calls, self.phases = [], 0, {}, {}
 
     def figures(self):
@@ -111,17 +111,14 @@ def main():
     parser.add_argument("--clients", default="16,64,256,1024")
     parser.add_argument("--stores", default="etcd,postgres")
     parser.add_argument("--out", default=str(SERVICE / "out"))
-    parser.add_argument("--crates", default=CRATES)
     words = parser.parse_args()
     engines, nodes = Engines(), []
     with tempfile.TemporaryDirectory(dir=os.environ.get("TMPDIR")) as work:
         try:
             for store in words.stores.split(","):
                 for out in words.out.split(","):
-                    nodes.append(Node(pathlib.Path(work) / f"log{len(nodes)}", len(nodes), store, pathlib.Path(out).resolve(), words.crates))
-            models = nodes[0].log.models
-            print(f"{words.turns} turns of {words.seconds} s on {os.cpu_count()} processors, at a load of {os.getloadavg()[0]:.1f} before" +
-                  (f"; in Python: {', '.join(models)}" if models else "; ctserve's programs are the built ones"), flush=True)  # fmt: skip
+                    nodes.append(Node(pathlib.Path(work) / f"log{len(nodes)}", len(nodes), store, pathlib.Path(out).resolve()))
+            print(f"{words.turns} turns of {words.seconds} s on {os.cpu_count()} processors, at a load of {os.getloadavg()[0]:.1f} before", flush=True)
             print("| Clients | Register | Timestamps a second | Median, ms | 99th percentile, ms | Entries a step | Processor of the log, ms an entry | Of the engines | Processors that others had |\n" + "|---" * 9 + "|")
             for clients in map(int, words.clients.split(",")):
                 for number in range(words.turns):

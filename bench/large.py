@@ -1,13 +1,13 @@
 #!/usr/bin/env python3
 """Times a log of ctserve out of a folder that has so many entries already, on loopback.
 
-    large.py [--entries 10400,1000000] [--asks 200] [--seconds 10] [--crates CRATES] [--keep FOLDER [--make]]
+    large.py [--entries 10400,1000000] [--asks 200] [--seconds 10] [--keep FOLDER [--make]]
 
 Nobody submitted these entries: bench/fabricate writes the tiles (a certificate of 60 bytes each), this script the places, in SQLite, and the register's text, of
 a state that is decided and not rolled out yet; so ctserve publishes its head at its first start, and goes on from it. Then, for each size: the seconds until it
 serves, at its second start; a proof by leaf hash, 32 entries and a consistency proof, at places of chance, each checked; a submission alone, a repeat of it, 64
-clients side by side; the memory of ctserve and its programs, and the disk. Last, how many data tiles a second it reads again where it is told to be quick, and
-how long all of them take so. CRATES has the crates' builds; what isn't built there a program in Python stands in for, which it says. The logs stay in FOLDER,
+clients side by side; the memory of ctserve and its signer, and the disk. Last, how many data tiles a second it reads again where it is told to be quick, and
+how long all of them take so. The logs stay in FOLDER,
 and are used again where they are there; --make makes them and times nothing. 10^8 entries take 25 GB. `make service` builds ctserve and ctload.
 """
 import argparse
@@ -29,7 +29,7 @@ import time
 import urllib.parse
 import urllib.request
 
-from served import CRATES, HERE, TESTS, Log, disk_used, load, memory, processor_time, run, stop, until
+from served import HERE, TESTS, Log, disk_used, load, memory, processor_time, run, stop, until
 
 sys.path += [str(TESTS), str(TESTS / "tiles")]
 
@@ -80,14 +80,14 @@ def size_of(log):
     return json.loads(asked(log, "get-sth"))["tree_size"]
 
 
-def fabricated(folder, fabricate, crates, entries):
+def fabricated(folder, fabricate, entries):
     """A log of so many entries in a folder, which has ended, and their moment."""
     if (folder / "moment").exists():
-        log = Log(folder / "log", crates)
+        log = Log(folder / "log")
         log.end()
         return log, int((folder / "moment").read_text())
     folder.mkdir(parents=True)
-    log = Log(folder / "log", crates)
+    log = Log(folder / "log")
     until(lambda: size_of(log) == 0, "there is no head", log.process, log.said)
     log.end()
     moment = decide(log.stored(), fabricate, entries)
@@ -216,8 +216,8 @@ def read_again(log):
 
 
 def measure(folder, fabricate, words, entries):
-    """The cells of a column, and which programs are in Python."""
-    log, moment = fabricated(folder, fabricate, words.crates, entries)
+    """The cells of a column."""
+    log, moment = fabricated(folder, fabricate, entries)
     try:
         cells = {"ready, s": f"{log.start():.2f}"}
         of, asks = Reader(log, moment), range(words.asks)
@@ -242,7 +242,7 @@ def measure(folder, fabricate, words, entries):
         cells["reading again"] = f"{a_second:.0f} data tiles a second, {each:.1f} ms each: {hours:.2f} h"
     finally:
         log.end()
-    return cells, log.models
+    return cells
 
 
 def main():
@@ -250,7 +250,6 @@ def main():
     parser.add_argument("--entries", default="10400,1000000")
     parser.add_argument("--asks", type=int, default=200)
     parser.add_argument("--seconds", type=int, default=10)
-    parser.add_argument("--crates", default=CRATES)
     parser.add_argument("--keep", type=pathlib.Path)
     parser.add_argument("--make", action="store_true")
     words = parser.parse_args()
@@ -263,12 +262,12 @@ def main():
         for entries in map(int, words.entries.split(",")):
             folder = (words.keep.resolve() if words.keep else work) / str(entries)
             if words.make:
-                fabricated(folder, fabricate, words.crates, entries)
+                fabricated(folder, fabricate, entries)
                 continue
-            columns[entries], models = measure(folder, fabricate, words, entries)
+            columns[entries] = measure(folder, fabricate, words, entries)
             if not words.keep:
                 shutil.rmtree(folder)
-            print(f"{entries:,}: {columns[entries]}; load {os.getloadavg()[0]:.0f}" + (f"; in Python: {', '.join(models)}" if models else ""), flush=True)
+            print(f"{entries:,}: {columns[entries]}; load {os.getloadavg()[0]:.0f}", flush=True)
     if words.make:
         return
     print("| Entries |" + "".join(f" {entries:,} |" for entries in columns) + "\n|---|" + "---|" * len(columns))

@@ -2,11 +2,10 @@
 """Times ctserve beside CTFE over Trillian and MariaDB, by turns, on loopback: the same loader, the same chains (bench/peers.md).
 
     peers.py fetch FOLDER                  has apt fetch what is needed of Debian 13 and of this machine's Debian, and builds it in FOLDER
-    peers.py FOLDER [--turns 2] [--seconds 12] [--clients 16,64,256,1024] [--crates CRATES] [--settle 0] [--before OUT]
+    peers.py FOLDER [--turns 2] [--seconds 12] [--clients 16,64,256,1024] [--settle 0] [--before OUT]
 
 Nothing is installed: all lies in FOLDER. With FOLDER alone it makes a log of CTFE and one of ctserve, and has ctload submit
-to each in turn, in each turn with so many clients for so many seconds. CRATES has the builds of the log's programs; what isn't built there a program in Python
-stands in for, which it says. It prints timestamps a second, the median and 99th percentile of the time to one, the processor time of the log's processes an entry
+to each in turn, in each turn with so many clients for so many seconds. It prints timestamps a second, the median and 99th percentile of the time to one, the processor time of the log's processes an entry
 until a signed head has all of them, and how many processors others had meanwhile; then what each log's files and processes take. With --settle it looks at the
 files once more after so many seconds: what was written for a while is gone then. With --before a log of another build of ctserve is among them, which is in OUT.
 ctload has made its submissions before it sends the first. `make service` builds ctserve and ctload.
@@ -23,7 +22,7 @@ import tempfile
 import time
 import urllib.request
 
-from served import CRATES, Log, busy_time, disk_used, free_port, listens, load, memory, processor_time, run, stop, until
+from served import Log, busy_time, disk_used, free_port, listens, load, memory, processor_time, run, stop, until
 
 SUITE, GO = "trixie", "golang-1.24-go"
 WANTED = ["golang-github-google-trillian-dev", "golang-github-google-certificate-transparency-dev", GO]
@@ -143,7 +142,7 @@ class Ctfe:
     """A log of CTFE over Trillian and MariaDB, in a folder, out of what was fetched; with the settings that these programs have by themselves."""
 
     def __init__(self, folder, fetched):
-        self.folder, self.models, self.processes = folder, [], []
+        self.folder, self.processes = folder, []
         folder.mkdir()
         maria, self.bin = fetched / "mariadb", fetched / "bin"
         libraries = {**os.environ, "LD_LIBRARY_PATH": ":".join(map(str, sorted((maria / "usr" / "lib").glob("*-linux-gnu"))))}
@@ -227,13 +226,11 @@ def measure(folder, words):
         work, logs = pathlib.Path(work), {}
         try:
             logs["CTFE over Trillian"] = Ctfe(work / "ctfe", folder)
-            logs["ctserve"] = Log(work / "one", words.crates)
+            logs["ctserve"] = Log(work / "one")
             if words.before:
-                logs["ctserve before"] = Log(work / "three", words.crates, out=pathlib.Path(words.before))
+                logs["ctserve before"] = Log(work / "three", out=pathlib.Path(words.before))
             began = {name: (size_of(log), disk_used(log.stored())) for name, log in logs.items()}
-            models = logs["ctserve"].models
-            print(f"{words.turns} turns of {words.seconds} s on {os.cpu_count()} processors, at a load of {os.getloadavg()[0]:.1f} before" +
-                  (f"; in Python: {', '.join(models)}" if models else "; ctserve's programs are the built ones"), flush=True)  # fmt: skip
+            print(f"{words.turns} turns of {words.seconds} s on {os.cpu_count()} processors, at a load of {os.getloadavg()[0]:.1f} before", flush=True)
             print("| Clients | Log | Timestamps a second | Median, ms | 99th percentile, ms | Processor, ms an entry | Processors that others had |\n|---|---|---|---|---|---|---|")
             for count in clients:
                 figures = {name: [] for name in logs}
@@ -266,7 +263,6 @@ def main():
     parser.add_argument("--turns", type=int, default=2)
     parser.add_argument("--seconds", type=int, default=12)
     parser.add_argument("--clients", default="16,64,256,1024")
-    parser.add_argument("--crates", default=CRATES)
     parser.add_argument("--settle", type=int, default=0)
     parser.add_argument("--before")
     words = parser.parse_args()

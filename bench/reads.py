@@ -1,11 +1,11 @@
 #!/usr/bin/env python3
 """Times readers of a log of ctserve, straight and behind nginx with the example of its configuration, on loopback.
 
-    reads.py [--seconds 10] [--turns 3] [--connections 48] [--entries 600] [--crates FOLDER]
+    reads.py [--seconds 10] [--turns 3] [--connections 48] [--entries 600]
 
 The log is filled by ctload with that many entries. Then wrk reads a hash tile, a data tile and the checkpoint, each alone, by turns: straight (HTTP), and
-behind nginx (TLS, connections that are kept), where tiles come out of nginx's cache and a checkpoint out of ctserve. FOLDER has the crates' builds; what
-isn't built there a program in Python stands in for, which it says; readers don't need them. It prints of each the median and the least and greatest of the
+behind nginx (TLS, connections that are kept), where tiles come out of nginx's cache and a checkpoint out of ctserve.
+It prints of each the median and the least and greatest of the
 turns, the processor time of nginx and ctserve a reading, and how many processors others had meanwhile. It wants wrk, nginx, openssl, and `make service` before.
 """
 import argparse
@@ -18,7 +18,7 @@ import subprocess
 import tempfile
 import time
 
-from served import CRATES, SERVICE, Log, busy_time, free_port, listens, load, processor_time, run, stop, until
+from served import SERVICE, Log, busy_time, free_port, listens, load, processor_time, run, stop, until
 
 NAME = "bench.example"
 KINDS = {"hash tile": "tile/0/000", "data tile": "tile/data/000", "checkpoint": "checkpoint"}
@@ -68,7 +68,6 @@ def main():
     parser = argparse.ArgumentParser(description=__doc__, formatter_class=argparse.RawDescriptionHelpFormatter)
     for name, least in (("seconds", 10), ("turns", 3), ("connections", 48), ("entries", 600)):
         parser.add_argument(f"--{name}", type=int, default=least)
-    parser.add_argument("--crates", default=CRATES)
     words = parser.parse_args()
     for tool in ("wrk", "nginx", "openssl", SERVICE / "out" / "ctserve"):
         if not shutil.which(tool):
@@ -77,7 +76,7 @@ def main():
     with tempfile.TemporaryDirectory(dir=os.environ.get("TMPDIR")) as work:
         folder = pathlib.Path(work)
         folder.chmod(0o711)
-        log = Log(folder / "log", words.crates, proxies="127.0.0.1", submitters="127.0.0.1/32=5000")
+        log = Log(folder / "log", proxies="127.0.0.1", submitters="127.0.0.1/32=5000")
         try:
             load(log, 64, "--most", words.entries)
             nginx = Nginx(folder / "nginx", log)
@@ -97,7 +96,7 @@ def main():
         finally:
             log.end()
     print(f"{words.turns} turns of {words.seconds} s, {words.connections} connections, {os.cpu_count()} processors, all of them {min(others):.1f} to {max(others):.1f} at work with "
-          f"wrk, at a load of {min(loads):.0f} to {max(loads):.0f}" + (f"; in Python: {', '.join(log.models)}" if log.models else ""))  # fmt: skip
+          f"wrk, at a load of {min(loads):.0f} to {max(loads):.0f}")
     print("| What is read | How | A second | Median, ms | 99th percentile, ms | Processor, µs a reading |\n|---|---|---|---|---|---|")
     for (kind, way), turns in sorted(figures.items()):
         rates, middle, high, took = zip(*turns)

@@ -9,11 +9,9 @@ import sys
 import time
 
 HERE = pathlib.Path(__file__).resolve().parent
-SERVICE, CRATES, TESTS = (HERE.parent / name for name in ("service", "crates", "tests"))
+SERVICE, TESTS = (HERE.parent / name for name in ("service", "tests"))
 OUT = SERVICE / "out"
 ORIGIN = "bench.example/log"
-# The log's programs: the setting, the proved one, and its model in Python.
-PROGRAMS = {"step": ("cttile", "tiles/step.py"), "reader": ("ctproof", "tiles/step.py"), "decider": ("ctnode", "node/ctnode.py"), "guard": ("ctguard", "guard/model.py")}
 TICK = os.sysconf("SC_CLK_TCK")
 # How long a process may take to serve, in seconds.
 PATIENCE = 120
@@ -98,21 +96,10 @@ def disk_used(folder):
     return int(run("du", "-s", "--block-size=1", folder).split()[0])
 
 
-def programs(crates):
-    """The commands of the log's programs, proved where they are built below a folder of crates, and else in Python; and which these are."""
-    commands, models = {}, []
-    for setting, (name, model) in PROGRAMS.items():
-        built = pathlib.Path(crates) / name / "out" / name
-        if not built.exists():
-            models.append(name)
-        commands[setting] = built if built.exists() else f"{sys.executable} {TESTS / model}"
-    return commands, models
-
-
 class Log:
     """A log of ctserve in a folder, which is made where it isn't there; out has the build of ctserve."""
 
-    def __init__(self, folder, crates=CRATES, out=OUT, **settings):
+    def __init__(self, folder, out=OUT, **settings):
         self.out, self.folder, self.port, self.operator = out, folder, free_port(), free_port()
         self.roots, new = folder / "roots.pem", not folder.exists()
         if new:
@@ -122,9 +109,8 @@ class Log:
                 os.chmod(folder / f"{name}.key", 0o600)
             (folder / "log.pem").write_text(run("openssl", "ec", "-in", folder / "log.key", "-pubout"))
             run("openssl", "req", "-x509", "-key", folder / "root.key", "-subj", "/CN=a root", "-days", 30, "-out", self.roots)
-        commands, self.models = programs(crates)
         words = {"origin": ORIGIN, "listen": f"127.0.0.1:{self.port}", "operator-listen": f"127.0.0.1:{self.operator}", "signing-key": folder / "log.key",
-                 "roots": self.roots, "folder": folder / "log", "most-connections-by-address": 5000, **commands, **settings}  # fmt: skip
+                 "roots": self.roots, "folder": folder / "log", "most-connections-by-address": 5000, **settings}  # fmt: skip
         self.settings = folder / "bench.conf"
         self.settings.write_text("".join(f"{name.replace('_', '-')} {value}\n" for name, value in words.items()))
         self.url, self.said = f"http://127.0.0.1:{self.port}", folder / "ctserve.log"

@@ -5,8 +5,7 @@
 
 Each setup has a log of its own, over a folder, and its witnesses, by ctwitness-serve over files; all are made before the first turn and run to the end, so that
 the turns differ by nothing else. Some of the witnesses answer 100 ms late, or don't answer at all, or answer with no cosignature (`liar`); a head is
-published with as many as publish-with has by default, one more than the half. cttile, ctguard, ctproof and ctwitness are used where they are built, and
-else the programs in Python with their lines, which it says. It prints of each setup the median of its turns: timestamps a second, and the median and the 99th
+published with as many as publish-with has by default, one more than the half. It prints of each setup the median of its turns: timestamps a second, and the median and the 99th
 percentile of the time from a submission to its timestamp. make service builds what it runs.
 """
 import argparse
@@ -27,7 +26,7 @@ import time
 import urllib.parse
 
 HERE = pathlib.Path(__file__).resolve().parent
-SERVICE, CRATES, TESTS = (HERE.parent / name for name in ("service", "crates", "tests"))
+SERVICE = HERE.parent / "service"
 ORIGIN = "bench.example/log"
 LATE = 0.1
 # The setups: how many witnesses answer, answer late, are silent and lie, and witness-faults.
@@ -41,21 +40,6 @@ SETUPS = {
     "3, 1 silent": (2, 0, 1, 0, 0),
     "3, 1 liar": (2, 0, 0, 1, 0),
     "7, 1 silent, 1 liar, 1 late": (4, 1, 1, 1, 0),
-}
-
-
-def program(name, model):
-    """The words of a proved program where it is built, and else of its model."""
-    built = CRATES / name / "out" / name
-    return str(built) if built.exists() else f"{sys.executable} {TESTS / model}"
-
-
-PROGRAMS = {
-    "step": program("cttile", "tiles/step.py"),
-    "reader": program("ctproof", "tiles/step.py"),
-    "decider": program("ctnode", "node/ctnode.py"),
-    "guard": program("ctguard", "guard/model.py"),
-    "witness": program("ctwitness", "witness/model.py"),
 }
 
 
@@ -127,7 +111,7 @@ class Setup:
         self.port, operator = free_port(), free_port()
         words = {
             "origin": ORIGIN, "listen": f"127.0.0.1:{self.port}", "operator-listen": f"127.0.0.1:{operator}", "signing-key": folder / "log.key", "roots": folder / "roots.pem",
-            "folder": folder / "log", "step": PROGRAMS["step"], "guard": PROGRAMS["guard"], "reader": PROGRAMS["reader"], "decider": PROGRAMS["decider"], "interval": interval,
+            "folder": folder / "log", "interval": interval,
             "most-connections-by-address": 500,
         }  # fmt: skip
         kinds = [lambda url: url] * answering + [late] * late_ones + [silent] * silent_ones + [liar] * liars
@@ -153,7 +137,7 @@ class Setup:
         subprocess.run(["openssl", "genpkey", "-algorithm", "ed25519", "-out", f"{own}.key"], check=True)
         os.chmod(f"{own}.key", 0o600)
         (self.folder / f"w{number}.conf").write_text(
-            f"name w{number}.example\nkey {own}.key\nstate file:{own}\nprogram {PROGRAMS['witness']}\nlog {ORIGIN} {self.folder / 'log.pem'}\n"
+            f"name w{number}.example\nkey {own}.key\nstate file:{own}\nlog {ORIGIN} {self.folder / 'log.pem'}\n"
             f"listen 127.0.0.1:{port}\noperator-listen 127.0.0.1:{free_port()}\n"
         )
         words = [SERVICE / "out" / "ctwitness-serve", "--config", f"{own}.conf"]
@@ -206,7 +190,7 @@ def main():
         finally:
             for setup in setups.values():
                 setup.end()
-    print(json.dumps({"programs": {name: "proved" if "python" not in it else "Python" for name, it in PROGRAMS.items()}, "load": [min(loads), max(loads)]}))
+    print(json.dumps({"load": [min(loads), max(loads)]}))
     print("| Witnesses | Timestamps a second | Median, ms | 99th percentile, ms |\n|---|---|---|---|")
     for name, setup in setups.items():
         rate, middle, high = (statistics.median(column) for column in zip(*setup.figures))

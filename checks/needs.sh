@@ -1,6 +1,6 @@
 #!/usr/bin/env bash
-# Says what a target of the Makefile lacks here, and how long it takes on so many processors: needs.sh demo|serve|test|check|link|dist|service|service-test,
-# and of the service's part of serve and of test: needs.sh service-for-serve, service-for-test. GO=no leaves that of test out. What the service lacks
+# Says what a target of the Makefile lacks here, and how long it takes on so many processors: needs.sh demo|test|check|link|dist|service|service-test,
+# of serve and serve-witness: needs.sh service-for-serve, and of the service's part of test: needs.sh service-for-test. GO=no leaves that part out. What the service lacks
 # deps/fetch.sh fetches; with SETUP=no it only says so.
 # `needs.sh figures` prints the times on four processors, with which tests/scripts.py compares README.md, and `needs.sh write` writes them there.
 set -u
@@ -8,10 +8,10 @@ cd "$(dirname "$0")/.." || exit
 what=$1
 missing=0
 
-# The processor minutes that a target takes where nothing was proved before: test by a run of the gate, demo and serve by runs of their own, from
+# The processor minutes that a target takes where nothing was proved before: test by a run of the gate, demo by a run of its own, from
 # which link and dist are reckoned. After another run: put its figures into this line, and let `needs.sh write` put the times into README.md.
 # shellcheck disable=SC2034
-work_of() { local demo=50 serve=42 link=50 dist=50 test=180 && echo "${!1}"; }
+work_of() { local demo=50 link=50 dist=50 test=180 && echo "${!1}"; }
 
 # The minutes that target $1 takes on $2 processors, rounded up to five. Crates are proved side by side: where processors share them a third is added, or
 # a fifth to the gate's, and more than eight gain little, of a program's own crates more than four.
@@ -32,14 +32,14 @@ whose() { echo "The times are estimates from earlier runs."; }
 time_of() { echo "$(minutes "$1" 4) minutes ($(work_of "$1") of one processor)"; }
 
 if [ "$what" = figures ]; then
-  for target in demo serve test; do
+  for target in demo test; do
     echo "make $target: $(time_of $target)"
   done
   whose
   exit
 fi
 if [ "$what" = write ]; then
-  for target in demo serve test; do
+  for target in demo test; do
     sed -i -E "s/^(\| \`make $target\` \|.*\| )[^|]+ \|\$/\1$(time_of $target) |/" README.md
   done
   sed -i "s/^The times are estimates .*/$(whose)/" README.md
@@ -89,7 +89,6 @@ processors=$(python3 -c 'import os; print(len(os.sched_getaffinity(0)))')
 [ "$processors" = 1 ] && on="one processor" || on="$processors processors"
 case $what in
   demo) first="ctlog, ctmonitor, print_steps and the crates below them. Where nothing was proved before, that" ;;
-  serve) first="cttile, ctnode, ctguard, ctproof and the crates below them. Where nothing was proved before, that" ;;
   link | dist) first="the library and the crates below it. Where nothing was proved before, that" ;;
   test) first="everything, from nothing. That" ;;
   *) exit 0 ;;

@@ -25,7 +25,11 @@ import textwrap
 import time
 
 ROOT = pathlib.Path(__file__).resolve().parent.parent
-PROGRAMS = {"ctlog": "make demo", "ctmonitor": "make demo", "cttile": "make serve", "ctguard": "make serve", "ctproof": "make serve", "ctnode": "make serve", "ctwitness": "make serve-witness"}
+PROGRAMS = {"ctlog": "make demo", "ctmonitor": "make demo", **dict.fromkeys(("cttile", "ctguard", "ctproof", "ctnode", "ctwitness"), "make programs")}
+# Those that no service asks, since it contains their code: the tarball has them, and no package.
+APART = ("cttile", "ctguard", "ctnode", "ctwitness")
+# The services that contain the proved code of dist/.
+LINKED = ("ctserve", "ctwitness-serve")
 SERVICE = ("ctserve", "ctcheck", "ctread", "ctload", "ctwitness-serve")
 UNITS = ("ctserve@.service", "ctwitness-serve@.service")
 # Those of ctmonitor's package, and the file by which what it keeps is turned over.
@@ -42,7 +46,7 @@ PAGES = ("OPERATING", "MONITOR", "GUARD", "GROWTH", "TILES", "LINES", "PROMISES"
 PACKAGES = {
     "wagtenib": (
         "Certificate Transparency log with proved steps, guard and proofs",
-        "ctserve serves a log over HTTP (RFC 6962, C2SP static-ct-api). cttile makes its steps, ctnode says in which order, ctguard what its key may sign, ctproof makes its readers' proofs, ctwitness what a witness cosigns: these are proved to meet their contracts, ctserve, ctwitness-serve and what judges, reads and loads a log are not. ctlog is a log in memory, proved.",
+        "ctserve serves a log over HTTP (RFC 6962, C2SP static-ct-api), and ctwitness-serve is a witness. Proved code in them decides what is appended, what is signed and what is cosigned; the rest of them, and what judges, reads and loads a log, is not proved. ctproof checks the promises of certificates, and ctlog is a log in memory: these are proved.",
         "adduser, libsqlite3-0, procps",
         "ca-certificates, nginx | httpd, openssl",
     ),
@@ -122,7 +126,7 @@ class Release:
         by_kit = {path: data for path, data in held.items() if path.split("/")[-1] in PROGRAMS or path.split("/")[-1].startswith("libwagtenib.")}
         in_go = {path: data for path, data in held.items() if path.split("/")[-1] in SERVICE}
         text = f"# Wagtenib {self.version}, commit {self.commit}, logic {self.logic}\n# Built by the Rattle kit, which builds no crate that isn't proved:\n{sums_of(by_kit)}"
-        return text + (f"# In Go, and not proved:\n{sums_of(in_go)}" if in_go else "")
+        return text + (f"# In Go, and not proved; {' and '.join(LINKED)} contain the proved code of dist/, of which dist/SOURCES of this commit says what it is made of:\n{sums_of(in_go)}" if in_go else "")
 
     def documents(self):
         """Pages by their names."""
@@ -186,7 +190,7 @@ class Release:
             found["usr/include/wagtenib.h"] = ((ROOT / "include" / "wagtenib.h").read_bytes(), 0o644)
             found[f"{doc}/LINKING.md"] = (self.documents()["LINKING.md"].read_bytes(), 0o644)
         else:
-            found.update({f"usr/bin/{command}": (path.read_bytes(), 0o755) for command, path in self.programs.items() if command != "ctmonitor"})
+            found.update({f"usr/bin/{command}": (path.read_bytes(), 0o755) for command, path in self.programs.items() if command not in ("ctmonitor", *APART)})
             found.update(installed_units("service", UNITS))
             found.update({f"usr/share/wagtenib/{file}": (path.read_bytes(), 0o644) for file, path in self.shared().items()})
             found.update({f"{doc}/{page}": (path.read_bytes(), 0o644) for page, path in self.documents().items() if page != "LICENSE"})
@@ -213,7 +217,7 @@ class Release:
 
     def libc(self, name):
         """The newest version of libc that one of the package's programs asks for, by what objdump reads."""
-        paths = {"ctmonitor": [self.programs["ctmonitor"]], "libwagtenib-dev": [self.linked.with_suffix(".so")]}.get(name) or [path for it, path in self.programs.items() if it != "ctmonitor"]
+        paths = {"ctmonitor": [self.programs["ctmonitor"]], "libwagtenib-dev": [self.linked.with_suffix(".so")]}.get(name) or [path for it, path in self.programs.items() if it not in ("ctmonitor", *APART)]
         asked = [tuple(map(int, it.split("."))) for path in paths for it in re.findall(r"GLIBC_([0-9.]+)\)", run("objdump", "-T", path).stdout)]
         return ".".join(map(str, max(asked, default=(2, 34))))
 
@@ -379,13 +383,13 @@ def sbom(release):
     def located(module, version):
         return [{"referenceCategory": "PACKAGE-MANAGER", "referenceType": "purl", "referenceLocator": f"pkg:golang/{module}@{version}"}]
 
-    own = [package(name, release.version, "wagtenib", "proved" if name in PROGRAMS else "in Go, not proved") for name in release.programs]
+    own = [package(name, release.version, "wagtenib", "proved" if name in PROGRAMS else "in Go, not proved, with the proved code of dist/" if name in LINKED else "in Go, not proved") for name in release.programs]
     own.append(package("libwagtenib", release.version, "wagtenib", "proved"))
     kit = [package(name, release.logic, "rattle", "a library of the Rattle kit, by its logic") for name in crates_of_the_kit()]
     go = [package(name, version, "go", f"linked into the programs in Go; {comment}", externalRefs=located(name, version)) for name, version, comment in go_modules(release)]
     relations = [{"spdxElementId": "SPDXRef-DOCUMENT", "relationshipType": "DESCRIBES", "relatedSpdxElement": it["SPDXID"]} for it in own]
     for it in own:
-        below = go if it["name"] in SERVICE else kit
+        below = (go if it["name"] in SERVICE else []) + (kit if it["name"] not in SERVICE or it["name"] in LINKED else [])
         relations += [{"spdxElementId": it["SPDXID"], "relationshipType": "STATIC_LINK", "relatedSpdxElement": lib["SPDXID"]} for lib in below]
     document = {
         "spdxVersion": "SPDX-2.3", "dataLicense": "CC0-1.0", "SPDXID": "SPDXRef-DOCUMENT", "name": f"wagtenib-{release.version}",

@@ -5,7 +5,7 @@
 # its tiles and by its calls, at 30 entries and at the end, and openssl checks the signatures of the checkpoints that are kept. Which certificates
 # certspotter and watch.sh tell an owner of is compared with examples/monitor/CERTSPOTTER.md, over a log of tests/names/table.py's. At the end ctcheck
 # judges the log from its folder. It wants certspotter, openssl and curl; it
-# says what it leaves out. STEP, READER and GUARD are the log's programs, as in cluster.sh.
+# says what it leaves out.
 set -eu
 here=$(cd "$(dirname "$0")" && pwd)
 for tool in openssl curl python3; do
@@ -14,13 +14,6 @@ done
 "$here/build.sh" build
 work=$(mktemp -d)
 origin=clients.example/log
-guard=$here/../crates/ctguard/out/ctguard step=$here/../crates/cttile/out/cttile
-[ -x "$guard" ] || guard="python3 $here/../tests/guard/model.py"
-[ -x "$step" ] || step="python3 $here/../tests/tiles/step.py"
-proofs=$here/../crates/ctproof/out/ctproof
-[ -x "$proofs" ] || proofs="python3 $here/../tests/tiles/step.py"
-decider=$here/../crates/ctnode/out/ctnode
-[ -x "$decider" ] || decider="python3 $here/../tests/node/ctnode.py"
 export PYTHONDONTWRITEBYTECODE=1
 running=
 trap 'kill $running 2>/dev/null || true; wait; rm -rf "$work"' EXIT
@@ -46,8 +39,8 @@ text = "\n".join(textwrap.wrap(chain[-1], 64))
 (work / "roots.pem").write_text((work / "root.pem").read_text() + f"-----BEGIN CERTIFICATE-----\n{text}\n-----END CERTIFICATE-----\n")
 END
 
-"$here/out/ctserve" --origin "$origin" --listen 127.0.0.1:0 --operator-listen "" --signing-key "$work/log.key" --guard "${GUARD:-$guard}" \
-  --step "${STEP:-$step}" --decider "${DECIDER:-$decider}" --reader "${READER:-$proofs}" --roots "$work/roots.pem" --folder "$work/log" --interval 50ms --create 2>"$work/ctserve.told" &
+"$here/out/ctserve" --origin "$origin" --listen 127.0.0.1:0 --operator-listen "" --signing-key "$work/log.key" \
+  --roots "$work/roots.pem" --folder "$work/log" --interval 50ms --create 2>"$work/ctserve.told" &
 running=$!
 for _ in $(seq 600); do
   grep -q '"event":"serving"' "$work/ctserve.told" && break

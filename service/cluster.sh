@@ -5,9 +5,7 @@
 #   cluster.sh status FOLDER         says what runs and what it said last
 #   cluster.sh stop FOLDER           ends it; ctcheck judges what it published and answered, and openssl who cosigned its last head
 # RATE=20 is how many submissions the loader sends a second, 0 as many as are answered; LOAD=no starts neither it nor the reader.
-# STEP is the program that makes the steps, cttile where it is built, and else a second program with its lines; READER the one that makes
-# readers' proofs, likewise for ctproof, GUARD the one before the key, likewise for ctguard, and WITNESS the one that decides what is cosigned, likewise for
-# ctwitness. One signer has the key, for all nodes.
+# One signer has the key, for all nodes.
 set -eu
 here=$(cd "$(dirname "$0")" && pwd)
 what=${1:-} folder=${2:-}
@@ -59,13 +57,6 @@ addresses() {
   places=postgres://log@127.0.0.1:$(sed 's/.*port=\([0-9]*\).*/\1/' <<<"${STORES_POSTGRES-}")/postgres?log=log\&sslmode=disable
 }
 
-# command_of NAME MODEL: the command of a proved program where it is built, and else of its model.
-command_of() {
-  local built=$here/../crates/$1/out/$1
-  [ -x "$built" ] || built="python3 $here/../tests/$2"
-  echo "$built"
-}
-
 # numbers KIND: those of the nodes, or of the witnesses.
 numbers() { find "$folder" -maxdepth 1 -name "$1-*.conf" | sed "s/^.*$1-\([0-9]*\)\.conf\$/\1/" | sort -n; }
 
@@ -84,9 +75,6 @@ nodes-address    http://127.0.0.1:$((port + 20 + i))/
 nodes-secret     $folder/secret
 signer-at        $folder/signer
 roots            $folder/roots.pem
-step             ${STEP:-$(command_of cttile tiles/step.py)}
-reader           ${READER:-$(command_of ctproof tiles/step.py)}
-decider          ${DECIDER:-$(command_of ctnode node/ctnode.py)}
 register         $register
 places           $places
 store            $bucket
@@ -106,7 +94,6 @@ name             w$1.cluster.example
 key              $name.key
 state            file:$name
 log              $origin $folder/log.pem
-program          ${WITNESS:-$(command_of ctwitness witness/model.py)}
 listen           127.0.0.1:$(($2 + 7 + $1))
 operator-listen  127.0.0.1:$(($2 + 17 + $1))
 END_OF_CONF
@@ -174,7 +161,7 @@ start() {
   # (the loader makes a root of its own)
   [ -e "$folder/roots.pem" ] || openssl req -x509 -newkey rsa:2048 -nodes -days 3650 -subj "/CN=a root" -keyout "$folder/root.key" -out "$folder/roots.pem" 2>/dev/null
   process signer >/dev/null || rm -f "$folder/signer"
-  launch signer "$programs/ctserve" signer --signing-key "$folder/log.key" --guard "${GUARD:-$(command_of ctguard guard/model.py)}" --guard-state "file:$folder/guard" --listen "$folder/signer" ${create:+"$create"}
+  launch signer "$programs/ctserve" signer --signing-key "$folder/log.key" --guard-state "file:$folder/guard" --listen "$folder/signer" ${create:+"$create"}
   for _ in $(seq 300); do
     [ ! -S "$folder/signer" ] || break
     sleep 0.1

@@ -1,32 +1,30 @@
 #!/usr/bin/env bash
-# Serves a witness on loopback, of one log: serve-witness.sh [FOLDER] [PORT] [LOG], by default ct-witness, 8640 and ct-log, the folder of serve.sh, which
-# has the log's public key, log.pem. ORIGIN=ct-log.example is the log's name in checkpoints.
-# The first start makes the witness's key, its settings and the log's state in FOLDER; later ones go on with them. PROGRAM decides, by default
-# ctwitness, which is proved and built where it isn't. Without the kit it is compiled from dist/, the code that was proved elsewhere.
+# Serves a witness of one log on loopback: serve-witness.sh [FOLDER] [PORT] [LOG], by default ct-witness, 8640 and ct-log, the folder of serve.sh, which
+# contains the log's public key, log.pem. ORIGIN=ct-log.example is the log's name in checkpoints.
+# The first start makes the witness's key, its settings and the log's state in FOLDER. Later starts go on with them.
+# ctwitness-serve contains the proved code, which gcc compiles from dist/: nothing is proved here.
 set -eu
 here=$(cd "$(dirname "$0")" && pwd)
 folder=${1:-ct-witness} port=${2:-8640} log=${3:-ct-log} origin=${ORIGIN:-ct-log.example}
-built=$here/../crates/ctwitness/out/ctwitness
+
+# Each port must be free before anything is built or made.
+for taken in "$port" "$((port + 1))"; do
+  if (exec 3<>"/dev/tcp/127.0.0.1/$taken") 2>/dev/null; then
+    echo "serve-witness.sh: another program listens at port $taken (take other ports: make serve-witness WITNESS_PORT=$((port + 10)))" >&2
+    exit 1
+  fi
+done
 if [ ! -e "$log/log.pem" ]; then
-  echo "serve-witness.sh: $log has no log.pem: make serve makes a log there" >&2
+  echo "serve-witness.sh: $log has no log.pem (run make serve first: it makes a log there)" >&2
   exit 1
 fi
-"$here/../checks/needs.sh" service
-if [ -z "${PROGRAM:-}" ] && [ ! -x "$built" ]; then
-  if command -v rt >/dev/null; then
-    "$here/../examples/build.py" ctwitness
-  else
-    "$here/../dist/programs.sh" "$here/../dist/out"
-    echo "The witness decides by ctwitness, which was proved elsewhere and is compiled from dist/. The Rattle kit, which proves it, isn't here (README.md, 'With the kit')."
-    PROGRAM=$(cd "$here/../dist/out/bin" && pwd)/ctwitness
-  fi
-fi
+"$here/../checks/needs.sh" service-for-serve
+echo "The decisions of this witness are proved code, compiled from dist/. To prove them here: make check, with the Rattle kit (README.md, 'With the kit')."
 "$here/build.sh" build
-export PYTHONDONTWRITEBYTECODE=1
 mkdir -p "$folder"
 folder=$(cd "$folder" && pwd)
 log=$(cd "$log" && pwd)
-words=(--config "$folder/settings" --listen "127.0.0.1:$port" --operator-listen "127.0.0.1:$((port + 1))" --program "${PROGRAM:-$built}")
+arguments=(--config "$folder/settings" --listen "127.0.0.1:$port" --operator-listen "127.0.0.1:$((port + 1))")
 # (a witness is made once: one whose state isn't there knows nothing of what it cosigned)
 if [ ! -e "$folder/made" ]; then
   (umask 077 && openssl genpkey -algorithm ed25519 -out "$folder/key.pem")
@@ -36,13 +34,13 @@ key $folder/key.pem
 state file:$folder/states
 log $origin $log/log.pem
 END_OF_SETTINGS
-  "$here/out/ctwitness-serve" "${words[@]}" --create "$origin" 2>"$folder/create.log" || { cat "$folder/create.log" >&2; exit 1; }
+  "$here/out/ctwitness-serve" "${arguments[@]}" --create "$origin" 2>"$folder/create.log" || { cat "$folder/create.log" >&2; exit 1; }
   touch "$folder/made"
 fi
 cat <<END_OF_TEXT
 A witness in $folder, of $origin:
-  its key       $("$here/out/ctwitness-serve" "${words[@]}" --verifier-key)
+  its key       $("$here/out/ctwitness-serve" "${arguments[@]}" --verifier-key)
   asked at      http://127.0.0.1:$port/add-checkpoint
-  figures       curl http://127.0.0.1:$((port + 1))/metrics
+  metrics       curl http://127.0.0.1:$((port + 1))/metrics
 END_OF_TEXT
-exec "$here/out/ctwitness-serve" "${words[@]}"
+exec "$here/out/ctwitness-serve" "${arguments[@]}"

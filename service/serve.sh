@@ -1,10 +1,9 @@
 #!/usr/bin/env bash
 # Serves one log of ctserve out of a folder, on loopback: serve.sh [FOLDER] [PORT] [SETTING..], by default ct-log and 8618; settings go to ctserve.
 # The first start makes the log in FOLDER: its key (log.key, log.pem), a root of its own to try it with (root.key, root.pem) and a chain that
-# leads there (chain.json); later ones go on with it. A first start that fails leaves no folder. ROOTS is a file with the roots besides, in PEM; by default the
-# system's.
-# STEP, DECIDER and GUARD are the log's programs, READER the one that makes readers' proofs; by default cttile, ctnode, ctguard and ctproof, which are
-# proved and built where they aren't. Without the kit, those that aren't built are compiled from dist/, the code that was proved elsewhere. ORIGIN=ct-log.example is the log's name in checkpoints.
+# leads there (chain.json). Later starts go on with it. A first start that fails leaves no folder. ROOTS is a file with more roots in PEM; by default it is
+# the system's. ORIGIN=ct-log.example is the log's name in checkpoints.
+# ctserve contains the proved code, which gcc compiles from dist/: nothing is proved here.
 set -eu
 here=$(cd "$(dirname "$0")" && pwd)
 folder=${1:-ct-log} port=${2:-8618}
@@ -22,44 +21,19 @@ if [ ! -e "$folder/made" ] && [ -n "$(ls -A "$folder" 2>/dev/null)" ]; then
   echo "serve.sh: $folder isn't a log that serve.sh made, or is incomplete (remove it and run this again: rm -r $folder)" >&2
   exit 1
 fi
-crates=$here/../crates
-missing=
-[ -n "${STEP:-}" ] || [ -x "$crates/cttile/out/cttile" ] || missing+=" cttile"
-[ -n "${GUARD:-}" ] || [ -x "$crates/ctguard/out/ctguard" ] || missing+=" ctguard"
-[ -n "${DECIDER:-}" ] || [ -x "$crates/ctnode/out/ctnode" ] || missing+=" ctnode"
-[ -n "${READER:-}" ] || [ -x "$crates/ctproof/out/ctproof" ] || missing+=" ctproof"
 "$here/../checks/needs.sh" service-for-serve
-if [ -n "$missing" ] && ! command -v rt >/dev/null; then
-  "$here/../dist/programs.sh" "$here/../dist/out"
-  notice="This log is served by${missing}, which were proved elsewhere and are compiled from dist/."
-  echo "$notice The Rattle kit, which proves them, isn't here (README.md, 'With the kit')."
-  set -- --notice "$notice" "$@"
-  compiled=$(cd "$here/../dist/out/bin" && pwd)
-  [[ $missing != *cttile* ]] || STEP=$compiled/cttile
-  [[ $missing != *ctproof* ]] || READER=$compiled/ctproof
-  [[ $missing != *ctnode* ]] || DECIDER=$compiled/ctnode
-  [[ $missing != *ctguard* ]] || GUARD=$compiled/ctguard
-  missing=
-fi
-if [ -n "$missing" ]; then
-  "$here/../checks/needs.sh" serve
-  # (each word is a crate)
-  # shellcheck disable=SC2086
-  "$here/../examples/build.py" $missing
-fi
+echo "The decisions of this log are proved code, compiled from dist/. To prove them here: make check, with the Rattle kit (README.md, 'With the kit')."
 [ -x "$here/out/ctserve" ] || echo "Building ctserve, a minute and a half of one processor."
 "$here/build.sh" build
-export PYTHONDONTWRITEBYTECODE=1
 mkdir -p "$(dirname "$folder")"
 folder=$(cd "$(dirname "$folder")" && pwd)/$(basename "$folder")
 
-# ctserve_at FOLDER WORD..: what calls ctserve over the log in a folder.
+# ctserve_at FOLDER SETTING..: puts the arguments of ctserve over the log in a folder into `settings`.
 ctserve_at() {
   local at=$1
   shift
   settings=(--origin "${ORIGIN:-ct-log.example}" --listen "127.0.0.1:$port" --operator-listen "127.0.0.1:$((port + 1))" --signing-key "$at/log.key"
-    --roots "$at/roots.pem" --folder "$at/log" --step "${STEP:-$crates/cttile/out/cttile}" --guard "${GUARD:-$crates/ctguard/out/ctguard}"
-    --decider "${DECIDER:-$crates/ctnode/out/ctnode}" --reader "${READER:-$crates/ctproof/out/ctproof}" "$@")
+    --roots "$at/roots.pem" --folder "$at/log" "$@")
 }
 
 # make: key, root and chain, and the log, which is ready once before it is served. All of it is made beside FOLDER, which it becomes at the end.
@@ -102,7 +76,7 @@ A log in $folder:
   a page        http://127.0.0.1:$port/
   its head      curl http://127.0.0.1:$port/checkpoint
   a submission  curl -d @$folder/chain.json http://127.0.0.1:$port/ct/v1/add-chain
-  figures       curl http://127.0.0.1:$((port + 1))/metrics
+  metrics       curl http://127.0.0.1:$((port + 1))/metrics
   its key       $folder/log.pem
 END_OF_TEXT
 exec "$here/out/ctserve" "${settings[@]}"

@@ -1,12 +1,12 @@
 #!/usr/bin/env python3
 """A soak: two logs run for hours while their processes, engines, disks and clients go wrong at random, and are judged every some minutes and at the end.
 
-    soak.py [--hours 2 | --minutes M] [--seed N] [--on engines,folder] [--judge-every 12] [--rate 10] [--crates CRATES] [--logs FOLDER]
+    soak.py [--hours 2 | --minutes M] [--seed N] [--on engines,folder] [--judge-every 12] [--rate 10] [--logs FOLDER]
 
 `engines`: three nodes of ctserve over three members of etcd, each in a network namespace of its own, Ceph's S3 behind a proxy that misbehaves, and PostgreSQL
 with the places, by the seed. `folder`: two nodes over one folder on a small file system, which is filled, locked and not to be written at times. It runs as root. SIGTERM ends
 it sooner: it is judged all the same. Its choices come from the seed, which it says; what a choice meets depends on the moment. What the processes said is kept in
-the folder of --logs, and else where a judgement fails alone. A log's programs are looked up at each start of a node: a model stands in for what isn't built.
+the folder of --logs, and else where a judgement fails alone.
 """
 import argparse
 import base64
@@ -38,7 +38,7 @@ import xml.etree.ElementTree
 
 HERE = pathlib.Path(__file__).resolve().parent
 sys.path.insert(0, str(HERE.parent / "bench"))
-from served import CRATES, PROGRAMS, free_port, processes, programs  # noqa: E402
+from served import free_port, processes  # noqa: E402
 
 OUT = HERE / "out"
 ORIGIN = "soak.example/log"
@@ -163,12 +163,6 @@ def kind_of(process):
         return "signer"
     if "ctserve" in names[:1]:
         return "node"
-    for kind, (built, model) in PROGRAMS.items():
-        model = os.path.basename(model)
-        if built in names[:1] or model in names[:2]:
-            if model == "step.py" and model in names[:2]:
-                return "step" if b"--origin" in words else "reader"
-            return kind
     return names[0] or None
 
 
@@ -460,7 +454,7 @@ class Soak:
         self.faults, self.gaps, self.recovered = [], [], {}
         self.heads, self.back, self.proofs, self.tiles = {}, [], [], {}
         self.memory, self.files, self.ends = {}, {}, collections.Counter()
-        self.judged, self.models, self.removed = [], set(), []
+        self.judged, self.removed = [], []
         self.register_away = 0.0
         self.answers, self.own = work / "answers", work / "own-answers"
         self.answers.touch()
@@ -485,17 +479,15 @@ class Soak:
         raise NotImplementedError
 
     def start_node(self, i, *words):
-        """Starts a node that isn't there, over the programs that are built by now."""
+        """Starts a node that isn't there."""
         with self.starting:
             if not self.nodes[i].alive():
                 self.started(i, *words)
 
     def started(self, i, *words):
-        commands, models = programs(self.words.crates)
-        self.models = set(models)
         settings = {"origin": ORIGIN, "listen": f"127.0.0.1:{self.ports[i]}", "operator-listen": f"127.0.0.1:{self.operators[i]}", "signing-key": self.work / "log.key",
                     "roots": self.roots, "interval": "500ms", "refresh": "30s", "sweep-after": "20s", "sweep-tiles-after": "10s", "read-all-within": "1m",
-                    "most-connections-by-address": 100, "submission-within": "20s", **commands, **self.settings(i)}  # fmt: skip
+                    "most-connections-by-address": 100, "submission-within": "20s", **self.settings(i)}  # fmt: skip
         conf = self.work / f"node-{i}.conf"
         conf.write_text("".join(f"{name} {value}\n" for name, value in settings.items()))
         os.chmod(conf, 0o600)
@@ -561,7 +553,7 @@ class Soak:
 
     def stop_whole_node(self, chance):
         node, seconds = chance.choice(self.nodes), chance.choice([chance.uniform(1, 6), chance.uniform(10, 35)])
-        self.note(f"{node.name} stopped with all its programs for {seconds:.0f} s")
+        self.note(f"{node.name} stopped with its signer for {seconds:.0f} s")
         self.stopped([node.process.pid, *below(node.process.pid)] if node.alive() else [], seconds)
 
     @staticmethod
@@ -574,28 +566,28 @@ class Soak:
             with contextlib.suppress(ProcessLookupError):
                 os.kill(one, signal.SIGCONT)
 
-    def one_program(self, chance):
-        node, kind = chance.choice(self.nodes), chance.choice(["signer", "guard", "step", "reader", "decider"])
-        return node, kind, [one for found, one in self.programs_of(node) if found == kind]
+    def one_signer(self, chance):
+        node = chance.choice(self.nodes)
+        return node, [one for kind, one in self.programs_of(node) if kind == "signer"]
 
-    def kill_program(self, chance):
-        node, kind, ids = self.one_program(chance)
-        self.note(f"{node.name}'s {kind} killed (-9)" if ids else f"{node.name} has no {kind} to be killed")
+    def kill_signer(self, chance):
+        node, ids = self.one_signer(chance)
+        self.note(f"{node.name}'s signer killed (-9)" if ids else f"{node.name} has no signer to be killed")
         for one in ids:
             with contextlib.suppress(ProcessLookupError):
                 os.kill(one, signal.SIGKILL)
-        self.counts[f"{kind} killed"] += len(ids)
+        self.counts["signer killed"] += len(ids)
 
-    def stop_program(self, chance):
-        node, kind, ids = self.one_program(chance)
+    def stop_signer(self, chance):
+        node, ids = self.one_signer(chance)
         seconds = chance.choice([chance.uniform(1, 6), chance.uniform(10, 35)])
-        self.note(f"{node.name}'s {kind} stopped for {seconds:.0f} s")
-        self.counts[f"{kind} stopped"] += len(ids)
+        self.note(f"{node.name}'s signer stopped for {seconds:.0f} s")
+        self.counts["signer stopped"] += len(ids)
         self.stopped(ids, seconds)
 
     def process_faults(self):
         return [Fault("node killed", self.kill_node, 3), Fault("node ended by SIGTERM", self.end_node), Fault("node stopped", self.stop_node, 2),
-                Fault("node and programs stopped", self.stop_whole_node), Fault("program killed", self.kill_program, 3), Fault("program stopped", self.stop_program)]  # fmt: skip
+                Fault("node and signer stopped", self.stop_whole_node), Fault("signer killed", self.kill_signer, 3), Fault("signer stopped", self.stop_signer)]  # fmt: skip
 
     # Clients that misbehave.
 
@@ -1042,7 +1034,7 @@ class Soak:
         except (OSError, http.client.HTTPException):
             return
         process = self.nodes[i].process.pid
-        for name, value in re.findall(r"^ctserve_((?:refusals|lost_swaps|mended_objects|swept_\w+|scrubbed_tiles|step_starts|signer_starts|decider_starts|handed_over|helped|repeats|connections_refused|tend_failures)_total(?:\{.*\})?) (\S+)$", text.decode(), re.M):
+        for name, value in re.findall(r"^ctserve_((?:refusals|lost_swaps|mended_objects|swept_\w+|scrubbed_tiles|signer_starts|handed_over|helped|repeats|connections_refused|tend_failures)_total(?:\{.*\})?) (\S+)$", text.decode(), re.M):
             before = self.seen_figures.get((i, process, name), 0.0)
             self.figures[name] += int(float(value) - before)
             self.seen_figures[i, process, name] = float(value)
@@ -1324,7 +1316,6 @@ class Soak:
         self.say(f"until something was taken behind a fault's end, at most, in seconds: { {name: round(took, 1) for name, took in sorted(self.recovered.items())} }")
         self.say(f"largest memory, in MiB: { {kind: round(most / 2**20) for kind, most in sorted(self.memory.items())} }; most open files: {dict(sorted(self.files.items()))}")
         self.say(f"heads behind another node's: {len(self.back)}, of which without a fault about: {[one for one in self.back if not one[4]][:5]}")
-        self.say(f"programs in Python stood in at the last start for: {sorted(self.models) or 'none'}")
         for one in self.judged:
             self.say(f"judgement {one}")
 
@@ -1669,7 +1660,6 @@ def main():
     asking.add_argument("--on", default="engines,folder")
     asking.add_argument("--judge-every", type=float, default=12)
     asking.add_argument("--rate", type=float, default=10)
-    asking.add_argument("--crates", default=CRATES)
     asking.add_argument("--logs")
     words = asking.parse_args()
     words.ends = threading.Event()

@@ -56,7 +56,7 @@ http.server.HTTPServer((host, int(port)), Answers).serve_forever()
 ENGINES = """#!/usr/bin/env bash
 set -eu
 case $1 in
-  start) printf 'STORES_MEMBERS=127.0.0.1:1\\nSTORES_S3=http://a:b@%s\\n' "$S3" >"$2/addresses"; touch "$2/names" ;;
+  start) printf 'STORES_MEMBERS=127.0.0.1:1\\nSTORES_POSTGRES="host=127.0.0.1 port=2"\\nSTORES_S3=http://a:b@%s\\n' "$S3" >"$2/addresses"; touch "$2/names" ;;
   stop) ;;
 esac
 """

@@ -33,7 +33,7 @@ README = ROOT / "README.md"
 NEW_MOUNTS = 0x00020000
 # How long a command may take, in seconds, that proves; and one that doesn't.
 PROVES, WITHIN = 4 * 3600, 1800
-PROVING = ("make demo", "make programs", "make serve", "make link", "make check", "make wrong", "(cd crates", "make reproduce", "make service-", "make load", "make sweep")
+PROVING = ("make demo", "make programs", "make link", "make check", "make wrong", "(cd crates", "make reproduce", "make service-", "make load", "make sweep")
 # What serves until it is interrupted, and what it says once it does.
 SERVING, SERVES = ("make serve-witness", "make serve"), '"event":"serving"'
 # What has to be built before a command, and what ends a command that leaves something running.

@@ -308,7 +308,7 @@ def try_release(folder):
         return subprocess.run(words, capture_output=True, text=True)
 
     ran = make("none", "nothing", "nothing")
-    if ran.returncode != 1 or not all(name in ran.stderr for name in ("ctlog (make demo)", "ctguard (make serve)", "ctserve (make service)", "libwagtenib.so (make link)")):
+    if ran.returncode != 1 or not all(name in ran.stderr for name in ("ctlog (make demo)", "ctguard (make programs)", "ctserve (make service)", "libwagtenib.so (make link)")):
         fail(f"release.py, with nothing built: status {ran.returncode}: {ran.stdout}{ran.stderr}")
     if (folder / "none").exists():
         fail("release.py makes something of nothing")
@@ -345,12 +345,15 @@ def try_release(folder):
         if subprocess.run(words).returncode:
             fail(f"release.py: {name} can't be unpacked")
     places = {"wagtenib-0.1.0-x86_64.tar.gz": ("wagtenib-0.1.0/bin", tuple(programs)),
-              "wagtenib_0.1.0_amd64.deb": ("usr/bin", ("ctserve", "cttile", "ctguard", "ctproof", "ctnode", "ctcheck", "ctwitness", "ctwitness-serve")), "ctmonitor_0.1.0_amd64.deb": ("usr/bin", ("ctmonitor",))}
+              "wagtenib_0.1.0_amd64.deb": ("usr/bin", ("ctserve", "ctwitness-serve", "ctcheck", "ctread", "ctload", "ctproof", "ctlog")), "ctmonitor_0.1.0_amd64.deb": ("usr/bin", ("ctmonitor",))}
     for name, (below, held) in places.items():
         for program in held:
             path = out / name / below / program
             if not path.exists() or path.read_text() != texts[program] or not os.access(path, os.X_OK):
                 fail(f"release.py: {name} has no {program} that is as it was built and can be run")
+    others = {path.name for path in (out / "wagtenib_0.1.0_amd64.deb" / "usr/bin").iterdir()} - {*places["wagtenib_0.1.0_amd64.deb"][1]}
+    if others:
+        fail(f"release.py: the log's package has programs that nothing in it asks: {sorted(others)}")
     unit = (out / "wagtenib_0.1.0_amd64.deb" / "lib" / "systemd" / "system" / "ctserve@.service").read_text()
     if "ExecStart=/usr/bin/ctserve " not in unit:
         fail("release.py: the package's unit starts another ctserve than its own")
@@ -468,7 +471,7 @@ case "$*" in *--create*) trap 'exit 0' TERM; while :; do sleep 0.1; done ;; esac
         path.write_text(f"#!/bin/sh\n{script}\n")
         path.chmod(0o755)
     before = {path.name for path in folder.iterdir()}
-    place = {**os.environ, "STEP": "true", "GUARD": "true", "DECIDER": "true", "READER": "true", "ROOTS": os.devnull}
+    place = {**os.environ, "ROOTS": os.devnull}
 
     def serve(what, port, status, says, left):
         ended = subprocess.run([service / "serve.sh", log, str(port)], env=place, capture_output=True, text=True)
@@ -494,6 +497,40 @@ case "$*" in *--create*) trap 'exit 0' TERM; while :; do sleep 0.1; done ;; esac
     serve("another folder", port, 1, f"serve.sh: {log} isn't a log that serve.sh made", {log.name})
 
 
+def try_serve_witness(folder):
+    """serve-witness.sh refuses a port that is taken, and a log that is not there, before it does anything. The first start makes the witness's key and state, and the next one goes on."""
+    service, log, witness, calls = folder / "service", folder / "a log", folder / "a witness", folder / "calls"
+    (service / "out").mkdir(parents=True)
+    (folder / "checks").mkdir()
+    shutil.copy(HERE.parent / "service" / "serve-witness.sh", service)
+    for path, script in ((service / "build.sh", ""), (folder / "checks" / "needs.sh", ""), (service / "out" / "ctwitness-serve", f"echo \"$*\" >>'{calls}'")):
+        path.write_text(f"#!/bin/sh\n{script}\n")
+        path.chmod(0o755)
+
+    def serve(what, port, status, says, made):
+        ended = subprocess.run([service / "serve-witness.sh", witness, str(port), log], capture_output=True, text=True)
+        if ended.returncode != status or says not in ended.stdout + ended.stderr or witness.exists() != made:
+            fail(f"serve-witness.sh, with {what}, ends with status {ended.returncode}, and says {ended.stdout}{ended.stderr}")
+
+    port = two_ports()
+    serve("no log", port, 1, f"serve-witness.sh: {log} has no log.pem", False)
+    log.mkdir()
+    (log / "log.pem").touch()
+    for taken in (port, port + 1):
+        with socket.socket() as other:
+            other.bind(("127.0.0.1", taken))
+            other.listen()
+            serve("a port that is taken", port, 1, f"serve-witness.sh: another program listens at port {taken} ", False)
+    if calls.exists():
+        fail(f"serve-witness.sh, refused, calls ctwitness-serve by {calls.read_text()}")
+    serve("a first start", port, 0, f"A witness in {witness}, of ct-log.example:", True)
+    serve("a second start", port, 0, f"A witness in {witness}, of ct-log.example:", True)
+    of = f"--config {witness}/settings --listen 127.0.0.1:{port} --operator-listen 127.0.0.1:{port + 1}"
+    due = [f"{of} --create ct-log.example", f"{of} --verifier-key", of, f"{of} --verifier-key", of]
+    if calls.read_text().splitlines() != due or (witness / "key.pem").stat().st_mode & 0o077:
+        fail(f"serve-witness.sh calls ctwitness-serve by {calls.read_text()}")
+
+
 def try_count(folder):
     """Go's tests are counted with their parts as one; a test within which the program ended failed; what failed is said."""
     count = folder / "made" / "count"
@@ -517,7 +554,7 @@ def try_figures():
     row = re.compile(r"^\| `make (\w+)` \|.*?(\d+ minutes \(\d+ of one processor\))", re.M)
     pages = {page: (HERE.parent / page).read_text() for page in ("README.md", "checks/README.md")}
     rows = {page: row.findall(text) for page, text in pages.items()}
-    if set(told) != {"demo", "serve", "test"} or {target for target, _ in rows["README.md"]} != set(told):
+    if set(told) != {"demo", "test"} or {target for target, _ in rows["README.md"]} != set(told):
         fail(f"README.md has the times of {rows['README.md']}, checks/needs.sh those of {told}")
     for page, found in rows.items():
         for target, time in found:
@@ -581,6 +618,8 @@ def main():
         try_count(pathlib.Path(folder))
     with tempfile.TemporaryDirectory() as folder:
         try_serve(pathlib.Path(folder))
+    with tempfile.TemporaryDirectory() as folder:
+        try_serve_witness(pathlib.Path(folder))
     with tempfile.TemporaryDirectory() as folder:
         sessions = try_sessions(pathlib.Path(folder))
     try_figures()

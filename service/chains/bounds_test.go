@@ -2,7 +2,6 @@ package chains
 
 import (
 	"bytes"
-	"context"
 	"crypto/rsa"
 	"crypto/x509"
 	"encoding/asn1"
@@ -34,7 +33,7 @@ func TestBounds(t *testing.T) {
 		{of(LongestCertificate, LongestCertificate, rest), NoCertificate}, {of(LongestCertificate, LongestCertificate, rest+1), ChainTooLong},
 		{of(make([]int, MostCertificates)...), NoCertificate}, {of(make([]int, MostCertificates+1)...), ChainTooLong},
 	} {
-		if _, err := c.Certificate(context.Background(), test.chain); RefusalOf(err) != test.why {
+		if _, err := c.Certificate(test.chain); RefusalOf(err) != test.why {
 			t.Errorf("%d certificates: %v, and not %s", len(test.chain), err, test.why)
 		}
 	}
@@ -71,13 +70,13 @@ func TestRootsOfOneName(t *testing.T) {
 	}
 	c := NewChecker(taken, Window{}, byASN1{})
 	for i, leaf := range leaves {
-		entry, err := c.Certificate(context.Background(), [][]byte{leaf})
+		entry, err := c.Certificate([][]byte{leaf})
 		if err != nil || !reflect.DeepEqual(entry.Issuers, roots[i:i+1]) {
 			t.Errorf("of root %d: %v", i, err)
 		}
 	}
 	other := newKey(t)
-	if _, err := c.Certificate(context.Background(), [][]byte{signedBy(t, authority("leaf"), authority("root"), &other.PublicKey, other)}); RefusalOf(err) != UnknownRoot {
+	if _, err := c.Certificate([][]byte{signedBy(t, authority("leaf"), authority("root"), &other.PublicKey, other)}); RefusalOf(err) != UnknownRoot {
 		t.Errorf("of none: %v", err)
 	}
 }
@@ -103,7 +102,7 @@ func TestEmptySignature(t *testing.T) {
 	}
 	c := NewChecker(roots, Window{}, byASN1{})
 	for _, chain := range [][][]byte{{bare}, {bare, root}} {
-		if _, err := c.Certificate(context.Background(), chain); err == nil {
+		if _, err := c.Certificate(chain); err == nil {
 			t.Errorf("a chain of %d is taken", len(chain))
 		}
 	}
@@ -126,7 +125,7 @@ func TestVersion2(t *testing.T) {
 	if err != nil {
 		t.Fatal(err)
 	}
-	if _, err := NewChecker(roots, Window{}, byASN1{}).Certificate(context.Background(), [][]byte{leaf, old}); err != nil {
+	if _, err := NewChecker(roots, Window{}, byASN1{}).Certificate([][]byte{leaf, old}); err != nil {
 		t.Errorf("a root: %v", err)
 	}
 	if err := NewChecker(&Roots{}, Window{}, byASN1{}).issued(certificateOf(parsed), parsed); RefusalOf(err) != NotAnAuthority {

@@ -2,7 +2,6 @@ package chains
 
 import (
 	"bytes"
-	"context"
 	"crypto/ecdsa"
 	"crypto/rand"
 	"crypto/sha256"
@@ -13,6 +12,8 @@ import (
 	"reflect"
 	"testing"
 	"time"
+
+	"wagtenib/service/precert"
 )
 
 var oidAltNames = asn1.ObjectIdentifier{2, 5, 29, 17}
@@ -65,7 +66,7 @@ func TestMisissuedAreShown(t *testing.T) {
 	if err != nil {
 		t.Fatal(err)
 	}
-	c := NewChecker(roots, Window{}, standIn(t))
+	c := NewChecker(roots, Window{}, precert.New())
 	same := func(tbs []byte) []byte { return tbs }
 	unknown := pkix.Extension{Id: asn1.ObjectIdentifier{1, 2, 3}, Value: []byte{5, 0}}
 	poisonous := pkix.Extension{Id: oidPoison, Critical: true, Value: []byte{5, 0}}
@@ -88,21 +89,21 @@ func TestMisissuedAreShown(t *testing.T) {
 		if _, err := x509.ParseCertificate(der); err == nil {
 			t.Errorf("%s: crypto/x509 reads it", test.what)
 		}
-		entry, err := c.Certificate(context.Background(), [][]byte{der})
+		entry, err := c.Certificate([][]byte{der})
 		if want := (&Entry{Type: X509Entry, Certificate: der, Issuers: roots.Certificates()}); err != nil || !reflect.DeepEqual(entry, want) {
 			t.Errorf("%s: %v", test.what, err)
 		}
 		damaged := append([]byte{}, der...)
 		damaged[len(damaged)-1] ^= 1
-		if _, err := c.Certificate(context.Background(), [][]byte{damaged}); RefusalOf(err) != UnknownRoot {
+		if _, err := c.Certificate([][]byte{damaged}); RefusalOf(err) != UnknownRoot {
 			t.Errorf("%s, damaged: %v", test.what, err)
 		}
-		if _, err := NewChecker(roots, Window{To: template.NotAfter}, byASN1{}).Certificate(context.Background(), [][]byte{der}); RefusalOf(err) != OutsideWindow {
+		if _, err := NewChecker(roots, Window{To: template.NotAfter}, byASN1{}).Certificate([][]byte{der}); RefusalOf(err) != OutsideWindow {
 			t.Errorf("%s, outside of the window: %v", test.what, err)
 		}
 		template.ExtraExtensions = append(append([]pkix.Extension{}, test.extensions...), poisonous)
 		der = signed(t, signedBy(t, template, root, &newKey(t).PublicKey, key), key, test.change)
-		entry, err = c.Precertificate(context.Background(), [][]byte{der})
+		entry, err = c.Precertificate([][]byte{der})
 		if err != nil {
 			t.Errorf("%s, as a precertificate: %v", test.what, err)
 			continue
@@ -127,7 +128,7 @@ func TestOtherFormOfASignature(t *testing.T) {
 	if err != nil {
 		t.Fatal(err)
 	}
-	c := NewChecker(roots, Window{}, standIn(t))
+	c := NewChecker(roots, Window{}, precert.New())
 	rewritten := func(der []byte) []byte {
 		t.Helper()
 		var whole struct {
@@ -157,7 +158,7 @@ func TestOtherFormOfASignature(t *testing.T) {
 	first := signedBy(t, template, root, &newKey(t).PublicKey, key)
 	second := rewritten(first)
 	for what, der := range map[string][]byte{"as it was signed": first, "rewritten": second} {
-		entry, err := c.Certificate(context.Background(), [][]byte{der})
+		entry, err := c.Certificate([][]byte{der})
 		if err != nil || !bytes.Equal(entry.Certificate, der) {
 			t.Errorf("%s: %v", what, err)
 		}
@@ -167,11 +168,11 @@ func TestOtherFormOfASignature(t *testing.T) {
 	}
 	template.ExtraExtensions = []pkix.Extension{{Id: oidPoison, Critical: true, Value: []byte{5, 0}}}
 	der := signedBy(t, template, root, &newKey(t).PublicKey, key)
-	one, err := c.Precertificate(context.Background(), [][]byte{der})
+	one, err := c.Precertificate([][]byte{der})
 	if err != nil {
 		t.Fatal(err)
 	}
-	two, err := c.Precertificate(context.Background(), [][]byte{rewritten(der)})
+	two, err := c.Precertificate([][]byte{rewritten(der)})
 	if err != nil {
 		t.Fatal(err)
 	}

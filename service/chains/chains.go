@@ -11,7 +11,6 @@ package chains
 
 import (
 	"bytes"
-	"context"
 	"crypto/rsa"
 	"crypto/sha256"
 	"crypto/x509"
@@ -96,7 +95,7 @@ func (c *Checker) Reload(files RootFiles) (added, removed int, err error) {
 }
 
 // Certificate checks a chain in DER whose first is a certificate (add-chain), and gives its entry. An error wraps a Refusal.
-func (c *Checker) Certificate(_ context.Context, chain [][]byte) (*Entry, error) {
+func (c *Checker) Certificate(chain [][]byte) (*Entry, error) {
 	first, issuers, err := c.check(chain)
 	if err != nil {
 		return nil, err
@@ -109,7 +108,7 @@ func (c *Checker) Certificate(_ context.Context, chain [][]byte) (*Entry, error)
 
 // Precertificate checks a chain in DER whose first is a precertificate (add-pre-chain), and gives its entry. An error wraps a
 // Refusal, or is the cutter's.
-func (c *Checker) Precertificate(ctx context.Context, chain [][]byte) (*Entry, error) {
+func (c *Checker) Precertificate(chain [][]byte) (*Entry, error) {
 	first, issuers, err := c.check(chain)
 	if err != nil {
 		return nil, err
@@ -130,7 +129,7 @@ func (c *Checker) Precertificate(ctx context.Context, chain [][]byte) (*Entry, e
 			return nil, err
 		}
 	}
-	if tbs, err = c.entryOf(ctx, tbs); err != nil {
+	if tbs, err = c.entryOf(tbs); err != nil {
 		return nil, err
 	}
 	return &Entry{

@@ -2,7 +2,6 @@ package chains
 
 import (
 	"bytes"
-	"context"
 	"crypto/ecdsa"
 	"crypto/elliptic"
 	"crypto/rand"
@@ -44,7 +43,7 @@ func TestCertificatesAreTaken(t *testing.T) {
 		{"400 names", []string{"long", "middle"}, []string{"middle", "root"}},
 		{"a precertificate signing certificate's own", []string{"signing", "middle"}, []string{"middle", "root"}},
 	} {
-		entry, err := c.Certificate(context.Background(), a.chain(t, test.submitted...))
+		entry, err := c.Certificate(a.chain(t, test.submitted...))
 		if err != nil {
 			t.Errorf("%s: %v", test.what, err)
 			continue
@@ -143,7 +142,7 @@ func TestChainsAreRefused(t *testing.T) {
 		if test.precert {
 			call = c.Precertificate
 		}
-		entry, err := call(context.Background(), test.chain)
+		entry, err := call(test.chain)
 		if entry != nil || RefusalOf(err) != test.why {
 			t.Errorf("%s (%s): %v, %v", test.why, test.what, entry != nil, err)
 		}
@@ -266,11 +265,11 @@ func TestChainOfSixteen(t *testing.T) {
 		parent = child
 	}
 	c := NewChecker(roots, Window{}, byASN1{})
-	if _, err := c.Certificate(context.Background(), chain); RefusalOf(err) != ChainTooLong {
+	if _, err := c.Certificate(chain); RefusalOf(err) != ChainTooLong {
 		t.Errorf("17: %v", err)
 	}
 	for _, submitted := range [][][]byte{chain[:MostCertificates], chain[1:]} {
-		entry, err := c.Certificate(context.Background(), submitted)
+		entry, err := c.Certificate(submitted)
 		if err != nil {
 			t.Fatal(err)
 		}
@@ -295,7 +294,7 @@ func TestWindow(t *testing.T) {
 		{"", "2027-01-01T00:00:00Z", false},
 		{"", "2027-01-01T00:00:01Z", true},
 	} {
-		_, err := NewChecker(roots, Window{moment(t, test.from), moment(t, test.to)}, byASN1{}).Certificate(context.Background(), chain)
+		_, err := NewChecker(roots, Window{moment(t, test.from), moment(t, test.to)}, byASN1{}).Certificate(chain)
 		if (err == nil) != test.taken || err != nil && RefusalOf(err) != OutsideWindow {
 			t.Errorf("from %q to %q: %v", test.from, test.to, err)
 		}
@@ -336,7 +335,7 @@ func TestReload(t *testing.T) {
 	}
 	c := NewChecker(a.roots(t, "other"), Window{}, byASN1{})
 	chain := a.chain(t, "leaf", "middle")
-	if _, err := c.Certificate(context.Background(), chain); RefusalOf(err) != UnknownRoot {
+	if _, err := c.Certificate(chain); RefusalOf(err) != UnknownRoot {
 		t.Errorf("before: %v", err)
 	}
 	write(a.pem(t, "root"))
@@ -350,7 +349,7 @@ func TestReload(t *testing.T) {
 	if _, _, err := c.Reload(RootFiles{Paths: []string{file + ".absent"}}); err == nil {
 		t.Error("an absent file is read")
 	}
-	if _, err := c.Certificate(context.Background(), chain); err != nil {
+	if _, err := c.Certificate(chain); err != nil {
 		t.Errorf("behind: %v", err)
 	}
 	if got := c.Roots().Certificates(); !reflect.DeepEqual(got, a.chain(t, "root")) {

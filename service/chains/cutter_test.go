@@ -2,7 +2,6 @@ package chains
 
 import (
 	"bytes"
-	"context"
 	"crypto/x509"
 	"crypto/x509/pkix"
 	"encoding/asn1"
@@ -10,28 +9,17 @@ import (
 	"fmt"
 	"testing"
 
-	"wagtenib/service/step"
-	"wagtenib/service/trial"
+	"wagtenib/service/precert"
+	"wagtenib/service/proved"
 )
 
 // The one form of the poison extension: its OID, critical, and NULL in an OCTET STRING.
 var poison = []byte{0x30, 0x13, 0x06, 0x0a, 0x2b, 0x06, 0x01, 0x04, 0x01, 0xd6, 0x79, 0x02, 0x04, 0x03, 0x01, 0x01, 0xff, 0x04, 0x02, 0x05, 0x00}
 
-// standIn is a cutter that asks tests/tiles/step.py, which answers the lines of ctproof.
-func standIn(t testing.TB) Cutter {
-	wantsPython(t)
-	program, err := step.NewClient([]string{"python3", "-B", "../../tests/tiles/step.py"}, trial.Longest)
-	if err != nil {
-		t.Fatal(err)
-	}
-	t.Cleanup(func() { program.Close() })
-	return program
-}
-
 // byASN1 is a cutter that stands on encoding/asn1.
 type byASN1 struct{}
 
-func (byASN1) WithoutPoison(_ context.Context, tbs []byte) ([]byte, error) {
+func (byASN1) WithoutPoison(tbs []byte) ([]byte, error) {
 	made, _, err := plainly(tbs)
 	return made, err
 }
@@ -40,18 +28,18 @@ func (byASN1) WithoutPoison(_ context.Context, tbs []byte) ([]byte, error) {
 func listOf(tbs []byte) (fields, extensions []asn1.RawValue, err error) {
 	fields, err = inside(tbs)
 	if err != nil || len(fields) == 0 {
-		return nil, nil, fmt.Errorf("%w: %v", step.Unread, err)
+		return nil, nil, fmt.Errorf("%w: %v", precert.Unread, err)
 	}
 	last := len(fields) - 1
 	if fields[last].Class != asn1.ClassContextSpecific || fields[last].Tag != 3 {
-		return nil, nil, step.NoExtension
+		return nil, nil, precert.NoExtension
 	}
 	lists, err := values(fields[last].Bytes)
 	if err == nil && len(lists) == 1 {
 		extensions, err = values(lists[0].Bytes)
 	}
 	if err != nil || len(lists) != 1 {
-		return nil, nil, fmt.Errorf("%w: %v", step.Unread, err)
+		return nil, nil, fmt.Errorf("%w: %v", precert.Unread, err)
 	}
 	return fields[:last], extensions, nil
 }
@@ -73,11 +61,11 @@ func plainly(tbs []byte) (made []byte, place int, err error) {
 	}
 	switch {
 	case len(cut) == 0:
-		return nil, 0, step.NoExtension
+		return nil, 0, precert.NoExtension
 	case len(cut) > 1:
-		return nil, 0, step.SecondExtension
+		return nil, 0, precert.SecondExtension
 	case !bytes.Equal(cut[0].FullBytes, poison):
-		return nil, 0, step.BadPoison
+		return nil, 0, precert.BadPoison
 	}
 	if len(kept) > 0 {
 		fields = append(fields, wrapped(asn1.ClassContextSpecific, 3, []asn1.RawValue{wrapped(asn1.ClassUniversal, asn1.TagSequence, kept)}))
@@ -91,7 +79,7 @@ type answers struct {
 	err   error
 }
 
-func (a answers) WithoutPoison(context.Context, []byte) ([]byte, error) { return a.entry, a.err }
+func (a answers) WithoutPoison([]byte) ([]byte, error) { return a.entry, a.err }
 
 // TestCutters: what a cutter refuses is refused by name, and an error of its own is told as it is.
 func TestCutters(t *testing.T) {
@@ -102,23 +90,23 @@ func TestCutters(t *testing.T) {
 		err  error
 		want Refusal
 	}{
-		{step.NoExtension, NoPoison}, {step.SecondExtension, NoPoison}, {step.BadPoison, BadPoison}, {step.TooLong, NoCertificate},
-		{fmt.Errorf("%w: trailing in tbs of the certificate", step.Unread), NoCertificate}, {step.BadLine, ""}, {gone, ""},
+		{precert.NoExtension, NoPoison}, {precert.SecondExtension, NoPoison}, {precert.BadPoison, BadPoison}, {precert.TooLong, NoCertificate},
+		{fmt.Errorf("%w: trailing in tbs of the certificate", precert.Unread), NoCertificate}, {proved.BadLine, ""}, {gone, ""},
 	} {
-		entry, err := NewChecker(a.roots(t, "root"), Window{}, answers{[]byte("an entry"), test.err}).Precertificate(context.Background(), chain)
+		entry, err := NewChecker(a.roots(t, "root"), Window{}, answers{[]byte("an entry"), test.err}).Precertificate(chain)
 		if entry != nil || RefusalOf(err) != test.want || test.want == "" && !errors.Is(err, test.err) {
 			t.Errorf("%v: %v, %v", test.err, entry != nil, err)
 		}
 	}
-	entry, err := NewChecker(a.roots(t, "root"), Window{}, answers{entry: []byte("an entry")}).Precertificate(context.Background(), chain)
+	entry, err := NewChecker(a.roots(t, "root"), Window{}, answers{entry: []byte("an entry")}).Precertificate(chain)
 	if err != nil || string(entry.TBSCertificate) != "an entry" {
 		t.Errorf("another entry: %v", err)
 	}
 }
 
-// TestPoisonTwice: of two poison extensions none is cut out, by the stand-in and by encoding/asn1.
+// TestPoisonTwice: of two poison extensions none is cut out, by the proved function and by encoding/asn1.
 func TestPoisonTwice(t *testing.T) {
-	cutters := []Cutter{standIn(t), byASN1{}}
+	cutters := []Cutter{precert.New(), byASN1{}}
 	for _, line := range realPrecertificates(t)[:1] {
 		certificate, err := x509.ParseCertificate(line.Chain[0])
 		if err != nil {
@@ -126,18 +114,18 @@ func TestPoisonTwice(t *testing.T) {
 		}
 		tbs := certificate.RawTBSCertificate
 		for _, cutter := range cutters {
-			entry, err := cutter.WithoutPoison(context.Background(), tbs)
+			entry, err := cutter.WithoutPoison(tbs)
 			if err != nil {
 				t.Fatal(err)
 			}
 			again := poisoned(t, poisoned(t, entry, 0), 1)
-			if _, err := cutter.WithoutPoison(context.Background(), again); !errors.Is(err, step.SecondExtension) {
+			if _, err := cutter.WithoutPoison(again); !errors.Is(err, precert.SecondExtension) {
 				t.Errorf("%T: two of them: %v", cutter, err)
 			}
-			if _, err := cutter.WithoutPoison(context.Background(), entry); !errors.Is(err, step.NoExtension) {
+			if _, err := cutter.WithoutPoison(entry); !errors.Is(err, precert.NoExtension) {
 				t.Errorf("%T: none of them: %v", cutter, err)
 			}
-			if _, err := cutter.WithoutPoison(context.Background(), append(append([]byte{}, tbs...), 0)); !errors.Is(err, step.Unread) {
+			if _, err := cutter.WithoutPoison(append(append([]byte{}, tbs...), 0)); !errors.Is(err, precert.Unread) {
 				t.Errorf("%T: a byte behind it: %v", cutter, err)
 			}
 		}

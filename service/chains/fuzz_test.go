@@ -2,7 +2,6 @@ package chains
 
 import (
 	"bytes"
-	"context"
 	"crypto/sha256"
 	"crypto/x509"
 	"crypto/x509/pkix"
@@ -140,14 +139,14 @@ func FuzzChain(f *testing.F) {
 	c.signed = func(*certificate, *x509.Certificate) error { return nil }
 	f.Fuzz(func(t *testing.T, first, second []byte) {
 		for _, chain := range [][][]byte{{first}, {first, second}} {
-			entry, err := c.Certificate(context.Background(), chain)
+			entry, err := c.Certificate(chain)
 			if (entry == nil) == (RefusalOf(err) == "") {
 				t.Errorf("a certificate: %v", err)
 			}
 			if entry != nil && !bytes.Equal(entry.Certificate, first) {
 				t.Error("another certificate")
 			}
-			entry, err = c.Precertificate(context.Background(), chain)
+			entry, err = c.Precertificate(chain)
 			if (entry == nil) == (RefusalOf(err) == "") {
 				t.Errorf("a precertificate: %v", err)
 			}

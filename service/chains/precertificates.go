@@ -2,7 +2,6 @@ package chains
 
 import (
 	"bytes"
-	"context"
 	"crypto/x509"
 	"encoding/asn1"
 	"errors"
@@ -11,7 +10,7 @@ import (
 	"golang.org/x/crypto/cryptobyte"
 	tags "golang.org/x/crypto/cryptobyte/asn1"
 
-	"wagtenib/service/step"
+	"wagtenib/service/precert"
 )
 
 var (
@@ -62,23 +61,23 @@ func noDER(what string) error {
 	return fmt.Errorf("%w: %s isn't as it has to be in DER", NoCertificate, what)
 }
 
-// Cutter makes of the TBSCertificate of a precertificate its entry: the same without the poison extension, and with all other bytes
-// as they are but for the lengths around them. A step.Client of ctproof is one, which is proved to.
+// Cutter makes the entry of a precertificate from its TBSCertificate: the same without the poison extension. All other bytes stay
+// as they are, except the lengths around them. A precert.Cutter is one, which is proved to.
 type Cutter interface {
-	WithoutPoison(ctx context.Context, tbs []byte) ([]byte, error)
+	WithoutPoison(tbs []byte) ([]byte, error)
 }
 
 // entryOf asks for the entry of a precertificate's TBSCertificate.
-func (c *Checker) entryOf(ctx context.Context, tbs []byte) ([]byte, error) {
-	entry, err := c.cutter.WithoutPoison(ctx, tbs)
+func (c *Checker) entryOf(tbs []byte) ([]byte, error) {
+	entry, err := c.cutter.WithoutPoison(tbs)
 	switch {
 	case err == nil:
 		return entry, nil
-	case errors.Is(err, step.NoExtension), errors.Is(err, step.SecondExtension):
+	case errors.Is(err, precert.NoExtension), errors.Is(err, precert.SecondExtension):
 		return nil, fmt.Errorf("%w: it has to be there once: %v", NoPoison, err)
-	case errors.Is(err, step.BadPoison):
+	case errors.Is(err, precert.BadPoison):
 		return nil, fmt.Errorf("%w: it isn't critical, or its value isn't NULL", BadPoison)
-	case errors.Is(err, step.Unread), errors.Is(err, step.TooLong):
+	case errors.Is(err, precert.Unread), errors.Is(err, precert.TooLong):
 		return nil, fmt.Errorf("%w: a TBSCertificate isn't as it has to be in DER: %v", NoCertificate, err)
 	}
 	return nil, err

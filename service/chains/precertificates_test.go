@@ -3,7 +3,6 @@ package chains
 import (
 	"bufio"
 	"bytes"
-	"context"
 	"encoding/base64"
 	"encoding/hex"
 	"encoding/json"
@@ -12,6 +11,8 @@ import (
 	"os/exec"
 	"reflect"
 	"testing"
+
+	"wagtenib/service/precert"
 )
 
 func inPEM(certificates ...[]byte) (text []byte) {
@@ -25,7 +26,7 @@ func inPEM(certificates ...[]byte) (text []byte) {
 // dates, the final certificate. The entry's TBSCertificate is the final one's, as openssl cuts it.
 func TestPrecertificatesAreTheirFinalCertificates(t *testing.T) {
 	a := madeByOpenssl(t)
-	c := NewChecker(a.roots(t, "root"), Window{}, standIn(t))
+	c := NewChecker(a.roots(t, "root"), Window{}, precert.New())
 	for _, test := range []struct {
 		final, issuer      string
 		submitted, issuers []string
@@ -38,7 +39,7 @@ func TestPrecertificatesAreTheirFinalCertificates(t *testing.T) {
 		{"final-of-signed-bare", "middle", []string{"signed-bare", "signing", "middle"}, []string{"signing", "middle", "root"}},
 		{"final-of-signed-of-root", "root", []string{"signed-of-root", "signing-of-root"}, []string{"signing-of-root", "root"}},
 	} {
-		entry, err := c.Precertificate(context.Background(), a.chain(t, test.submitted...))
+		entry, err := c.Precertificate(a.chain(t, test.submitted...))
 		if err != nil {
 			t.Errorf("%s: %v", test.submitted, err)
 			continue
@@ -170,10 +171,10 @@ func TestPrecertificatesAgreeWithPython(t *testing.T) {
 	for _, test := range tests {
 		chains = append(chains, a.chain(t, test.names...))
 	}
-	cutter := standIn(t)
+	cutter := precert.New()
 	for i, there := range askPython(t, chains, roots.Certificates()) {
 		test := tests[i]
-		entry, err := NewChecker(roots, Window{}, cutter).Precertificate(context.Background(), chains[i])
+		entry, err := NewChecker(roots, Window{}, cutter).Precertificate(chains[i])
 		if RefusalOf(err) != test.here || there.Refusal != test.there || (err == nil) != (test.here == "") {
 			t.Errorf("%s: %v here, %q there", test.names, err, there.Refusal)
 		}
@@ -214,14 +215,14 @@ type real struct {
 }
 
 func TestRealPrecertificates(t *testing.T) {
-	cutter := standIn(t)
+	cutter := precert.New()
 	for i, line := range realPrecertificates(t) {
 		roots, err := ParseRoots(inPEM(line.Chain[1]))
 		if err != nil {
 			t.Fatal(err)
 		}
 		for _, chain := range [][][]byte{line.Chain, line.Chain[:1]} {
-			entry, err := NewChecker(roots, Window{}, cutter).Precertificate(context.Background(), chain)
+			entry, err := NewChecker(roots, Window{}, cutter).Precertificate(chain)
 			if err != nil {
 				t.Errorf("number %d: %v", i, err)
 				continue
@@ -242,7 +243,7 @@ func BenchmarkRealPrecertificate(b *testing.B) {
 	}
 	c := NewChecker(roots, Window{}, byASN1{})
 	for i := 0; i < b.N; i++ {
-		if _, err := c.Precertificate(context.Background(), line.Chain); err != nil {
+		if _, err := c.Precertificate(line.Chain); err != nil {
 			b.Fatal(err)
 		}
 	}

@@ -67,7 +67,7 @@ func TestReadsGoOn(t *testing.T) {
 				more = append(more, "--places", "sqlite:"+at.path("places"), "--guard-state", "file:"+at.path("log/guard"), "--latest-head", at.path("log/latest-head"))
 			}
 			words := at.realWords(more...)
-			p := started(t, "", append(words, "--guard", at.guard, "--create")...)
+			p := started(t, "", append(words, "--create")...)
 			var answers []check.Answer
 			for until := time.Now().Add(trial.Longest); len(answers) < 5; {
 				status, text, one := at.submitted(t, p)
@@ -108,7 +108,7 @@ func TestReadsGoOn(t *testing.T) {
 func TestObjectsAway(t *testing.T) {
 	t.Parallel()
 	at := newPlace(t)
-	words := append(at.realWords("--signing-key", at.path("log.pem")), "--guard", at.guard)
+	words := at.realWords("--signing-key", at.path("log.pem"))
 	p := started(t, "", append(words, "--create")...)
 	submitted := func(wanted int, what string) {
 		t.Helper()

@@ -27,7 +27,7 @@ func TestEachBound(t *testing.T) {
 			t.Errorf("%s %d: %v", name, least-1, err)
 		}
 	}
-	for _, name := range []string{"end-within", "headers-within", "request-within", "submission-within", "answer-within", "idle-within", "step-within", "interval", "refresh", "open-within",
+	for _, name := range []string{"end-within", "headers-within", "request-within", "submission-within", "answer-within", "idle-within", "interval", "refresh", "open-within",
 		"sweep-after", "sweep-tiles-after", "read-again-every", "read-all-within", "most-clock-skew"} {
 		if _, err := with(name, time.Nanosecond); err != nil {
 			t.Errorf("%s: %v", name, err)
@@ -75,7 +75,7 @@ func TestWhatCantBeOpened(t *testing.T) {
 		"places are at sqlite:PATH":               {"--places", "nowhere:x"},
 	} {
 		whole := at.realWords("--signing-key", at.path("log.pem"))
-		whole = append(append(whole, "--guard", at.guard, "--create"), words...)
+		whole = append(append(whole, "--create"), words...)
 		if status, told := runs(whole); status != 1 || !strings.Contains(told, what) {
 			t.Errorf("%s: status %d: %s", what, status, told)
 		}

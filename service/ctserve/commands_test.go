@@ -40,14 +40,8 @@ func settingsFile(t *testing.T, lines ...string) (folder, file string) {
 	if status, _, told := does("key", filepath.Join(folder, "log.key")); status != 0 {
 		t.Fatalf("no key: %s", told)
 	}
-	for _, name := range []string{"cttile", "ctproof", "ctnode", "ctguard"} {
-		script := fmt.Sprintf("#!/bin/sh\n[ \"$*\" = --version ] && echo %s 7.7.7\n", name)
-		if err := os.WriteFile(filepath.Join(folder, name), []byte(script), 0o700); err != nil {
-			t.Fatal(err)
-		}
-	}
 	text := []string{"origin log.example/2027h1", "signing-key " + folder + "/log.key", "roots " + folder + "/roots.pem", "folder " + folder + "/log",
-		"step " + folder + "/cttile", "reader " + folder + "/ctproof", "decider " + folder + "/ctnode", "guard " + folder + "/ctguard", "not-after-from 2027-01-01", "not-after-to 2027-07-01"}
+		"not-after-from 2027-01-01", "not-after-to 2027-07-01"}
 	file = filepath.Join(folder, "settings")
 	if err := os.WriteFile(file, []byte(strings.Join(append(text, lines...), "\n")), 0o600); err != nil {
 		t.Fatal(err)
@@ -160,7 +154,7 @@ func TestCheck(t *testing.T) {
 	if status != 0 || told != "" {
 		t.Fatalf("status %d: %s%s", status, said, told)
 	}
-	for _, due := range []string{"log.example/2027h1", "1 roots", "cttile 7.7.7", "ctproof 7.7.7", "ctnode 7.7.7", "ctguard 7.7.7"} {
+	for _, due := range []string{"log.example/2027h1", "1 roots", "guard            on\n"} {
 		if !strings.Contains(said, due) {
 			t.Errorf("%q isn't said: %s", due, said)
 		}
@@ -181,6 +175,8 @@ func TestCheck(t *testing.T) {
 		{"store s3://key:secret@a.example/b", "store            s3, not opened", 0},
 		{"register file:", "register         WRONG: ", 1},
 		{"register folder:" + folder, "register         WRONG: ", 1},
+		{"guard false", "guard            off: the signer signs whatever it is asked for", 0},
+		{"guard ctguard", "", 2},
 		{"guard-state folder:" + folder, "guard-state      WRONG: ", 1},
 		{"places http://a.example/", "places           WRONG: ", 1},
 		{"places postgres://a.example/b?log=one", "places           postgres, not opened", 0},
@@ -191,7 +187,7 @@ func TestCheck(t *testing.T) {
 			t.Errorf("%q: status %d, %s", c.line, status, said)
 		}
 	}
-	for _, name := range []string{"roots.pem", "log.key", "cttile", "ctproof", "ctnode", "ctguard"} {
+	for _, name := range []string{"roots.pem", "log.key"} {
 		folder, file := settingsFile(t)
 		if err := os.Remove(filepath.Join(folder, name)); err != nil {
 			t.Fatal(err)
@@ -202,19 +198,8 @@ func TestCheck(t *testing.T) {
 	}
 }
 
-// TestCheckOfOtherPrograms has settings name programs that run, and aren't those that they must be, and a file in the folder's place: a start refuses them, so must check.
-func TestCheckOfOtherPrograms(t *testing.T) {
-	for _, name := range []string{"cttile", "ctproof", "ctnode", "ctguard"} {
-		folder, file := settingsFile(t)
-		for _, script := range []string{"#!/bin/sh\necho \"$@\"\n", "#!/bin/sh\n", "#!/bin/sh\necho another 7.7.7\n"} {
-			if err := os.WriteFile(filepath.Join(folder, name), []byte(script), 0o700); err != nil {
-				t.Fatal(err)
-			}
-			if status, said, _ := does("check", file); status != 1 || strings.Count(said, "WRONG") != 1 || !strings.Contains(said, "it must be a "+name) {
-				t.Errorf("%q in the place of %s: status %d, %s", script, name, status, said)
-			}
-		}
-	}
+// TestCheckOfAFolder has settings name a file in the folder's place: a start refuses it, so must check.
+func TestCheckOfAFolder(t *testing.T) {
 	folder, file := settingsFile(t)
 	if err := os.WriteFile(filepath.Join(folder, "log"), nil, 0o600); err != nil {
 		t.Fatal(err)

@@ -207,8 +207,6 @@ type place struct {
 	t         *testing.T
 	folder    string
 	authority *standin.Authority
-	// guard is the command of the real log's guard.
-	guard string
 }
 
 func newPlace(t *testing.T) *place {
@@ -238,7 +236,7 @@ func (p *place) write(name string, content []byte) {
 
 // patient are words by which nothing is given up that takes long, where a test doesn't look at that.
 func patient() (words []string) {
-	for _, name := range []string{"open-within", "step-within", "end-within", "submission-within", "headers-within", "request-within", "answer-within", "idle-within"} {
+	for _, name := range []string{"open-within", "end-within", "submission-within", "headers-within", "request-within", "answer-within", "idle-within"} {
 		words = append(words, "--"+name, trial.Longest.String())
 	}
 	return words
@@ -569,7 +567,9 @@ func TestSettings(t *testing.T) {
 		{nil, "--roots is needed"},
 		{[]string{"--roots", "a", "--origin", "b"}, "--signing-key or --signer-at is needed"},
 		{file(needed + "signer-at x"), "has the place of"},
-		{[]string{"--roots", "a", "--origin", "b", "--signer-at", "c", "--guard", "d"}, "has the place of"},
+		{[]string{"--roots", "a", "--origin", "b", "--signer-at", "c", "--guard"}, "has the place of"},
+		{[]string{"--roots", "a", "--origin", "b", "--signer-at", "c", "--guard=false"}, "has the place of"},
+		{[]string{"--roots", "a", "--origin", "b", "--signing-key", "c", "--guard=ctguard"}, "neither true nor false"},
 		{[]string{"--nothing"}, "not defined"},
 		{[]string{"word"}, `"word" isn't expected`},
 		{[]string{"--config", at.path("missing")}, "no such file"},
@@ -614,13 +614,13 @@ func TestSettings(t *testing.T) {
 		}
 	}
 	s, err := parse(append(file(needed+"# a comment\n  idle-within   5s # behind\nproxies 127.0.0.1, 10.1.2.3/8\nnot-after-from 2027-01-01\ncreate true\n"+
-		"nodes-listen 127.0.0.1:1\nnodes-address http://x/\nnodes-secret "+at.path("secret")+"\nmost-clock-skew 3s\nclock-synchronized true"), "--origin", "z", "--step", "a b"), io.Discard)
+		"nodes-listen 127.0.0.1:1\nnodes-address http://x/\nnodes-secret "+at.path("secret")+"\nmost-clock-skew 3s\nclock-synchronized true"), "--origin", "z"), io.Discard)
 	if err != nil {
 		t.Fatal(err)
 	}
 	if s.node.origin != "z" || s.node.mostSkew != 3*time.Second || !s.node.synchronized || s.limits.Idle != 5*time.Second || fmt.Sprint(s.proxies) != "[127.0.0.1/32 10.0.0.0/8]" || !s.node.create ||
-		s.window.From.Year() != 2027 || s.node.secret != "sixteen bytes or more" || strings.Join(s.node.step, " ") != "a b --origin z" ||
-		s.node.guardState != "file:ct-log.guard" || s.node.latestHead != "ct-log.latest-head" || s.node.namedDay != "ct-log.day" || strings.Join(s.node.guard, " ") != "ctguard" || s.node.store != "folder:ct-log/objects" || s.node.register != "file:ct-log/register" || s.node.places != "sqlite:ct-log/places" {
+		s.window.From.Year() != 2027 || s.node.secret != "sixteen bytes or more" ||
+		s.node.guardState != "file:ct-log.guard" || s.node.latestHead != "ct-log.latest-head" || s.node.namedDay != "ct-log.day" || !s.node.isGuarded() || s.node.store != "folder:ct-log/objects" || s.node.register != "file:ct-log/register" || s.node.places != "sqlite:ct-log/places" {
 		t.Errorf("%+v", s)
 	}
 	if s, err := parse(file(needed+"submitters 203.0.113.9/24=512, 2001:db8::7=9"), io.Discard); err != nil || fmt.Sprint(s.limits.Submitters) != "[{203.0.113.0/24 512} {2001:db8::7/128 9}]" {
@@ -655,26 +655,11 @@ func TestSettings(t *testing.T) {
 	}
 }
 
-// realWords are those of a log on a folder, over plain programs beside the proved ones: tests/tiles' step, and the guard of
-// tests/guard where the proved one isn't built.
+// realWords are those of a log on a folder.
 func (p *place) realWords(more ...string) []string {
 	p.t.Helper()
-	python, err := exec.LookPath("python3")
-	if err != nil {
-		p.t.Skip("for want of python3")
-	}
-	// The tests' folder is found by a link.
-	here, err := filepath.EvalSymlinks(os.Getenv("PWD"))
-	if err != nil {
-		p.t.Fatal(err)
-	}
-	p.guard = filepath.Join(here, "../../crates/ctguard/out/ctguard")
-	if _, err := os.Stat(p.guard); err != nil {
-		p.guard = python + " " + filepath.Join(here, "../../tests/guard/model.py")
-	}
 	return append(append(patient(), "--listen", "127.0.0.1:0", "--operator-listen", "127.0.0.1:0", "--origin", "log.example/test", "--roots", p.path("roots.pem"),
-		"--folder", p.path("log"), "--step", python+" "+filepath.Join(here, "../../tests/tiles/step.py"),
-		"--reader", python+" "+filepath.Join(here, "../../tests/tiles/step.py"), "--decider", python+" "+filepath.Join(here, "../../tests/node/ctnode.py"), "--interval", "50ms"), more...)
+		"--folder", p.path("log"), "--interval", "50ms"), more...)
 }
 
 // Over the real log, on a folder: a start makes no log unasked; what was answered is there after a kill, and a repeat has its
@@ -687,7 +672,6 @@ func TestRealLog(t *testing.T) {
 	for until := time.Now().Add(trial.Longest); ; {
 		at = newPlace(t)
 		words = at.realWords("--signing-key", at.path("log.pem"))
-		words = append(words, "--guard", at.guard)
 		if status, told := runs(words); status != statusSetBack {
 			t.Errorf("a log is made unasked: status %d: %s", status, told)
 		}
@@ -794,7 +778,7 @@ func TestKeyInAToken(t *testing.T) {
 	module, pin := softhsm.Token(t)
 	at := newPlace(t)
 	uri := "pkcs11:token=log-token;object=key?module-path=" + module + "&pin-source=file:" + pin
-	words := append(at.realWords("--signing-key", uri), "--guard", at.guard)
+	words := at.realWords("--signing-key", uri)
 	status, said, told := does("key", "--show", uri)
 	if status != 0 {
 		t.Fatalf("its key isn't shown: %s", told)
@@ -837,7 +821,7 @@ func TestKeyInAToken(t *testing.T) {
 func TestFolderPutBack(t *testing.T) {
 	t.Parallel()
 	at := newPlace(t)
-	words := append(at.realWords("--signing-key", at.path("log.pem")), "--guard", at.guard)
+	words := at.realWords("--signing-key", at.path("log.pem"))
 	serves := func(more ...string) {
 		t.Helper()
 		p := started(t, "", append(words, more...)...)
@@ -889,7 +873,7 @@ func TestFolderPutBack(t *testing.T) {
 func TestPlacesAnew(t *testing.T) {
 	t.Parallel()
 	at := newPlace(t)
-	words := append(at.realWords("--signing-key", at.path("log.pem")), "--guard", at.guard)
+	words := at.realWords("--signing-key", at.path("log.pem"))
 	body := at.submission()
 	p := started(t, "", append(words, "--create")...)
 	status, answer := post(p.clients, body)
@@ -935,7 +919,6 @@ func TestGuardStateAway(t *testing.T) {
 	}
 	defer listener.Close()
 	words := at.realWords("--signing-key", at.path("log.pem"), "--guard-state", "etcd://"+listener.Addr().String()+"/guard", "--create")
-	words = append(words, "--guard", at.guard)
 	// (a signer that says it too late for a busy machine is given more time: of 30 s it has 24 for the state, and 6 are left on both sides)
 	within := 10 * time.Second
 	for until := time.Now().Add(trial.Longest); ; within = 30 * time.Second {
@@ -958,9 +941,9 @@ func TestSignerIsCreatedOnce(t *testing.T) {
 	at.realWords()
 	ctx, cancel := context.WithTimeout(context.Background(), trial.Longest)
 	defer cancel()
-	asked, err := askSigner(ctx, node{signingKey: at.path("log.pem"), guard: strings.Fields(at.guard), guardState: "file:" + at.path("guard"), create: true})
+	asked, err := askSigner(ctx, node{signingKey: at.path("log.pem"), guardState: "file:" + at.path("guard"), create: true})
 	for err != nil && isLate(err.Error()) && ctx.Err() == nil {
-		asked, err = askSigner(ctx, node{signingKey: at.path("log.pem"), guard: strings.Fields(at.guard), guardState: "file:" + at.path("guard"), create: true})
+		asked, err = askSigner(ctx, node{signingKey: at.path("log.pem"), guardState: "file:" + at.path("guard"), create: true})
 	}
 	if err != nil {
 		t.Fatal(err)
@@ -994,7 +977,6 @@ func TestDamageIsTold(t *testing.T) {
 	t.Parallel()
 	at := newPlace(t)
 	words := at.realWords("--signing-key", at.path("log.pem"), "--read-again-every", "50ms")
-	words = append(words, "--guard", at.guard)
 	p := started(t, "", append(words, "--create")...)
 	body := at.submission()
 	if status, text := post(p.clients, body); status != 200 {
@@ -1044,7 +1026,7 @@ func TestSignerAtASocket(t *testing.T) {
 	listening := func(key string) (kills func()) {
 		t.Helper()
 		for until := time.Now().Add(trial.Longest); ; {
-			command, said, ended := exec.Command(os.Args[0], "signer", "--signing-key", key, "--guard", at.guard, "--guard-state", "file:"+at.path("guard"), "--create", "--listen", socket), &strings.Builder{}, make(chan struct{})
+			command, said, ended := exec.Command(os.Args[0], "signer", "--signing-key", key, "--guard-state", "file:"+at.path("guard"), "--create", "--listen", socket), &strings.Builder{}, make(chan struct{})
 			command.Env, command.Stderr = append(os.Environ(), childKey+"=1"), said
 			if err := command.Start(); err != nil {
 				t.Fatal(err)
@@ -1164,13 +1146,13 @@ func TestGuards(t *testing.T) {
 			return
 		}
 	}
-	lacks("the guard: exec", "--guard", "no-such-guard")
-	lacks("no state of the guard: there is none", "--guard", at.guard, "--create=false")
-	lacks("no such file", "--guard", at.guard, "--signing-key", at.path("nowhere"))
+	lacks(`"no-such-guard" is neither true nor false`, "--guard=no-such-guard")
+	lacks("no state of the guard: there is none", "--create=false")
+	lacks("no such file", "--signing-key", at.path("nowhere"))
 	words = at.realWords("--create")
 	lacks("no such file", "--signer-at", at.path("nowhere"))
 	words = at.realWords("--signing-key", at.path("log.pem"))
-	p := started(t, "", append(words, "--create", "--guard", "none")...)
+	p := started(t, "", append(words, "--create", "--guard=false")...)
 	if status, text := post(p.clients, at.submission()); status != 200 {
 		t.Errorf("%d %s", status, text)
 	}
@@ -1179,7 +1161,7 @@ func TestGuards(t *testing.T) {
 		t.Errorf("it ended with status %d", status)
 	}
 	// A log that was made without one isn't taken up behind one that knows no head of it.
-	lacks("it is older than the log", "--guard", at.guard, "--create")
+	lacks("it is older than the log", "--create")
 }
 
 func isThere(path string) bool {

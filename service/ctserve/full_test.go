@@ -54,7 +54,7 @@ func TestFullDisk(t *testing.T) {
 	at := newPlace(t)
 	disk := at.mount(t)
 	words := at.realWords("--signing-key", at.path("log.pem"), "--guard-state", "file:"+at.path("log/guard"), "--latest-head", at.path("log/latest-head"))
-	p := started(t, "", append(words, "--guard", at.guard, "--create")...)
+	p := started(t, "", append(words, "--create")...)
 	var answers []check.Answer
 	submit := func() (int, string) {
 		t.Helper()
@@ -114,7 +114,7 @@ func TestFullDisk(t *testing.T) {
 	p.signal(syscall.SIGKILL)
 	p.ends()
 	room()
-	p = started(t, "", append(words, "--guard", at.guard)...)
+	p = started(t, "", words...)
 	again()
 	p.signal(syscall.SIGTERM)
 	if status := p.ends(); status != 0 {

@@ -61,7 +61,7 @@ func TestLargeTileByMany(t *testing.T) {
 	trial.Must(t, err)
 	at := newPlace(t)
 	words := at.realWords("--signing-key", at.path("log.pem"), "--read-again-every", "1h")
-	p := started(t, "", append(words, "--guard", at.guard, "--create")...)
+	p := started(t, "", append(words, "--create")...)
 	const entries = 5
 	for i := 0; i < entries; i++ {
 		if status, text := post(p.clients, at.submission()); status != 200 {

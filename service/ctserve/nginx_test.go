@@ -279,7 +279,7 @@ func TestBentTileBehindNginx(t *testing.T) {
 	t.Parallel()
 	at := newPlace(t)
 	words := at.realWords("--signing-key", at.path("log.pem"), "--proxies", "127.0.0.1", "--read-again-every", "1h", "--interval", "500ms", "--most-connections-by-address", "500")
-	p := started(t, "", append(words, "--guard", at.guard, "--create")...)
+	p := started(t, "", append(words, "--create")...)
 	address := nginxBefore(t, p.clients, 64)
 	const atOnce = 257
 	bodies, failed := [][]byte{}, make(chan string, atOnce)

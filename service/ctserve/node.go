@@ -5,6 +5,7 @@ import (
 	"path/filepath"
 
 	"wagtenib/service/decider"
+	"wagtenib/service/precert"
 	"wagtenib/service/reader"
 	"wagtenib/service/sequencer"
 	"wagtenib/service/step"
@@ -66,26 +67,7 @@ func openNode(ctx context.Context, n node) (of *opened, err error) {
 	}
 	closers = append(closers, config.Places.Close)
 	config.Places = calls.Places(config.Places)
-	if config.Step, err = step.NewClient(n.step, n.stepWithin); err != nil {
-		return nil, err
-	}
-	closers = append(closers, config.Step.Close)
-	if config.Decider, err = decider.NewClient(n.decider, n.stepWithin); err != nil {
-		return nil, err
-	}
-	closers = append(closers, config.Decider.Close)
-	// Readers have a process of their own: none of them keeps a step waiting.
-	reading, err := step.NewClient(n.reader, n.stepWithin)
-	if err != nil {
-		return nil, err
-	}
-	closers = append(closers, reading.Close)
-	// .. nor a submission.
-	cutting, err := step.NewClient(n.reader, n.stepWithin)
-	if err != nil {
-		return nil, err
-	}
-	closers = append(closers, cutting.Close)
+	config.Step, config.Decider = step.New(n.origin), decider.New()
 	if len(n.witnesses) > 0 {
 		circle, err := witness.NewCircle(n.witnesses, n.quorums, nil)
 		if err != nil {
@@ -94,17 +76,9 @@ func openNode(ctx context.Context, n node) (of *opened, err error) {
 		closers = append(closers, circle.Close)
 		config.Witnesses = circle
 	}
-	shown, err := newProbed(ctx, nil, cutting, func() uint64 { return reading.Starts() + cutting.Starts() })
-	if err != nil {
-		return nil, err
-	}
 	s, err := sequencer.New(ctx, config)
 	if err != nil {
 		return nil, err
 	}
-	shown.Log = s
-	probing, stop := context.WithCancel(context.Background())
-	closers = append(closers, func() error { stop(); return nil })
-	go shown.probe(probing, probesEvery)
-	return &opened{log: shown, proofs: reader.New(reading, s.Object, n.mostProofs), cutter: cutting, nodes: s.Handler(), key: asked.Key(), calls: calls, close: closeAll}, nil
+	return &opened{log: s, proofs: reader.New(s.Object, n.mostProofs), cutter: precert.New(), nodes: s.Handler(), key: asked.Key(), calls: calls, close: closeAll}, nil
 }

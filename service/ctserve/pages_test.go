@@ -44,13 +44,6 @@ func TestPagesNameSettings(t *testing.T) {
 			t.Fatalf("--help doesn't list %s: %d settings", name, len(settings))
 		}
 	}
-	s, err := parse([]string{"--roots", "r", "--origin", "o.example", "--signing-key", "k"}, &bytes.Buffer{})
-	trial.Must(t, err)
-	for name, command := range map[string][]string{"step": s.node.step, "decider": s.node.decider, "reader": s.node.reader, "guard": s.node.guard} {
-		if said := fmt.Sprintf("default %q", command[0]); !strings.Contains(settings[name], said) {
-			t.Errorf("where %s isn't set it is %q: %s", name, command, settings[name])
-		}
-	}
 	// What has a hyphen and is no setting.
 	others := map[string]bool{"list-entry": true, "made-again": true, "root-left-out": true, "read-only": true, "too-often": true, "statement_timeout": true, "pre-vote": true, "auto-compaction-mode=periodic": true}
 	whole := ""
@@ -72,10 +65,7 @@ func TestPagesNameSettings(t *testing.T) {
 		{"most-connections-by-address", "64 connections, or behind nginx requests, at once (`most-connections-by-address`)", "default 64)"},
 		{"most-clock-skew", "`most-clock-skew` (10 s)", "default 10s)"},
 		{"end-within", "`end-within` (30 s)", "default 30s)"},
-		{"step", "`step` makes the log's steps, by default `cttile`", `default "cttile"`},
-		{"decider", "`decider` says what a node does next, by default `ctnode`", `default "ctnode"`},
-		{"reader", "by default `ctproof`", `default "ctproof"`},
-		{"guard", "by default `ctguard`", `default "ctguard"`},
+		{"guard", "`guard` is on by default", "default true)"},
 		{"latest-head", "`latest-head`, by default `FOLDER.latest-head`", "default FOLDER.latest-head"},
 		{"guard-state", "`guard-state`, by default `FOLDER.guard`", "FOLDER.guard"},
 		{"refresh", "each `refresh` (an hour)", "default 1h0m0s)"},

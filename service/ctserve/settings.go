@@ -39,24 +39,27 @@ type settings struct {
 
 // node is what the log stands on.
 type node struct {
-	origin, signingKey                        string
-	guard                                     []string
-	guardState, signerAt                      string
-	folder, store, register, places           string
-	latestHead, namedDay                      string
-	mostSkew                                  time.Duration
-	synchronized                              bool
-	step, reader, decider                     []string
-	stepWithin, interval, refresh, openWithin time.Duration
-	sweepAfter, sweepTilesAfter               time.Duration
-	readEvery, readAllWithin                  time.Duration
-	mostQueue, mostBatch, mostProofs          int
-	mostWritten                               int
-	create, makesFolder                       bool
-	address, secret                           string
-	witnesses                                 []witness.One
-	quorums                                   witness.Quorums
+	origin, signingKey string
+	// guard is whether the signer has a guard. nil means that no setting says so, and then it has one.
+	guard                            *bool
+	guardState, signerAt             string
+	folder, store, register, places  string
+	latestHead, namedDay             string
+	mostSkew                         time.Duration
+	synchronized                     bool
+	interval, refresh, openWithin    time.Duration
+	sweepAfter, sweepTilesAfter      time.Duration
+	readEvery, readAllWithin         time.Duration
+	mostQueue, mostBatch, mostProofs int
+	mostWritten                      int
+	create, makesFolder              bool
+	address, secret                  string
+	witnesses                        []witness.One
+	quorums                          witness.Quorums
 }
+
+// isGuarded reports whether a guard approves what the signer signs.
+func (n *node) isGuarded() bool { return n.guard == nil || *n.guard }
 
 // rests says whether steps leave their stores half of the time: one of them isn't this machine's own folder or file.
 func (n *node) rests() bool {
@@ -111,7 +114,7 @@ func parse(words []string, help io.Writer) (*settings, error) {
 	n := &s.node
 	flags.StringVar(&n.origin, "origin", "", "the log's `name` in checkpoints, as log.example/2027h1")
 	flags.StringVar(&n.signingKey, "signing-key", "", "`file` with the log's key in PEM, of P-256, that none but its owner may read; or a URI of PKCS#11, pkcs11:token=LABEL;object=LABEL?module-path=PATH&pin-source=file:PATH")
-	flags.Func("guard", "the `command` of the guard between the key and all else, with its words (default \"ctguard\"); none signs without one", command(&n.guard))
+	flags.BoolFunc("guard", "let the guard, which is proved code, approve what is signed (default true); without it the signer signs whatever it is asked for", isOn(&n.guard))
 	flags.StringVar(&n.guardState, "guard-state", "", "`address` of the register with the guard's state: file:PATH, etcd://HOST:PORT/PREFIX, postgres://HOST/DATABASE?log=NAME; by default FOLDER.guard, beside the folder")
 	flags.StringVar(&n.signerAt, "signer-at", "", "`socket` of a signer that runs (ctserve signer --help), instead of signing-key, guard and guard-state")
 	flags.StringVar(&n.folder, "folder", "ct-log", "`folder` of the objects, the register and the places, where no other address is given")
@@ -121,10 +124,6 @@ func parse(words []string, help io.Writer) (*settings, error) {
 	flags.DurationVar(&n.mostSkew, "most-clock-skew", 10*time.Second, "how far the machine's clock may be off, by the newest head, the stores' machines, another node or what elapsed, until nothing is taken")
 	flags.BoolVar(&n.synchronized, "clock-synchronized", false, "take nothing as long as the kernel doesn't say that its clock is synchronized (timedatectl)")
 	flags.StringVar(&n.latestHead, "latest-head", "", "`file` of this machine's own, apart from all stores and their backups, with the latest tree head that this node saw: a log that is older is refused (default FOLDER.latest-head, beside the folder)")
-	flags.Func("step", "the `command` of the program that makes the steps, with its words (default \"cttile\"); it is given --origin", command(&n.step))
-	flags.Func("reader", "the `command` of the program that makes proofs for readers out of the tiles, with its words (default \"ctproof\")", command(&n.reader))
-	flags.Func("decider", "the `command` of the program that says what a node does next, with its words (default \"ctnode\")", command(&n.decider))
-	flags.DurationVar(&n.stepWithin, "step-within", 30*time.Second, "how long a step may take, until its program is killed")
 	flags.Func("interval", "how far two heads are apart at least, as a `duration`: 50ms are twenty a second at most; where none is set a folder's heads follow what a step takes and writes, and over other stores and with witnesses they are 50ms apart; over other stores twice as long as a step takes there, up to 500ms", above0(&n.interval))
 	flags.DurationVar(&n.refresh, "refresh", time.Hour, "how old a head gets before one without new entries is made")
 	flags.DurationVar(&n.sweepAfter, "sweep-after", time.Hour, "how long a head stands before older ones are deleted")
@@ -135,7 +134,7 @@ func parse(words []string, help io.Writer) (*settings, error) {
 	flags.IntVar(&n.mostQueue, "most-queue", 4096, "submissions that wait")
 	flags.IntVar(&n.mostWritten, "most-written", 16<<20, "bytes a second that steps write at most, over a while: where they have large certificates to write again, heads are farther apart")
 	flags.IntVar(&n.mostBatch, "most-batch", 1024, "entries of one step")
-	flags.IntVar(&n.mostProofs, "most-proofs", 64, "proofs for readers that are made, or wait to be")
+	flags.IntVar(&n.mostProofs, "most-proofs", 64, "proofs for readers that are made at once")
 	flags.BoolVar(&n.create, "create", false, "make a log where there is none; without it, an empty register ends the start")
 	flags.Func("witnesses", "`witnesses` that cosign the log's heads, with spaces between them: of each its URL, a comma, and its verifier key", func(text string) error {
 		n.witnesses = nil
@@ -175,11 +174,8 @@ func (s *settings) settle() error {
 	if err := checkListeners(s.listen, s.listenNodes, s.operator); err != nil {
 		return err
 	}
-	if n.signerAt != "" && (n.signingKey != "" || len(n.guard) > 0 || n.guardState != "") {
+	if n.signerAt != "" && (n.signingKey != "" || n.guard != nil || n.guardState != "") {
 		return errors.New("--signer-at has the place of --signing-key, --guard and --guard-state")
-	}
-	if len(n.guard) == 0 {
-		n.guard = []string{"ctguard"}
 	}
 	if (s.certificate == "") != (s.key == "") {
 		return errors.New("--tls-certificate and --tls-key go together")
@@ -187,7 +183,7 @@ func (s *settings) settle() error {
 	if !s.window.From.IsZero() && !s.window.To.IsZero() && !s.window.From.Before(s.window.To) {
 		return errors.New("--not-after-from isn't before --not-after-to")
 	}
-	for _, time := range []time.Duration{s.endWithin, l.Headers, l.Request, l.Submission, l.Answer, l.Idle, n.stepWithin, n.refresh, n.openWithin, n.sweepAfter, n.sweepTilesAfter, n.readEvery, n.readAllWithin, n.mostSkew} {
+	for _, time := range []time.Duration{s.endWithin, l.Headers, l.Request, l.Submission, l.Answer, l.Idle, n.refresh, n.openWithin, n.sweepAfter, n.sweepTilesAfter, n.readEvery, n.readAllWithin, n.mostSkew} {
 		if time <= 0 {
 			return errors.New("a time is above 0")
 		}
@@ -202,16 +198,6 @@ func (s *settings) settle() error {
 	if l.SubmissionRate < 0 || l.ReadRate < 0 {
 		return errors.New("a rate is 0, for none, or above")
 	}
-	if len(n.step) == 0 {
-		n.step = []string{"cttile"}
-	}
-	if len(n.reader) == 0 {
-		n.reader = []string{"ctproof"}
-	}
-	if len(n.decider) == 0 {
-		n.decider = []string{"ctnode"}
-	}
-	n.step = append(append([]string{}, n.step...), "--origin", n.origin)
 	for _, address := range []struct {
 		of   *string
 		text string
@@ -390,9 +376,14 @@ func submitters(text string) (found []web.Submitter, err error) {
 	return found, nil
 }
 
-func command(into *[]string) func(string) error {
+// isOn reads true or false.
+func isOn(into **bool) func(string) error {
 	return func(text string) error {
-		*into = strings.Fields(text)
+		on, err := strconv.ParseBool(text)
+		if err != nil {
+			return fmt.Errorf("%q is neither true nor false (the guard is part of this program, and on if nothing is set)", text)
+		}
+		*into = &on
 		return nil
 	}
 }

@@ -11,7 +11,6 @@ import (
 	"strings"
 	"time"
 
-	"wagtenib/service/pipe"
 	"wagtenib/service/signer"
 	"wagtenib/service/stores"
 )
@@ -20,8 +19,6 @@ const (
 	// guardStateKey is where the environment has the address of the guard's state: it may have a password, which other users would see
 	// among a process's words.
 	guardStateKey = "CTSERVE_GUARD_STATE"
-	// noGuard says that there is to be none.
-	noGuard = "none"
 	// signsWithin is how long a signer may take for one request.
 	signsWithin = 30 * time.Second
 )
@@ -29,22 +26,22 @@ const (
 // askSigner starts the log's signer, a process of its own, or finds the one at a socket. One that is started again makes no state of the
 // guard: what it would make it of is gone.
 func askSigner(ctx context.Context, n node) (*signer.Client, error) {
-	open := func(ctx context.Context) (*pipe.End, error) { return pipe.Dial(ctx, n.signerAt, signer.MostLine) }
+	open := func(ctx context.Context) (*signer.End, error) { return signer.Dial(ctx, n.signerAt) }
 	if n.signerAt == "" {
 		self, err := os.Executable()
 		if err != nil {
 			return nil, fmt.Errorf("ctserve: %w", err)
 		}
-		words := []string{self, "signer", "--signing-key", n.signingKey, "--guard", strings.Join(n.guard, " ")}
+		words := []string{self, "signer", "--signing-key", n.signingKey, "--guard=" + strconv.FormatBool(n.isGuarded())}
 		if n.openWithin > 0 {
 			// (so that it says why before it is given up)
 			words = append(words, "--open-within", (n.openWithin * 4 / 5).String())
 		}
 		create := n.create
-		open = func(context.Context) (*pipe.End, error) {
+		open = func(context.Context) (*signer.End, error) {
 			these := append(append([]string{}, words...), "--create="+strconv.FormatBool(create))
 			create = false
-			return pipe.Start(these, signer.MostLine, guardStateKey+"="+n.guardState)
+			return signer.Start(these, guardStateKey+"="+n.guardState)
 		}
 	}
 	return signer.Ask(ctx, open, signsWithin)
@@ -55,8 +52,7 @@ func askSigner(ctx context.Context, n node) (*signer.Client, error) {
 func runSigner(given []string, from io.Reader, answers, to io.Writer) int {
 	flags := commandFlags("signer", "ctserve signer has a log's key, and signs what the guard lets through. It is asked by nodes of ctserve, over two pipes or at a socket.", to)
 	key := flags.String("signing-key", "", "`file` with the log's key in PEM, of P-256, that none but its owner may read; or a URI of PKCS#11, pkcs11:token=LABEL;object=LABEL?module-path=PATH&pin-source=file:PATH")
-	guard := []string{"ctguard"}
-	flags.Func("guard", "the `command` of the guard, with its words (default \"ctguard\"); none signs without one", command(&guard))
+	guard := flags.Bool("guard", true, "let the guard, which is proved code, approve what is signed; without it the signer signs whatever it is asked for")
 	state := flags.String("guard-state", os.Getenv(guardStateKey), "`address` of the register with the guard's state: file:PATH, etcd://.. or postgres://..")
 	create := flags.Bool("create", false, "make the guard's state where there is none")
 	openWithin := flags.Duration("open-within", signsWithin, "how long the guard's state may take to open")
@@ -65,32 +61,32 @@ func runSigner(given []string, from io.Reader, answers, to io.Writer) int {
 	if errors.Is(err, flag.ErrHelp) {
 		return 0
 	}
-	if err != nil || flags.NArg() > 0 || *key == "" || len(guard) == 0 {
+	if err != nil || flags.NArg() > 0 || *key == "" {
 		fmt.Fprintln(to, "ctserve signer: --signing-key is needed, and only words that --help names")
 		return 2
 	}
-	if err := serveSigner(*key, guard, *state, *create, *openWithin, *listen, from, answers); err != nil {
+	if err := serveSigner(*key, *guard, *state, *create, *openWithin, *listen, from, answers); err != nil {
 		fmt.Fprintln(to, err)
 		return 1
 	}
 	return 0
 }
 
-func serveSigner(keyAt string, guard []string, stateAt string, create bool, openWithin time.Duration, listen string, from io.Reader, answers io.Writer) error {
+func serveSigner(keyAt string, guard bool, stateAt string, create bool, openWithin time.Duration, listen string, from io.Reader, answers io.Writer) error {
 	ctx := context.Background()
 	key, err := signer.OpenKey(keyAt)
 	if err != nil {
 		return err
 	}
 	var s signer.Signer = key
-	if guard[0] != noGuard {
+	if guard {
 		state, err := stores.RegisterAt(ctx, stateAt)
 		if err != nil {
 			return err
 		}
 		defer state.Close()
 		opening, cancel := context.WithTimeout(ctx, openWithin)
-		guarded, err := signer.Behind(opening, key, signer.Guard{Command: guard, State: state, Create: create})
+		guarded, err := signer.Behind(opening, key, signer.Guard{State: state, Create: create})
 		late := opening.Err()
 		cancel()
 		if err != nil && late != nil {
@@ -106,7 +102,6 @@ func serveSigner(keyAt string, guard []string, stateAt string, create bool, open
 		if err != nil {
 			return err
 		}
-		defer guarded.Close()
 		s = guarded
 	}
 	if listen != "" {

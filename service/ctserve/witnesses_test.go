@@ -21,7 +21,6 @@ import (
 	"wagtenib/service/signer"
 	"wagtenib/service/stores"
 	"wagtenib/service/trial"
-	"wagtenib/service/trial/ready"
 	"wagtenib/service/witness"
 )
 
@@ -31,15 +30,8 @@ func (p *place) aWitness(name string, with ...func(log *witness.Log)) (one strin
 	must := func(err error) { p.t.Helper(); trial.Must(p.t, err) }
 	public, private, err := ed25519.GenerateKey(rand.Reader)
 	must(err)
-	program := []string{"../../crates/ctwitness/out/ctwitness"}
-	if !isThere(program[0]) {
-		program = []string{"python3", "../../tests/witness/model.py"}
-	}
-	s, err := witness.New(witness.Options{Name: name, Key: private, Program: program, Within: trial.Longest})
+	s, err := witness.New(witness.Options{Name: name, Key: private})
 	must(err)
-	p.t.Cleanup(func() { s.Close() })
-	// (a log waits for some seconds alone)
-	ready.Witness(p.t, s)
 	state, err := stores.OpenFile(p.path(name))
 	must(err)
 	p.t.Cleanup(func() { state.Close() })
@@ -79,7 +71,7 @@ func TestWitnessedLog(t *testing.T) {
 	at := newPlace(t)
 	first, firstKey := at.aWitness("v.example")
 	second, secondKey := at.aWitness("w.example")
-	words := append(at.realWords("--signing-key", at.path("log.pem")), "--guard", at.guard)
+	words := at.realWords("--signing-key", at.path("log.pem"))
 	words = append(words, "--witnesses", first+" "+second, "--witness-faults", "1")
 	p := started(t, "", append(words, "--create")...)
 	submitted := func() { t.Helper(); at.comesIn(p) }
@@ -150,7 +142,7 @@ func TestWatchedWitness(t *testing.T) {
 	third, thirdKey := at.aWitness("x.example", func(log *witness.Log) {
 		log.Accepted = func() (uint64, [32]byte, error) { return witness.AcceptedBy(state) }
 	})
-	words := append(at.realWords("--signing-key", at.path("log.pem")), "--guard", at.guard, "--witnesses", first+" "+second, "--create")
+	words := append(at.realWords("--signing-key", at.path("log.pem")), "--witnesses", first+" "+second, "--create")
 	p := started(t, "", words...)
 	folder := at.path("watched")
 	log := filepath.Join(folder, strings.ReplaceAll(p.clients, ":", "_"))

@@ -11,7 +11,6 @@ import (
 	"net/netip"
 	"os"
 	"runtime"
-	"strconv"
 	"strings"
 	"sync/atomic"
 	"syscall"
@@ -232,25 +231,6 @@ func TestRemovedLogIsClosed(t *testing.T) {
 	}
 }
 
-// TestProgramEnds: the program that decides ends with the witness.
-func TestProgramEnds(t *testing.T) {
-	p, ofA := ofOneLog(t)
-	p.write("program.sh", "echo $$ >"+p.path("pid")+"; exec "+p.program())
-	one := p.started(p.words("--program", "sh "+p.path("program.sh"))...)
-	one.wants(200, ofA(3))
-	if status := one.ends(); status != 0 {
-		t.Errorf("the end: status %d", status)
-	}
-	text, err := os.ReadFile(p.path("pid"))
-	must(t, err)
-	pid, err := strconv.Atoi(strings.TrimSpace(string(text)))
-	must(t, err)
-	if err := syscall.Kill(pid, 0); !errors.Is(err, syscall.ESRCH) {
-		_ = syscall.Kill(pid, syscall.SIGKILL)
-		t.Errorf("process %d goes on: %v", pid, err)
-	}
-}
-
 // standing is a register that gives no answer.
 type standing struct{ stores.Register }
 
@@ -320,45 +300,62 @@ func ofOneLog(t *testing.T) (p place, signed func(size int) []byte) {
 	return p, signed
 }
 
-// program is the command of the settings that decides.
-func (p place) program() string {
-	text, err := os.ReadFile(p.path("settings"))
-	must(p.t, err)
-	_, program, _ := strings.Cut(string(text), "\nprogram ")
-	program, _, _ = strings.Cut(program, "\n")
-	return program
+// held is a register that isn't read until it may be, if it was told to wait.
+type held struct {
+	stores.Register
+	waits      atomic.Bool
+	asked, may chan struct{}
 }
 
-// isAsked waits until the program has written its file asked.
-func (p place) isAsked() {
-	p.t.Helper()
-	for until := trial.Limited(p.t, trial.Longest); !isThere(p.path("asked")); time.Sleep(time.Millisecond) {
-		if until.Err() != nil {
-			p.t.Fatal("the program isn't asked")
+func (h *held) Read(ctx context.Context) (string, error) {
+	if h.waits.Swap(false) {
+		close(h.asked)
+		select {
+		case <-h.may:
+		case <-ctx.Done():
+			return "", ctx.Err()
 		}
 	}
+	return h.Register.Read(ctx)
+}
+
+// startedOver runs a witness of one log, whose state's register answers the next request only once it may.
+func (p place) startedOver(more ...string) (*process, *held) {
+	p.t.Helper()
+	s, err := parse(p.words(more...), io.Discard)
+	must(p.t, err)
+	of := &held{asked: make(chan struct{}), may: make(chan struct{})}
+	one := p.runs(func(to io.Writer, signals chan os.Signal) int {
+		lines := web.NewLines(to)
+		w, err := open(s, lines)
+		must(p.t, err)
+		defer w.close()
+		of.Register, err = stores.RegisterOf(trial.Limited(p.t, trial.Longest), s.state, "a.example")
+		must(p.t, err)
+		w.registers["a.example"] = of
+		return statusOf(w.serve(s, lines, signals), lines)
+	})
+	of.waits.Store(true)
+	return one, of
 }
 
 // TestEndAnswers: SIGINT, as SIGTERM, ends it once who waits was answered.
 func TestEndAnswers(t *testing.T) {
 	p, ofA := ofOneLog(t)
-	// (a program that says that it is asked, and goes on once it may)
-	script := "read -r line; : >" + p.path("asked") + "; while [ ! -e " + p.path("go") + " ]; do sleep 0.01; done; (printf '%s\\n' \"$line\"; cat) | exec " + p.program()
-	p.write("program.sh", script)
-	one := p.started(p.words("--program", "sh "+p.path("program.sh"))...)
+	one, state := p.startedOver()
 	answered := make(chan int, 1)
 	go func() {
 		status, _ := one.post(ofA(3))
 		answered <- status
 	}()
-	p.isAsked()
+	<-state.asked
 	one.signals <- syscall.SIGINT
 	for {
 		if line := one.next(); line["event"] == "ending" {
 			break
 		}
 	}
-	p.write("go", "")
+	close(state.may)
 	if status := <-answered; status != 200 {
 		t.Errorf("who waited is answered %d", status)
 	}
@@ -369,11 +366,10 @@ func TestEndAnswers(t *testing.T) {
 	}
 }
 
-// TestEndIsLate: an end has its time and no more, also where the program doesn't decide: who still waits then isn't answered, which is told, with status 1.
+// TestEndIsLate: an end has its time and no more, also if a state's register gives no answer: who still waits then isn't answered, which is told, with status 1.
 func TestEndIsLate(t *testing.T) {
 	p, ofA := ofOneLog(t)
-	p.write("program.sh", "read -r line; : >"+p.path("asked")+"; exec sleep 600")
-	one := p.started(p.words("--program", "sh "+p.path("program.sh"), "--program-within", "2h", "--end-within", "20ms")...)
+	one, state := p.startedOver("--end-within", "20ms")
 	gone := make(chan struct{})
 	go func() {
 		defer close(gone)
@@ -383,7 +379,7 @@ func TestEndIsLate(t *testing.T) {
 			t.Errorf("who waits is answered %s", came.Status)
 		}
 	}()
-	p.isAsked()
+	<-state.asked
 	began := time.Now()
 	one.signals <- syscall.SIGTERM
 	var end string
@@ -404,7 +400,7 @@ func TestEndIsLate(t *testing.T) {
 // TestKeyWithoutState: who asks for the verifier key needs no state, and who serves does.
 func TestKeyWithoutState(t *testing.T) {
 	p := newPlace(t)
-	words := []string{"--name", "w.example", "--key", p.path("key.pem"), "--program", "cat"}
+	words := []string{"--name", "w.example", "--key", p.path("key.pem")}
 	var out strings.Builder
 	if status := run(append(words, "--verifier-key"), &out, io.Discard, nil); status != 0 || !strings.HasPrefix(out.String(), "w.example+") {
 		t.Errorf("status %d, %q", status, out.String())

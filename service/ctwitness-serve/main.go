@@ -1,4 +1,4 @@
-// Command ctwitness-serve is a witness over HTTP: it cosigns the heads of several logs (C2SP tlog-witness, tlog-cosignature), each where ctwitness
+// Command ctwitness-serve is a witness over HTTP: it cosigns the heads of several logs (C2SP tlog-witness, tlog-cosignature), each if proved code
 // decides that it follows the one that it cosigned last (docs/WITNESS.md).
 //
 // SIGHUP has it read the logs of its settings anew. SIGTERM and SIGINT end it: it takes no more, answers who waits, and ends with status 0.
@@ -65,6 +65,11 @@ func run(words []string, out, to io.Writer, signals <-chan os.Signal) int {
 			err = w.serve(s, lines, signals)
 		}
 	}
+	return statusOf(err, lines)
+}
+
+// statusOf reports the end, and returns its status.
+func statusOf(err error, lines *web.Lines) int {
 	if err != nil {
 		lines.Error("end", "fault", err)
 		if errors.Is(err, witness.ErrState) {
@@ -87,16 +92,15 @@ func open(s *settings, lines *web.Lines) (*running, error) {
 	if err != nil {
 		return nil, err
 	}
-	server, err := witness.New(witness.Options{Name: s.name, Key: key, Program: s.program, Within: s.within, Tell: lines.Error})
+	server, err := witness.New(witness.Options{Name: s.name, Key: key, Tell: lines.Error})
 	if err != nil {
 		return nil, err
 	}
 	return &running{server, map[string]stores.Register{}}, nil
 }
 
-// close ends the program, and closes the registers: behind that nothing is asked any more.
+// close closes the registers.
 func (w *running) close() {
-	_ = w.server.Close()
 	for _, register := range w.registers {
 		_ = register.Close()
 	}
@@ -203,7 +207,7 @@ func (w *running) serve(s *settings, lines *web.Lines, signals <-chan os.Signal)
 		if late == nil {
 			continue
 		}
-		// (so that what is asked for them ends, too, which the registers' and the program's end wait for)
+		// (so that what is asked for them ends, too, which the registers' end waits for)
 		_ = server.Close()
 		if err == nil {
 			err = fmt.Errorf("ctwitness-serve: who waits isn't answered: %w", late)

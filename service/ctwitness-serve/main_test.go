@@ -18,7 +18,6 @@ import (
 	"strings"
 	"syscall"
 	"testing"
-	"time"
 
 	"golang.org/x/mod/sumdb/note"
 
@@ -50,17 +49,8 @@ func (p place) write(name, text string) { must(p.t, os.WriteFile(p.path(name), [
 
 // settings writes the file of settings, with these logs.
 func (p place) settings(logs ...string) {
-	program := "python3 ../../tests/witness/model.py"
-	if built := "../../crates/ctwitness/out/ctwitness"; isThere(built) {
-		program = built
-	}
-	text := fmt.Sprintf("name w.example # the witness\nkey %s\nstate file:%s\nprogram %s\nlisten 127.0.0.1:0\noperator-listen 127.0.0.1:0\n", p.path("key.pem"), p.path("states"), program)
+	text := fmt.Sprintf("name w.example # the witness\nkey %s\nstate file:%s\nlisten 127.0.0.1:0\noperator-listen 127.0.0.1:0\n", p.path("key.pem"), p.path("states"))
 	p.write("settings", text+strings.Join(logs, "\n")+"\n")
-}
-
-func isThere(path string) bool {
-	_, err := os.Stat(path)
-	return err == nil
 }
 
 func (p place) words(more ...string) []string {
@@ -91,17 +81,23 @@ type process struct {
 	at      map[string]string
 }
 
+// started runs a witness with these arguments.
 func (p place) started(more ...string) *process {
 	var words []string
-	for _, name := range []string{"open-within", "program-within", "end-within"} {
+	for _, name := range []string{"open-within", "end-within"} {
 		// (what stands later counts)
 		words = append(words, "--"+name, trial.Longest.String())
 	}
 	words = append(words, more...)
+	return p.runs(func(to io.Writer, signals chan os.Signal) int { return run(words, io.Discard, to, signals) })
+}
+
+// runs has a witness run, until it serves.
+func (p place) runs(does func(to io.Writer, signals chan os.Signal) int) *process {
 	from, to := io.Pipe()
 	one := &process{p.t, make(chan os.Signal, 4), make(chan string), make(chan int, 1), map[string]string{}}
 	go func() {
-		one.status <- run(words, io.Discard, to, one.signals)
+		one.status <- does(to, one.signals)
 		to.Close()
 	}()
 	come := make(chan string)
@@ -162,12 +158,7 @@ func (p *process) post(signed []byte) (int, string) {
 
 func (p *process) wants(status int, signed []byte) {
 	p.t.Helper()
-	came, text := p.post(signed)
-	// (a request has some seconds alone, in which a busy machine doesn't start the program)
-	for until := time.Now().Add(trial.Longest); came == 503 && text == "program\n" && time.Now().Before(until); {
-		came, text = p.post(signed)
-	}
-	if came != status {
+	if came, text := p.post(signed); came != status {
 		p.t.Errorf("%d, and not %d: %s", came, status, text)
 	}
 }
@@ -312,8 +303,8 @@ func TestWords(t *testing.T) {
 		{"nothing 7", nil, 2, `there is no setting "nothing"`},
 		{"create a", nil, 2, `there is no setting "create"`},
 		{"name x", nil, 2, "stands in line 1 already"},
-		{"program-within 0s", nil, 2, "above 0"},
-		{"", []string{"--program", " "}, 2, "there is no command"},
+		{"end-within 0s", nil, 2, "above 0"},
+		{"program ctwitness", nil, 2, `there is no setting "program"`},
 		{"log a.example", nil, 2, "a key behind it"},
 		{"log a.example " + p.path("none"), nil, 2, "no such file"},
 		{"log a.example " + p.path("no-key"), nil, 2, "no such key"},
@@ -323,7 +314,6 @@ func TestWords(t *testing.T) {
 		{a + "\naccepted-by b.example /state", nil, 2, "there is no such log"},
 		{a + "\naccepted-by a.example /state\naccepted-by a.example /other", nil, 2, "stands twice"},
 		{"", []string{"--config", p.path("missing")}, 2, "no such file"},
-		{"", []string{"--program", "/nowhere/ctwitness"}, 1, "no such file"},
 		{"", []string{"--key", p.path("none")}, 1, "no such file"},
 		{"", []string{"--key", p.path("no-key")}, 1, "no private key"},
 		{"", []string{"--name", "a+b"}, 1, "plus sign"},

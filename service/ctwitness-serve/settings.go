@@ -21,15 +21,14 @@ var fileRules = settingsfile.Rules{Only: []string{"config", "create", "verifier-
 
 // settings are what the command line and the file of settings say.
 type settings struct {
-	words                         []string
-	name, key, state              string
-	listen, operator              string
-	program                       []string
-	within, openWithin, endWithin time.Duration
-	logs                          []logSetting
-	accepted                      map[string]string
-	create                        []string
-	verifierKey                   bool
+	words                 []string
+	name, key, state      string
+	listen, operator      string
+	openWithin, endWithin time.Duration
+	logs                  []logSetting
+	accepted              map[string]string
+	create                []string
+	verifierKey           bool
 }
 
 // logSetting is a log: its origin, and the keys that it signs its notes by. Of those that a monitor has to have accepted, `accepted` has its state's file.
@@ -46,23 +45,16 @@ const mostKey = 64 << 10
 
 // parse reads the command line, and the file that it names. What stands on the command line counts, and its logs are added.
 func parse(words []string, help io.Writer) (*settings, error) {
-	s := &settings{words: words, program: []string{"ctwitness"}, accepted: map[string]string{}}
-	flags := settingsfile.Flags("ctwitness-serve", "ctwitness-serve is a witness: it cosigns heads of logs, each where ctwitness decides that it follows the one before. Each word but --create and --verifier-key may also stand as a line 'name value' in the file of --config.", help)
+	s := &settings{words: words, accepted: map[string]string{}}
+	flags := settingsfile.Flags("ctwitness-serve", "ctwitness-serve is a witness: it cosigns heads of logs, each if the proved code in it decides that the head follows the one before. Each word but --create and --verifier-key may also stand as a line 'name value' in the file of --config.", help)
 	flags.String("config", "", "`file` with a line 'name value' for each of these, and comments behind #; its logs are read anew at SIGHUP")
 	flags.StringVar(&s.name, "name", "", "the witness's `name`, as witness.example")
 	flags.StringVar(&s.key, "key", "", "`file` with its private key of Ed25519 in PEM (openssl genpkey -algorithm ed25519), that none but its owner may read")
 	flags.StringVar(&s.state, "state", "", "`address` below which each log's state is kept: file:PATH, etcd://HOST:PORT/PREFIX, postgres://HOST/DATABASE?log=NAME")
 	flags.StringVar(&s.listen, "listen", "127.0.0.1:8640", "`address` for logs")
 	flags.StringVar(&s.operator, "operator-listen", "127.0.0.1:8641", "`address` for /metrics and /healthz; none where it is empty")
-	flags.Func("program", "the `command` that decides, with its words (default \"ctwitness\")", func(text string) error {
-		if s.program = strings.Fields(text); len(s.program) == 0 {
-			return errors.New("there is no command")
-		}
-		return nil
-	})
 	flags.Func("log", "a log's `origin`, and each of its keys behind a space: a file in PEM (P-256 or Ed25519), or a verifier key of Ed25519; may stand several times", s.addLog)
 	flags.Func("accepted-by", "a log's `origin`, and behind a space the file in which a monitor keeps its state of it (ctmonitor-watch: FOLDER/LOG/state): no head of it is cosigned but the one that the monitor accepted last, all of whose entries it read; may stand once a log", s.addAccepted)
-	flags.DurationVar(&s.within, "program-within", 10*time.Second, "how long a decision may take, until its program is killed")
 	flags.DurationVar(&s.openWithin, "open-within", 30*time.Second, "how long the states may take to open")
 	flags.DurationVar(&s.endWithin, "end-within", 30*time.Second, "how long an end by SIGTERM may take")
 	flags.Func("create", "makes the state of a log by its `origin`, of which this witness has never cosigned anything, and ends; may stand several times", func(origin string) error {
@@ -91,7 +83,7 @@ func (s *settings) settle() error {
 			return fmt.Errorf("accepted-by %s: there is no such log", origin)
 		}
 	}
-	for _, time := range []time.Duration{s.within, s.openWithin, s.endWithin} {
+	for _, time := range []time.Duration{s.openWithin, s.endWithin} {
 		if time <= 0 {
 			return errors.New("a time is above 0")
 		}

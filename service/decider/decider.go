@@ -1,33 +1,20 @@
-// Package decider asks the program that says what a node of a log does next, ctnode: a process at the other end of two pipes, with an object of
-// JSON a line (docs/NODE.md). It keeps nothing from one line to the next, so it is killed where it doesn't answer, started again, and asked once more.
+// Package decider decides what a node of a log does next, by the proved function of ctnode in this process (docs/NODE.md).
 package decider
 
 import (
-	"bytes"
-	"context"
 	"encoding/json"
 	"errors"
 	"fmt"
-	"time"
 
-	"wagtenib/service/pipe"
+	"wagtenib/bindings/go/wagtenib"
+	"wagtenib/service/proved"
 )
 
-// The bounds of lines, in bytes without their ends.
-const (
-	// MostLine is the program's own.
-	MostLine = 64 << 10
-	// mostReply is how much of a reply is read.
-	mostReply = 128 << 10
-)
-
-// What asking fails by, beside ErrGone. Each is found by errors.Is.
+// The errors of decisions. Each is found by errors.Is.
 var (
-	// ErrGone: the process doesn't start, ended, or gave no reply in time, twice.
-	ErrGone = pipe.ErrGone
-	// ErrReply: the reply isn't one.
-	ErrReply = fmt.Errorf("decider: %w", pipe.ErrReply)
-	// ErrRefused: the program doesn't take what was told: a text that isn't a register's, or a name that isn't a bundle's.
+	// ErrReply: the reply isn't one to the request.
+	ErrReply = proved.ErrReply
+	// ErrRefused: the report is refused as none: a text that isn't a register's, or a name that isn't a bundle's.
 	ErrRefused = errors.New("decider: refused")
 )
 
@@ -147,7 +134,7 @@ const (
 
 func (r Refusal) Error() string { return "decider: " + string(r) }
 
-// isOne says whether it is one that the program gives.
+// isOne reports whether it is one of these.
 func (r Refusal) isOne() bool {
 	switch r {
 	case Gone, BehindSeen, BehindGuard, TwoRoots, GuardBehind, BehindListed, BehindPublished:
@@ -156,38 +143,35 @@ func (r Refusal) isOne() bool {
 	return false
 }
 
-// Client asks one process, one line at a time. Its methods may be called at once.
-type Client struct{ *pipe.Program }
+// Decider decides for nodes. It keeps nothing of a node from one call to the next. Its methods may be called at once.
+type Decider struct{ caller *proved.Caller }
 
-// NewClient takes the program's command, and how long a line may take. The process is started by the first line.
-func NewClient(command []string, limit time.Duration) (*Client, error) {
-	program, err := pipe.NewProgram(command, MostLine, mostReply, limit)
-	return &Client{program}, err
-}
+// New returns a decider.
+func New() *Decider { return Over(wagtenib.NodeLine) }
 
-// Next gives the command behind what came of one.
-func (c *Client) Next(ctx context.Context, command *Command, told Told) (*Command, error) {
+// Over returns a decider over another function than the proved one, for tests.
+func Over(function proved.Function) *Decider { return &Decider{proved.NewCaller(function)} }
+
+// Next returns the command that follows a command, by what came of it.
+func (d *Decider) Next(command *Command, told Told) (next *Command, err error) {
 	for key, value := range told {
 		if objects, ok := value.([]string); ok && objects == nil {
 			told[key] = []string{}
 		}
 	}
-	var next *Command
-	err := c.ask(ctx, map[string]any{"node": command.said, "told": told}, func(reply []byte) (err error) {
+	err = d.caller.Call(map[string]any{"node": command.said, "told": told}, func(reply []byte) (err error) {
 		next, err = read(reply)
 		return err
 	})
-	if err != nil {
-		return nil, err
-	}
-	return next, nil
+	return next, err
 }
 
-// Start says whether a node that finds this goes on from the register's text, or is to create the register. A Refusal says that it does neither.
-func (c *Client) Start(ctx context.Context, found Found) (creates bool, err error) {
+// Start reports whether a node that finds this is to create the register. If not, it goes on from the register's text. A Refusal says that it
+// must do neither.
+func (d *Decider) Start(found Found) (creates bool, err error) {
 	var began string
-	err = c.ask(ctx, map[string]any{"begin": found}, func(line []byte) (err error) {
-		began, err = readBegin(line)
+	err = d.caller.Call(map[string]any{"begin": found}, func(reply []byte) (err error) {
+		began, err = readBegin(reply)
 		return err
 	})
 	return err == nil && began == "creates", err
@@ -202,7 +186,7 @@ func readBegin(line []byte) (string, error) {
 	err := json.Unmarshal(line, &reply)
 	switch {
 	case err == nil && reply.Refused == "bad-line" && reply.Begin == "":
-		return "", errBadLine
+		return "", ErrRefused
 	case err == nil && reply.Refused.isOne() && reply.Begin == "":
 		return "", reply.Refused
 	case err == nil && reply.Refused == "" && (reply.Begin == "goes" || reply.Begin == "creates"):
@@ -211,33 +195,10 @@ func readBegin(line []byte) (string, error) {
 	return "", fmt.Errorf("%w: %.80q", ErrReply, line)
 }
 
-// errBadLine is an ErrRefused of a line that this process wrote itself. The program may have read a part of it, so it is ended like after a reply that is none.
-var errBadLine error = badLine{}
-
-type badLine struct{}
-
-func (badLine) Error() string        { return ErrRefused.Error() }
-func (badLine) Is(target error) bool { return target == ErrRefused || target == pipe.ErrReply }
-
-// ask asks a line, and once more if the process is gone.
-func (c *Client) ask(ctx context.Context, line map[string]any, read func(reply []byte) error) error {
-	err := c.Ask(ctx, line, read)
-	if errors.Is(err, ErrGone) && ctx.Err() == nil {
-		err = c.Ask(ctx, line, read)
-	}
-	switch {
-	case errors.Is(err, pipe.ErrTooLong):
-		return fmt.Errorf("%w: %v", ErrRefused, err)
-	case errors.Is(err, ErrGone):
-		return fmt.Errorf("decider: %w", err)
-	}
-	return err
-}
-
 // read reads a reply.
 func read(line []byte) (*Command, error) {
-	if bytes.HasPrefix(line, []byte(`{"refused":`)) {
-		return nil, errBadLine
+	if proved.IsRefusal(line) {
+		return nil, ErrRefused
 	}
 	var reply struct{ Node json.RawMessage }
 	if err := json.Unmarshal(line, &reply); err != nil {
@@ -253,7 +214,7 @@ func read(line []byte) (*Command, error) {
 	return command, nil
 }
 
-// isWhole says whether a command is one, and has all that it is about.
+// isWhole reports whether a command is one, and has all that it is about.
 func (c *Command) isWhole() bool {
 	seen, new := c.Seen.Text != "" && c.Seen.Bundle != "", c.New.Text != "" && c.New.Bundle != ""
 	switch c.Do {

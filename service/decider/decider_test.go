@@ -1,34 +1,22 @@
 package decider
 
 import (
-	"context"
 	"errors"
 	"fmt"
-	"os"
-	"path/filepath"
 	"strings"
 	"testing"
-	"time"
 
+	"wagtenib/bindings/go/wagtenib"
+	"wagtenib/service/proved"
 	"wagtenib/service/trial"
 )
 
-// program is a second program beside the proved one, with the same lines.
-var program = []string{"python3", "../../tests/node/ctnode.py"}
-
-const longest = trial.Longest
-
 var must = trial.Must
 
-func client(t *testing.T, limit time.Duration, command ...string) *Client {
-	t.Helper()
-	c, err := NewClient(command, limit)
-	must(t, err)
-	t.Cleanup(func() { c.Close() })
-	return c
+// replying returns a decider over a function that replies one line to every request.
+func replying(reply string) *Decider {
+	return Over(func(*[]byte, []byte) ([]byte, error) { return []byte(reply + "\n"), nil })
 }
-
-func within(t *testing.T) context.Context { return trial.Limited(t, longest) }
 
 // line is a state's, of so many entries at a moment.
 func line(size, moment uint64) string {
@@ -42,7 +30,7 @@ func textOf(size, moment, before, salt uint64) string {
 // TestWay goes all the way of a node that has a step made, with what each command is about.
 func TestWay(t *testing.T) {
 	t.Parallel()
-	c, ctx := client(t, longest, program...), within(t)
+	c := New()
 	seen, new := Held{Text: textOf(3, 7, 5, 1), Moment: 7, Size: 3}, Held{Text: textOf(4, 9, 7, 2), Moment: 9, Size: 4}
 	seen.Bundle, new.Bundle = "staging/000000000000000700000000000000050000000000000001", "staging/000000000000000900000000000000070000000000000002"
 	objects := []string{"tile/0/000.p/4 aa", "tile/data/000.p/4 bb"}
@@ -68,7 +56,7 @@ func TestWay(t *testing.T) {
 		{Bundled(nil), Command{Do: Put, New: seen, Objects: []string{}}},
 		{Lost(), Command{Do: Read}},
 	} {
-		next, err := c.Next(ctx, command, step.told)
+		next, err := c.Next(command, step.told)
 		must(t, err)
 		next.said, command = nil, next
 		if fmt.Sprintf("%q", *next) != fmt.Sprintf("%q", step.want) {
@@ -78,9 +66,6 @@ func TestWay(t *testing.T) {
 		if command, err = again(command); err != nil {
 			t.Fatal(err)
 		}
-	}
-	if c.Starts() != 1 {
-		t.Errorf("the process was started %d times", c.Starts())
 	}
 }
 
@@ -98,25 +83,21 @@ func again(command *Command) (*Command, error) {
 	return &next, nil
 }
 
-// TestRefusals: what isn't a register's text or a bundle's name is refused. The process is ended for each, since it may have read a part of the line; a line that
-// is too long isn't sent.
+// TestRefusals: what isn't a register's text or a bundle's name is refused, and so is a line that is too long.
 func TestRefusals(t *testing.T) {
 	t.Parallel()
-	c, ctx := client(t, longest, program...), within(t)
-	look, err := c.Next(ctx, Begin(), WasRead(textOf(3, 7, 5, 1)))
+	c := New()
+	look, err := c.Next(Begin(), WasRead(textOf(3, 7, 5, 1)))
 	must(t, err)
-	step, err := c.Next(ctx, look, Published())
+	step, err := c.Next(look, Published())
 	must(t, err)
 	for _, err := range []error{
-		second(c.Next(ctx, Begin(), WasRead("a text"))), second(c.Next(ctx, step, Listed("staging/0"))), second(c.Next(ctx, step, Told{"came": "nothing"})),
-		second(c.Next(ctx, step, Stepped(strings.Repeat("x", MostLine), "-", 1, nil))),
+		second(c.Next(Begin(), WasRead("a text"))), second(c.Next(step, Listed("staging/0"))), second(c.Next(step, Told{"came": "nothing"})),
+		second(c.Next(step, Stepped(strings.Repeat("x", wagtenib.MaxNodeRequest), "-", 1, nil))),
 	} {
 		if !errors.Is(err, ErrRefused) {
 			t.Error(err)
 		}
-	}
-	if c.Starts() != 3 {
-		t.Errorf("the process was started %d times", c.Starts())
 	}
 }
 
@@ -125,7 +106,7 @@ func second(_ *Command, err error) error { return err }
 // TestStarts: what a node finds is gone on from, or refused by the name of what is ahead of the register's head.
 func TestStarts(t *testing.T) {
 	t.Parallel()
-	c, ctx := client(t, longest, program...), within(t)
+	c := New()
 	root, other := strings.Repeat("0", 64), strings.Repeat("1", 64)
 	at := func(size, moment uint64) *Point { return &Point{size, moment} }
 	rooted := func(size, moment uint64, root string) *Rooted { return &Rooted{*at(size, moment), root} }
@@ -157,7 +138,7 @@ func TestStarts(t *testing.T) {
 		{Found{Creates: true, Published: at(0, 1)}, "gone"},
 		{Found{Creates: true, Listed: at(0, 1)}, "gone"},
 	} {
-		creates, err := c.Start(ctx, it.found)
+		creates, err := c.Start(it.found)
 		got := "goes"
 		var refusal Refusal
 		switch {
@@ -172,8 +153,8 @@ func TestStarts(t *testing.T) {
 			t.Errorf("%+v: %s, and expected was %s", it.found, got, it.want)
 		}
 	}
-	for _, text := range []string{"a text", strings.Repeat("x", MostLine)} {
-		if _, err := c.Start(ctx, Found{Register: text}); !errors.Is(err, ErrRefused) {
+	for _, text := range []string{"a text", strings.Repeat("x", wagtenib.MaxNodeRequest)} {
+		if _, err := c.Start(Found{Register: text}); !errors.Is(err, ErrRefused) {
 			t.Error(err)
 		}
 	}
@@ -181,28 +162,15 @@ func TestStarts(t *testing.T) {
 		"no", "[]", "{}", "7", `{"begin":7}`, `{"begin":"runs"}`, `{"begin":"goes","refused":"gone"}`, `{"begin":"goes","refused":"bad-line"}`, `{"refused":"away"}`,
 		`{"node":{"do":"read"}}`, `{"begin":"goes","refused":7}`,
 	} {
-		c := client(t, longest, script(t, "read x; echo '"+reply+"'; exec cat >/dev/null\n")...)
-		if creates, err := c.Start(ctx, Found{Register: text}); !errors.Is(err, ErrReply) {
+		if creates, err := replying(reply).Start(Found{Register: text}); !errors.Is(err, ErrReply) {
 			t.Errorf("%s: %v, %v", reply, creates, err)
 		}
 	}
-	gone := client(t, 300*time.Millisecond, script(t, "exit 1")...)
-	if _, err := gone.Start(ctx, Found{}); !errors.Is(err, ErrGone) || gone.Starts() != 2 {
-		t.Errorf("%v, started %d times", err, gone.Starts())
-	}
 }
 
-// script makes a program of a shell's lines.
-func script(t *testing.T, lines string) []string {
-	path := filepath.Join(t.TempDir(), "program")
-	must(t, os.WriteFile(path, []byte(lines), 0o700))
-	return []string{"sh", path}
-}
-
-// TestWrongPrograms asks programs that don't reply, or reply what is no command.
-func TestWrongPrograms(t *testing.T) {
+// TestWrongReplies has a function reply what is no command.
+func TestWrongReplies(t *testing.T) {
 	t.Parallel()
-	ctx := within(t)
 	text := `{"bundle":"staging/1","moment":1,"size":1,"text":"a"}`
 	for _, reply := range []string{
 		"no", "[]", "{}", `{"node":7}`, `{"node":{}}`, `{"node":{"do":"dance"}}`, `{"node":{"do":"look"}}`, `{"node":{"do":"look","seen":{"text":"a"}}}`,
@@ -213,39 +181,19 @@ func TestWrongPrograms(t *testing.T) {
 		`{"node":{"do":"place","new":{"text":"a"}}}`, `{"node":{"do":"place","new":{"bundle":"staging/1"}}}`, `{"node":{"do":"put","new":{"text":"a"},"objects":[]}}`,
 		`{"node":{"do":"delete","bundle":"staging/1"}}`, `{"node":{"do":"read","objects":7}}`,
 	} {
-		c := client(t, longest, script(t, "read x; echo '"+reply+"'; exec cat >/dev/null\n")...)
-		if command, err := c.Next(ctx, Begin(), Lost()); !errors.Is(err, ErrReply) {
+		if command, err := replying(reply).Next(Begin(), Lost()); !errors.Is(err, ErrReply) {
 			t.Errorf("%s: %+v, %v", reply, command, err)
 		}
 	}
 	// (of a command that reads nothing more has to be known, and more may be)
-	more := client(t, longest, script(t, `read x; echo '{"node":{"do":"read","objects":[],"seen":`+text+`}}'; exec cat >/dev/null`+"\n")...)
-	if command, err := more.Next(ctx, Begin(), Lost()); err != nil || command.Do != Read {
+	if command, err := replying(`{"node":{"do":"read","objects":[],"seen":`+text+`}}`).Next(Begin(), Lost()); err != nil || command.Do != Read {
 		t.Errorf("%+v, %v", command, err)
 	}
-	for what, lines := range map[string]string{"is silent": "exec sleep 600", "ends": "exit 1", "isn't there": "exec /nowhere"} {
-		c := client(t, 300*time.Millisecond, script(t, lines)...)
-		if _, err := c.Next(ctx, Begin(), Lost()); !errors.Is(err, ErrGone) || c.Starts() != 2 {
-			t.Errorf("a program that %s: %v, started %d times", what, err, c.Starts())
-		}
-	}
-	if _, err := NewClient(nil, time.Second); !errors.Is(err, ErrGone) {
+	if _, err := replying(`{"refused":"bad-line"}`).Next(Begin(), Lost()); !errors.Is(err, ErrRefused) {
 		t.Error(err)
 	}
-}
-
-// TestAskedOnceMore: a program that ends without a reply is started again, and asked the same.
-func TestAskedOnceMore(t *testing.T) {
-	t.Parallel()
-	flag := filepath.Join(t.TempDir(), "flag")
-	c := client(t, longest, script(t, "read x; [ -e "+flag+" ] || { touch "+flag+"; exit 1; }; echo '{\"node\":{\"do\":\"read\"}}'; exec cat >/dev/null\n")...)
-	command, err := c.Next(within(t), Begin(), Lost())
-	if err != nil || command.Do != Read || c.Starts() != 2 {
-		t.Errorf("%+v, %v, started %d times", command, err, c.Starts())
-	}
-	ended, cancel := context.WithCancel(context.Background())
-	cancel()
-	if _, err := client(t, longest, "sleep", "600").Next(ended, Begin(), Lost()); !errors.Is(err, ErrGone) {
-		t.Error(err)
+	dry := Over(func(*[]byte, []byte) ([]byte, error) { return nil, proved.ErrMemory })
+	if command, err := dry.Next(Begin(), Lost()); !errors.Is(err, proved.ErrMemory) || command != nil {
+		t.Errorf("%+v, %v", command, err)
 	}
 }

@@ -70,9 +70,8 @@ type Figures struct {
 	// Repeats counts submissions that were answered with a place that they had, Helped the heads of others that were rolled out,
 	// HandedOver the submissions that another node answered.
 	Repeats, Helped, HandedOver uint64
-	// StepStarts counts how often the step's process was started, DeciderStarts how often the decider's was, ReaderStarts how often those that make proofs and
-	// cut precertificates were, and SignerStarts how often the signer was, or was found.
-	StepStarts, DeciderStarts, ReaderStarts, SignerStarts uint64
+	// SignerStarts counts how often the signer was started, or was found.
+	SignerStarts uint64
 	// Swept counts partial tiles that were deleted behind their full one, SweptHeads heads that were behind a later one, and Scrubbed data
 	// tiles that were read again and were right.
 	Swept, SweptHeads, Scrubbed uint64

@@ -1,6 +1,5 @@
-// Package reader makes audit paths, consistency proofs and roots out of a log's tiles: which tiles, and what of them, the program
-// says that wagtenib/service/step asks. What comes may be wrong where the tiles are: who has a root checks it, as the Check
-// functions do.
+// Package reader makes audit paths, consistency proofs and roots out of a log's tiles, by the proved function of ctproof in this process
+// (docs/TILES.md). If the tiles are wrong, so are these: a caller that has a root checks them, as the Check functions do.
 package reader
 
 import (
@@ -12,34 +11,38 @@ import (
 
 	"golang.org/x/mod/sumdb/tlog"
 
-	"wagtenib/service/step"
+	"wagtenib/bindings/go/wagtenib"
+	"wagtenib/service/proved"
 )
 
-// What readings fail by, beside what the tiles' own reading gives and package step's. Each is found by errors.Is.
+// The errors of readings, beside those of reading the tiles, refusals and ErrReply. Each is found by errors.Is.
 var (
-	// ErrBusy: so many wait already that no more is taken.
+	// ErrBusy: so many are made already that no more is taken.
 	ErrBusy = errors.New("reader: busy")
 	// ErrWrong: what was made isn't of the tree with the root that was named.
 	ErrWrong = errors.New("reader: the tiles aren't those of the tree")
 )
 
-// Reader asks one program for one thing after another.
+// Reader makes proofs for readers. Its methods may be called at once.
 type Reader struct {
-	program *step.Client
-	object  Objects
-	// waits has a place for each thing that is being made.
-	waits chan struct{}
+	caller *proved.Caller
+	object Objects
+	// places has a place for each thing that is being made.
+	places chan struct{}
 }
 
-// mostReading bounds how long one thing is made, the reading of its tiles and waiting for the program included.
+// mostReading bounds how long one thing is made, the reading of its tiles included.
 const mostReading = 20 * time.Second
 
 // Objects reads a published object of at most so many bytes.
 type Objects func(ctx context.Context, name string, most int64) ([]byte, error)
 
-// New takes the program, what reads a published object, and how many things are made at once, or wait to be.
-func New(program *step.Client, object Objects, most int) *Reader {
-	return &Reader{program, object, make(chan struct{}, most)}
+// New takes what reads a published object, and how many things are made at once.
+func New(object Objects, most int) *Reader { return Over(wagtenib.ProofLine, object, most) }
+
+// Over returns a reader over another function than the proved one, for tests.
+func Over(function proved.Function, object Objects, most int) *Reader {
+	return &Reader{proved.NewCaller(function), object, make(chan struct{}, most)}
 }
 
 // made is what was asked for.
@@ -48,23 +51,24 @@ type made[T any] struct {
 	err  error
 }
 
-// within has something made. Who goes away meanwhile doesn't end the program, which others wait for: what was begun is made.
+// within has something made, in its time, if a place is free. It returns once the context ends. A reading that doesn't heed the end of its context keeps its
+// place until it is done.
 func within[T any](ctx context.Context, r *Reader, ask func(context.Context) (T, error)) (what T, err error) {
 	if err := ctx.Err(); err != nil {
 		return what, err
 	}
 	select {
-	case r.waits <- struct{}{}:
+	case r.places <- struct{}{}:
 	default:
-		return what, fmt.Errorf("%w: %d wait", ErrBusy, cap(r.waits))
+		return what, fmt.Errorf("%w: %d are made", ErrBusy, cap(r.places))
 	}
 	done := make(chan made[T], 1)
 	go func() {
-		own, cancel := context.WithTimeout(context.Background(), mostReading)
+		own, cancel := context.WithTimeout(ctx, mostReading)
 		defer cancel()
 		what, err := ask(own)
-		// The place is given back before anything is told: who has the answer and asks for more at once finds it free.
-		<-r.waits
+		// (the place is free before the caller has the answer, so a caller that asks again at once finds it free)
+		<-r.places
 		done <- made[T]{what, err}
 	}()
 	select {
@@ -77,16 +81,16 @@ func within[T any](ctx context.Context, r *Reader, ask func(context.Context) (T,
 
 // tiles reads the tiles of a tree out of those of one of `of` leaves: a partial tile is the beginning of a wider one, and of each
 // tile only the widest may stand.
-func (r *Reader) tiles(of uint64) step.Tiles {
+func (r *Reader) tiles(of uint64) tiles {
 	return func(ctx context.Context, name string) ([]byte, error) {
 		// tlog writes the height of tiles, and C2SP doesn't.
 		tile, err := tlog.ParseTilePath("tile/8/" + strings.TrimPrefix(name, "tile/"))
 		if err != nil || tile.L < 0 || tile.L > 7 {
-			return nil, fmt.Errorf("%w: %.80q is no tile of hashes", step.ErrReply, name)
+			return nil, fmt.Errorf("%w: %.80q is no tile of hashes", ErrReply, name)
 		}
 		width, hashes, before := tile.W, of>>(8*tile.L), 256*uint64(tile.N)
 		if hashes < before+uint64(width) {
-			return nil, fmt.Errorf("%w: %s isn't in a tree of %d", step.ErrReply, name, of)
+			return nil, fmt.Errorf("%w: %s isn't in a tree of %d", ErrReply, name, of)
 		}
 		tile.W = 256
 		if hashes-before < 256 {
@@ -105,7 +109,7 @@ func (r *Reader) tiles(of uint64) step.Tiles {
 
 // Path is the audit path of a leaf in the tree of size leaves, made of the tiles of the tree of `of` leaves, at least as many.
 func (r *Reader) Path(ctx context.Context, index, size, of uint64) ([][32]byte, error) {
-	return within(ctx, r, func(ctx context.Context) ([][32]byte, error) { return r.program.Path(ctx, index, size, r.tiles(of)) })
+	return within(ctx, r, func(ctx context.Context) ([][32]byte, error) { return r.path(ctx, index, size, r.tiles(of)) })
 }
 
 // Proof is the consistency proof from the tree of the first leaves to that of size. From none, and between trees of one size, it
@@ -114,12 +118,12 @@ func (r *Reader) Proof(ctx context.Context, first, size, of uint64) ([][32]byte,
 	if first == 0 || first == size {
 		return nil, nil
 	}
-	return within(ctx, r, func(ctx context.Context) ([][32]byte, error) { return r.program.Proof(ctx, first, size, r.tiles(of)) })
+	return within(ctx, r, func(ctx context.Context) ([][32]byte, error) { return r.proof(ctx, first, size, r.tiles(of)) })
 }
 
 // Root is the Merkle Tree Hash of the first size leaves.
 func (r *Reader) Root(ctx context.Context, size, of uint64) ([32]byte, error) {
-	return within(ctx, r, func(ctx context.Context) ([32]byte, error) { return r.program.Root(ctx, size, r.tiles(of)) })
+	return within(ctx, r, func(ctx context.Context) ([32]byte, error) { return r.root(ctx, size, r.tiles(of)) })
 }
 
 // CheckPath sees that a path leads from a leaf's hash at an index to the root of a tree of size leaves.

@@ -11,23 +11,12 @@ import (
 
 	"golang.org/x/mod/sumdb/tlog"
 
-	"wagtenib/service/step"
 	"wagtenib/service/trial"
 )
-
-// program is a second program beside the proved one, with the same lines.
-var program = []string{"python3", "../../tests/tiles/step.py", "--origin", "log.example/tried"}
 
 var must = trial.Must
 
 func limited(t testing.TB) context.Context { return trial.Limited(t, trial.Longest) }
-
-func client(t testing.TB, command ...string) *step.Client {
-	c, err := step.NewClient(command, trial.Longest)
-	must(t, err)
-	t.Cleanup(func() { c.Close() })
-	return c
-}
 
 // TestTiles: a tile is read as the widest that stands in the tree, and what is given are the hashes that were asked for; what has another length is wrong, and what
 // is no tile of hashes of the tree isn't asked for.
@@ -61,7 +50,7 @@ func TestTiles(t *testing.T) {
 	} {
 		asked := ""
 		content := wide[:32*of.has]
-		r := New(nil, func(_ context.Context, name string, most int64) ([]byte, error) {
+		r := New(func(_ context.Context, name string, most int64) ([]byte, error) {
 			if asked = name; most != 32*256 {
 				t.Errorf("%s of %d: at most %d bytes", of.name, of.size, most)
 			}
@@ -70,7 +59,7 @@ func TestTiles(t *testing.T) {
 		tiles := r.tiles(of.size)
 		read, err := tiles(limited(t), of.name)
 		if of.asked == "" {
-			if !errors.Is(err, step.ErrReply) || asked != "" {
+			if !errors.Is(err, ErrReply) || asked != "" {
 				t.Errorf("%s of %d: %q is asked for, %v", of.name, of.size, asked, err)
 			}
 			continue
@@ -86,7 +75,7 @@ func TestTiles(t *testing.T) {
 		}
 	}
 	broken := errors.New("the disk")
-	r := New(nil, func(context.Context, string, int64) ([]byte, error) { return nil, broken }, 1)
+	r := New(func(context.Context, string, int64) ([]byte, error) { return nil, broken }, 1)
 	if _, err := r.tiles(300)(limited(t), "tile/0/000"); !errors.Is(err, broken) {
 		t.Error(err)
 	}
@@ -99,7 +88,7 @@ func TestReadings(t *testing.T) {
 	node := func(a, b [32]byte) [32]byte { return sha256.Sum256(append(append([]byte{1}, a[:]...), b[:]...)) }
 	zero, one, two, three := leaf(0), leaf(1), leaf(2), leaf(3)
 	tile := bytes.Join([][]byte{zero[:], one[:], two[:], three[:]}, nil)
-	r := New(client(t, program...), func(_ context.Context, name string, _ int64) ([]byte, error) {
+	r := New(func(_ context.Context, name string, _ int64) ([]byte, error) {
 		if name != "tile/0/000.p/4" {
 			return nil, fmt.Errorf("%s is asked for", name)
 		}
@@ -140,7 +129,7 @@ func TestReadings(t *testing.T) {
 		}
 	}
 	// Nothing is asked for what is empty.
-	nobody := New(nil, nil, 0)
+	nobody := New(nil, 0)
 	for _, sizes := range [][2]uint64{{0, 0}, {0, 3}, {3, 3}} {
 		if proof, err := nobody.Proof(ctx, sizes[0], sizes[1], 3); err != nil || len(proof) != 0 {
 			t.Errorf("from %d to %d: %x, %v", sizes[0], sizes[1], proof, err)
@@ -148,21 +137,23 @@ func TestReadings(t *testing.T) {
 	}
 }
 
-// TestWhoGoes: who goes away gets nothing and ends nothing: what was begun has its own time, and gives its place back where it is made. Who is gone before asks for
-// nothing, and where no place is left nobody waits.
-func TestWhoGoes(t *testing.T) {
-	comes, asked := make(chan struct{}), make(chan context.Context, 4)
-	tile := sha256.Sum256([]byte{0, 0})
-	of := client(t, program...)
-	r := New(of, func(ctx context.Context, _ string, _ int64) ([]byte, error) {
+// TestClientGoes: a client that goes away ends the reading for it, and its place is free again. A client that is gone already asks for nothing, and if no
+// place is free no client waits.
+func TestClientGoes(t *testing.T) {
+	asked, tile := make(chan context.Context, 4), sha256.Sum256([]byte{0, 0})
+	isThere := false
+	r := New(func(ctx context.Context, _ string, _ int64) ([]byte, error) {
 		asked <- ctx
-		<-comes
+		if !isThere {
+			<-ctx.Done()
+			return nil, ctx.Err()
+		}
 		return tile[:], nil
 	}, 1)
 	gone, cancel := context.WithCancel(limited(t))
 	cancel()
-	if _, err := r.Root(gone, 1, 1); !errors.Is(err, context.Canceled) || of.Starts() != 0 || len(r.waits) != 0 {
-		t.Errorf("who is gone before: %v, the program was started %d times", err, of.Starts())
+	if _, err := r.Root(gone, 1, 1); !errors.Is(err, context.Canceled) || len(asked) != 0 || len(r.places) != 0 {
+		t.Errorf("a client that is gone: %v, and %d tiles are asked for", err, len(asked))
 	}
 	goes, cancel := context.WithCancel(limited(t))
 	came := make(chan error, 1)
@@ -171,35 +162,26 @@ func TestWhoGoes(t *testing.T) {
 		came <- err
 	}()
 	own := <-asked
-	cancel()
-	select {
-	case err := <-came:
-		if !errors.Is(err, context.Canceled) {
-			t.Errorf("who goes: %v", err)
-		}
-	case <-limited(t).Done():
-		t.Fatal("who goes waits for what was begun")
-	}
-	if until, isBounded := own.Deadline(); own.Err() != nil || !isBounded || time.Until(until) > mostReading {
-		t.Errorf("what was begun has until %v, %v", until, own.Err())
+	if until, isBounded := own.Deadline(); !isBounded || time.Until(until) > mostReading {
+		t.Errorf("the reading has until %v", until)
 	}
 	if _, err := r.Root(limited(t), 1, 1); !errors.Is(err, ErrBusy) {
 		t.Errorf("without a place: %v", err)
 	}
-	close(comes)
-	for until := limited(t); len(r.waits) != 0; time.Sleep(time.Millisecond) {
-		if until.Err() != nil {
-			t.Fatal("the place isn't given back")
-		}
+	cancel()
+	if err := <-came; !errors.Is(err, context.Canceled) {
+		t.Errorf("a client that goes: %v", err)
 	}
-	if root, err := r.Root(limited(t), 1, 1); err != nil || root != tlog.Hash(tile) || of.Starts() != 1 {
-		t.Errorf("behind that: %x, %v, the program was started %d times", root, err, of.Starts())
+	trial.Eventually(t, "the place is free", func() bool { return len(r.places) == 0 })
+	isThere = true
+	if root, err := r.Root(limited(t), 1, 1); err != nil || root != tlog.Hash(tile) {
+		t.Errorf("after that: %x, %v", root, err)
 	}
 }
 
 // TestOneBehindAnother: where one thing is made at once, who asks for the next as soon as it has an answer, or an error, is always taken.
 func TestOneBehindAnother(t *testing.T) {
-	r, ctx, broken := New(nil, nil, 1), limited(t), errors.New("the disk")
+	r, ctx, broken := New(nil, 1), limited(t), errors.New("the disk")
 	for i := 0; i < 20000; i++ {
 		var fails error
 		if i%2 == 1 {

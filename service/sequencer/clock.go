@@ -337,7 +337,7 @@ func (c *clock) hurry() {
 }
 
 // moment gives the moment of a step behind the newest one: the time of day's, or the next millisecond where that isn't later; and how far the
-// program is to let it be beyond that one: an hour, as heads are younger while a log runs, or for how long the log stood still, which this clock
+// step is to let it be beyond that one: an hour, as heads are younger while a log runs, or for how long the log stood still, which this clock
 // vouches for.
 func (c *clock) moment(last uint64, node string) (moment, most uint64, err error) {
 	if err := c.check(last, node); err != nil {

@@ -7,11 +7,13 @@ import (
 	"net/http/httptest"
 	"os"
 	"path/filepath"
+	"regexp"
 	"strings"
 	"sync"
 	"testing"
 	"time"
 
+	"wagtenib/bindings/go/wagtenib"
 	"wagtenib/service/log"
 	"wagtenib/service/signer"
 	"wagtenib/service/step"
@@ -414,13 +416,10 @@ func TestClocksWrongAlike(t *testing.T) {
 	p.right(t, got)
 }
 
-// TestMomentTooFar has a step's program, and then a guard, that are told to let no moment be beyond the newest head's: each refuses, and who waits is
+// TestMomentTooFar has a step, and then a guard, that are told to let no moment be beyond the newest head's: each refuses, and who waits is
 // told by how much.
 func TestMomentTooFar(t *testing.T) {
 	t.Parallel()
-	strict := func(edit string, command ...string) []string {
-		return append([]string{"sh", "-c", `sed -u "$0" | exec "$@"`, edit}, command...)
-	}
 	p, ctx, got, s := begun(t, 5, 5)
 	must(t, s.End(ctx))
 	refuses := func(config Config, beside string) {
@@ -434,22 +433,21 @@ func TestMomentTooFar(t *testing.T) {
 		must(t, s.End(ctx))
 	}
 	config := p.config(t)
-	steps, err := step.NewClient(strict(`s/"most_ahead":[0-9]*/"most_ahead":0/`, "python3", stepsFile, "--origin", origin), longest)
-	must(t, err)
-	t.Cleanup(func() { steps.Close() })
-	closeAll(Config{Step: config.Step})
-	config.Step = steps
+	ahead := regexp.MustCompile(`"most_ahead":[0-9]*`)
+	config.Step = step.Over(func(memory *[]byte, request []byte) ([]byte, error) {
+		return wagtenib.StepLine(memory, origin, ahead.ReplaceAll(request, []byte(`"most_ahead":0`)))
+	})
 	refuses(config, "the log's newest head")
 	config = p.config(t)
-	closeAll(Config{Signer: config.Signer})
 	key, err := signer.OpenKey(filepath.Join(string(p), "key.pem"))
 	must(t, err)
 	state, err := stores.OpenFile(p.guardState())
 	must(t, err)
-	guard := strict(`s/"most_ahead":[0-9]*/"most_ahead":0/`, "python3", guardFile)
-	config.Signer, err = signer.Behind(ctx, key, signer.Guard{Command: guard, State: state, Within: longest})
+	config.Signer, err = signer.Behind(ctx, key, signer.Guard{State: state, Judge: func(lines []byte) ([]byte, error) {
+		var memory []byte
+		return wagtenib.GuardLines(&memory, "", false, ahead.ReplaceAll(lines, []byte(`"most_ahead":0`)))
+	}})
 	must(t, err)
-	t.Cleanup(func() { closeAll(Config{Signer: config.Signer}) })
 	refuses(config, "the signer's last head")
 	// The step was decided, and its head is signed once the guard lets it through.
 	p.goesOn(t, got, 5, 10)

@@ -14,7 +14,7 @@ import (
 	"wagtenib/service/stores"
 )
 
-// What a node does next is the program's to say (wagtenib/service/decider). Here stands how each of its commands is carried out, and what came of it.
+// Package decider says what a node does next. This file carries each of its commands out, and reports what came of it.
 
 // turn is one way through the commands, from a text that the register had.
 type turn struct {
@@ -41,10 +41,10 @@ type turn struct {
 	paths [][][32]byte
 }
 
-// errCommand: the program gives a command that can't be carried out here. It may be a reply to another line, so the program is replaced.
+// errCommand: a command can't be carried out here. It isn't one of this turn, so the turn ends, and what was decided before it is forgotten.
 var errCommand = errors.New("sequencer: no command of this node")
 
-// heldOf returns the text that a node's step leads to, with the name of its bundle, as the program makes them (docs/NODE.md). No other text may take the place of
+// heldOf returns the text that a node's step leads to, with the name of its bundle, as the decider makes them (docs/NODE.md). No other text may take the place of
 // the one that the step was made from: nothing that the log needs would belong to it, and the text before is kept nowhere.
 func heldOf(from known, line string, to step.State, where string, salt uint64) decider.Held {
 	return decider.Held{
@@ -64,8 +64,8 @@ func (t *turn) isMade() error {
 }
 
 // goOn asks what comes behind what came.
-func (s *Sequencer) goOn(ctx context.Context, t *turn, told decider.Told) (err error) {
-	if t.command, err = s.config.Decider.Next(ctx, t.command, told); err != nil {
+func (s *Sequencer) goOn(t *turn, told decider.Told) (err error) {
+	if t.command, err = s.config.Decider.Next(t.command, told); err != nil {
 		return fmt.Errorf("sequencer: %w", err)
 	}
 	return nil
@@ -84,7 +84,7 @@ func (s *Sequencer) carryOut(ctx context.Context, t *turn) (bool, error) {
 	if err != nil || told == nil {
 		return false, err
 	}
-	return true, s.goOn(ctx, t, told)
+	return true, s.goOn(t, told)
 }
 
 // reach gets to where a step may be made from a state: where it isn't rolled out, its own node does that, or this one. It gives no turn where the next
@@ -246,7 +246,7 @@ func (s *Sequencer) doStep(ctx context.Context, t *turn, batch []*waiting) error
 	t.made = heldOf(t.k, stepped.Line, stepped.State, s.config.where(), salt)
 	s.phase("stepped")
 	told := decider.Stepped(stepped.Line, s.config.where(), salt, t.keep(stepped.Objects))
-	if err := s.goOn(ctx, t, told); err != nil {
+	if err := s.goOn(t, told); err != nil {
 		return err
 	}
 	if t.command.Do != decider.Stage {
@@ -454,14 +454,14 @@ func (s *Sequencer) advance(ctx context.Context, t *turn, batch []*waiting) erro
 		return err
 	}
 	// (while those who were answered come back, what the next step wants is asked; where that fails, the step asks again)
-	_, _ = s.needsOf(ctx, t.k)
+	_, _ = s.needsOf(t.k)
 	return nil
 }
 
-// deleteUnneeded has the bundles deleted that this node knows of and that the program says are of no use any more, where a step may be made.
+// deleteUnneeded has the bundles deleted that this node knows of and that the decider says are of no use any more, where a step may be made.
 func (s *Sequencer) deleteUnneeded(ctx context.Context, t *turn) error {
 	for _, name := range s.unneeded {
-		if err := s.goOn(ctx, t, decider.Listed(name)); err != nil {
+		if err := s.goOn(t, decider.Listed(name)); err != nil {
 			return err
 		}
 		if t.command.Do == decider.Step {

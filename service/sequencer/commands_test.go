@@ -3,8 +3,8 @@ package sequencer
 import (
 	"context"
 	"crypto/sha256"
+	"encoding/json"
 	"errors"
-	"fmt"
 	"os"
 	"path/filepath"
 	"strings"
@@ -13,70 +13,86 @@ import (
 	"testing"
 	"time"
 
+	"wagtenib/bindings/go/wagtenib"
 	"wagtenib/service/decider"
+	"wagtenib/service/proved"
 	"wagtenib/service/step"
 	"wagtenib/service/stores"
 )
 
-// lying is a program that decides, and says something else where a command is DO.
-const lying = `
-import json, sys
-sys.path.insert(0, %q)
-from ctnode import reply
-from explore import Machine
+// saidCommand is a command as the proved function replies it.
+type saidCommand map[string]any
 
-machine = Machine()
-for line in sys.stdin.buffer:
-    given = reply(line.rstrip(b"\n"), machine)
-    node = given.get("node", {})
-    if node.get("do") == %q:
-        other = lambda it: it.update(text=it["text"][:-2] + ("1" if it["text"][-2] == "0" else "0") + "\n")
-        %s
-    print(json.dumps(given), flush=True)
-`
+// held returns the text that a command is about, by its key.
+func (n saidCommand) held(key string) map[string]any { return n[key].(map[string]any) }
 
-// liar is a client of it.
-func liar(t *testing.T, do, lie string) *decider.Client {
+// another changes the last digit of the salt in a text.
+func (n saidCommand) another(key string) {
+	text := []byte(n.held(key)["text"].(string))
+	if last := &text[len(text)-2]; *last == '0' {
+		*last = '1'
+	} else {
+		*last = '0'
+	}
+	n.held(key)["text"] = string(text)
+}
+
+// liar returns a decider that changes each command DO.
+func liar(t *testing.T, do string, lie func(saidCommand)) *decider.Decider {
 	t.Helper()
-	// (the tests' folder is found by a link)
-	here, err := filepath.EvalSymlinks(os.Getenv("PWD"))
-	must(t, err)
-	folder := filepath.Join(here, filepath.Dir(deciderFile))
-	path := filepath.Join(t.TempDir(), "liar.py")
-	must(t, os.WriteFile(path, []byte(fmt.Sprintf(lying, folder, do, lie)), 0o600))
-	c, err := decider.NewClient([]string{"python3", path}, longest)
-	must(t, err)
-	t.Cleanup(func() { c.Close() })
-	return c
+	return decider.Over(func(memory *[]byte, request []byte) ([]byte, error) {
+		reply, err := wagtenib.NodeLine(memory, request)
+		if err != nil {
+			return reply, err
+		}
+		var told struct {
+			Node saidCommand `json:"node"`
+		}
+		if err := json.Unmarshal(reply, &told); err != nil {
+			return nil, err
+		}
+		if told.Node["do"] != do {
+			return reply, nil
+		}
+		lie(told.Node)
+		changed, err := json.Marshal(told)
+		return append(changed, '\n'), err
+	})
 }
 
 // TestLyingDecider: a command that isn't of what this node has isn't carried out, and is told to who waits. Behind a right one all goes on.
 func TestLyingDecider(t *testing.T) {
 	t.Parallel()
-	for what, lie := range map[string][3]string{
-		"a text that was read is of another size": {decider.Look, `node["seen"]["size"] += 1`, "behind a text that was read"},
-		"another text is looked at":               {decider.Look, `other(node["seen"])`, "behind a text that was read"},
-		"a step from another text":                {decider.Step, `other(node["seen"])`, "a step from another text"},
-		"no stage behind a step":                  {decider.Stage, `node["do"] = "swap"`, "swap behind a step"},
-		"a bundle under another name":             {decider.Stage, `node["new"]["bundle"] = "staging/" + "0" * 48`, "stage of another step"},
-		"a bundle of another text":                {decider.Stage, `other(node["new"])`, "stage of another step"},
-		"a swap from another text":                {decider.Swap, `other(node["seen"])`, "swap of another step"},
-		"a swap to another text":                  {decider.Swap, `other(node["new"])`, "swap of another step"},
-		"a swap to another bundle":                {decider.Swap, `node["new"]["bundle"] = "staging/" + "0" * 48`, "swap of another step"},
-		"a swap without the step's objects":       {decider.Swap, `node["objects"] = []`, "swap of another step"},
-		"an object that isn't the step's":         {decider.Put, `node["objects"][0] = "tile/0/999 " + "0" * 64`, "which isn't there"},
-		"objects are put of another text":         {decider.Put, `other(node["new"])`, "put of another text"},
-		"places of another text":                  {decider.Place, `other(node["new"])`, "place of another text"},
-		"a head of another text":                  {decider.Head, `other(node["new"])`, "head of another text"},
-		"a command that there isn't":              {decider.Put, `node["do"] = "dance"`, "not a reply"},
+	elsewhere := "staging/" + strings.Repeat("0", 48)
+	for what, of := range map[string]struct {
+		do   string
+		lie  func(saidCommand)
+		told string
+	}{
+		"a text that was read is of another size": {decider.Look, func(n saidCommand) { n.held("seen")["size"] = 1_000_000 }, "behind a text that was read"},
+		"another text is looked at":               {decider.Look, func(n saidCommand) { n.another("seen") }, "behind a text that was read"},
+		"a step from another text":                {decider.Step, func(n saidCommand) { n.another("seen") }, "a step from another text"},
+		"no stage behind a step":                  {decider.Stage, func(n saidCommand) { n["do"] = "swap" }, "swap behind a step"},
+		"a bundle under another name":             {decider.Stage, func(n saidCommand) { n.held("new")["bundle"] = elsewhere }, "stage of another step"},
+		"a bundle of another text":                {decider.Stage, func(n saidCommand) { n.another("new") }, "stage of another step"},
+		"a swap from another text":                {decider.Swap, func(n saidCommand) { n.another("seen") }, "swap of another step"},
+		"a swap to another text":                  {decider.Swap, func(n saidCommand) { n.another("new") }, "swap of another step"},
+		"a swap to another bundle":                {decider.Swap, func(n saidCommand) { n.held("new")["bundle"] = elsewhere }, "swap of another step"},
+		"a swap without the step's objects":       {decider.Swap, func(n saidCommand) { n["objects"] = []string{} }, "swap of another step"},
+		"an object that isn't the step's": {decider.Put, func(n saidCommand) {
+			n["objects"].([]any)[0] = "tile/0/999 " + strings.Repeat("0", 64)
+		}, "which isn't there"},
+		"objects are put of another text": {decider.Put, func(n saidCommand) { n.another("new") }, "put of another text"},
+		"places of another text":          {decider.Place, func(n saidCommand) { n.another("new") }, "place of another text"},
+		"a head of another text":          {decider.Head, func(n saidCommand) { n.another("new") }, "head of another text"},
+		"a command that there isn't":      {decider.Put, func(n saidCommand) { n["do"] = "dance" }, "not a reply"},
 	} {
-		what, lie := what, lie
 		t.Run(what, func(t *testing.T) {
 			t.Parallel()
 			p, ctx, got := newPlace(t), limited(t), &answers{}
 			config := p.config(t)
 			right := config.Decider
-			config.Decider, config.Patience = liar(t, lie[0], lie[1]), 200*time.Millisecond
+			config.Decider, config.Patience = liar(t, of.do, of.lie), 200*time.Millisecond
 			s, err := New(ctx, config)
 			if err == nil {
 				brief, cancel := context.WithTimeout(ctx, longest)
@@ -84,7 +100,7 @@ func TestLyingDecider(t *testing.T) {
 				cancel()
 				ended(t, s)
 			}
-			if !errors.Is(err, errCommand) && !errors.Is(err, decider.ErrReply) || !strings.Contains(err.Error(), lie[2]) {
+			if !errors.Is(err, errCommand) && !errors.Is(err, decider.ErrReply) || !strings.Contains(err.Error(), of.told) {
 				t.Fatal(err)
 			}
 			config.Decider = right
@@ -95,82 +111,36 @@ func TestLyingDecider(t *testing.T) {
 	}
 }
 
-// late is a program that decides, and from its line of a number on gives each reply to the line after. Only its first process does.
-const late = `
-import json, os, sys
-sys.path.insert(0, %q)
-from ctnode import reply
-from explore import Machine
-
-machine, once, number, held = Machine(), %q, 0, None
-slips = not os.path.exists(once)
-for line in sys.stdin.buffer:
-    given = reply(line.rstrip(b"\n"), machine)
-    number += 1
-    if slips and number >= %d:
-        open(once, "w").close()
-        held, given = given, held or given
-    print(json.dumps(given), flush=True)
-`
-
-// TestLateReplies has the program's replies slip by one line, from each line of a node's first steps on. No foreign text may be swapped in, and no reply of another
-// line may be acted on: the program is replaced, all submissions are answered, and the log is right.
-func TestLateReplies(t *testing.T) {
-	t.Parallel()
-	here, err := filepath.EvalSymlinks(os.Getenv("PWD"))
-	must(t, err)
-	folder := filepath.Join(here, filepath.Dir(deciderFile))
-	for from := 3; from <= 30; from++ {
-		from := from
-		t.Run(fmt.Sprint(from), func(t *testing.T) {
-			t.Parallel()
-			p, ctx, got, at := newPlace(t), limited(t), &answers{}, t.TempDir()
-			path, slipped := filepath.Join(at, "late.py"), filepath.Join(at, "slipped")
-			must(t, os.WriteFile(path, []byte(fmt.Sprintf(late, folder, slipped, from)), 0o600))
-			config := p.config(t)
-			config.Decider.Close()
-			program, err := decider.NewClient([]string{"python3", path}, longest)
-			must(t, err)
-			config.Decider = program
-			t.Cleanup(func() { program.Close() })
-			config.TendEvery, config.Refresh = time.Hour, time.Hour
-			s := started(t, config, hooks{})
-			for number := 0; number < 9; number += 3 {
-				must(t, got.submitAll(ctx, s, number, number+3, 3))
-			}
-			if _, err := os.Stat(slipped); err != nil {
-				t.Errorf("no reply slipped: %v", err)
-			}
-			isOf(t, p.right(t, got), 9)
-		})
-	}
-}
-
-// TestDeciderThatIsGone: a program that doesn't start keeps a node from starting, and one that ends is started again.
-func TestDeciderThatIsGone(t *testing.T) {
+// TestDeciderWithoutMemory: a node doesn't start if there is no memory for the first decision, and goes on after one for which there was none.
+func TestDeciderWithoutMemory(t *testing.T) {
 	t.Parallel()
 	p, ctx, got := newPlace(t), limited(t), &answers{}
 	config := p.config(t)
-	right := config.Decider
-	gone, err := decider.NewClient([]string{"/nowhere"}, longest)
-	must(t, err)
-	config.Decider = gone
-	if _, err := New(ctx, config); !errors.Is(err, decider.ErrGone) {
+	var isDry atomic.Bool
+	isDry.Store(true)
+	config.Decider = decider.Over(func(memory *[]byte, request []byte) ([]byte, error) {
+		if isDry.Load() {
+			return nil, proved.ErrMemory
+		}
+		return wagtenib.NodeLine(memory, request)
+	})
+	if _, err := New(ctx, config); !errors.Is(err, proved.ErrMemory) {
 		t.Error(err)
 	}
-	config.Decider = nil
-	if _, err := New(ctx, config); !errors.Is(err, ErrConfig) {
+	none := config
+	none.Decider = nil
+	if _, err := New(ctx, none); !errors.Is(err, ErrConfig) {
 		t.Error(err)
 	}
-	config.Decider = right
+	isDry.Store(false)
 	s := started(t, config, hooks{})
-	for number := 0; number < 20; number += 5 {
-		must(t, got.submitAll(ctx, s, number, number+5, 5))
-		right.Close()
-	}
-	if f := s.Figures(); f.DeciderStarts < 2 {
-		t.Errorf("it was started %d times", f.DeciderStarts)
-	}
+	must(t, got.submitAll(ctx, s, 0, 5, 5))
+	isDry.Store(true)
+	done := make(chan error, 1)
+	go func() { done <- got.submitAll(ctx, s, 5, 10, 5) }()
+	eventually(t, "a round fails", func() bool { return strings.Contains(s.Figures().Fault, "out of memory") })
+	isDry.Store(false)
+	must(t, <-done)
 	p.right(t, got)
 }
 

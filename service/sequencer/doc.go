@@ -1,18 +1,18 @@
-// Package sequencer carries one log over a register, objects and places (wagtenib/service/stores), with the program that makes
-// its steps (wagtenib/service/step). Any number of nodes may carry the same log.
+// Package sequencer carries one log over a register, objects and places (wagtenib/service/stores). The proved code makes its steps
+// (wagtenib/service/step). Any number of nodes may carry the same log.
 //
 // A step goes in this order, which is what keeps a log one list of entries whoever dies where:
 //
 //  1. the newest state is rolled out, by whomever: its objects, places and head are there;
 //  2. submissions that stand in the log already are answered with their first place;
-//  3. the program steps from the newest state, over the edge's tiles, which it believes only where they are the state's;
+//  3. a step is made from the newest state, over the edge's tiles, which are believed only if they are the state's;
 //  4. the step's bundle is put, under a name of its own;
 //  5. the register is swapped from the newest state to the step's: the one decision;
 //  6. the objects are put under their public names, the places added, the head is signed and put;
 //  7. the published size is raised;
 //  8. the timestamps are signed and answered.
 //
-// Whatever is done behind 5 is done again by any node, from the bundle, with the same outcome. This order is the program's that decides
+// Whatever is done behind 5 is done again by any node, from the bundle, with the same outcome. The proved code decides this order
 // (wagtenib/service/decider; docs/NODE.md): what is to be done next, of which text, with which objects. Here it is carried out.
 //
 // # The states of a node
@@ -31,7 +31,7 @@
 // # In which order to read it
 //
 //  1. sequencer.go has what a log stands on, and its calls; queue.go has who waits.
-//  2. To decide: round.go, and commands.go, which carries out what the program says; register.go; order.go. Whether at all: clock.go, and latest.go,
+//  2. To decide: round.go, and commands.go, which carries out what is decided; register.go; order.go. Whether at all: clock.go, and latest.go,
 //     which knows a log that was set back.
 //  3. To roll out: rollout.go, objects.go, issuers.go, places.go, and before a head is published witnesses.go.
 //  4. To answer: answer.go, signing.go, and of what stands in the log already repeats.go, over fetcher.go and entries.go; readers by readings.go.

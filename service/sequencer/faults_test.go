@@ -600,25 +600,41 @@ func TestEndAnswers(t *testing.T) {
 	}
 }
 
-// TestEndInTime ends a node whose step doesn't come back.
+// stuck is a store that, once it is stuck, ends no call that puts an object before the call's context ends. asked gets the first name.
+type stuck struct {
+	stores.Objects
+	isStuck atomic.Bool
+	asked   chan string
+}
+
+func (s *stuck) Put(ctx context.Context, name string, content []byte) error {
+	if !s.isStuck.Load() {
+		return s.Objects.Put(ctx, name, content)
+	}
+	select {
+	case s.asked <- name:
+	default:
+	}
+	<-ctx.Done()
+	return ctx.Err()
+}
+
+// TestEndInTime ends a node whose store doesn't answer.
 func TestEndInTime(t *testing.T) {
 	t.Parallel()
 	p, ctx := newPlace(t), limited(t)
 	config := p.config(t)
+	objects := &stuck{Objects: config.Objects, asked: make(chan string, 1)}
+	config.Objects = objects
 	s := started(t, config, hooks{})
 	must(t, (&answers{}).submitAll(ctx, s, 0, 1, 1))
-	stuck, err := step.NewClient([]string{"sleep", "infinity"}, longest)
-	must(t, err)
-	t.Cleanup(func() { stuck.Close() })
-	s.config.Step = stuck
+	objects.isStuck.Store(true)
 	done := make(chan error, 1)
 	go func() {
 		_, err := s.Submit(ctx, entryOf(5))
 		done <- err
 	}()
-	for stuck.Starts() == 0 {
-		time.Sleep(time.Millisecond)
-	}
+	<-objects.asked
 	short, cancel := context.WithTimeout(ctx, 200*time.Millisecond)
 	defer cancel()
 	began := time.Now()

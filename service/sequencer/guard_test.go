@@ -100,10 +100,8 @@ func TestUnreadGuardState(t *testing.T) {
 	must(t, err)
 	state, err := stores.OpenFile(p.guardState())
 	must(t, err)
-	closeAll(Config{Signer: config.Signer})
 	config.Signer, err = guardedOver(ctx, key, faultyRegister{state, faults})
 	must(t, err)
-	t.Cleanup(func() { closeAll(Config{Signer: config.Signer}) })
 	s := started(t, config, hooks{})
 	must(t, got.submitAll(ctx, s, 0, 10, 8))
 	faults.failEvery(4)
@@ -114,11 +112,10 @@ func TestUnreadGuardState(t *testing.T) {
 	}
 }
 
-// TestSignerGone ends the guard under a node that goes on, and has its state not be there for a while.
-func TestSignerGone(t *testing.T) {
+// TestGuardStateAway takes the guard's state away from under a node that runs, for a while: nothing is taken, and behind it the node goes on.
+func TestGuardStateAway(t *testing.T) {
 	t.Parallel()
 	p, ctx, got, s := begun(t, 10, 8)
-	must(t, s.config.Signer.(*signer.Guarded).Close())
 	must(t, got.submitAll(ctx, s, 10, 20, 8))
 	away := p.guardState() + ".away"
 	must(t, os.Rename(p.guardState(), away))

@@ -15,6 +15,7 @@ import (
 
 	"golang.org/x/mod/sumdb/tlog"
 
+	"wagtenib/service/decider"
 	"wagtenib/service/signer"
 	"wagtenib/service/step"
 	"wagtenib/service/stores"
@@ -576,12 +577,7 @@ func TestHistories(t *testing.T) {
 	defer cancel()
 	for worker := 0; worker < workers; worker++ {
 		config := Config{Origin: origin, Create: true, Interval: quick, Patience: longest, Signer: key, Address: "http://node.example/", Secret: "the secret of these nodes"}
-		config.Step, err = step.NewClient([]string{"python3", stepsFile, "--origin", origin}, longest)
-		must(t, err)
-		defer config.Step.Close()
-		config.Decider, err = decided()
-		must(t, err)
-		defer config.Decider.Close()
+		config.Step, config.Decider = step.New(origin), decider.New()
 		all.Add(1)
 		go func(worker int) {
 			defer all.Done()

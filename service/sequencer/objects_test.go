@@ -117,11 +117,11 @@ func newestBundle(t *testing.T, p place) (names []string) {
 	config := p.config(t)
 	text, err := config.Register.Read(limited(t))
 	must(t, err)
-	k, err := (&Sequencer{config: config}).knownOf(limited(t), text)
+	k, err := (&Sequencer{config: config}).knownOf(text)
 	must(t, err)
 	bundle, err := config.Objects.Get(limited(t), k.look.Seen.Bundle, stores.MostObject)
 	must(t, err)
-	resumed, err := config.Step.Resume(limited(t), k.line, bundle)
+	resumed, err := config.Step.Resume(k.line, bundle)
 	must(t, err)
 	for _, object := range resumed.Objects {
 		names = append(names, object.Name)
@@ -395,12 +395,8 @@ func TestAnotherLogsSettings(t *testing.T) {
 	start := func(p place, origin string) error {
 		config := p.config(t)
 		config.Origin = origin
-		config.Step.Close()
-		made, err := step.NewClient([]string{"python3", stepsFile, "--origin", origin}, longest)
-		must(t, err)
-		config.Step = made
-		_, err = New(ctx, config)
-		closeAll(Config{Step: made})
+		config.Step = step.New(origin)
+		_, err := New(ctx, config)
 		return err
 	}
 	err := start(p, "log.example/other")

@@ -20,9 +20,11 @@ import (
 
 	"golang.org/x/mod/sumdb/tlog"
 
+	"wagtenib/bindings/go/wagtenib"
 	"wagtenib/service/check"
 	"wagtenib/service/datatile"
 	"wagtenib/service/log"
+	"wagtenib/service/proved"
 	"wagtenib/service/signer"
 	"wagtenib/service/step"
 	"wagtenib/service/stores"
@@ -569,23 +571,21 @@ func TestRepeatsThatArentSigned(t *testing.T) {
 	}
 }
 
-// TestRepeatsThatArentClaimed: where the step's program ends while it is asked for repeats, all who came wait on, those that it was asked for before, too.
+// TestRepeatsThatArentClaimed: if there is no memory for the second of two repeats, all who came wait on, also the first one.
 func TestRepeatsThatArentClaimed(t *testing.T) {
 	t.Parallel()
 	_, ctx, got, s := begun(t, 5, 5)
 	node := atHand(ctx, t, s, "tile/0/000.p/5", "tile/data/000.p/5")
-	folder, err := filepath.EvalSymlinks(os.Getenv("PWD"))
-	must(t, err)
-	once := filepath.Join(t.TempDir(), "once")
-	// (it replies to one line, and isn't started again)
-	script := fmt.Sprintf("mkdir %s || exit 1; read -r line; printf '%%s\\n' \"$line\" | python3 %s --origin %s", once, filepath.Join(folder, stepsFile), origin)
-	steps, err := step.NewClient([]string{"sh", "-c", script}, longest)
-	must(t, err)
-	t.Cleanup(func() { steps.Close() })
-	node.config.Step = steps
+	calls := 0
+	node.config.Step = step.Over(func(memory *[]byte, request []byte) ([]byte, error) {
+		if calls++; calls > 1 {
+			return nil, proved.ErrMemory
+		}
+		return wagtenib.StepLine(memory, origin, request)
+	})
 	batch := []*waiting{waitsAt(ctx, t, node, got.numberAt(t, 1)), waitsAt(ctx, t, node, 50), waitsAt(ctx, t, node, got.numberAt(t, 3))}
 	left, err := node.answerRepeats(ctx, s.newestKnown(), batch)
-	wants(t, err, step.ErrProcess)
+	wants(t, err, proved.ErrMemory)
 	if len(left) != len(batch) {
 		t.Errorf("of %d %d are left", len(batch), len(left))
 	}

@@ -4,7 +4,7 @@ package sequencer
 
 import "context"
 
-// What is done in which order decides what a log promises, and the program decides it. What is done of it stands here: wrong_order.go, which no log is
+// What is done in which order decides what a log promises, and the decider decides it. What is done of it stands here: wrong_order.go, which no log is
 // built with, has nodes that do something else, which the checker has to see.
 
 // mustLook says that a node looks whether a state is rolled out.

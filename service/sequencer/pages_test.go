@@ -9,6 +9,7 @@ import (
 	"testing"
 	"time"
 
+	"wagtenib/bindings/go/wagtenib"
 	"wagtenib/service/chains"
 	"wagtenib/service/step"
 	"wagtenib/service/stores"
@@ -63,7 +64,7 @@ func TestPageSaysBounds(t *testing.T) {
 	// (half of what is written are partial tiles, and these stand for as long again as they have to)
 	partials := float64(config.MostWritten) / 2 * 2 * config.SweepTilesAfter.Seconds()
 	trial.Says(t, trial.Page(t, "../README.md"), map[string]bool{
-		"in base64, with 12 MiB of new ones, 62 MB of the 64 MiB that it may have": MostBatchBytes == 12<<20 && request/1e6 == 62 && request < step.MostRequest && step.MostRequest == 64<<20,
+		"in base64, with 12 MiB of new ones, 62 MB of the 64 MiB that it may have": MostBatchBytes == 12<<20 && request/1e6 == 62 && request < wagtenib.MaxStepRequest && wagtenib.MaxStepRequest == 64<<20,
 		"So a data tile has 34 MB at most, of which answers hold 15 at once, and two for one address": math.Round(float64(tile)/1e6) == 34 && tile < stores.MostObject &&
 			answers/tile == 15 && ofOne/tile == 2,
 		"which stand for five to ten minutes until they are swept: up to 5 GB": config.SweepTilesAfter == 5*time.Minute && partials >= 5e9 && partials < 5.1e9,

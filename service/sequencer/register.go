@@ -25,7 +25,7 @@ const (
 )
 
 // known is what stood in the register. Its text is three lines: the state's line, the node that set it, and the moment of the state before with a
-// number of chance, which are the program's that decides (docs/NODE.md).
+// number of chance, which are the decider's (docs/NODE.md).
 type known struct {
 	text, line string
 	state      step.State
@@ -57,12 +57,12 @@ func firstText(line, where string) (string, error) {
 }
 
 // knownOf reads a register's text, from which something may be done.
-func (s *Sequencer) knownOf(ctx context.Context, text string) (known, error) {
+func (s *Sequencer) knownOf(text string) (known, error) {
 	k, err := readText(text)
 	if err != nil {
 		return known{}, err
 	}
-	k.look, err = s.config.Decider.Next(ctx, decider.Begin(), decider.WasRead(text))
+	k.look, err = s.config.Decider.Next(decider.Begin(), decider.WasRead(text))
 	if errors.Is(err, decider.ErrRefused) {
 		return known{}, fmt.Errorf("%w: the register's text isn't one of a log: %.40q", ErrDamaged, text)
 	}
@@ -102,14 +102,14 @@ func later(s, than step.State) bool { return s.Size >= than.Size && s.Moment > t
 // mostTries is how often what others change meanwhile is looked at again.
 const mostTries = 50
 
-// takeUp looks at the start whether the log may be gone on with: the program says so, by what is found of it (wagtenib/service/decider).
+// takeUp looks at the start whether the log may be gone on with: the decider says so, by what is found of it.
 func (s *Sequencer) takeUp(ctx context.Context) error {
 	for try := 0; try < mostTries; try++ {
 		f, err := s.find(ctx)
 		if err != nil {
 			return err
 		}
-		creates, err := s.config.Decider.Start(ctx, f.Found)
+		creates, err := s.config.Decider.Start(f.Found)
 		var refusal decider.Refusal
 		if errors.As(err, &refusal) {
 			// Another node may have gone on meanwhile.
@@ -138,7 +138,7 @@ func (s *Sequencer) takeUp(ctx context.Context) error {
 	return fmt.Errorf("%w: in %d tries it didn't stand still", ErrSetBack, mostTries)
 }
 
-// found is what is found of a log at the start: as the program is told it, and what was read.
+// found is what is found of a log at the start: as the decider is told it, and what was read.
 type found struct {
 	decider.Found
 	k         known
@@ -149,7 +149,7 @@ type found struct {
 	stands string
 }
 
-// rooted is a head as the program is told it.
+// rooted is a head as the decider is told it.
 func rooted(head signer.Head) *decider.Rooted {
 	return &decider.Rooted{Point: decider.Point{Size: head.Size, Moment: head.Moment}, Root: hex.EncodeToString(head.Root[:])}
 }
@@ -161,7 +161,7 @@ func (s *Sequencer) find(ctx context.Context) (f found, err error) {
 		return f, err
 	}
 	if f.Register != "" {
-		if f.k, err = s.knownOf(ctx, f.Register); err != nil {
+		if f.k, err = s.knownOf(f.Register); err != nil {
 			return f, err
 		}
 	} else if f.stands, err = s.anyOf(ctx); err != nil {
@@ -366,7 +366,7 @@ func (s *Sequencer) create(ctx context.Context) error {
 	if err != nil {
 		return err
 	}
-	line, err := s.config.Step.Begin(ctx, moment)
+	line, err := s.config.Step.Begin(moment)
 	if err != nil {
 		return fmt.Errorf("sequencer: %w", err)
 	}
@@ -404,7 +404,7 @@ func (s *Sequencer) learn(ctx context.Context) (known, error) {
 	}
 	k := before
 	if text != before.text {
-		if k, err = s.knownOf(ctx, text); err != nil {
+		if k, err = s.knownOf(text); err != nil {
 			return known{}, err
 		}
 		if headOf(k.state) != headOf(before.state) && !later(k.state, before.state) {

@@ -88,7 +88,7 @@ func (s *Sequencer) read(ctx context.Context, name string) ([]byte, error) {
 
 // answerRepeats answers those whose entry stands in the log, with its first place, and gives the others. The state is rolled out,
 // so all its places are there. A place is believed only where the entry stands in its data tile, and that one's leaf in the tree; and what is
-// signed is what the program answers, which has checked the entry's audit path against the state's root.
+// signed is what a claim answers, which has checked the entry's audit path against the state's root.
 //
 // Tiles are read beside the rounds: who wants one that isn't there yet is left for a later round, behind all who wait, and so is who wants one
 // that can't be read, which is told behind Patience. Who wants a tile that is damaged is told so. The others have nothing to do with either.
@@ -288,7 +288,7 @@ func (t *tree) leafAt(index uint64) (*leaf, error) {
 	return l, nil
 }
 
-// receiptAt gives the receipt of a submission's entry at a place, as the program answers it over the entry's audit path; none where the entry
+// receiptAt gives the receipt of a submission's entry at a place, as a claim over the entry's audit path answers it; none where the entry
 // doesn't stand there.
 func (t *tree) receiptAt(place stores.Place, line string, w *waiting) (*step.Receipt, error) {
 	l, err := t.leafAt(place.Index)
@@ -306,7 +306,7 @@ func (t *tree) receiptAt(place stores.Place, line string, w *waiting) (*step.Rec
 	for i := range proof {
 		path = append(path, proof[i][:])
 	}
-	receipt, err := t.s.config.Step.Claim(t.ctx, line, place.Index, place.Timestamp, path, w.submission)
+	receipt, err := t.s.config.Step.Claim(line, place.Index, place.Timestamp, path, w.submission)
 	if errors.Is(err, step.NoClaim) {
 		return nil, nil
 	}

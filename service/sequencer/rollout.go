@@ -118,7 +118,7 @@ func (s *Sequencer) resume(ctx context.Context, k known) (*step.Resumed, error) 
 	if err != nil {
 		return nil, fmt.Errorf("sequencer: %w", err)
 	}
-	resumed, err := s.config.Step.Resume(ctx, k.line, bundle)
+	resumed, err := s.config.Step.Resume(k.line, bundle)
 	var refusal step.Refusal
 	if errors.As(err, &refusal) {
 		return nil, fmt.Errorf("%w: %s: %v", ErrDamaged, name, err)

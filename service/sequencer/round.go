@@ -74,7 +74,7 @@ func (s *Sequencer) loop(ctx context.Context) {
 		err := s.round(round)
 		cancel()
 		if errors.Is(err, errCommand) {
-			s.replaceDecider()
+			s.forgetStepping()
 		}
 		atLeast, atMost := s.config.interval(time.Since(began), s.wrote, s.written)
 		least, next = began.Add(atLeast), began.Add(atMost)
@@ -93,9 +93,8 @@ func (s *Sequencer) loop(ctx context.Context) {
 	}
 }
 
-// replaceDecider ends the program that says what this node does next, and forgets what it said last. The next round starts another one.
-func (s *Sequencer) replaceDecider() {
-	s.config.Decider.Close()
+// forgetStepping forgets the command to have a step made, so the next round asks from the register's text on.
+func (s *Sequencer) forgetStepping() {
 	s.mu.Lock()
 	defer s.mu.Unlock()
 	s.stepping = nil
@@ -292,10 +291,10 @@ func tooFar(now, last uint64, of string) error {
 	return fmt.Errorf("%w: a moment of %d ms is refused, which is beyond %s by %v", log.ErrClock, now, of, time.Duration(now-last)*time.Millisecond)
 }
 
-// step asks the program, over the edge that is remembered; where it doesn't believe that, over the store's; and where that one is damaged,
+// step makes a step over the edge that is remembered; where it doesn't believe that, over the store's; and where that one is damaged,
 // once more behind what the state's bundle has of it was put again.
 func (s *Sequencer) step(ctx context.Context, k known, batch []step.Submission, at moment) (*step.Stepped, map[string][]byte, error) {
-	names, err := s.needsOf(ctx, k)
+	names, err := s.needsOf(k)
 	if err != nil {
 		return nil, nil, err
 	}
@@ -320,9 +319,9 @@ type needs struct {
 }
 
 // needsOf gives what a step from a state wants, which is asked once.
-func (s *Sequencer) needsOf(ctx context.Context, k known) ([]string, error) {
+func (s *Sequencer) needsOf(k known) ([]string, error) {
 	if s.needs.line != k.line {
-		names, err := s.config.Step.Needs(ctx, k.line)
+		names, err := s.config.Step.Needs(k.line)
 		if err != nil {
 			return nil, fmt.Errorf("sequencer: %w", err)
 		}
@@ -331,7 +330,7 @@ func (s *Sequencer) needsOf(ctx context.Context, k known) ([]string, error) {
 	return s.needs.names, nil
 }
 
-// stepOver asks the program over an edge. One that is missing or isn't the state's is ErrDamaged.
+// stepOver makes a step over an edge. One that is missing or isn't the state's is ErrDamaged.
 func (s *Sequencer) stepOver(ctx context.Context, k known, names []string, batch []step.Submission, at moment) (*step.Stepped, map[string][]byte, error) {
 	edge, contents := map[string][]byte{}, make([][]byte, len(names))
 	err := sideBySide(ctx, len(names), func(ctx context.Context, at int) (err error) {
@@ -344,7 +343,7 @@ func (s *Sequencer) stepOver(ctx context.Context, k known, names []string, batch
 	for at, name := range names {
 		edge[name] = contents[at]
 	}
-	stepped, err := s.config.Step.Step(ctx, k.line, contents, batch, at.now, at.most)
+	stepped, err := s.config.Step.Step(k.line, contents, batch, at.now, at.most)
 	if errors.Is(err, step.TooFar) {
 		return nil, nil, tooFar(at.now, k.state.Moment, "the log's newest head")
 	}

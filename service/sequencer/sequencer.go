@@ -21,7 +21,7 @@ import (
 // The bounds.
 const (
 	// MostEntry is how many bytes an entry may have: its certificate, or its TBSCertificate and its precertificate. 255 of them and
-	// a batch make a request that the step's program takes.
+	// a batch make a request that a step takes.
 	MostEntry = 128 << 10
 	// MostBatchBytes is how many bytes a step's new entries have together.
 	MostBatchBytes = 12 << 20
@@ -44,10 +44,10 @@ type Config struct {
 	Objects  stores.Objects
 	Register stores.Register
 	Places   stores.Places
-	// Step is the program, which was given Origin.
-	Step *step.Client
-	// Decider is the program that says what this node does next.
-	Decider *decider.Client
+	// Step makes the steps, of the log with this Origin.
+	Step *step.Stepper
+	// Decider decides what this node does next.
+	Decider *decider.Decider
 	Signer  signer.Signer
 	// Witnesses cosign each head before it is published, and the newest one at a start; nobody does where it is nil.
 	Witnesses Witnesses
@@ -362,7 +362,7 @@ func (s *Sequencer) Figures() log.Figures {
 		Queue: s.queue.length(), MostQueue: s.config.MostQueue,
 		Steps: s.steps.Load(), LostSwaps: s.lost.Load(), Unknown: s.unknown.Load(),
 		Repeats: s.repeats.Load(), Helped: s.helped.Load(), HandedOver: s.handed.Load(),
-		StepStarts: s.config.Step.Starts(), DeciderStarts: s.config.Decider.Starts(), Swept: s.swept.Load(), SweptHeads: s.sweptHeads.Load(), Scrubbed: s.scrubbed.Load(), Damaged: len(s.damage),
+		Swept: s.swept.Load(), SweptHeads: s.sweptHeads.Load(), Scrubbed: s.scrubbed.Load(), Damaged: len(s.damage),
 	}
 	if counted, ok := s.config.Signer.(interface{ Starts() uint64 }); ok {
 		f.SignerStarts = counted.Starts()

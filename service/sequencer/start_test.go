@@ -11,6 +11,7 @@ import (
 	"testing"
 
 	"wagtenib/service/decider"
+	"wagtenib/service/proved"
 	"wagtenib/service/signer"
 	"wagtenib/service/step"
 	"wagtenib/service/stores"
@@ -168,6 +169,9 @@ type unmade struct{ stores.Register }
 
 func (unmade) Create(context.Context, string) error { return errUnwell }
 
+// dry is a function over lines for which there is no memory.
+func dry(*[]byte, []byte) ([]byte, error) { return nil, proved.ErrMemory }
+
 // TestStartOverWhatMoves: where another node goes on between two readings, all is read again; and what can't be read is said.
 func TestStartOverWhatMoves(t *testing.T) {
 	t.Parallel()
@@ -193,9 +197,7 @@ func TestStartOverWhatMoves(t *testing.T) {
 		"heads aren't listed":          {func(c *Config) { c.Objects = unwellObjects{c.Objects, headsPrefix} }, errUnwell},
 		"nor once":                     {func(c *Config) { c.Objects = &listsAt{c.Objects, headsPrefix, 1} }, errUnwell},
 		"what it saw isn't read":       {func(c *Config) { c.LatestHead = t.TempDir() }, syscall.EISDIR},
-		"the program is gone": {func(c *Config) {
-			c.Decider, _ = decider.NewClient([]string{"false"}, longest)
-		}, decider.ErrGone},
+		"there is no memory to decide": {func(c *Config) { c.Decider = decider.Over(dry) }, proved.ErrMemory},
 	} {
 		config := p.config(t)
 		it.changes(&config)

@@ -156,10 +156,10 @@ func (s *Sequencer) failed(what string, err error) {
 // mostBundles is how many bundles one turn deletes.
 const mostBundles = 64
 
-// bundleName matches the names that the program gives bundles. It refuses a line with any other name, and would be ended for it.
+// bundleName matches the names that the decider gives bundles. It refuses any other name.
 var bundleName = regexp.MustCompile("^" + stagingPrefix + "[0-9a-f]{48}$")
 
-// sweepBundles lists staging/ every SweepAfter, and deletes the bundles that the program says no step needs any more. It leaves an object whose name is not
+// sweepBundles lists staging/ every SweepAfter, and deletes the bundles that the decider says no step needs any more. It leaves an object whose name is not
 // that of a bundle: no node put it.
 func (t *tender) sweepBundles(ctx context.Context) error {
 	stepping := t.s.isStepping()
@@ -178,7 +178,7 @@ func (t *tender) sweepBundles(ctx context.Context) error {
 	for _, name := range names {
 		goes := false
 		if bundleName.MatchString(name) {
-			next, err := t.s.config.Decider.Next(ctx, stepping, decider.Listed(name))
+			next, err := t.s.config.Decider.Next(stepping, decider.Listed(name))
 			if err != nil {
 				return err
 			}

@@ -38,10 +38,9 @@ import (
 )
 
 const (
-	origin    = "log.example/tried"
-	quick     = 20 * time.Millisecond
-	longest   = trial.Longest
-	stepsFile = "../../tests/tiles/step.py"
+	origin  = "log.example/tried"
+	quick   = 20 * time.Millisecond
+	longest = trial.Longest
 )
 
 var must, wants = trial.Must, trial.Wants
@@ -120,36 +119,8 @@ func (p place) openOnce(ctx context.Context) (config Config, err error) {
 	if config.Signer, err = p.guarded(ctx); err != nil {
 		return config, err
 	}
-	steps, err := step.NewClient([]string{"python3", stepsFile, "--origin", origin}, longest)
-	if err != nil {
-		return config, err
-	}
-	config.Step = steps
-	if config.Decider, err = decided(); err != nil {
-		return config, err
-	}
+	config.Step, config.Decider = step.New(origin), decider.New()
 	return config, nil
-}
-
-// The guard is the proved program where it is built, and else a second one with the same lines.
-const (
-	guardBuilt = "../../crates/ctguard/out/ctguard"
-	guardFile  = "../../tests/guard/model.py"
-)
-
-// The program that decides is the proved one where it is built, and else a second one with the same lines.
-const (
-	deciderBuilt = "../../crates/ctnode/out/ctnode"
-	deciderFile  = "../../tests/node/ctnode.py"
-)
-
-// decided is a client of it.
-func decided() (*decider.Client, error) {
-	command := []string{deciderBuilt}
-	if _, err := os.Stat(deciderBuilt); err != nil {
-		command = []string{"python3", deciderFile}
-	}
-	return decider.NewClient(command, longest)
 }
 
 // bareKey is the log's key alone.
@@ -172,11 +143,7 @@ func (p place) guarded(ctx context.Context) (signer.Signer, error) {
 
 // guardedOver puts a guard before a key, whose state is in a register.
 func guardedOver(ctx context.Context, key *signer.Key, state stores.Register) (signer.Signer, error) {
-	guard := []string{guardBuilt}
-	if _, err := os.Stat(guardBuilt); err != nil {
-		guard = []string{"python3", guardFile}
-	}
-	guarded, err := signer.Behind(ctx, key, signer.Guard{Command: guard, State: state, Create: true, Within: longest})
+	guarded, err := signer.Behind(ctx, key, signer.Guard{State: state, Create: true})
 	if err != nil {
 		return nil, err
 	}
@@ -193,9 +160,7 @@ func (p place) signedByKey(t testing.TB, config *Config) {
 	t.Helper()
 	s, err := p.bareKey()
 	must(t, err)
-	closeAll(Config{Signer: config.Signer})
 	config.Signer = s
-	t.Cleanup(func() { closeAll(Config{Signer: s}) })
 }
 
 // config opens the stores, and closes them at the test's end.
@@ -209,15 +174,6 @@ func (p place) config(t testing.TB) Config {
 
 // closeAll closes what was opened.
 func closeAll(config Config) {
-	if guarded, ok := config.Signer.(*signer.Guarded); ok {
-		guarded.Close()
-	}
-	if config.Step != nil {
-		config.Step.Close()
-	}
-	if config.Decider != nil {
-		config.Decider.Close()
-	}
 	if config.Places != nil {
 		config.Places.Close()
 	}

@@ -16,6 +16,7 @@ import (
 
 	"wagtenib/service/decider"
 	"wagtenib/service/log"
+	"wagtenib/service/proved"
 	"wagtenib/service/signer"
 	"wagtenib/service/step"
 	"wagtenib/service/stores"
@@ -587,18 +588,16 @@ func TestWideTile(t *testing.T) {
 	}
 }
 
-// TestDeciderGoneAtSweeping: bundles of which nobody says whether they go stay, which is told.
-func TestDeciderGoneAtSweeping(t *testing.T) {
+// TestNoDecisionAtSweeping: bundles stay if there is no decision on them, which is told.
+func TestNoDecisionAtSweeping(t *testing.T) {
 	t.Parallel()
 	p, ctx, _, s := begun(t, 5, 5)
 	must(t, os.WriteFile(filepath.Join(p.objects(), stagingPrefix, strings.Repeat("0", 48)), nil, 0o644))
 	eventually(t, "a step may be made", func() bool { return s.isStepping() != nil })
 	node := readingNode(s)
 	node.stepping = s.isStepping()
-	gone, err := decider.NewClient([]string{"/nowhere"}, longest)
-	must(t, err)
-	node.config.Decider = gone
-	wants(t, (&tender{s: node}).sweepBundles(ctx), decider.ErrGone)
+	node.config.Decider = decider.Over(dry)
+	wants(t, (&tender{s: node}).sweepBundles(ctx), proved.ErrMemory)
 }
 
 // TestWhatIsntDeletedIsntPutRight: where what stands in the way can't be deleted, nothing counts as made again.

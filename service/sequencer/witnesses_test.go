@@ -22,7 +22,6 @@ import (
 	"wagtenib/service/log"
 	"wagtenib/service/signer"
 	"wagtenib/service/stores"
-	"wagtenib/service/trial/ready"
 	"wagtenib/service/witness"
 )
 
@@ -61,15 +60,8 @@ func (w *witnessed) state(i int) string { return filepath.Join(w.folder, fmt.Spr
 // answers has a witness answer, over the state that is in its folder.
 func (w *witnessed) answers(t testing.TB, i int) {
 	t.Helper()
-	program := []string{"../../crates/ctwitness/out/ctwitness"}
-	if _, err := os.Stat(program[0]); err != nil {
-		program = []string{"python3", "../../tests/witness/model.py"}
-	}
-	s, err := witness.New(witness.Options{Name: w.ones[i].Name, Key: w.keys[i], Program: program, Within: longest})
+	s, err := witness.New(witness.Options{Name: w.ones[i].Name, Key: w.keys[i]})
 	must(t, err)
-	t.Cleanup(func() { s.Close() })
-	// (a circle waits for some seconds alone)
-	ready.Witness(t, s)
 	state, err := stores.OpenFile(w.state(i))
 	must(t, err)
 	t.Cleanup(func() { state.Close() })

@@ -6,17 +6,15 @@ import (
 	"encoding/json"
 	"errors"
 	"fmt"
-	"os/exec"
 	"strings"
 	"time"
 
-	"wagtenib/service/pipe"
+	"wagtenib/bindings/go/wagtenib"
 	"wagtenib/service/stores"
 )
 
 const (
-	// mostReply is how much of one of the guard's replies is read, and mostSwaps how often a swap of unknown outcome is made.
-	mostReply = 4 << 20
+	// mostSwaps is how often a swap of unknown outcome is made.
 	mostSwaps = 5
 	// mostSkew is how far two clocks may be apart.
 	mostSkew = time.Minute
@@ -48,17 +46,25 @@ func (l *headLine) head() (*Head, error) {
 	return &Head{l.Size, l.Moment, *(*[32]byte)(l.Root)}, nil
 }
 
-// Guard says which guard stands before a key.
+// Judge is a guard's run over lines (docs/GUARD.md). The first line may be the state that an earlier run ended with. Judge returns a reply to each other line,
+// and then the line of its own state. If a line is no request, the error is wagtenib.ErrNotARequest and the output is whole; with any other error there is none.
+type Judge func(lines []byte) (output []byte, err error)
+
+// proved returns the guard that decides by the proved code in this process. Its output is valid until it is asked again.
+func proved() Judge {
+	var memory []byte
+	return func(lines []byte) ([]byte, error) { return wagtenib.GuardLines(&memory, "", false, lines) }
+}
+
+// Guard says which guard is before a key.
 type Guard struct {
-	// Command is the program, ctguard, with its words.
-	Command []string
 	// State keeps what it let through last, as the guard writes it. The signers of one log, if they are several, have one: of two that move it to
 	// two heads one wins. (Two that move it to the same head write one text, and both sign that head. No state comes again: moments rise.)
 	State stores.Register
-	// Create says that a state that was never created is to be.
+	// Create makes a state that was never created.
 	Create bool
-	// Within is how long the guard may take; 20 s where it is 0.
-	Within time.Duration
+	// Judge decides. nil is the proved guard; only tests have another one.
+	Judge Judge
 }
 
 // Guarded is a key behind a guard, which judges over the text of the state's register: it signs the bytes that this one names, once the text that
@@ -66,25 +72,20 @@ type Guard struct {
 type Guarded struct {
 	key *Key
 	of  Guard
-	// turn is held by who asks. What stands below it is its own.
+	// turn is held by the goroutine that asks. The fields below belong to it.
 	turn chan struct{}
-	// end is the guard that runs, or nil; text is what the register had when it was last looked at, or "" where that has to be done; seen is the
-	// newest that it had.
-	end        *pipe.End
+	// own is the line of the state that the guard's last run ended with, which begins the next one. ended is why the guard must not be asked any more, or nil.
+	own   []byte
+	ended error
+	// text is what the register had when it was last looked at, or "" where that has to be done; seen is the newest that it had.
 	text, seen string
 	test       hooks
 }
 
 // Behind puts a guard before a key. A state that is missing, or that the guard doesn't take up, is ErrState.
 func Behind(ctx context.Context, key *Key, of Guard) (*Guarded, error) {
-	if len(of.Command) == 0 {
-		return nil, fmt.Errorf("%w: there is no guard", ErrState)
-	}
-	if _, err := exec.LookPath(of.Command[0]); err != nil {
-		return nil, fmt.Errorf("signer: the guard: %w", err)
-	}
-	if of.Within == 0 {
-		of.Within = 20 * time.Second
+	if of.Judge == nil {
+		of.Judge = proved()
 	}
 	g := &Guarded{key: key, of: of, turn: make(chan struct{}, 1)}
 	if of.Create {
@@ -92,22 +93,10 @@ func Behind(ctx context.Context, key *Key, of Guard) (*Guarded, error) {
 			return nil, fmt.Errorf("signer: %w", err)
 		}
 	}
-	if text, err := of.State.Read(ctx); err == nil && text == none {
-		g.text = none
-		return g, nil
-	}
 	if _, err := g.look(ctx); err != nil {
 		return nil, err
 	}
 	return g, nil
-}
-
-// Close ends the guard. The state's register stays open.
-func (g *Guarded) Close() error {
-	g.turn <- struct{}{}
-	g.drop()
-	<-g.turn
-	return nil
 }
 
 // take waits for the turn.
@@ -117,14 +106,6 @@ func (g *Guarded) take(ctx context.Context) error {
 		return nil
 	case <-ctx.Done():
 		return fmt.Errorf("signer: %w", ctx.Err())
-	}
-}
-
-// drop ends the guard: the next request has another one begin.
-func (g *Guarded) drop() {
-	if g.end != nil {
-		g.end.Close()
-		g.end = nil
 	}
 }
 
@@ -140,11 +121,11 @@ func (g *Guarded) look(ctx context.Context) (*Head, error) {
 		return nil, fmt.Errorf("signer: the guard's state: %w", err)
 	}
 	line := strings.TrimSuffix(text, "\n")
-	replies, err := g.ask(ctx, []guardRequest{{Text: line, Seen: g.seen}})
+	reply, err := g.ask(guardRequest{Text: line, Seen: g.seen})
 	if err != nil {
 		return nil, err
 	}
-	switch reply := replies[0]; reply.Refused {
+	switch reply.Refused {
 	case "":
 	case "set-back":
 		return nil, fmt.Errorf("%w: it was set back: it had %.200s, and has %.200s", ErrState, g.seen, line)
@@ -152,12 +133,12 @@ func (g *Guarded) look(ctx context.Context) (*Head, error) {
 		return nil, fmt.Errorf("%w: %s: %.200q", ErrState, reply.Refused, line)
 	}
 	var has *headLine
-	if err := json.Unmarshal(replies[0].Last, &has); err != nil {
-		return nil, g.other("text")
+	if err := json.Unmarshal(reply.Last, &has); err != nil {
+		return nil, otherThan("text")
 	}
 	last, err := has.head()
 	if err != nil {
-		return nil, g.other("text")
+		return nil, otherThan("text")
 	}
 	// (as an operator writes it, with a line's end)
 	if line != text {
@@ -208,45 +189,42 @@ func (r guardReply) refusal() error {
 	return Refusal{r.Refused, r.Fault}
 }
 
-// ask sends the guard requests. Behind an error it has ended; a refusal is a reply.
-func (g *Guarded) ask(ctx context.Context, requests []guardRequest) ([]guardReply, error) {
-	var lines bytes.Buffer
-	to := json.NewEncoder(&lines)
-	for _, request := range requests {
-		if err := to.Encode(request); err != nil {
-			return nil, fmt.Errorf("signer: %w", err)
-		}
-	}
-	return g.askLines(ctx, lines.Bytes(), len(requests))
-}
-
-// askLines sends the guard so many lines, each with its end.
-func (g *Guarded) askLines(ctx context.Context, lines []byte, many int) ([]guardReply, error) {
-	if g.end == nil {
-		end, err := pipe.Start(g.of.Command, mostReply)
-		if err != nil {
-			return nil, fmt.Errorf("signer: the guard: %w", err)
-		}
-		g.end = end
-	}
-	came, err := g.end.Exchange(ctx, g.of.Within, lines, many)
+// ask asks the guard a request. A refusal is a reply, and no error.
+func (g *Guarded) ask(request guardRequest) (guardReply, error) {
+	line, err := json.Marshal(request)
 	if err != nil {
-		g.end = nil
-		return nil, fmt.Errorf("signer: the guard: %w", err)
+		return guardReply{}, fmt.Errorf("signer: %w", err)
 	}
-	replies := make([]guardReply, len(came))
-	for i, line := range came {
-		if replies[i], err = readGuarded(line); err != nil {
-			g.drop()
-			return nil, fmt.Errorf("%w: the guard: %v", ErrReply, err)
-		}
-	}
-	return replies, nil
+	return g.askLine(append(line, '\n'))
 }
 
-// other ends a guard whose reply is of something else than what was asked.
-func (g *Guarded) other(what string) error {
-	g.drop()
+// askLine asks the guard a line, which has its end. The run begins with the state that the last one ended with.
+//
+// A guard that refuses that state judges the line as if nothing had ever been let through, and its output has one line more. So an output of another
+// number of lines is the end of this guard: nothing is signed after it.
+func (g *Guarded) askLine(line []byte) (reply guardReply, err error) {
+	if g.ended != nil {
+		return reply, g.ended
+	}
+	output, err := g.of.Judge(append(append([]byte{}, g.own...), line...))
+	if err != nil && !errors.Is(err, wagtenib.ErrNotARequest) {
+		return reply, fmt.Errorf("signer: the guard: %w", err)
+	}
+	replied, own, _ := bytes.Cut(output, []byte{'\n'})
+	if bytes.Count(output, []byte{'\n'}) != 2 || !bytes.HasSuffix(output, []byte{'\n'}) {
+		g.ended = fmt.Errorf("%w: from the state %.200q that it ended with, the guard doesn't reply one line and its state, but %.200q (start the signer again; guard-state is unchanged)",
+			ErrState, g.own, output)
+		return reply, g.ended
+	}
+	if reply, err = readGuarded(replied); err != nil {
+		return guardReply{}, fmt.Errorf("%w: the guard: %v", ErrReply, err)
+	}
+	g.own = append([]byte{}, own...)
+	return reply, nil
+}
+
+// otherThan returns the error of a guard's reply that is about something else than what was asked.
+func otherThan(what string) error {
 	return fmt.Errorf("%w: the guard's is of another %s", ErrReply, what)
 }
 
@@ -311,16 +289,15 @@ func (g *Guarded) SignHead(ctx context.Context, head Head, consistency [][32]byt
 		return nil, err
 	}
 	proof := hashesOf(consistency)
-	replies, err := g.ask(ctx, []guardRequest{{Text: text, headLine: lineOf(&head), Consistency: &proof, MostAhead: mostAhead(head)}})
+	reply, err := g.ask(guardRequest{Text: text, headLine: lineOf(&head), Consistency: &proof, MostAhead: mostAhead(head)})
 	if err != nil {
 		return nil, err
 	}
-	reply := replies[0]
 	if err := reply.refusal(); err != nil {
 		return nil, err
 	}
 	if !bytes.Equal(reply.Sign, head.message()) || reply.Old != text || reply.New == "" {
-		return nil, g.other("head")
+		return nil, otherThan("head")
 	}
 	g.phase("let through")
 	if err := g.swap(ctx, reply.Old, reply.New); err != nil {
@@ -344,21 +321,20 @@ func (g *Guarded) SignTimestamps(ctx context.Context, receipts []Receipt) ([][]b
 	if err != nil {
 		return nil, fmt.Errorf("signer: %w", err)
 	}
-	var lines []byte
-	for _, receipt := range receipts {
-		lines = appendGuarded(lines, quoted, receipt)
-	}
-	replies, err := g.askLines(ctx, lines, len(receipts))
-	if err != nil {
-		return nil, err
-	}
-	messages := make([][]byte, len(replies))
-	for i, reply := range replies {
+	messages := make([][]byte, len(receipts))
+	for i, receipt := range receipts {
+		if ctx.Err() != nil {
+			return nil, fmt.Errorf("signer: %w", ctx.Err())
+		}
+		reply, err := g.askLine(appendGuarded(nil, quoted, receipt))
+		if err != nil {
+			return nil, err
+		}
 		if err := reply.refusal(); err != nil {
 			return nil, err
 		}
-		if !bytes.Equal(reply.Sign, receipts[i].Leaf) || reply.New != "" {
-			return nil, g.other("timestamp")
+		if !bytes.Equal(reply.Sign, receipt.Leaf) || reply.New != "" {
+			return nil, otherThan("timestamp")
 		}
 		messages[i] = reply.Sign
 	}

@@ -23,26 +23,10 @@ import (
 
 	"golang.org/x/mod/sumdb/tlog"
 
-	"wagtenib/service/pipe"
 	"wagtenib/service/stores"
 	"wagtenib/service/trial"
 	"wagtenib/service/trial/unsure"
 )
-
-// model is a second program beside the proved guard, with the same lines; built is where that one is, once it is built.
-var (
-	model = []string{"python3", "../../tests/guard/model.py"}
-	built = "../../crates/ctguard/out/ctguard"
-)
-
-// guards are those that are there.
-func guards() map[string][]string {
-	all := map[string][]string{"model.py": model}
-	if _, err := os.Stat(built); err == nil {
-		all["ctguard"] = []string{built}
-	}
-	return all
-}
 
 var must, wants = trial.Must, trial.Wants
 
@@ -165,43 +149,39 @@ func (l *list) receipt(t testing.TB, index, size int) Receipt {
 	return r
 }
 
-// behind puts a guard before a key, with a state in a folder.
-func behind(t testing.TB, key *Key, folder string, guard []string) *Guarded {
+// behind puts the proved guard before a key, with a state in a folder.
+func behind(t testing.TB, key *Key, folder string) *Guarded {
 	t.Helper()
-	g, err := Behind(limited(t), key, Guard{Command: guard, State: register(t, folder), Create: true, Within: trial.Longest})
+	g, err := Behind(limited(t), key, Guard{State: register(t, folder), Create: true})
 	must(t, err)
-	t.Cleanup(func() { g.Close() })
 	return g
 }
 
-// through runs a test of a signer over each guard: in this process, and one that is asked by lines.
+// through runs a test of a signer behind the guard: in this process, and one that is asked by lines.
 func through(t *testing.T, test func(t *testing.T, s Signer, key *Key)) {
-	for name, guard := range guards() {
-		guard := guard
-		t.Run(name, func(t *testing.T) {
-			key := newKey(t)
-			test(t, behind(t, key, t.TempDir(), guard), key)
-		})
-		t.Run(name+" at a socket", func(t *testing.T) {
-			folder, key := t.TempDir(), newKey(t)
-			path, ctx := filepath.Join(folder, "socket"), limited(t)
-			g := behind(t, key, folder, guard)
-			go func() { _ = Listen(ctx, g, path) }()
-			for i := 0; ; i++ {
-				if info, err := os.Stat(path); err == nil {
-					if info.Mode().Perm() != 0o660 {
-						t.Errorf("the socket has the mode %v", info.Mode())
-					}
-					break
+	t.Run("here", func(t *testing.T) {
+		key := newKey(t)
+		test(t, behind(t, key, t.TempDir()), key)
+	})
+	t.Run("at a socket", func(t *testing.T) {
+		folder, key := t.TempDir(), newKey(t)
+		path, ctx := filepath.Join(folder, "socket"), limited(t)
+		g := behind(t, key, folder)
+		go func() { _ = Listen(ctx, g, path) }()
+		for i := 0; ; i++ {
+			if info, err := os.Stat(path); err == nil {
+				if info.Mode().Perm() != 0o660 {
+					t.Errorf("the socket has the mode %v", info.Mode())
 				}
-				time.Sleep(time.Millisecond)
+				break
 			}
-			c, err := Ask(ctx, func(ctx context.Context) (*pipe.End, error) { return pipe.Dial(ctx, path, MostLine) }, trial.Longest)
-			must(t, err)
-			t.Cleanup(func() { c.Close() })
-			test(t, c, key)
-		})
-	}
+			time.Sleep(time.Millisecond)
+		}
+		c, err := Ask(ctx, func(ctx context.Context) (*End, error) { return Dial(ctx, path) }, trial.Longest)
+		must(t, err)
+		t.Cleanup(func() { c.Close() })
+		test(t, c, key)
+	})
 }
 
 // askedAtASocket asks a signer as a node asks one of another process, at a socket.
@@ -212,7 +192,7 @@ func askedAtASocket(ctx context.Context, t *testing.T, of Signer) *Client {
 	must(t, err)
 	t.Cleanup(func() { listener.Close() })
 	go func() { _ = newClients().serve(ctx, of, listener) }()
-	c, err := Ask(ctx, func(ctx context.Context) (*pipe.End, error) { return pipe.Dial(ctx, path, MostLine) }, trial.Longest)
+	c, err := Ask(ctx, func(ctx context.Context) (*End, error) { return Dial(ctx, path) }, trial.Longest)
 	must(t, err)
 	t.Cleanup(func() { c.Close() })
 	return c
@@ -428,92 +408,81 @@ func TestStates(t *testing.T) {
 	t.Parallel()
 	ctx, key, right := limited(t), newKey(t), listOf(t, 9, 9)
 	first := right.head(t, 5, 100)
-	for name, guard := range guards() {
-		of := Guard{Command: guard, State: register(t, t.TempDir()), Within: trial.Longest}
-		_, err := Behind(ctx, key, of)
-		wants(t, err, ErrState)
-		for _, text := range []string{"x", `{"guard":2,"last":null}`, `{"guard":1,"last":{}}`, `{"last":null,"guard":1}`, `{"guard": 1, "last": null}`, stateOf(&first)[1:],
-			strings.ReplaceAll(stateOf(&first), ":", ": "),
-			strings.Replace(stateOf(&first), `"tree_size":5`, `"tree_size":05`, 1), strings.Replace(stateOf(&first), `"timestamp"`, `"x":1,"timestamp"`, 1)} {
-			of := Guard{Command: guard, State: register(t, t.TempDir()), Within: trial.Longest}
-			must(t, of.State.Create(ctx, text))
-			if _, err := Behind(ctx, key, of); !errors.Is(err, ErrState) {
-				t.Errorf("%s: %s: %v", name, text, err)
-			}
-		}
-		// With a line's end, as an operator writes it, and what is no state stays as it stands.
-		of = Guard{Command: guard, State: register(t, t.TempDir()), Within: trial.Longest}
-		must(t, of.State.Create(ctx, "x\n"))
-		_, err = Behind(ctx, key, of)
-		wants(t, err, ErrState)
-		text, err := of.State.Read(ctx)
-		if must(t, err); text != "x\n" {
-			t.Errorf("%q", text)
-		}
-		must(t, of.State.Swap(ctx, "x\n", stateOf(&first)+"\n"))
-		g, err := Behind(ctx, key, of)
-		must(t, err)
-		defer g.Close()
-		_, err = g.SignHead(ctx, right.head(t, 9, 101), right.proof(t, 5, 9))
-		must(t, err)
-	}
-	_, err := Behind(ctx, key, Guard{Command: []string{"nowhere-is-it"}, State: register(t, t.TempDir()), Create: true, Within: trial.Longest})
-	wants(t, err, exec.ErrNotFound)
-	_, err = Behind(ctx, key, Guard{State: register(t, t.TempDir()), Create: true, Within: trial.Longest})
+	_, err := Behind(ctx, key, Guard{State: register(t, t.TempDir())})
 	wants(t, err, ErrState)
+	for _, text := range []string{"x", `{"guard":2,"last":null}`, `{"guard":1,"last":{}}`, `{"last":null,"guard":1}`, `{"guard": 1, "last": null}`, stateOf(&first)[1:],
+		strings.ReplaceAll(stateOf(&first), ":", ": "), " " + stateOf(&first), stateOf(&first) + " ",
+		strings.Replace(stateOf(&first), `"tree_size":5`, `"tree_size":05`, 1), strings.Replace(stateOf(&first), `"timestamp"`, `"x":1,"timestamp"`, 1)} {
+		of := Guard{State: register(t, t.TempDir())}
+		must(t, of.State.Create(ctx, text))
+		if _, err := Behind(ctx, key, of); !errors.Is(err, ErrState) {
+			t.Errorf("%s: %v", text, err)
+		}
+	}
+	// With a line's end, as an operator writes it, and what is no state stays as it stands.
+	of := Guard{State: register(t, t.TempDir())}
+	must(t, of.State.Create(ctx, "x\n"))
+	_, err = Behind(ctx, key, of)
+	wants(t, err, ErrState)
+	text, err := of.State.Read(ctx)
+	if must(t, err); text != "x\n" {
+		t.Errorf("%q", text)
+	}
+	must(t, of.State.Swap(ctx, "x\n", stateOf(&first)+"\n"))
+	g, err := Behind(ctx, key, of)
+	must(t, err)
+	_, err = g.SignHead(ctx, right.head(t, 9, 101), right.proof(t, 5, 9))
+	must(t, err)
 	full := &unsure.Register{Register: register(t, t.TempDir()), Every: 3, Fails: errors.New("a disk is full")}
-	_, err = Behind(ctx, key, Guard{Command: model, State: full, Create: true, Within: trial.Longest})
+	_, err = Behind(ctx, key, Guard{State: full, Create: true})
 	wants(t, err, full.Fails)
 	must(t, full.Register.Create(ctx, stateOf(&first)+"\n"))
-	_, err = Behind(ctx, key, Guard{Command: model, State: full, Within: trial.Longest})
+	_, err = Behind(ctx, key, Guard{State: full})
 	wants(t, err, full.Fails)
 }
 
-// TestStateSetBack puts a guard's state back below a signer that runs: nothing is signed until it comes back.
+// TestStateSetBack puts a guard's state back below a signer that runs, or writes another form of it there: nothing is signed until it comes back.
 func TestStateSetBack(t *testing.T) {
 	t.Parallel()
-	for name, command := range guards() {
-		folder, l, ctx := t.TempDir(), listOf(t, 8, 8), limited(t)
-		text := filepath.Join(folder, "guard", "text")
-		g, err := Behind(ctx, newKey(t), Guard{Command: command, State: register(t, folder), Create: true, Within: trial.Longest})
-		must(t, err)
-		defer g.Close()
-		_, err = g.SignHead(ctx, l.head(t, 3, 30), nil)
-		must(t, err)
-		old, err := os.ReadFile(text)
-		must(t, err)
-		_, err = g.SignHead(ctx, l.head(t, 5, 50), l.proof(t, 3, 5))
-		must(t, err)
-		newest, err := os.ReadFile(text)
-		must(t, err)
-		for _, state := range []string{string(old), none, stateOf(&Head{5, 50, [32]byte{1}}), stateOf(&Head{4, 60, [32]byte{}})} {
-			must(t, stores.KeepFile(text, []byte(state)))
-			if _, err := g.Last(ctx); !errors.Is(err, ErrState) {
-				t.Errorf("%s: %s: %v", name, state, err)
-			}
-			if _, err := g.SignHead(ctx, l.head(t, 8, 80), l.proof(t, 3, 8)); !errors.Is(err, ErrState) {
-				t.Errorf("%s: %s: signed, %v", name, state, err)
+	folder, l, fork, ctx := t.TempDir(), listOf(t, 8, 8), listOf(t, 8, 0), limited(t)
+	text := filepath.Join(folder, "guard", "text")
+	g := behind(t, newKey(t), folder)
+	_, err := g.SignHead(ctx, l.head(t, 3, 30), nil)
+	must(t, err)
+	old, err := os.ReadFile(text)
+	must(t, err)
+	_, err = g.SignHead(ctx, l.head(t, 5, 50), l.proof(t, 3, 5))
+	must(t, err)
+	newest, err := os.ReadFile(text)
+	must(t, err)
+	for _, state := range []string{string(old), none, stateOf(&Head{5, 50, [32]byte{1}}), stateOf(&Head{4, 60, [32]byte{}}), strings.Replace(string(newest), ":", ": ", 1)} {
+		must(t, stores.KeepFile(text, []byte(state)))
+		if _, err := g.Last(ctx); !errors.Is(err, ErrState) {
+			t.Errorf("%s: %v", state, err)
+		}
+		for _, of := range []*list{l, fork} {
+			if signed, err := g.SignHead(ctx, of.head(t, 8, 80), of.proof(t, 3, 8)); !errors.Is(err, ErrState) || signed != nil {
+				t.Errorf("%s: signed, %v", state, err)
 			}
 		}
-		must(t, stores.KeepFile(text, newest))
-		// One that has only looked at the newest knows it too.
-		other, err := Behind(ctx, newKey(t), Guard{Command: command, State: register(t, folder), Within: trial.Longest})
-		must(t, err)
-		defer other.Close()
-		must(t, stores.KeepFile(text, old))
-		_, err = other.Last(ctx)
-		wants(t, err, ErrState)
-		must(t, stores.KeepFile(text, newest))
-		_, err = g.SignHead(ctx, l.head(t, 8, 80), l.proof(t, 5, 8))
-		must(t, err)
 	}
+	must(t, stores.KeepFile(text, newest))
+	// One that has only looked at the newest knows it too.
+	other, err := Behind(ctx, newKey(t), Guard{State: register(t, folder)})
+	must(t, err)
+	must(t, stores.KeepFile(text, old))
+	_, err = other.Last(ctx)
+	wants(t, err, ErrState)
+	must(t, stores.KeepFile(text, newest))
+	_, err = g.SignHead(ctx, l.head(t, 8, 80), l.proof(t, 5, 8))
+	must(t, err)
 }
 
 // TestTwoSigners has two with one state. Who is behind is told, and goes on from the other's head; of two forks at once one is signed.
 func TestTwoSigners(t *testing.T) {
 	t.Parallel()
 	ctx, key, folder, right, fork := limited(t), newKey(t), t.TempDir(), listOf(t, 20, 20), listOf(t, 20, 4)
-	one, two := behind(t, key, folder, model), behind(t, key, folder, model)
+	one, two := behind(t, key, folder), behind(t, key, folder)
 	_, err := one.SignHead(ctx, right.head(t, 5, 100), nil)
 	must(t, err)
 	// The same head, of which the second didn't know: it isn't another one.
@@ -538,7 +507,7 @@ func TestTwoSigners(t *testing.T) {
 	apart := listOf(t, 20, 13)
 	for moment := uint64(200); moment < 230; moment++ {
 		folder := t.TempDir()
-		a, b := behind(t, key, folder, model), behind(t, key, folder, model)
+		a, b := behind(t, key, folder), behind(t, key, folder)
 		failed := make(chan error, 2)
 		go func() {
 			_, err := a.SignHead(ctx, right.head(t, 20, moment), nil)
@@ -551,8 +520,6 @@ func TestTwoSigners(t *testing.T) {
 		if x, y := <-failed, <-failed; (x == nil) == (y == nil) || !errors.Is(fmt.Errorf("%w", orElse(x, y)), ErrMoved) {
 			t.Errorf("%v and %v", x, y)
 		}
-		a.Close()
-		b.Close()
 		if moment > 202 {
 			break
 		}
@@ -571,9 +538,8 @@ func TestUnkept(t *testing.T) {
 	t.Parallel()
 	ctx, key, right, fork := limited(t), newKey(t), listOf(t, 20, 20), listOf(t, 20, 3)
 	state := &unsure.Register{Register: register(t, t.TempDir()), Every: 3}
-	g, err := Behind(ctx, key, Guard{Command: model, State: state, Create: true, Within: trial.Longest})
+	g, err := Behind(ctx, key, Guard{State: state, Create: true})
 	must(t, err)
-	defer g.Close()
 	_, err = g.SignHead(ctx, right.head(t, 4, 100), nil)
 	must(t, err)
 	for _, fails := range []error{stores.ErrUnknown, errors.New("a disk is full")} {
@@ -612,44 +578,40 @@ func (l *lying) Read(ctx context.Context) (string, error) {
 func TestLyingRegister(t *testing.T) {
 	t.Parallel()
 	ctx, key, right, fork := limited(t), newKey(t), listOf(t, 20, 20), listOf(t, 20, 3)
-	for name, guard := range guards() {
-		older, other, later := right.head(t, 5, 100), fork.head(t, 9, 101), right.head(t, 12, 103)
-		for _, reads := range []string{none, stateOf(&older), stateOf(&other), stateOf(&later)} {
-			state := &lying{Register: register(t, t.TempDir())}
-			g, err := Behind(ctx, key, Guard{Command: guard, State: state, Create: true, Within: trial.Longest})
-			must(t, err)
-			_, err = g.SignHead(ctx, older, nil)
-			must(t, err)
-			_, err = g.SignHead(ctx, right.head(t, 9, 102), right.proof(t, 5, 9))
-			must(t, err)
-			must(t, g.Close())
-			stood, err := state.Read(ctx)
-			must(t, err)
-			state.reads = reads
-			g, err = Behind(ctx, key, Guard{Command: guard, State: state, Within: trial.Longest})
-			must(t, err)
-			last, err := g.Last(ctx)
-			must(t, err)
-			from := 0
-			if last != nil {
-				from = int(last.Size)
+	older, other, later := right.head(t, 5, 100), fork.head(t, 9, 101), right.head(t, 12, 103)
+	for _, reads := range []string{none, stateOf(&older), stateOf(&other), stateOf(&later)} {
+		state := &lying{Register: register(t, t.TempDir())}
+		g, err := Behind(ctx, key, Guard{State: state, Create: true})
+		must(t, err)
+		_, err = g.SignHead(ctx, older, nil)
+		must(t, err)
+		_, err = g.SignHead(ctx, right.head(t, 9, 102), right.proof(t, 5, 9))
+		must(t, err)
+		stood, err := state.Read(ctx)
+		must(t, err)
+		state.reads = reads
+		g, err = Behind(ctx, key, Guard{State: state})
+		must(t, err)
+		last, err := g.Last(ctx)
+		must(t, err)
+		from := 0
+		if last != nil {
+			from = int(last.Size)
+		}
+		for _, l := range []*list{right, fork} {
+			signed, err := g.SignHead(ctx, l.head(t, 20, 104), l.proof(t, from, 20))
+			if !errors.Is(err, ErrMoved) && !errors.Is(err, ErrRefused) || signed != nil {
+				t.Errorf("%s: %v", reads, err)
 			}
-			for _, l := range []*list{right, fork} {
-				signed, err := g.SignHead(ctx, l.head(t, 20, 104), l.proof(t, from, 20))
-				if !errors.Is(err, ErrMoved) && !errors.Is(err, ErrRefused) || signed != nil {
-					t.Errorf("%s: %s: %v", name, reads, err)
-				}
+		}
+		if last != nil {
+			// The head that the register is said to have, once more.
+			if signed, err := g.SignHead(ctx, *last, nil); !errors.Is(err, ErrMoved) || signed != nil {
+				t.Errorf("%s once more: %v", reads, err)
 			}
-			if last != nil {
-				// The head that the register is said to have, once more.
-				if signed, err := g.SignHead(ctx, *last, nil); !errors.Is(err, ErrMoved) || signed != nil {
-					t.Errorf("%s: %s once more: %v", name, reads, err)
-				}
-			}
-			must(t, g.Close())
-			if text, err := state.Register.Read(ctx); err != nil || text != stood {
-				t.Errorf("%s: %s: %s stands, %v", name, reads, text, err)
-			}
+		}
+		if text, err := state.Register.Read(ctx); err != nil || text != stood {
+			t.Errorf("%s: %s stands, %v", reads, text, err)
 		}
 	}
 }
@@ -683,155 +645,33 @@ func TestUnreadStates(t *testing.T) {
 	t.Parallel()
 	ctx, key, right := limited(t), newKey(t), listOf(t, 20, 20)
 	state := &failing{Register: register(t, t.TempDir())}
-	g, err := Behind(ctx, key, Guard{Command: model, State: state, Create: true, Within: trial.Longest})
+	g, err := Behind(ctx, key, Guard{State: state, Create: true})
 	must(t, err)
-	defer g.Close()
 	path := filepath.Join(t.TempDir(), "socket")
 	go func() { _ = Listen(ctx, g, path) }()
 	var c *Client
 	for c == nil {
-		if c, err = Ask(ctx, func(ctx context.Context) (*pipe.End, error) { return pipe.Dial(ctx, path, MostLine) }, trial.Longest); err != nil {
-			wants(t, err, pipe.ErrGone)
+		if c, err = Ask(ctx, func(ctx context.Context) (*End, error) { return Dial(ctx, path) }, trial.Longest); err != nil {
+			wants(t, err, ErrGone)
 			time.Sleep(time.Millisecond)
 		}
 	}
 	defer c.Close()
 	size := 0
 	for _, s := range []Signer{g, c} {
-		// The guard runs, or has to begin.
-		for _, runs := range []bool{true, false} {
-			_, err := s.SignHead(ctx, right.head(t, size+1, uint64(size+1)), right.proof(t, size, size+1))
-			must(t, err)
-			size++
-			if !runs {
-				must(t, g.Close())
-			}
-			for fails, isState := range map[error]bool{errors.New("a register that is late"): false, context.DeadlineExceeded: false, stores.ErrAbsent: true} {
-				state.set(fails)
-				if _, err := s.Last(ctx); err == nil || errors.Is(err, ErrState) != isState {
-					t.Errorf("%v: %v", fails, err)
-				}
-			}
-			state.set(nil)
-			if last, err := s.Last(ctx); err != nil || last.Size != uint64(size) {
-				t.Errorf("%+v, %v", last, err)
+		_, err := s.SignHead(ctx, right.head(t, size+1, uint64(size+1)), right.proof(t, size, size+1))
+		must(t, err)
+		size++
+		for fails, isState := range map[error]bool{errors.New("a register that is late"): false, context.DeadlineExceeded: false, stores.ErrAbsent: true} {
+			state.set(fails)
+			if _, err := s.Last(ctx); err == nil || errors.Is(err, ErrState) != isState {
+				t.Errorf("%v: %v", fails, err)
 			}
 		}
-	}
-}
-
-// TestGuardThatEnds has a guard end before it replies, once: that isn't a state that it doesn't take up.
-func TestGuardThatEnds(t *testing.T) {
-	t.Parallel()
-	ctx, key, right, folder := limited(t), newKey(t), listOf(t, 9, 9), t.TempDir()
-	ends := filepath.Join(folder, "ends")
-	script := filepath.Join(folder, "guard.sh")
-	must(t, os.WriteFile(script, []byte(fmt.Sprintf("rm '%s' 2>/dev/null && exit 1; exec python3 '%s' \"$@\"", ends, model[1])), 0o700))
-	g := behind(t, key, folder, []string{"sh", script})
-	_, err := g.SignHead(ctx, right.head(t, 5, 100), nil)
-	must(t, err)
-	must(t, g.Close())
-	must(t, os.WriteFile(ends, nil, 0o600))
-	_, err = g.Last(ctx)
-	if wants(t, err, pipe.ErrGone); errors.Is(err, ErrState) {
-		t.Error(err)
-	}
-	_, err = g.SignHead(ctx, right.head(t, 9, 101), right.proof(t, 5, 9))
-	must(t, err)
-}
-
-// TestGuardThatRepliesNoJSON has a guard reply what isn't JSON, once: it isn't asked again, and another one is started.
-func TestGuardThatRepliesNoJSON(t *testing.T) {
-	t.Parallel()
-	ctx, key, right, folder := limited(t), newKey(t), listOf(t, 9, 9), t.TempDir()
-	wrong := filepath.Join(folder, "wrong")
-	script := filepath.Join(folder, "guard.sh")
-	must(t, os.WriteFile(script, []byte(fmt.Sprintf("rm '%s' 2>/dev/null && { read x; echo no; exec sleep 600; }; exec python3 '%s' \"$@\"", wrong, model[1])), 0o700))
-	g := behind(t, key, folder, []string{"sh", script})
-	_, err := g.SignHead(ctx, right.head(t, 5, 100), nil)
-	must(t, err)
-	must(t, g.Close())
-	must(t, os.WriteFile(wrong, nil, 0o600))
-	_, err = g.SignTimestamps(ctx, []Receipt{right.receipt(t, 1, 5)})
-	wants(t, err, ErrReply)
-	_, err = g.SignHead(ctx, right.head(t, 9, 101), right.proof(t, 5, 9))
-	must(t, err)
-}
-
-// TestWrongGuards has programs in the guard's place that reply other bytes, or none: nothing is signed.
-func TestWrongGuards(t *testing.T) {
-	t.Parallel()
-	ctx, key, right := limited(t), newKey(t), listOf(t, 2, 2)
-	head, other := right.head(t, 2, 5), right.head(t, 1, 5)
-	text := func(value any) string {
-		line, err := json.Marshal(value)
-		must(t, err)
-		return string(line)
-	}
-	line := func(of Head, old string, new any) string {
-		return text(map[string]any{"sign": of.message(), "old": old, "new": new})
-	}
-	for what, script := range map[string]string{
-		"is silent":               "exec sleep 60",
-		"ends":                    "exit 1",
-		"replies no JSON":         "read x; echo no; exec sleep 60",
-		"replies another head":    "read x; echo '" + line(other, none, stateOf(&other)) + "'; exec sleep 60",
-		"judges another text":     "read x; echo '" + line(head, stateOf(&other), stateOf(&head)) + "'; exec sleep 60",
-		"names no new text":       "read x; echo '" + line(head, none, "") + "'; exec sleep 60",
-		"has a number as a text":  "read x; echo '" + line(head, none, 7) + "'; exec sleep 60",
-		"moves on by a timestamp": "read x; echo '" + text(map[string]any{"sign": right.leaves[1], "new": stateOf(&head)}) + "'; exec sleep 60",
-		"replies a timestamp":     "read x; echo '" + text(map[string]any{"sign": right.leaves[0]}) + "'; exec sleep 60",
-		"replies nothing to say":  "read x; echo '{}'; exec sleep 60",
-	} {
-		path := filepath.Join(t.TempDir(), "guard")
-		must(t, os.WriteFile(path, []byte(script), 0o700))
-		g, err := Behind(ctx, key, Guard{Command: []string{"sh", path}, State: register(t, t.TempDir()), Create: true, Within: 300 * time.Millisecond})
-		must(t, err)
-		if signed, err := g.SignHead(ctx, head, nil); !errors.Is(err, ErrReply) && !errors.Is(err, pipe.ErrGone) || signed != nil {
-			t.Errorf("a guard that %s: %v", what, err)
+		state.set(nil)
+		if last, err := s.Last(ctx); err != nil || last.Size != uint64(size) {
+			t.Errorf("%+v, %v", last, err)
 		}
-		if signed, err := g.SignTimestamps(ctx, []Receipt{right.receipt(t, 1, 2)}); !errors.Is(err, ErrReply) && !errors.Is(err, pipe.ErrGone) || signed != nil {
-			t.Errorf("a guard that %s: %v", what, err)
-		}
-		g.Close()
-	}
-}
-
-// TestWrongLast has programs in the guard's place that don't say which head a state has: nothing begins with it.
-func TestWrongLast(t *testing.T) {
-	t.Parallel()
-	ctx, key, head := limited(t), newKey(t), listOf(t, 2, 2).head(t, 2, 5)
-	for _, says := range []string{`{}`, `{"last":7}`, `{"last":{"sha256_root_hash":"AAAA","timestamp":5,"tree_size":2}}`,
-		`{"last":{"sha256_root_hash":"` + strings.Repeat("AAAA", 11) + `","timestamp":5,"tree_size":2}}`, `{"sign":"AAAA"}`} {
-		path, state := filepath.Join(t.TempDir(), "guard"), register(t, t.TempDir())
-		must(t, os.WriteFile(path, []byte("read x; echo '"+says+"'; exec sleep 60"), 0o700))
-		must(t, state.Create(ctx, stateOf(&head)))
-		_, err := Behind(ctx, key, Guard{Command: []string{"sh", path}, State: state, Within: trial.Longest})
-		wants(t, err, ErrReply)
-	}
-}
-
-// TestGuardComesBack has a guard be wrong once, in each way: it has ended, and another one is begun; and one that can't be begun.
-func TestGuardComesBack(t *testing.T) {
-	t.Parallel()
-	ctx, key, right := limited(t), newKey(t), listOf(t, 2, 2)
-	head := right.head(t, 2, 5)
-	for _, wrong := range []string{"exit 1", "read x; echo no; exec sleep 60", "read x; echo '{}'; exec sleep 60"} {
-		folder := t.TempDir()
-		once, path := filepath.Join(folder, "once"), filepath.Join(folder, "guard.sh")
-		must(t, os.WriteFile(once, nil, 0o600))
-		must(t, os.WriteFile(path, []byte(fmt.Sprintf("#!/bin/sh\nif rm '%s' 2>/dev/null; then %s; fi; exec python3 '%s' \"$@\"", once, wrong, model[1])), 0o700))
-		g := behind(t, key, folder, []string{path})
-		if _, err := g.SignHead(ctx, head, nil); !errors.Is(err, ErrReply) && !errors.Is(err, pipe.ErrGone) {
-			t.Errorf("%s: %v", wrong, err)
-		}
-		signed, err := g.SignHead(ctx, head, nil)
-		must(t, err)
-		must(t, CheckHead(key.Key(), head, signed))
-		must(t, g.Close())
-		must(t, os.Remove(path))
-		_, err = g.Last(ctx)
-		wants(t, err, pipe.ErrGone)
 	}
 }
 
@@ -839,37 +679,35 @@ func TestGuardComesBack(t *testing.T) {
 func TestManyAsk(t *testing.T) {
 	t.Parallel()
 	ctx, right := limited(t), listOf(t, 8, 8)
-	for name, guard := range guards() {
-		key := newKey(t)
-		g := behind(t, key, t.TempDir(), guard)
-		head := right.head(t, 8, 100)
-		_, err := g.SignHead(ctx, head, nil)
-		must(t, err)
-		failed := make(chan error)
-		for at := 0; at < 8; at++ {
-			receipt := right.receipt(t, at, 8)
-			go func() {
-				for i := 0; i < 10; i++ {
-					if signed, err := g.SignHead(ctx, head, nil); err != nil || CheckHead(key.Key(), head, signed) != nil {
-						failed <- fmt.Errorf("a head: %v", err)
-						return
-					}
-					if signed, err := g.SignTimestamps(ctx, []Receipt{receipt}); err != nil || Check(key.Key(), receipt.Leaf, signed[0]) != nil {
-						failed <- fmt.Errorf("a timestamp: %v", err)
-						return
-					}
-					if last, err := g.Last(ctx); err != nil || *last != head {
-						failed <- fmt.Errorf("the last head: %v", err)
-						return
-					}
+	key := newKey(t)
+	g := behind(t, key, t.TempDir())
+	head := right.head(t, 8, 100)
+	_, err := g.SignHead(ctx, head, nil)
+	must(t, err)
+	failed := make(chan error)
+	for at := 0; at < 8; at++ {
+		receipt := right.receipt(t, at, 8)
+		go func() {
+			for i := 0; i < 10; i++ {
+				if signed, err := g.SignHead(ctx, head, nil); err != nil || CheckHead(key.Key(), head, signed) != nil {
+					failed <- fmt.Errorf("a head: %v", err)
+					return
 				}
-				failed <- nil
-			}()
-		}
-		for at := 0; at < 8; at++ {
-			if err := <-failed; err != nil {
-				t.Errorf("%s: %v", name, err)
+				if signed, err := g.SignTimestamps(ctx, []Receipt{receipt}); err != nil || Check(key.Key(), receipt.Leaf, signed[0]) != nil {
+					failed <- fmt.Errorf("a timestamp: %v", err)
+					return
+				}
+				if last, err := g.Last(ctx); err != nil || *last != head {
+					failed <- fmt.Errorf("the last head: %v", err)
+					return
+				}
 			}
+			failed <- nil
+		}()
+	}
+	for at := 0; at < 8; at++ {
+		if err := <-failed; err != nil {
+			t.Error(err)
 		}
 	}
 }
@@ -910,11 +748,7 @@ func beChild(words string) error {
 	if err != nil {
 		return err
 	}
-	guard := model
-	if _, err := os.Stat(built); err == nil {
-		guard = []string{built}
-	}
-	g, err := Behind(ctx, key, Guard{Command: guard, State: state, Create: true, Within: trial.Longest})
+	g, err := Behind(ctx, key, Guard{State: state, Create: true})
 	if err != nil {
 		return err
 	}
@@ -1026,11 +860,11 @@ func TestOtherKey(t *testing.T) {
 	ctx, key := limited(t), newKey(t)
 	for what, other := range map[string]Signer{"another key": newKey(t), "a guard": otherGuard{key}} {
 		signers, opened := []Signer{key, other}, 0
-		c, err := Ask(ctx, func(ctx context.Context) (*pipe.End, error) {
+		c, err := Ask(ctx, func(ctx context.Context) (*End, error) {
 			path, next := filepath.Join(t.TempDir(), "socket"), signers[opened%2]
 			go func() { _ = Listen(ctx, next, path) }()
 			for {
-				if end, err := pipe.Dial(ctx, path, MostLine); err == nil {
+				if end, err := Dial(ctx, path); err == nil {
 					opened++
 					return end, nil
 				}
@@ -1135,7 +969,7 @@ func served(t *testing.T, all *clients, fails int) (path string, end func()) {
 // asks is a client at a socket.
 func asks(t *testing.T, path string) *Client {
 	t.Helper()
-	c, err := Ask(limited(t), func(ctx context.Context) (*pipe.End, error) { return pipe.Dial(ctx, path, MostLine) }, trial.Longest)
+	c, err := Ask(limited(t), func(ctx context.Context) (*End, error) { return Dial(ctx, path) }, trial.Longest)
 	must(t, err)
 	t.Cleanup(func() { c.Close() })
 	return c
@@ -1197,7 +1031,7 @@ func TestHalfLines(t *testing.T) {
 	ctx, err := limited(t), errTried
 	for err != nil && ctx.Err() == nil {
 		var c *Client
-		if c, err = Ask(ctx, func(ctx context.Context) (*pipe.End, error) { return pipe.Dial(ctx, path, MostLine) }, trial.Longest); err == nil {
+		if c, err = Ask(ctx, func(ctx context.Context) (*End, error) { return Dial(ctx, path) }, trial.Longest); err == nil {
 			_, err = c.Last(ctx)
 			c.Close()
 		}
@@ -1209,7 +1043,7 @@ func TestHalfLines(t *testing.T) {
 // TestLines sends a signer lines that ask for nothing, or for what can't be: each is replied to, and nothing is signed.
 func TestLines(t *testing.T) {
 	t.Parallel()
-	g, right := behind(t, newKey(t), t.TempDir(), model), listOf(t, 2, 2)
+	g, right := behind(t, newKey(t), t.TempDir()), listOf(t, 2, 2)
 	head := lineOf(&Head{2, 5, right.head(t, 2, 5).Root})
 	short := *head
 	short.Root = short.Root[1:]
@@ -1259,7 +1093,7 @@ func TestFailuresByLines(t *testing.T) {
 		{fmt.Errorf("x: %w", ErrMoved), ErrMoved, ErrState},
 		{fmt.Errorf("x: %w", ErrState), ErrState, ErrMoved},
 		{TooFar, TooFar, ErrMoved},
-		{errors.New("x"), pipe.ErrGone, ErrRefused},
+		{errors.New("x"), ErrGone, ErrRefused},
 	} {
 		c := askedAtASocket(ctx, t, unable{key, of.why})
 		if _, err := c.SignHead(ctx, Head{Size: 1, Moment: 1}, nil); !errors.Is(err, of.kind) || errors.Is(err, of.not) {

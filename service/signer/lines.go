@@ -12,8 +12,6 @@ import (
 	"path/filepath"
 	"sync"
 	"time"
-
-	"wagtenib/service/pipe"
 )
 
 // A signer in a process of its own is asked by lines, an object of JSON each, and replies to each with one.
@@ -117,7 +115,7 @@ func answerReceipts(ctx context.Context, s Signer, receipts []Receipt) (reply, e
 func Serve(ctx context.Context, s Signer, from io.Reader, to io.Writer) error {
 	lines := bufio.NewReaderSize(from, 1<<16)
 	for {
-		line, err := pipe.ReadLine(lines, MostLine)
+		line, err := readLine(lines)
 		if err != nil {
 			if errors.Is(err, io.EOF) {
 				return nil
@@ -147,7 +145,7 @@ func Serve(ctx context.Context, s Signer, from io.Reader, to io.Writer) error {
 
 // ServeState answers the first line with why there is no signer, a fault of the guard's state, so that who started it knows.
 func ServeState(why error, from io.Reader, to io.Writer) error {
-	if _, err := pipe.ReadLine(bufio.NewReader(from), MostLine); err != nil {
+	if _, err := readLine(bufio.NewReader(from)); err != nil {
 		return fmt.Errorf("signer: %w", err)
 	}
 	text, err := json.Marshal(reply{Failed: why.Error(), Bad: true})
@@ -340,33 +338,33 @@ func (c *client) Write(from []byte) (int, error) {
 
 // Client asks a signer in another process.
 type Client struct {
-	asked   *pipe.Client
+	asked   *asker
 	key     []byte
 	guarded bool
 }
 
-// Ask has a signer found by open (pipe.Start or pipe.Dial), whose key stays the same however often it is opened again. A request takes at
+// Ask has a signer found by open (Start or Dial), whose key stays the same however often it is opened again. A request takes at
 // most so long.
-func Ask(ctx context.Context, open func(context.Context) (*pipe.End, error), within time.Duration) (*Client, error) {
+func Ask(ctx context.Context, open func(context.Context) (*End, error), within time.Duration) (*Client, error) {
 	c := &Client{}
-	c.asked = pipe.NewClient(func(ctx context.Context) (*pipe.End, error) {
+	c.asked = newAsker(func(ctx context.Context) (*End, error) {
 		end, err := open(ctx)
 		if err != nil {
-			return nil, fmt.Errorf("signer: %w", err)
+			return nil, err
 		}
-		came, err := end.Exchange(ctx, within, []byte("{\"open\":true}\n"), 1)
+		came, err := end.exchange(ctx, within, []byte("{\"open\":true}\n"))
 		if err != nil {
-			return nil, fmt.Errorf("signer: %w", err)
+			return nil, err
 		}
 		var opened reply
-		err = json.Unmarshal(came[0], &opened)
+		err = json.Unmarshal(came, &opened)
 		if opened.Bad {
 			end.Close()
 			return nil, fmt.Errorf("%w: %s", ErrState, opened.Failed)
 		}
 		if err != nil || len(opened.Key) == 0 {
 			end.Close()
-			return nil, fmt.Errorf("%w: the signer gives no key: %.200q", ErrReply, came[0])
+			return nil, fmt.Errorf("%w: the signer gives no key: %.200q", ErrReply, came)
 		}
 		if c.key != nil && string(c.key) != string(opened.Key) {
 			end.Close()
@@ -390,10 +388,13 @@ func Ask(ctx context.Context, open func(context.Context) (*pipe.End, error), wit
 }
 
 // Close ends the process, or the connection.
-func (c *Client) Close() error { return c.asked.Close() }
+func (c *Client) Close() error {
+	c.asked.close()
+	return nil
+}
 
 // Starts is how often the signer was started, or found.
-func (c *Client) Starts() uint64 { return c.asked.Opens() }
+func (c *Client) Starts() uint64 { return c.asked.opens.Load() }
 
 func (c *Client) ask(ctx context.Context, asked request, check func(reply) error) error {
 	line, err := json.Marshal(asked)
@@ -408,8 +409,8 @@ func (c *Client) askLine(ctx context.Context, line []byte, check func(reply) err
 	if len(line) >= MostLine {
 		return fmt.Errorf("%w: a request of %d bytes", ErrReply, len(line))
 	}
-	return c.asked.Exchange(ctx, append(line, '\n'), 1, func(replies [][]byte) error {
-		came, err := readReply(replies[0])
+	return c.asked.ask(ctx, append(line, '\n'), func(text []byte) error {
+		came, err := readReply(text)
 		switch {
 		case err != nil:
 			return fmt.Errorf("%w: %v", ErrReply, err)
@@ -420,7 +421,7 @@ func (c *Client) askLine(ctx context.Context, line []byte, check func(reply) err
 		case came.Bad:
 			return fmt.Errorf("%w: %s", ErrState, came.Failed)
 		case came.Failed != "":
-			return fmt.Errorf("%w: %s", pipe.ErrGone, came.Failed)
+			return fmt.Errorf("%w: %s", ErrGone, came.Failed)
 		}
 		return check(came)
 	})

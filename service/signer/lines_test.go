@@ -17,12 +17,11 @@ import (
 	"testing/iotest"
 	"time"
 
-	"wagtenib/service/pipe"
 	"wagtenib/service/trial"
 )
 
 // replying is an end at which each connection has its lines answered by these replies in their order; gone has one for each connection that its asker closed.
-func replying(t *testing.T, replies ...string) (open func(context.Context) (*pipe.End, error), gone chan error) {
+func replying(t *testing.T, replies ...string) (open func(context.Context) (*End, error), gone chan error) {
 	path := filepath.Join(t.TempDir(), "socket")
 	listener, err := net.Listen("unix", path)
 	must(t, err)
@@ -45,7 +44,7 @@ func replying(t *testing.T, replies ...string) (open func(context.Context) (*pip
 			connection.Close()
 		}
 	}()
-	return func(ctx context.Context) (*pipe.End, error) { return pipe.Dial(ctx, path, MostLine) }, gone
+	return func(ctx context.Context) (*End, error) { return Dial(ctx, path) }, gone
 }
 
 // opened is what a signer replies to who opens it.
@@ -69,7 +68,7 @@ func TestWrongReplies(t *testing.T) {
 		"a state that isn't one":     {[]string{`{"failed":"there is none","bad_state":true}`}, ErrState, true},
 		"a root of 3 bytes":          {[]string{opened(t, key), `{"last":{"sha256_root_hash":"AAAA","timestamp":5,"tree_size":2}}`}, ErrReply, true},
 		"no JSON in place of a head": {[]string{opened(t, key), "no"}, ErrReply, true},
-		"a failure":                  {[]string{opened(t, key), `{"failed":"the disk"}`}, pipe.ErrGone, true},
+		"a failure":                  {[]string{opened(t, key), `{"failed":"the disk"}`}, ErrGone, true},
 		"a head":                     {[]string{opened(t, key), `{"last":null}`}, nil, false},
 	} {
 		open, gone := replying(t, of.replies...)
@@ -97,7 +96,7 @@ func TestOtherKeyIsClosed(t *testing.T) {
 	right, _ := replying(t, opened(t, first), `{"last":null}`)
 	wrong, gone := replying(t, opened(t, other))
 	opens := 0
-	c, err := Ask(ctx, func(ctx context.Context) (*pipe.End, error) {
+	c, err := Ask(ctx, func(ctx context.Context) (*End, error) {
 		if opens++; opens > 1 {
 			return wrong(ctx)
 		}
@@ -123,7 +122,7 @@ func TestManyReceipts(t *testing.T) {
 	must(t, err)
 	defer listener.Close()
 	go func() { _ = newClients().serve(ctx, key, listener) }()
-	c, err := Ask(ctx, func(ctx context.Context) (*pipe.End, error) { return pipe.Dial(ctx, path, MostLine) }, trial.Longest)
+	c, err := Ask(ctx, func(ctx context.Context) (*End, error) { return Dial(ctx, path) }, trial.Longest)
 	must(t, err)
 	defer c.Close()
 	receipts := make([]Receipt, MostReceipts+2)
@@ -169,7 +168,7 @@ func TestFaultByLines(t *testing.T) {
 	defer listener.Close()
 	why := Refusal{"inconsistent", "too-few"}
 	go func() { _ = newClients().serve(ctx, unable{key, fmt.Errorf("x: %w", why)}, listener) }()
-	c, err := Ask(ctx, func(ctx context.Context) (*pipe.End, error) { return pipe.Dial(ctx, path, MostLine) }, trial.Longest)
+	c, err := Ask(ctx, func(ctx context.Context) (*End, error) { return Dial(ctx, path) }, trial.Longest)
 	must(t, err)
 	defer c.Close()
 	_, err = c.SignHead(ctx, Head{Size: 1, Moment: 1}, nil)

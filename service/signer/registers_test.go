@@ -2,18 +2,13 @@ package signer
 
 import (
 	"context"
-	"encoding/json"
 	"errors"
 	"fmt"
-	"os"
-	"path/filepath"
 	"sync"
 	"testing"
 	"time"
 
-	"wagtenib/service/pipe"
 	"wagtenib/service/stores"
-	"wagtenib/service/trial"
 )
 
 // asked is a register that counts what it is asked for; does may fail in its place, or wait.
@@ -67,9 +62,8 @@ func TestFaultyState(t *testing.T) {
 	t.Parallel()
 	ctx, key, l := limited(t), newKey(t), listOf(t, 20, 20)
 	state := &asked{Register: register(t, t.TempDir())}
-	g, err := Behind(ctx, key, Guard{Command: model, State: state, Create: true, Within: trial.Longest})
+	g, err := Behind(ctx, key, Guard{State: state, Create: true})
 	must(t, err)
-	defer g.Close()
 	size, moment := 0, uint64(100)
 	for _, of := range []struct {
 		what  string
@@ -119,13 +113,6 @@ func TestFaultyState(t *testing.T) {
 func TestFaultyStart(t *testing.T) {
 	t.Parallel()
 	ctx, key, head := limited(t), newKey(t), listOf(t, 2, 2).head(t, 2, 5)
-	line, err := json.Marshal(map[string]any{"last": lineOf(&head)})
-	must(t, err)
-	path := filepath.Join(t.TempDir(), "guard")
-	must(t, os.WriteFile(path, []byte("while read x; do echo '"+string(line)+"'; done"), 0o700))
-	guard := func(state stores.Register, creates bool) Guard {
-		return Guard{Command: []string{"sh", path}, State: state, Create: creates, Within: trial.Longest}
-	}
 	for what, of := range map[string]struct {
 		text, call string
 		err, kind  error
@@ -147,19 +134,18 @@ func TestFaultyStart(t *testing.T) {
 			}
 			return nil
 		}
-		if g, err := Behind(ctx, key, guard(state, true)); !errors.Is(err, of.kind) || g != nil {
+		if g, err := Behind(ctx, key, Guard{State: state, Create: true}); !errors.Is(err, of.kind) || g != nil {
 			t.Errorf("%s: %v", what, err)
 		}
 	}
 	for _, creates := range []bool{false, true} {
 		state := register(t, t.TempDir())
 		must(t, state.Create(ctx, stateOf(&head)))
-		g, err := Behind(ctx, key, guard(state, creates))
+		g, err := Behind(ctx, key, Guard{State: state, Create: creates})
 		must(t, err)
 		if text, err := g.known(ctx); err != nil || text != stateOf(&head) {
 			t.Errorf("it is to be created: %t: it goes on from %s, %v", creates, text, err)
 		}
-		must(t, g.Close())
 	}
 }
 
@@ -167,7 +153,7 @@ func TestFaultyStart(t *testing.T) {
 func TestTurn(t *testing.T) {
 	t.Parallel()
 	ctx, l := limited(t), listOf(t, 2, 2)
-	g := behind(t, newKey(t), t.TempDir(), model)
+	g := behind(t, newKey(t), t.TempDir())
 	gone, cancel := context.WithCancel(ctx)
 	cancel()
 	must(t, g.take(ctx))
@@ -188,35 +174,6 @@ func TestTurn(t *testing.T) {
 	must(t, err)
 }
 
-// TestCloseBetween: a guard is ended between two requests, and never under one.
-func TestCloseBetween(t *testing.T) {
-	t.Parallel()
-	ctx, path := limited(t), filepath.Join(t.TempDir(), "guard")
-	must(t, os.WriteFile(path, []byte("while read x; do echo '{\"last\":null}'; done"), 0o700))
-	g, err := Behind(ctx, newKey(t), Guard{Command: []string{"sh", path}, State: register(t, t.TempDir()), Create: true, Within: trial.Longest})
-	must(t, err)
-	_, err = g.Last(ctx)
-	must(t, err)
-	must(t, g.take(ctx))
-	closed := make(chan error, 1)
-	go func() { closed <- g.Close() }()
-	// (who has the turn asks meanwhile, so that the other one would come to its end)
-	end := g.end
-	for i := 0; i < 100 && !t.Failed(); i++ {
-		if _, err := g.look(ctx); err != nil || g.end != end {
-			t.Errorf("it is ended while it is asked: %v", err)
-		}
-	}
-	<-g.turn
-	must(t, <-closed)
-	if g.end != nil {
-		t.Error("it goes on")
-	}
-	_, err = g.Last(ctx)
-	must(t, err)
-	must(t, g.Close())
-}
-
 // TestUnguardedEnds: a key alone signs nothing for who is gone.
 func TestUnguardedEnds(t *testing.T) {
 	t.Parallel()
@@ -228,24 +185,6 @@ func TestUnguardedEnds(t *testing.T) {
 	}
 	if signed, err := key.SignTimestamps(gone, []Receipt{{Leaf: leaf("x")}}); !errors.Is(err, context.Canceled) || signed != nil {
 		t.Errorf("a timestamp: %v", err)
-	}
-}
-
-// TestGuardWithin: a guard that says no time has some, and one that says one has no more.
-func TestGuardWithin(t *testing.T) {
-	t.Parallel()
-	ctx, path := limited(t), filepath.Join(t.TempDir(), "guard")
-	must(t, os.WriteFile(path, []byte("exec sleep 600"), 0o700))
-	silent := Guard{Command: []string{"sh", path}, State: register(t, t.TempDir()), Create: true, Within: 1}
-	g, err := Behind(ctx, newKey(t), silent)
-	must(t, err)
-	_, err = g.Last(ctx)
-	wants(t, err, pipe.ErrGone)
-	must(t, g.Close())
-	g = behind(t, newKey(t), t.TempDir(), model)
-	last, err := g.Last(ctx)
-	if must(t, err); last != nil {
-		t.Errorf("%+v", last)
 	}
 }
 

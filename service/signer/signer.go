@@ -11,8 +11,6 @@ import (
 	"encoding/binary"
 	"errors"
 	"fmt"
-
-	"wagtenib/service/pipe"
 )
 
 // Signer signs heads and timestamps. Its methods may be called at once.
@@ -83,8 +81,10 @@ var (
 	ErrMoved = errors.New("signer: another head was let through meanwhile")
 	// ErrState: the guard's state is missing, or isn't one that it takes up.
 	ErrState = errors.New("signer: no state of the guard")
-	// ErrReply: a reply isn't one to the request.
-	ErrReply = fmt.Errorf("signer: %w", pipe.ErrReply)
+	// ErrGone: the signer's process doesn't start, ended, or gave no reply in time.
+	ErrGone = errors.New("signer: the signer gives no reply")
+	// ErrReply: a reply isn't one to the request. The process, or the connection, is closed then: what it says next may be a reply to something else, too.
+	ErrReply = errors.New("signer: not a reply")
 	// ErrKey: a file is no key of a log.
 	ErrKey = errors.New("signer: no key of a log")
 	// ErrSignature: a signature isn't the key's over these bytes.

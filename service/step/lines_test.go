@@ -4,15 +4,9 @@ import (
 	"bytes"
 	"encoding/base64"
 	"encoding/json"
-	"errors"
-	"os"
-	"path/filepath"
 	"reflect"
 	"strings"
 	"testing"
-	"time"
-
-	"wagtenib/service/trial"
 )
 
 // TestStepIsWritten: a step's line is what encoding/json makes of the same.
@@ -37,70 +31,36 @@ func TestStepIsWritten(t *testing.T) {
 		want, err := json.Marshal(map[string]any{"state": of.state, "edge": of.edge, "batch": of.batch, "now": uint64(1) << 63, "most_ahead": 17})
 		must(t, err)
 		line, err := appendStep(nil, of.state, of.edge, of.batch, 1<<63, 17)
-		if err != nil || string(line) != string(want)+"\n" {
+		if err != nil || string(line) != string(want) {
 			t.Errorf("%s: %s, %v, and not %s", what, line, err, want)
 		}
 		// (what isn't there is empty)
 		if len(of.edge)+len(of.batch) == 0 {
-			if line, err = appendStep([]byte("before "), of.state, nil, nil, 1<<63, 17); err != nil || string(line) != "before "+string(want)+"\n" {
+			if line, err = appendStep([]byte("before "), of.state, nil, nil, 1<<63, 17); err != nil || string(line) != "before "+string(want) {
 				t.Errorf("%s: %s, %v, and not %s", what, line, err, want)
 			}
 		}
 	}
 }
 
-// TestStepAsks: what is sent is the line of the request, however long the one before it was.
+// TestStepAsks: what is asked is the line of the request, however long the one before it was.
 func TestStepAsks(t *testing.T) {
-	folder, ctx := t.TempDir(), within(t)
-	c := client(t, 10*time.Minute, script(t, `n=0; while read -r x; do n=$((n + 1)); printf '%s' "$x" >`+folder+`/$n; echo '{"refused":"full"}'; done`)...)
+	var text string
+	c := Over(func(_ *[]byte, request []byte) ([]byte, error) {
+		text = string(request)
+		return []byte("{\"refused\":\"full\"}\n"), nil
+	})
 	for i, leaf := range []string{strings.Repeat("a long one", 100), "a short one", strings.Repeat("the longest", 300)} {
 		batch := []Submission{{LeafCertificate: []byte(leaf)}}
-		if _, err := c.Step(ctx, lineOf(1, 2), [][]byte{[]byte(leaf)}, batch, 3, 4); err != Full {
+		if _, err := c.Step(lineOf(1, 2), [][]byte{[]byte(leaf)}, batch, 3, 4); err != Full {
 			t.Fatal(err)
 		}
 		want, err := json.Marshal(map[string]any{"state": lineOf(1, 2), "edge": []string{base64.StdEncoding.EncodeToString([]byte(leaf))},
 			"batch": []map[string]any{{"chain": []string{}, "leaf_certificate": []byte(leaf)}}, "now": 3, "most_ahead": 4})
 		must(t, err)
-		text, err := os.ReadFile(filepath.Join(folder, string(rune('1'+i))))
-		must(t, err)
-		if string(text) != string(want) {
+		if text != string(want) {
 			t.Errorf("%d: %s, and not %s", i, text, want)
 		}
-	}
-	// A line that is too long isn't sent, and the next one is whole.
-	if _, err := c.Step(ctx, lineOf(1, 2), [][]byte{make([]byte, MostRequest)}, nil, 3, 4); err == nil || c.Starts() != 1 {
-		t.Errorf("%v, started %d times", err, c.Starts())
-	}
-	if _, err := c.Step(ctx, lineOf(1, 2), nil, nil, 3, 4); err != Full {
-		t.Error(err)
-	}
-}
-
-// TestSentLineIsKept: the memory of a line is used again once it was replied to, and never where it wasn't: it may still be written then. What was replied isn't it.
-func TestSentLineIsKept(t *testing.T) {
-	ctx := within(t)
-	gone := client(t, time.Minute, "/nowhere/is")
-	for i := 0; i < 20; i++ {
-		if _, err := gone.Step(ctx, lineOf(1, 2), nil, nil, 3, 4); !errors.Is(err, ErrProcess) {
-			t.Fatal(err)
-		}
-	}
-	for i := 0; i < 20; i++ {
-		if kept := gone.spare.Get(); kept != nil {
-			t.Fatalf("%.20q is kept", *kept.(*[]byte))
-		}
-	}
-	c := client(t, trial.Longest, script(t, `while read -r x; do echo '{"refused":"full"}'; done`)...)
-	// (a pool may drop what it is given)
-	var kept any
-	for kept == nil {
-		if _, err := c.Step(ctx, lineOf(1, 2), nil, nil, 3, 4); err != Full {
-			t.Fatal(err)
-		}
-		kept = c.spare.Get()
-	}
-	if line := *kept.(*[]byte); !strings.HasPrefix(string(line), `{"batch":[]`) {
-		t.Errorf("%q is kept", line)
 	}
 }
 

@@ -1,52 +1,29 @@
-// Package step asks the program that makes the steps of a log, cttile: a process at the other end of two pipes, with an object of
-// JSON a line. It keeps nothing from one request to the next, so it is killed where it doesn't answer, and started again.
+// Package step makes the steps of a log, by the proved function of cttile in this process (docs/GROWTH.md). It compares each reply with its request.
 package step
 
 import (
 	"bytes"
-	"context"
 	"crypto/sha256"
 	"encoding/json"
-	"errors"
 	"fmt"
 	"sync"
-	"time"
 
-	"wagtenib/service/pipe"
+	"wagtenib/bindings/go/wagtenib"
+	"wagtenib/service/proved"
 )
 
-// The bounds of lines, in bytes without their ends.
-const (
-	// MostRequest is the program's own.
-	MostRequest = 64 << 20
-	// MostReply is how much of a reply is read.
-	MostReply = 160 << 20
-)
-
-// MostAhead is how far a step's moment may be beyond its line's where a request doesn't say, in milliseconds: the program's own bound.
+// MostAhead is how many milliseconds a step's timestamp may be beyond its line's if a request doesn't say: the bound of cttile.
 const MostAhead = 3_600_000
 
-// What requests fail by, beside a Refusal. Each is found by errors.Is.
-var (
-	// ErrTooLong: a request is longer than MostRequest. It wasn't sent.
-	ErrTooLong = pipe.ErrTooLong
-	// ErrProcess: the process doesn't start, ended, or gave no reply in time. The next request starts another.
-	ErrProcess = pipe.ErrGone
-	// ErrReply: the reply isn't one to the request.
-	ErrReply = fmt.Errorf("step: %w", pipe.ErrReply)
-)
+// ErrReply is the error of a reply that isn't one to the request.
+var ErrReply = proved.ErrReply
 
-// Refusal is the name by which the program refused a request; nothing has changed then.
-type Refusal string
-
-func (r Refusal) Error() string { return "step: refused: " + string(r) }
-
-// Is reports that a bad line counts as no reply: this process wrote the line itself, so the program may have read a part of it, and is ended.
-func (r Refusal) Is(target error) bool { return r == BadLine && target == pipe.ErrReply }
+// Refusal is the name by which a request was refused. Nothing has changed then.
+type Refusal = proved.Refusal
 
 // The refusals.
 const (
-	BadLine   Refusal = "bad-line"
+	BadLine           = proved.BadLine
 	BadState  Refusal = "bad-state"
 	TooFar    Refusal = "moment-too-far"
 	Edge      Refusal = "edge"
@@ -57,53 +34,24 @@ const (
 	NoClaim   Refusal = "claim"
 )
 
-// Client asks one process, one request at a time. Its methods may be called at once.
-type Client struct {
-	*pipe.Program
-	// spare is the memory of a step's line that was sent, for the next one.
-	spare sync.Pool
+// Stepper makes the steps of one log. It keeps nothing of the log from one call to the next. Its methods may be called at once.
+type Stepper struct {
+	caller *proved.Caller
+	// lines has the memory of requests for steps, which are long.
+	lines sync.Pool
 }
 
-// NewClient takes the program's command, and how long a request may take. The process is started by the first request.
-func NewClient(command []string, limit time.Duration) (*Client, error) {
-	program, err := pipe.NewProgram(command, MostRequest, MostReply, limit)
-	return &Client{Program: program}, err
-}
-
-// ask sends a request, and reads its reply into an object, which is checked then. The object must not be used after an error.
-func (c *Client) ask(ctx context.Context, request, reply any, check func() error) error {
-	return c.Ask(ctx, request, func(answered []byte) error {
-		if isRefusal(answered) {
-			return refusalIn(answered)
-		}
-		if err := json.Unmarshal(answered, reply); err != nil {
-			return fmt.Errorf("%w: %v", ErrReply, err)
-		}
-		return check()
+// New returns the stepper of the log with this origin (C2SP tlog-checkpoint).
+func New(origin string) *Stepper {
+	return Over(func(memory *[]byte, request []byte) ([]byte, error) {
+		return wagtenib.StepLine(memory, origin, request)
 	})
 }
 
-// refusalIn reads a refusal.
-func refusalIn(answered []byte) error {
-	var refused struct {
-		Refused                Refusal
-		Document, Fault, Place string
-	}
-	if err := json.Unmarshal(answered, &refused); err != nil || refused.Refused == "" {
-		return fmt.Errorf("%w: %.200q: %v", ErrReply, answered, err)
-	}
-	if refused.Fault != "" {
-		return fmt.Errorf("%w: %s in %s of the %s", refused.Refused, refused.Fault, refused.Place, refused.Document)
-	}
-	return refused.Refused
-}
+// Over returns a stepper over another function than the proved one, for tests.
+func Over(function proved.Function) *Stepper { return &Stepper{caller: proved.NewCaller(function)} }
 
-// isRefusal says whether a reply is one: an object's keys are in the order of their bytes.
-func isRefusal(reply []byte) bool {
-	return bytes.HasPrefix(reply, []byte(`{"refused":`)) || bytes.HasPrefix(reply, []byte(`{"document":`))
-}
-
-// Submission is one entry of a batch, as the program reads it.
+// Submission is one entry of a batch.
 type Submission struct {
 	// Chain are the fingerprints of the issuers.
 	Chain [][]byte `json:"chain"`
@@ -144,11 +92,11 @@ func (h Head) check(s State) error {
 	return nil
 }
 
-// Begin gives the line of a log without entries.
-func (c *Client) Begin(ctx context.Context, moment uint64) (string, error) {
+// Begin returns the line of a log without entries.
+func (s *Stepper) Begin(moment uint64) (string, error) {
 	var reply struct{ State string }
-	err := c.ask(ctx, map[string]any{"begin": moment}, &reply, func() error {
-		if s, err := ParseState(reply.State); err != nil || s.Size != 0 || s.Moment != moment || !s.IsBegin() {
+	err := s.caller.CallInto(map[string]any{"begin": moment}, &reply, func() error {
+		if state, err := ParseState(reply.State); err != nil || state.Size != 0 || state.Moment != moment || !state.IsBegin() {
 			return fmt.Errorf("%w: the state isn't that of a log without entries", ErrReply)
 		}
 		return nil
@@ -159,10 +107,10 @@ func (c *Client) Begin(ctx context.Context, moment uint64) (string, error) {
 	return reply.State, nil
 }
 
-// Needs gives the names of the objects that a step from this line wants: its edge.
-func (c *Client) Needs(ctx context.Context, line string) ([]string, error) {
+// Needs returns the names of the objects that a step from this line takes: its edge.
+func (s *Stepper) Needs(line string) ([]string, error) {
 	var reply struct{ Names []string }
-	err := c.ask(ctx, map[string]any{"needs": line}, &reply, func() error {
+	err := s.caller.CallInto(map[string]any{"needs": line}, &reply, func() error {
 		for _, name := range reply.Names {
 			if err := checkTile(name); err != nil {
 				return err
@@ -188,22 +136,27 @@ type Stepped struct {
 	Objects []Object `json:"-"`
 }
 
-// Step gives the state behind a batch, with the objects that it publishes. The edge are the contents of the names that Needs
-// gives, in that order. The moment is at most so many milliseconds beyond the line's (most), or it is TooFar.
-func (c *Client) Step(ctx context.Context, line string, edge [][]byte, batch []Submission, now, most uint64) (*Stepped, error) {
+// Step returns the state after a batch, with the objects that it publishes. The edge are the contents of the names that Needs
+// returns, in that order. `now` is at most so many milliseconds (most) beyond the line's timestamp, or it is TooFar.
+func (s *Stepper) Step(line string, edge [][]byte, batch []Submission, now, most uint64) (*Stepped, error) {
 	before, err := ParseState(line)
 	if err != nil {
 		return nil, err
 	}
+	spare, ok := s.lines.Get().(*[]byte)
+	if !ok {
+		spare = new([]byte)
+	}
+	defer s.lines.Put(spare)
+	if *spare, err = appendStep((*spare)[:0], line, edge, batch, now, most); err != nil {
+		return nil, fmt.Errorf("step: request: %w", err)
+	}
 	var stepped *Stepped
-	err = c.askStep(ctx, line, edge, batch, now, most, func(answered []byte) (err error) {
-		stepped, err = readStep(answered, line, before.Size, len(batch), now)
+	err = s.caller.CallLine(*spare, func(reply []byte) (err error) {
+		stepped, err = readStep(reply, line, before.Size, len(batch), now)
 		return err
 	})
-	if err != nil {
-		return nil, err
-	}
-	return stepped, nil
+	return stepped, err
 }
 
 // readStep reads the reply to a request for a step from a line, whose log has so many entries, with so many more.
@@ -212,8 +165,8 @@ func readStep(answered []byte, line string, size uint64, batch int, now uint64) 
 		Stepped
 		References []reference `json:"objects"`
 	}
-	if isRefusal(answered) {
-		return nil, refusalIn(answered)
+	if proved.IsRefusal(answered) {
+		return nil, proved.RefusalIn(answered)
 	}
 	bundle, rest, err := cutBundle(answered)
 	if err == nil {
@@ -254,28 +207,9 @@ func readStep(answered []byte, line string, size uint64, batch int, now uint64) 
 	return reply, reply.Head.check(s)
 }
 
-// askStep sends the request for a step.
-func (c *Client) askStep(ctx context.Context, state string, edge [][]byte, batch []Submission, now, most uint64, read func([]byte) error) error {
-	spare, ok := c.spare.Get().(*[]byte)
-	if !ok {
-		spare = new([]byte)
-	}
-	line, err := appendStep((*spare)[:0], state, edge, batch, now, most)
-	if err != nil {
-		return fmt.Errorf("step: request: %w", err)
-	}
-	err = c.AskLine(ctx, line, read)
-	// (if there is no reply, it may still be written)
-	if !errors.Is(err, ErrProcess) {
-		*spare = line
-		c.spare.Put(spare)
-	}
-	return err
-}
-
-// Claim gives the receipt of a submission's entry that stands at a place of the log of this line: the program answers it where the audit
-// path, hashes from the leaf up (RFC 9162, section 2.1.3.2), leads from the entry's leaf to the line's root, and refuses it by NoClaim.
-func (c *Client) Claim(ctx context.Context, line string, index, timestamp uint64, path [][]byte, submission Submission) (*Receipt, error) {
+// Claim returns the receipt of a submission whose entry is at this index of the log of this line, if the audit path, hashes from the leaf up
+// (RFC 9162, section 2.1.3.2), leads from the entry's leaf to the line's root. Otherwise it returns NoClaim.
+func (s *Stepper) Claim(line string, index, timestamp uint64, path [][]byte, submission Submission) (*Receipt, error) {
 	if path == nil {
 		path = [][]byte{}
 	}
@@ -284,7 +218,7 @@ func (c *Client) Claim(ctx context.Context, line string, index, timestamp uint64
 	}
 	place := map[string]uint64{"leaf_index": index, "timestamp": timestamp}
 	var reply struct{ Receipt *Receipt }
-	err := c.ask(ctx, map[string]any{"claim": place, "path": path, "state": line, "submission": submission}, &reply, func() error {
+	err := s.caller.CallInto(map[string]any{"claim": place, "path": path, "state": line, "submission": submission}, &reply, func() error {
 		if r := reply.Receipt; r == nil || r.LeafIndex != index || r.Timestamp != timestamp || len(r.Sign) == 0 {
 			return fmt.Errorf("%w: the receipt isn't that of the place", ErrReply)
 		}
@@ -303,8 +237,8 @@ type Resumed struct {
 }
 
 // Resume reads the bundle that belongs to a state's line.
-func (c *Client) Resume(ctx context.Context, line string, bundle []byte) (*Resumed, error) {
-	s, err := ParseState(line)
+func (s *Stepper) Resume(line string, bundle []byte) (*Resumed, error) {
+	state, err := ParseState(line)
 	if err != nil {
 		return nil, err
 	}
@@ -313,11 +247,11 @@ func (c *Client) Resume(ctx context.Context, line string, bundle []byte) (*Resum
 		References []reference `json:"objects"`
 	}
 	var objects []Object
-	err = c.ask(ctx, map[string]any{"resume": line, "bundle": bundle}, &reply, func() (err error) {
+	err = s.caller.CallInto(map[string]any{"resume": line, "bundle": bundle}, &reply, func() (err error) {
 		if objects, err = objectsIn(bundle, reply.References); err != nil {
 			return err
 		}
-		return reply.Head.check(s)
+		return reply.Head.check(state)
 	})
 	if err != nil {
 		return nil, err

@@ -2,59 +2,47 @@ package step
 
 import (
 	"bytes"
-	"context"
 	"crypto/sha256"
 	"encoding/base64"
 	"errors"
-	"os"
-	"path/filepath"
 	"strings"
 	"testing"
-	"time"
 
+	"wagtenib/bindings/go/wagtenib"
+	"wagtenib/service/proved"
 	"wagtenib/service/trial"
 )
 
-// program is a second program beside the proved one, with the same lines.
-var program = []string{"python3", "../../tests/tiles/step.py", "--origin", "log.example/tried"}
+// origin is that of the log of these tests.
+const origin = "log.example/tried"
 
 var must = trial.Must
 
-func client(t *testing.T, limit time.Duration, command ...string) *Client {
-	t.Helper()
-	c, err := NewClient(command, limit)
-	must(t, err)
-	t.Cleanup(func() { c.Close() })
-	return c
-}
-
-func within(t *testing.T) context.Context { return trial.Limited(t, trial.Longest) }
-
 // TestSteps makes two steps, from nothing and over an edge, and reads the second one's bundle both ways.
 func TestSteps(t *testing.T) {
-	c, ctx := client(t, trial.Longest, program...), within(t)
-	line, err := c.Begin(ctx, 5)
+	c := New(origin)
+	line, err := c.Begin(5)
 	must(t, err)
-	names, err := c.Needs(ctx, line)
+	names, err := c.Needs(line)
 	if err != nil || len(names) != 0 {
 		t.Fatalf("%v, %v", names, err)
 	}
-	one, err := c.Step(ctx, line, nil, []Submission{{LeafCertificate: []byte("one")}}, 7, MostAhead)
+	one, err := c.Step(line, nil, []Submission{{LeafCertificate: []byte("one")}}, 7, MostAhead)
 	must(t, err)
 	// The root of one leaf is the leaf's hash: by hand, from RFC 6962, sections 2.1 and 3.4, and static-ct-api's extension.
 	leaf := "\x00\x00\x00" + "\x00\x00\x00\x00\x00\x00\x00\x07" + "\x00\x00" + "\x00\x00\x03one" + "\x00\x08\x00\x00\x05\x00\x00\x00\x00\x00"
 	if one.State.Root != sha256.Sum256([]byte(leaf)) || one.State.Size != 1 || string(one.Receipts[0].Sign) != leaf[1:] {
 		t.Errorf("%+v", one)
 	}
-	names, err = c.Needs(ctx, one.Line)
+	names, err = c.Needs(one.Line)
 	if err != nil || strings.Join(names, " ") != "tile/0/000.p/1 tile/data/000.p/1" {
 		t.Fatalf("%v, %v", names, err)
 	}
 	objects := one.Objects
 	edge := [][]byte{objects[0].Content, objects[1].Content}
-	two, err := c.Step(ctx, one.Line, edge, []Submission{{IssuerKeyHash: make([]byte, 32), PreCertificate: []byte("p"), TBSCertificate: []byte("t")}}, 8, MostAhead)
+	two, err := c.Step(one.Line, edge, []Submission{{IssuerKeyHash: make([]byte, 32), PreCertificate: []byte("p"), TBSCertificate: []byte("t")}}, 8, MostAhead)
 	must(t, err)
-	resumed, err := c.Resume(ctx, two.Line, two.Bundle)
+	resumed, err := c.Resume(two.Line, two.Bundle)
 	must(t, err)
 	objects = two.Objects
 	if len(objects) != 2 || len(resumed.Objects) != 2 || resumed.Checkpoint != two.Checkpoint || !bytes.Equal(resumed.Sign, two.Sign) {
@@ -68,7 +56,7 @@ func TestSteps(t *testing.T) {
 	// Of two leaves the path is the other's hash.
 	first := sha256.Sum256([]byte(leaf))
 	path, entry := [][]byte{objects[0].Content[32:64]}, Submission{LeafCertificate: []byte("one")}
-	claimed, err := c.Claim(ctx, two.Line, 0, 7, path, entry)
+	claimed, err := c.Claim(two.Line, 0, 7, path, entry)
 	must(t, err)
 	if string(claimed.Sign) != leaf[1:] || !bytes.Equal(objects[0].Content[:32], first[:]) {
 		t.Errorf("%+v", claimed)
@@ -76,102 +64,68 @@ func TestSteps(t *testing.T) {
 	bent := append([]byte{}, edge[0]...)
 	bent[3] ^= 1
 	refusals := map[Refusal]func() error{
-		Edge:      func() error { _, err := c.Step(ctx, one.Line, [][]byte{bent, edge[1]}, nil, 8, MostAhead); return err },
-		Entries:   func() error { _, err := c.Step(ctx, one.Line, [][]byte{edge[0], {1}}, nil, 8, MostAhead); return err },
-		TooFar:    func() error { _, err := c.Step(ctx, one.Line, edge, nil, 11, 3); return err },
-		ClockBack: func() error { _, err := c.Step(ctx, one.Line, edge, nil, 7, MostAhead); return err },
-		BadState:  func() error { _, err := c.Needs(ctx, "growth"); return err },
-		Bundle:    func() error { _, err := c.Resume(ctx, two.Line, one.Bundle); return err },
-		NoClaim:   func() error { _, err := c.Claim(ctx, two.Line, 1, 7, path, entry); return err },
+		Edge:      func() error { _, err := c.Step(one.Line, [][]byte{bent, edge[1]}, nil, 8, MostAhead); return err },
+		Entries:   func() error { _, err := c.Step(one.Line, [][]byte{edge[0], {1}}, nil, 8, MostAhead); return err },
+		TooFar:    func() error { _, err := c.Step(one.Line, edge, nil, 11, 3); return err },
+		ClockBack: func() error { _, err := c.Step(one.Line, edge, nil, 7, MostAhead); return err },
+		BadState:  func() error { _, err := c.Needs("growth"); return err },
+		Bundle:    func() error { _, err := c.Resume(two.Line, one.Bundle); return err },
+		NoClaim:   func() error { _, err := c.Claim(two.Line, 1, 7, path, entry); return err },
 	}
 	for want, ask := range refusals {
 		if err := ask(); !errors.Is(err, want) {
 			t.Errorf("%v, and not %s", err, want)
 		}
 	}
-	if c.Starts() != 1 {
-		t.Errorf("the process was started %d times", c.Starts())
-	}
-	// A line that this package wrote itself is refused as none only if a part of it was read: that process is ended.
-	for i := 0; i < 2; i++ {
-		if _, err := c.Step(ctx, one.Line, edge, []Submission{{}}, 8, MostAhead); !errors.Is(err, BadLine) {
-			t.Error(err)
-		}
-	}
-	if c.Starts() != 2 {
-		t.Errorf("the process was started %d times", c.Starts())
+	if _, err := c.Step(one.Line, edge, []Submission{{}}, 8, MostAhead); !errors.Is(err, BadLine) {
+		t.Error(err)
 	}
 }
 
-// script makes a program of a shell's lines.
-func script(t *testing.T, lines string) []string {
-	path := filepath.Join(t.TempDir(), "program")
-	must(t, os.WriteFile(path, []byte(lines), 0o700))
-	return []string{"sh", path}
-}
-
-// TestWrongPrograms asks programs that don't reply, reply something else, or reply without an end. Each call ends in time.
-func TestWrongPrograms(t *testing.T) {
-	ctx, state := within(t), `{"state":"growth `+strings.Repeat("0", 288)+`"}`
-	for name, lines := range map[string]string{
-		"is silent":        "exec sleep 60",
-		"doesn't read":     "exec sleep 60 </dev/null",
-		"has a child":      "sleep 60; echo",
-		"ends":             "exit 1",
-		"replies no JSON":  "read x; echo no",
-		"replies a list":   "read x; echo '[]'",
-		"replies no state": "read x; echo '{}'",
-		"replies another":  "read x; echo '" + state + "'",
-		"replies half":     "read x; printf '{\"state\":'; exec sleep 60",
-		"isn't there":      "exec /nowhere",
+// TestWrongReplies has a function reply what is no reply to the request.
+func TestWrongReplies(t *testing.T) {
+	for what, reply := range map[string]string{
+		"no JSON":       "no",
+		"a list":        "[]",
+		"no state":      "{}",
+		"another state": `{"state":"growth ` + strings.Repeat("0", 288) + `"}`,
+		"half a reply":  `{"state":`,
 	} {
-		c := client(t, 300*time.Millisecond, script(t, lines)...)
-		began := time.Now()
-		_, err := c.Begin(ctx, 1)
-		if !errors.Is(err, ErrProcess) && !errors.Is(err, ErrReply) && !errors.Is(err, ErrState) || time.Since(began) > trial.Longest/2 {
-			t.Errorf("a program that %s: %v in %v", name, err, time.Since(began))
+		if line, err := replying(reply).Begin(1); !errors.Is(err, ErrReply) || line != "" {
+			t.Errorf("%s: %q, %v", what, line, err)
 		}
-	}
-	endless := client(t, trial.Longest, script(t, "read x; exec tr '\\0' a </dev/zero")...)
-	if _, err := endless.Begin(ctx, 1); !errors.Is(err, ErrProcess) {
-		t.Error(err)
-	}
-	said := client(t, trial.Longest, script(t, "read x; echo want of memory >&2; exit 1")...)
-	if _, err := said.Begin(ctx, 1); !errors.Is(err, ErrProcess) || !strings.Contains(err.Error(), "want of memory") {
-		t.Error(err)
-	}
-	short, cancel := context.WithTimeout(ctx, 50*time.Millisecond)
-	defer cancel()
-	silent := client(t, time.Minute, "sleep", "60")
-	if _, err := silent.Begin(short, 1); !errors.Is(err, ErrProcess) {
-		t.Error(err)
-	}
-	if _, err := NewClient(nil, time.Second); !errors.Is(err, ErrProcess) {
-		t.Error(err)
 	}
 }
 
-// oneEntry is the client of a program that has made the step of a log's first entry, and the line before it.
-func oneEntry(t *testing.T) (c *Client, ctx context.Context, before string, first *Stepped) {
+// TestOutOfMemory has a function refuse for want of memory: that is told, and nothing is returned.
+func TestOutOfMemory(t *testing.T) {
+	c := Over(func(*[]byte, []byte) ([]byte, error) { return nil, proved.ErrMemory })
+	if stepped, err := c.Step(lineOf(1, 2), nil, nil, 3, 4); !errors.Is(err, proved.ErrMemory) || stepped != nil {
+		t.Errorf("%+v, %v", stepped, err)
+	}
+}
+
+// oneEntry returns a stepper, a line of a log without entries, and the step of the first entry after it.
+func oneEntry(t *testing.T) (c *Stepper, before string, first *Stepped) {
 	t.Helper()
-	c, ctx = client(t, trial.Longest, program...), within(t)
-	before, err := c.Begin(ctx, 5)
+	c = New(origin)
+	before, err := c.Begin(5)
 	must(t, err)
-	first, err = c.Step(ctx, before, nil, oneSubmission, 7, MostAhead)
+	first, err = c.Step(before, nil, oneSubmission, 7, MostAhead)
 	must(t, err)
-	return c, ctx, before, first
+	return c, before, first
 }
 
 // oneSubmission is its batch.
 var oneSubmission = []Submission{{LeafCertificate: []byte("one")}}
 
-// TestWrongStates has a program reply a step's state that has one thing of it wrong: what it says must follow from the request.
+// TestWrongStates has a function reply a step's state that has one thing of it wrong: what it says must follow from the request.
 func TestWrongStates(t *testing.T) {
-	_, ctx, line, right := oneEntry(t)
+	_, line, right := oneEntry(t)
 	asked := func(state string) error {
 		reply := *right
 		reply.Line = state
-		_, err := liar(t, reply).Step(ctx, line, nil, oneSubmission, 7, MostAhead)
+		_, err := liar(t, reply).Step(line, nil, oneSubmission, 7, MostAhead)
 		return err
 	}
 	must(t, asked(right.Line))
@@ -188,17 +142,17 @@ func TestWrongStates(t *testing.T) {
 	}
 }
 
-// TestReceipts has a batch with repeats in it answered in its order, and a program reply other receipts than one for each submission.
+// TestReceipts has a batch with repeats in it answered in its order, and a function reply other receipts than one for each submission.
 func TestReceipts(t *testing.T) {
-	c, ctx := client(t, trial.Longest, program...), within(t)
-	line, err := c.Begin(ctx, 5)
+	c := New(origin)
+	line, err := c.Begin(5)
 	must(t, err)
 	of := func(leaf string) Submission { return Submission{LeafCertificate: []byte(leaf)} }
-	before, err := c.Step(ctx, line, nil, []Submission{of("zero")}, 6, MostAhead)
+	before, err := c.Step(line, nil, []Submission{of("zero")}, 6, MostAhead)
 	must(t, err)
 	edge := [][]byte{before.Objects[0].Content, before.Objects[1].Content}
 	batch := []Submission{of("one"), of("two"), of("one"), of("three"), of("two")}
-	right, err := c.Step(ctx, before.Line, edge, batch, 7, MostAhead)
+	right, err := c.Step(before.Line, edge, batch, 7, MostAhead)
 	must(t, err)
 	for i, index := range []uint64{1, 2, 1, 3, 2} {
 		first := map[uint64]int{1: 0, 2: 1, 3: 3}[index]
@@ -223,15 +177,15 @@ func TestReceipts(t *testing.T) {
 	} {
 		reply := *right
 		reply.Receipts = wrong(append([]Receipt{}, right.Receipts...))
-		if _, err := liar(t, reply).Step(ctx, before.Line, edge, batch, 7, MostAhead); !errors.Is(err, ErrReply) {
+		if _, err := liar(t, reply).Step(before.Line, edge, batch, 7, MostAhead); !errors.Is(err, ErrReply) {
 			t.Errorf("%s: %v", what, err)
 		}
 	}
 }
 
-// TestReferences has a program tell other places in a bundle than an object's: each is told apart from a reply.
+// TestReferences has a function tell other places in a bundle than an object's: each is told apart from a reply.
 func TestReferences(t *testing.T) {
-	_, ctx, line, one := oneEntry(t)
+	_, line, one := oneEntry(t)
 	digest := func(content string) []byte { sum := sha256.Sum256([]byte(content)); return sum[:] }
 	bundle := string(one.Bundle)
 	for what, wrong := range map[string]reference{
@@ -259,9 +213,9 @@ func TestReferences(t *testing.T) {
 				Head
 				References []reference `json:"objects"`
 			}); ok {
-				_, err = liar.Resume(ctx, one.Line, one.Bundle)
+				_, err = liar.Resume(one.Line, one.Bundle)
 			} else {
-				_, err = liar.Step(ctx, line, nil, oneSubmission, 7, MostAhead)
+				_, err = liar.Step(line, nil, oneSubmission, 7, MostAhead)
 			}
 			if !errors.Is(err, ErrReply) {
 				t.Errorf("%s: %v", what, err)
@@ -275,10 +229,10 @@ func (s *Stepped) at(object int) uint64 {
 	return uint64(bytes.Index(s.Bundle, s.Objects[object].Content))
 }
 
+// TestLongRequest: a request that is longer than the function takes is refused.
 func TestLongRequest(t *testing.T) {
-	c := client(t, trial.Longest, program...)
-	if _, err := c.Resume(within(t), "growth "+strings.Repeat("0", 288), make([]byte, MostRequest)); !errors.Is(err, ErrTooLong) || c.Starts() != 0 {
-		t.Errorf("%v, %d", err, c.Starts())
+	if _, err := New(origin).Resume("growth "+strings.Repeat("0", 288), make([]byte, wagtenib.MaxStepRequest)); !errors.Is(err, BadLine) {
+		t.Error(err)
 	}
 }
 
@@ -295,10 +249,10 @@ func TestTexts(t *testing.T) {
 	}
 }
 
-// TestStepsReplies: a step's bundle is read where it stands first in the reply, as the program has it, and elsewhere; bytes that aren't its base64 are no reply, and
+// TestStepsReplies: a step's bundle is read where it stands first in the reply, as the proved function has it, and elsewhere; bytes that aren't its base64 are no reply, and
 // neither is a bundle beside a refusal.
 func TestStepsReplies(t *testing.T) {
-	ctx, bundle := within(t), strings.Repeat("a bundle", 20_000)
+	bundle := strings.Repeat("a bundle", 20_000)
 	before := lineOf(3, 5)
 	line := lineOf(3, 7, [32]byte{1}, sha256.Sum256([]byte(bundle)), [32]byte{}, Digest(before))
 	root := base64.StdEncoding.EncodeToString(append([]byte{1}, make([]byte, 31)...))
@@ -317,15 +271,12 @@ func TestStepsReplies(t *testing.T) {
 		"beside no JSON":  {`{"bundle":"` + text + `",` + rest, false},
 		"beside a number": {`{"bundle":"` + text + `",1` + rest + `}`, false},
 	} {
-		path := filepath.Join(t.TempDir(), "reply")
-		must(t, os.WriteFile(path, []byte(of.reply+"\n"), 0o600))
-		c := client(t, trial.Longest, script(t, "read -r x; cat "+path)...)
-		stepped, err := c.Step(ctx, before, nil, nil, 7, MostAhead)
+		stepped, err := replying(of.reply).Step(before, nil, nil, 7, MostAhead)
 		if of.right != (err == nil) || of.right && string(stepped.Bundle) != bundle || !of.right && !errors.Is(err, ErrReply) {
 			t.Errorf("%s: %v", what, err)
 		}
 	}
-	if _, err := client(t, trial.Longest, script(t, `read -r x; echo '{"bundle":"AAAA","refused":"full"}'`)...).Step(ctx, before, nil, nil, 7, MostAhead); !errors.Is(err, ErrReply) {
+	if _, err := replying(`{"bundle":"AAAA","refused":"full"}`).Step(before, nil, nil, 7, MostAhead); !errors.Is(err, ErrReply) {
 		t.Error(err)
 	}
 }

@@ -23,7 +23,6 @@ var statuses = map[int]bool{200: true, 400: true, 404: true, 405: true, 411: tru
 // Whatever is asked, a refusal has a name and none is internal; what is served under a name is what stands there.
 func FuzzHandlers(f *testing.F) {
 	x := newFixture(f, time.Millisecond, nil)
-	x.running()
 	x.fill(260)
 	for path := range calls {
 		f.Add("GET", path, "", []byte{})

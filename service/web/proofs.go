@@ -10,6 +10,7 @@ import (
 	"net/url"
 
 	"wagtenib/service/log"
+	"wagtenib/service/proved"
 	"wagtenib/service/reader"
 	"wagtenib/service/stores"
 )
@@ -169,7 +170,7 @@ func faultOf(err error) error {
 	switch {
 	case err == nil, errors.As(err, &known), errors.Is(err, context.DeadlineExceeded), errors.Is(err, context.Canceled), errors.Is(err, log.ErrStore), errors.Is(err, log.ErrBusy):
 		return err
-	case errors.Is(err, reader.ErrBusy):
+	case errors.Is(err, reader.ErrBusy), errors.Is(err, proved.ErrMemory):
 		return fmt.Errorf("%w: %v", log.ErrBusy, err)
 	}
 	return fmt.Errorf("%w: %v", log.ErrStore, err)

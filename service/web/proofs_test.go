@@ -16,8 +16,8 @@ import (
 	"time"
 
 	"wagtenib/service/log"
+	"wagtenib/service/proved"
 	"wagtenib/service/reader"
-	"wagtenib/service/step"
 	"wagtenib/service/stores"
 	"wagtenib/service/trial"
 	"wagtenib/service/web/standin"
@@ -106,7 +106,6 @@ func sizesOf(size int) (sizes []int) {
 // TestProofs compares all three calls with the recursions of RFC 6962 over all leaves, also for sizes that no head had.
 func TestProofs(t *testing.T) {
 	f := newFixture(t, 0, nil)
-	f.running()
 	size := 0
 	for _, more := range []int{1, 3, 252, 1, 300} {
 		f.fill(more)
@@ -149,9 +148,6 @@ func TestProofs(t *testing.T) {
 			}
 		}
 	}
-	if f.program.Starts() != 1 {
-		t.Errorf("the program was started %d times", f.program.Starts())
-	}
 }
 
 // elsewhere is a log that says of each leaf that it stands at one index.
@@ -164,7 +160,6 @@ func (e elsewhere) IndexOf(context.Context, [32]byte) (uint64, error) { return e
 
 func TestProofsThatAreRefused(t *testing.T) {
 	f := newFixture(t, 0, nil)
-	f.running()
 	f.fill(5)
 	leaves, _ := f.leaves()
 	hash := func(leaf [32]byte) string { return url.QueryEscape(base64.StdEncoding.EncodeToString(leaf[:])) }
@@ -220,14 +215,11 @@ func TestProofsThatAreRefused(t *testing.T) {
 	for _, call := range calls {
 		f.reads(call, &struct{}{})
 	}
-	f.front.reader = reader.New(f.program, f.log.Object, 0)
-	each("none may wait", 503, "busy")
-	ends, err := step.NewClient([]string{"false"}, time.Second)
-	if err != nil {
-		t.Fatal(err)
-	}
-	f.front.reader = reader.New(ends, f.log.Object, 1)
-	each("a program that ends", 503, "store")
+	f.front.reader = reader.New(f.log.Object, 0)
+	each("no place", 503, "busy")
+	dry := func(*[]byte, []byte) ([]byte, error) { return nil, proved.ErrMemory }
+	f.front.reader = reader.Over(dry, f.log.Object, 1)
+	each("no memory", 503, "busy")
 	f.log.Break(errors.New("the disk"))
 	if w := f.get("/ct/v1/" + calls[0]); w.Code < 500 || strings.Contains(w.Body.String(), "disk") {
 		t.Errorf("a log that fails: %d %s", w.Code, w.Body)
@@ -237,7 +229,6 @@ func TestProofsThatAreRefused(t *testing.T) {
 // TestProofsByAddress: one address has some of the proofs that are made at once, and keeps no other one waiting.
 func TestProofsByAddress(t *testing.T) {
 	f := newFixture(t, 0, func(o *Options) { o.Limits.ProofsByAddress = 2 })
-	f.running()
 	f.fill(3)
 	const call = "/ct/v1/get-sth-consistency?first=1&second=2"
 	from := func(peer string) *httptest.ResponseRecorder {
@@ -247,7 +238,7 @@ func TestProofsByAddress(t *testing.T) {
 		return w
 	}
 	let := make(chan struct{})
-	f.front.reader = reader.New(f.program, func(ctx context.Context, name string, most int64) ([]byte, error) {
+	f.front.reader = reader.New(func(ctx context.Context, name string, most int64) ([]byte, error) {
 		<-let
 		return f.log.Object(ctx, name, most)
 	}, 64)
@@ -277,10 +268,9 @@ func TestProofsByAddress(t *testing.T) {
 	}
 }
 
-// TestProofsThatAreLate: who waits too long is told, and what was begun doesn't end the program.
+// TestProofsThatAreLate: a client that waits too long is told, and the reading keeps its place meanwhile.
 func TestProofsThatAreLate(t *testing.T) {
 	f := newFixture(t, 0, func(o *Options) { o.Limits.Reading = 20 * time.Millisecond })
-	f.running()
 	f.fill(3)
 	comes := make(chan struct{})
 	f.heldReader(comes)
@@ -291,7 +281,7 @@ func TestProofsThatAreLate(t *testing.T) {
 
 // heldReader has one proof be made at a time, of objects that don't come before that is closed.
 func (f *fixture) heldReader(comes chan struct{}) {
-	f.front.reader = reader.New(f.program, func(ctx context.Context, name string, most int64) ([]byte, error) {
+	f.front.reader = reader.New(func(ctx context.Context, name string, most int64) ([]byte, error) {
 		<-comes
 		return f.log.Object(ctx, name, most)
 	}, 1)
@@ -314,7 +304,6 @@ func (f *fixture) isHeld() (w *httptest.ResponseRecorder) {
 // A partial tile that went since the head was read is no fault, where a newer head has the full one.
 func TestProofOverAPartialTileThatWent(t *testing.T) {
 	f := newFixture(t, 0, nil)
-	f.running()
 	f.fill(3)
 	head, _ := f.log.Checkpoint(context.Background())
 	f.fill(257)
@@ -328,7 +317,6 @@ func TestProofOverAPartialTileThatWent(t *testing.T) {
 // TestPlaceForAProofIsGivenBack: who goes away while a proof is made, over a tile that doesn't come, gives its place back once it is made.
 func TestPlaceForAProofIsGivenBack(t *testing.T) {
 	f := newFixture(t, 0, func(o *Options) { o.Limits.Reading = 100 * time.Millisecond })
-	f.running()
 	f.fill(3)
 	comes := make(chan struct{})
 	f.heldReader(comes)

@@ -101,7 +101,6 @@ func TestDamagedObjectsAreNotServed(t *testing.T) {
 // its answer, nor what wasn't there.
 func TestAnswersAreBounded(t *testing.T) {
 	f := newFixture(t, 0, func(o *Options) { o.Limits.AnswerBytes = 2 << 20 })
-	f.running()
 	f.fill(260)
 	leaves, _ := f.leaves()
 	objects := []string{
@@ -162,7 +161,6 @@ func (w *countedWriter) Write(content []byte) (int, error) {
 // answer that has no room must be refused before it is made.
 func TestAnswersWithEntriesCount(t *testing.T) {
 	f := newFixture(t, 0, func(o *Options) { o.Limits.AnswerBytes = 64 << 20 })
-	f.running()
 	issuers := [][]byte{bytes.Repeat([]byte("a"), 1300), bytes.Repeat([]byte("b"), 1300), bytes.Repeat([]byte("c"), 1300)}
 	var entries []log.Entry
 	for i := 0; i < 256; i++ {
@@ -393,12 +391,11 @@ func TestEntriesAreTheHeads(t *testing.T) {
 
 func TestPrecertificatesEntry(t *testing.T) {
 	f := newFixture(t, 5*time.Millisecond, nil)
-	f.running()
 	precertificate := f.issue(true)
 	if w := f.do("POST", "/ct/v1/add-pre-chain", standin.Submission(precertificate)); w.Code != 200 {
 		t.Fatal(w.Body)
 	}
-	wanted, err := f.checker.Precertificate(context.Background(), [][]byte{precertificate})
+	wanted, err := f.checker.Precertificate([][]byte{precertificate})
 	if err != nil {
 		t.Fatal(err)
 	}
@@ -656,7 +653,6 @@ func (u *unasked) HeadOf(ctx context.Context, entries uint64) (log.Head, error) 
 // more waits for that.
 func TestReadersAskForNoNewerHead(t *testing.T) {
 	f := newFixture(t, 0, func(o *Options) { o.Limits.Reading = time.Minute })
-	f.running()
 	f.fill(300)
 	head, err := f.log.Checkpoint(context.Background())
 	if err != nil {
@@ -743,7 +739,6 @@ func TestAnswersComeLast(t *testing.T) {
 	f := newFixture(t, 5*time.Millisecond, func(o *Options) {
 		o.Limits.ConnectionsByAddress, o.Limits.ProofsByAddress, o.LogRequests = 1, 1, true
 	})
-	f.running()
 	f.fill(300)
 	body := standin.Submission(f.issue(false))
 	for _, test := range []struct {

@@ -11,8 +11,7 @@ import (
 
 	"wagtenib/service/chains"
 	"wagtenib/service/log"
-	"wagtenib/service/pipe"
-	"wagtenib/service/step"
+	"wagtenib/service/proved"
 	"wagtenib/service/stores"
 )
 
@@ -42,7 +41,7 @@ func refusalOf(err error) refusal {
 	}
 	r := refusal{status: http.StatusServiceUnavailable, why: err}
 	switch {
-	case errors.Is(err, log.ErrBusy):
+	case errors.Is(err, log.ErrBusy), errors.Is(err, proved.ErrMemory):
 		r.name, r.after = "busy", 1
 	case errors.Is(err, log.ErrTooLarge):
 		r.status, r.name = http.StatusBadRequest, "entry-too-large"
@@ -52,8 +51,6 @@ func refusalOf(err error) refusal {
 		r.name, r.after = "clock", 10
 	case errors.Is(err, log.ErrStore):
 		r.name, r.after = "store", 5
-	case errors.Is(err, step.ErrProcess), errors.Is(err, pipe.ErrReply):
-		r.name, r.after = "program", 5
 	case errors.Is(err, context.DeadlineExceeded):
 		r.name, r.after = "late", 5
 	case errors.Is(err, stores.ErrAbsent):

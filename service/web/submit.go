@@ -29,7 +29,7 @@ func (f *Front) addPreChain(w http.ResponseWriter, r *http.Request) error {
 	return f.add(w, r, f.checker.Precertificate)
 }
 
-func (f *Front) add(w http.ResponseWriter, r *http.Request, check func(context.Context, [][]byte) (*chains.Entry, error)) error {
+func (f *Front) add(w http.ResponseWriter, r *http.Request, check func([][]byte) (*chains.Entry, error)) error {
 	if f.ending.Load() {
 		return refusal{status: http.StatusServiceUnavailable, name: "ended", after: 10, closes: true}
 	}
@@ -98,7 +98,7 @@ func (f *Front) body(r *http.Request, client netip.Addr) (body []byte, taken int
 }
 
 // checked makes an entry of a submission. Only so many are checked at once.
-func (f *Front) checked(ctx context.Context, body []byte, check func(context.Context, [][]byte) (*chains.Entry, error)) (*chains.Entry, error) {
+func (f *Front) checked(ctx context.Context, body []byte, check func([][]byte) (*chains.Entry, error)) (*chains.Entry, error) {
 	select {
 	case f.checks <- struct{}{}:
 	case <-ctx.Done():
@@ -111,7 +111,7 @@ func (f *Front) checked(ctx context.Context, body []byte, check func(context.Con
 	if err := json.Unmarshal(body, &submission); err != nil {
 		return nil, refusal{status: http.StatusBadRequest, name: "no-submission", detail: "the body isn't a JSON object whose chain is a list of texts in base64"}
 	}
-	return check(ctx, submission.Chain)
+	return check(submission.Chain)
 }
 
 // encodedRoots is the answer to get-roots for some roots.

@@ -22,8 +22,9 @@ import (
 
 	"wagtenib/service/chains"
 	"wagtenib/service/log"
+	"wagtenib/service/precert"
+	"wagtenib/service/proved"
 	"wagtenib/service/reader"
-	"wagtenib/service/step"
 	"wagtenib/service/stores"
 	"wagtenib/service/trial"
 	"wagtenib/service/web/standin"
@@ -36,7 +37,6 @@ type fixture struct {
 	authority *standin.Authority
 	checker   *chains.Checker
 	front     *Front
-	program   *step.Client
 	lines     *text
 }
 
@@ -83,23 +83,9 @@ func newFixture(t testing.TB, every time.Duration, change func(*Options)) *fixtu
 	if change != nil {
 		change(&options)
 	}
-	program, err := step.NewClient([]string{"python3", "../../tests/tiles/step.py"}, trial.Longest)
-	if err != nil {
-		t.Fatal(err)
-	}
-	t.Cleanup(func() { program.Close() })
-	f.program = program
-	f.checker = chains.NewChecker(roots, window, program)
-	f.front = New(of, reader.New(program, of.Object, 4), f.checker, options)
+	f.checker = chains.NewChecker(roots, window, precert.New())
+	f.front = New(of, reader.New(of.Object, 4), f.checker, options)
 	return f
-}
-
-// running has the program reply, before anybody asks for a proof or a precertificate who waits for some seconds alone.
-func (f *fixture) running() {
-	f.t.Helper()
-	if _, err := f.program.Begin(trial.Limited(f.t, trial.Longest), 1); err != nil {
-		f.t.Fatal(err)
-	}
 }
 
 // unlessLate asks until what is answered isn't that it is late: /readyz has two seconds alone.
@@ -172,21 +158,14 @@ func (f *fixture) verifies(signed, signature []byte) bool {
 		ecdsa.VerifyASN1(&f.log.Key.PublicKey, digest[:], signature[4:])
 }
 
-// withoutProgram is a cutter whose program is gone.
-type withoutProgram struct{}
-
-func (withoutProgram) WithoutPoison(context.Context, []byte) ([]byte, error) {
-	return nil, fmt.Errorf("it ended: %w", step.ErrProcess)
-}
-
-// TestPrecertificatesWithoutCutter: where the program that cuts the poison out is gone, precertificates are for later, and
-// certificates are taken.
-func TestPrecertificatesWithoutCutter(t *testing.T) {
+// TestPrecertificatesWithoutMemory: if there is no memory to cut the poison out, a precertificate is for later, and certificates are taken.
+func TestPrecertificatesWithoutMemory(t *testing.T) {
 	f := newFixture(t, 10*time.Millisecond, nil)
-	checker := chains.NewChecker(f.checker.Roots(), chains.Window{}, withoutProgram{})
-	f.front = New(f.log, reader.New(f.program, f.log.Object, 4), checker, Options{Limits: DefaultLimits(), Lines: NewLines(f.lines)})
+	dry := precert.Over(func(*[]byte, []byte) ([]byte, error) { return nil, proved.ErrMemory })
+	checker := chains.NewChecker(f.checker.Roots(), chains.Window{}, dry)
+	f.front = New(f.log, reader.New(f.log.Object, 4), checker, Options{Limits: DefaultLimits(), Lines: NewLines(f.lines)})
 	w := f.do("POST", "/ct/v1/add-pre-chain", standin.Submission(f.issue(true), f.authority.Root.Raw))
-	if w.Code != 503 || w.Header().Get("Retry-After") != "5" || !strings.Contains(w.Body.String(), `"program"`) {
+	if w.Code != 503 || w.Header().Get("Retry-After") != "1" || !strings.Contains(w.Body.String(), `"busy"`) {
 		t.Errorf("%d %v %s", w.Code, w.Header(), w.Body)
 	}
 	if w := f.do("POST", "/ct/v1/add-chain", standin.Submission(f.issue(false), f.authority.Root.Raw)); w.Code != 200 {
@@ -196,11 +175,10 @@ func TestPrecertificatesWithoutCutter(t *testing.T) {
 
 func TestSubmissionsAreAnsweredWithTimestamps(t *testing.T) {
 	f := newFixture(t, 10*time.Millisecond, nil)
-	f.running()
 	for number, test := range []struct {
 		path string
 		der  []byte
-		take func(context.Context, [][]byte) (*chains.Entry, error)
+		take func([][]byte) (*chains.Entry, error)
 	}{
 		{"/ct/v1/add-chain", f.issue(false), f.checker.Certificate},
 		{"/ct/v1/add-pre-chain", f.issue(true), f.checker.Precertificate},
@@ -217,7 +195,7 @@ func TestSubmissionsAreAnsweredWithTimestamps(t *testing.T) {
 		if err := json.Unmarshal(w.Body.Bytes(), &told); err != nil {
 			t.Fatal(err)
 		}
-		entry, err := test.take(context.Background(), [][]byte{test.der})
+		entry, err := test.take([][]byte{test.der})
 		if err != nil {
 			t.Fatal(err)
 		}
@@ -232,7 +210,6 @@ func TestSubmissionsAreAnsweredWithTimestamps(t *testing.T) {
 
 func TestChainsAreRefusedByName(t *testing.T) {
 	f := newFixture(t, 10*time.Millisecond, nil)
-	f.running()
 	other, err := standin.NewAuthority("Another root")
 	if err != nil {
 		t.Fatal(err)
@@ -333,8 +310,8 @@ func TestErrorsOfTheLog(t *testing.T) {
 		{log.ErrClock, 503, "clock", "10"},
 		{log.ErrStore, 503, "store", "5"},
 		{fmt.Errorf("deep inside: %w", log.ErrStore), 503, "store", "5"},
-		{step.ErrProcess, 503, "program", "5"},
-		{fmt.Errorf("deep inside: %w", step.ErrReply), 503, "program", "5"},
+		{fmt.Errorf("deep inside: %w", proved.ErrMemory), 503, "busy", "1"},
+		{fmt.Errorf("deep inside: %w", proved.ErrReply), 500, "internal", ""},
 		{context.DeadlineExceeded, 503, "late", "5"},
 		{errors.New("secret of the machine"), 500, "internal", ""},
 	} {
@@ -539,7 +516,7 @@ func TestMetricsAndHealth(t *testing.T) {
 		`ctserve_refusals_total{call="add-chain",refusal="empty-chain"} 1`,
 		`ctserve_request_seconds_count{call="checkpoint"} 1`,
 		"ctserve_entries 5", "ctserve_queue 0", `ctserve_build_info{commit="unknown",version="unreleased"} 1`, "ctserve_queue_most 1024", "ctserve_lost_swaps_total 3", "ctserve_fault 0", "ctserve_ready 1", "ctserve_roots 1",
-		"ctserve_swept_tiles_total 4", "ctserve_swept_heads_total 8", "ctserve_scrubbed_tiles_total 5", "ctserve_damaged_tiles 6", "ctserve_written_bytes_total 16", `ctserve_step_seconds_sum{phase="stage"} 1.5`, `ctserve_step_seconds_count{phase="stage"} 17`, "ctserve_swept_bundles_total 11", "ctserve_staged_bundles 12", "ctserve_tend_failures_total 13", "ctserve_damaged_issuers 9", "ctserve_mended_objects_total 10", "ctserve_decider_starts_total 9", "ctserve_reader_starts_total 3", "ctserve_signer_starts_total 7", "ctserve_waiting_bytes 0", "ctserve_answer_bytes 0", `ctserve_connections_refused_total{bound="address"} 0`,
+		"ctserve_swept_tiles_total 4", "ctserve_swept_heads_total 8", "ctserve_scrubbed_tiles_total 5", "ctserve_damaged_tiles 6", "ctserve_written_bytes_total 16", `ctserve_step_seconds_sum{phase="stage"} 1.5`, `ctserve_step_seconds_count{phase="stage"} 17`, "ctserve_swept_bundles_total 11", "ctserve_staged_bundles 12", "ctserve_tend_failures_total 13", "ctserve_damaged_issuers 9", "ctserve_mended_objects_total 10", "ctserve_signer_starts_total 7", "ctserve_waiting_bytes 0", "ctserve_answer_bytes 0", `ctserve_connections_refused_total{bound="address"} 0`,
 		"ctserve_unpublished_entries 18", "ctserve_round_age_seconds 2.5", "ctserve_swept_entries 512", "ctserve_read_again_tile 19", "ctserve_faults_total 0",
 		`ctserve_step_submissions_bucket{le="1"} 18`, `ctserve_step_submissions_bucket{le="8"} 20`, `ctserve_step_submissions_bucket{le="+Inf"} 20`, "ctserve_step_submissions_sum 21", "ctserve_step_submissions_count 20",
 		`ctserve_store_seconds_count{call="put",store="objects"} 3`, `ctserve_store_failures_total{call="put",store="objects"} 1`, `ctserve_store_seconds_count{call="get",store="objects"} 1`,

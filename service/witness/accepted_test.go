@@ -14,8 +14,6 @@ import (
 	"testing"
 
 	"golang.org/x/mod/sumdb/note"
-
-	"wagtenib/service/trial"
 )
 
 // accepting is a monitor that read all leaves up to a size, and accepted their head: its state's line, as ctmonitor writes it (docs/MONITOR.md).
@@ -39,10 +37,8 @@ func TestAccepted(t *testing.T) {
 	one, other := grown(t, "a", "b", "c", "d", "e"), grown(t, "a", "b", "c", "x", "y")
 	state := filepath.Join(folder, "monitor")
 	var told []string
-	s, err := New(Options{Name: "w.example", Key: newKey(t), Program: decider(), Within: trial.Longest, Tell: func(event string, words ...any) { told = append(told, event) }})
+	s, err := New(Options{Name: "w.example", Key: newKey(t), Tell: func(event string, words ...any) { told = append(told, event) }})
 	must(t, err)
-	defer s.Close()
-	decidesNow(t, s)
 	log := Log{Origin: origin, Keys: []note.Verifier{by.key}, State: stateIn(t, folder), Accepted: func() (uint64, [32]byte, error) { return AcceptedBy(state) }}
 	must(t, log.Create(limited(t)))
 	s.SetLogs([]Log{log})

@@ -45,10 +45,8 @@ func serving(t testing.TB, number int, by signing) *server {
 
 // witnessNamed is a witness of a name, and one log.
 func witnessNamed(t testing.TB, name string, key ed25519.PrivateKey, by signing) *Server {
-	s, err := New(Options{Name: name, Key: key, Program: decider(), Within: trial.Longest})
+	s, err := New(Options{Name: name, Key: key})
 	must(t, err)
-	t.Cleanup(func() { s.Close() })
-	decidesNow(t, s)
 	log := Log{Origin: origin, Keys: []note.Verifier{by.key}, State: stateIn(t, t.TempDir())}
 	must(t, log.Create(limited(t)))
 	s.SetLogs([]Log{log})

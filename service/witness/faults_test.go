@@ -54,7 +54,7 @@ func TestFaultyRegister(t *testing.T) {
 		"it is gone where it is swapped": {"swap", stores.ErrAbsent, 1, 503, "state\n", "state", 1, 0},
 	} {
 		state, calls, told := &held{}, 0, []string{}
-		s := witnessOver(t, state, newKey(t), decider(), by)
+		s := witnessOver(t, state, newKey(t), by)
 		s.of.Tell = func(event string, _ ...any) { told = append(told, event) }
 		before := state.text
 		test := test
@@ -79,7 +79,7 @@ func TestFaultyRegister(t *testing.T) {
 		}
 	}
 	// What a start finds.
-	s := witnessOver(t, &held{}, newKey(t), decider(), by)
+	s := witnessOver(t, &held{}, newKey(t), by)
 	for _, test := range []struct{ err, kind error }{{stores.ErrAbsent, ErrState}, {errTried, errTried}} {
 		of := Log{Origin: origin, Keys: []note.Verifier{by.key}, State: &held{does: func(string) error { return test.err }}}
 		if err := s.Check(limited(t), of); !errors.Is(err, test.kind) || errors.Is(test.kind, errTried) && errors.Is(err, ErrState) {
@@ -101,7 +101,7 @@ func figures(s *Server) string {
 // TestKept: what is kept is the tree, the origin and the moment; no two swaps have one text, also of one tree in one second. The figures say so.
 func TestKept(t *testing.T) {
 	by, one, state := headKey(t, origin), grown(t, "a", "b", "c"), &held{}
-	s := witnessOver(t, state, newKey(t), decider(), by)
+	s := witnessOver(t, state, newKey(t), by)
 	s.now = func() uint64 { return 1234567 }
 	signed := by.sign(checkpoint(origin, 3, one.root(t, 3)))
 	texts := map[string]bool{state.text: true}
@@ -126,7 +126,7 @@ func TestKept(t *testing.T) {
 		}
 	}
 	// Another process knows it from its start on, and forgets it with the log.
-	other := witnessOver(t, state, newKey(t), decider(), by)
+	other := witnessOver(t, state, newKey(t), by)
 	for _, line := range []string{`ctwitness_entries{origin="` + origin + `"} 3`, `ctwitness_last_cosignature_seconds{origin="` + origin + `"} 1.234567e+06`} {
 		if !strings.Contains(figures(other), line+"\n") {
 			t.Errorf("at a start no %s", line)
@@ -140,7 +140,7 @@ func TestKept(t *testing.T) {
 
 // TestAnswers: no answer is kept by caches or taken for a page, each request leaves its room, and a body that breaks off is none.
 func TestAnswers(t *testing.T) {
-	s := witnessOver(t, &held{}, newKey(t), decider(), plainKey(t, origin))
+	s := witnessOver(t, &held{}, newKey(t), plainKey(t, origin))
 	for _, body := range []io.Reader{strings.NewReader("x"), iotest.ErrReader(errTried)} {
 		w := httptest.NewRecorder()
 		s.ServeHTTP(w, httptest.NewRequest("POST", "/add-checkpoint", body))
@@ -282,8 +282,8 @@ func TestOtherKeys(t *testing.T) {
 	}
 }
 
-// TestPrograms: replies that say too much are none.
-func TestPrograms(t *testing.T) {
+// TestReplies: replies that say too much are none.
+func TestReplies(t *testing.T) {
 	by, one := headKey(t, origin), grown(t, "a", "b", "c", "d", "e")
 	text := checkpoint(origin, 5, one.root(t, 5))
 	root := one.root(t, 5)

@@ -9,7 +9,7 @@ import (
 	"github.com/prometheus/client_golang/prometheus/promhttp"
 )
 
-// metrics are what Prometheus reads of a witness. Labels have the origins of the settings, statuses and the program's refusals, and nothing
+// metrics are what Prometheus reads of a witness. Labels have the origins of the settings, statuses and the names of refusals, and nothing
 // that a client says.
 type metrics struct {
 	registry        *prometheus.Registry
@@ -20,7 +20,7 @@ type metrics struct {
 	reloads         *prometheus.CounterVec
 }
 
-func newMetrics(s *Server) *metrics {
+func newMetrics() *metrics {
 	counter := func(name, help string, labels ...string) *prometheus.CounterVec {
 		return prometheus.NewCounterVec(prometheus.CounterOpts{Name: name, Help: help}, labels)
 	}
@@ -31,15 +31,13 @@ func newMetrics(s *Server) *metrics {
 		registry: prometheus.NewRegistry(),
 		requests: counter("ctwitness_requests_total", "Requests that were answered.", "status"),
 		given:    counter("ctwitness_cosignatures_total", "Cosignatures that were given.", "origin"),
-		refusals: counter("ctwitness_refusals_total", "Checkpoints that the program refused, by its names.", "origin", "refused"),
+		refusals: counter("ctwitness_refusals_total", "Checkpoints that were refused, by the names of docs/WITNESS.md.", "origin", "refused"),
 		size:     gauge("ctwitness_entries", "Entries of the tree that was cosigned last."),
 		last:     gauge("ctwitness_last_cosignature_seconds", "When the last cosignature was given, in seconds since 1970."),
 		lost:     prometheus.NewCounter(prometheus.CounterOpts{Name: "ctwitness_lost_swaps_total", Help: "Requests that were decided anew, since the log's state moved."}),
 		reloads:  counter("ctwitness_reloads_total", "Readings of the settings' logs anew.", "outcome"),
 	}
-	starts := prometheus.NewCounterFunc(prometheus.CounterOpts{Name: "ctwitness_program_starts_total", Help: "How often the program that decides was started."},
-		func() float64 { return float64(s.program.Opens()) })
-	m.registry.MustRegister(m.requests, m.given, m.refusals, m.size, m.last, m.lost, m.reloads, starts,
+	m.registry.MustRegister(m.requests, m.given, m.refusals, m.size, m.last, m.lost, m.reloads,
 		collectors.NewGoCollector(), collectors.NewProcessCollector(collectors.ProcessCollectorOpts{}))
 	return m
 }

@@ -1,5 +1,5 @@
-// Package witness has both sides of C2SP tlog-witness: a witness over HTTP, whose decisions are those of another program (ctwitness,
-// docs/WITNESS.md), and what a log asks several of them.
+// Package witness has both sides of C2SP tlog-witness: a witness over HTTP, whose decisions are proved code (docs/WITNESS.md), and what a log asks
+// several of them.
 package witness
 
 import (

@@ -106,7 +106,7 @@ func TestRace(t *testing.T) {
 		first, again := forks(t, by)
 		for round := 0; round < 10; round++ {
 			at := anew()
-			witnesses := []*Server{witnessOver(t, registerAt(t, at), key, decider(), by), witnessOver(t, registerAt(t, at), key, decider(), by)}
+			witnesses := []*Server{witnessOver(t, registerAt(t, at), key, by), witnessOver(t, registerAt(t, at), key, by)}
 			var all sync.WaitGroup
 			var cosigned counted
 			ask := func(s *Server, head int, body []byte) {
@@ -148,7 +148,7 @@ func TestKills(t *testing.T) {
 	onEach(t, func(t *testing.T, anew func() string) {
 		for phase, fork := range map[string]int{"decided": 200, "kept": 409} {
 			folder, at := t.TempDir(), anew()
-			s := witnessOver(t, registerAt(t, at), newKey(t), decider(), by)
+			s := witnessOver(t, registerAt(t, at), newKey(t), by)
 			must(t, os.WriteFile(filepath.Join(folder, "body"), body(one), 0o600))
 			must(t, os.WriteFile(filepath.Join(folder, "key"), []byte(by.text), 0o600))
 			child := exec.Command(os.Args[0], "-test.run", "^TestKills$")
@@ -182,7 +182,7 @@ func beKilled(t *testing.T, at string) {
 		}
 	}
 	state := swappedState{registerAt(t, os.Getenv("WITNESS_TEST_STATE")), kill("decided"), kill("kept")}
-	s := witnessOver(t, state, newKey(t), decider(), signing{key: keyIn(t, folder)})
+	s := witnessOver(t, state, newKey(t), signing{key: keyIn(t, folder)})
 	fmt.Println(posted(t, s, body).Body)
 }
 
@@ -229,7 +229,7 @@ func serve(t *testing.T, state string) {
 	must(t, err)
 	key, err := ReadKey(text)
 	must(t, err)
-	s := witnessOver(t, registerAt(t, state), key, decider(), signing{key: keyIn(t, folder)})
+	s := witnessOver(t, registerAt(t, state), key, signing{key: keyIn(t, folder)})
 	listener, err := net.Listen("tcp", "127.0.0.1:0")
 	must(t, err)
 	fmt.Printf("http://%s\n", listener.Addr())
@@ -317,7 +317,7 @@ func TestEngineDies(t *testing.T) {
 
 func engineDies(t *testing.T, at string, words []string, command string) {
 	by := headKey(t, origin)
-	s := witnessOver(t, registerAt(t, at), newKey(t), decider(), by)
+	s := witnessOver(t, registerAt(t, at), newKey(t), by)
 	ctx, cancel := context.WithTimeout(context.Background(), trial.Longest)
 	defer cancel()
 	killed := make(chan error, 1)

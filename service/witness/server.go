@@ -11,20 +11,18 @@ import (
 	"fmt"
 	"io"
 	"net/http"
-	"os/exec"
 	"strconv"
 	"sync"
 	"time"
 
 	"golang.org/x/mod/sumdb/note"
 
-	"wagtenib/service/pipe"
+	"wagtenib/bindings/go/wagtenib"
+	"wagtenib/service/proved"
 	"wagtenib/service/stores"
 )
 
 const (
-	// mostReply is how much of one of the program's replies is read.
-	mostReply = 1 << 20
 	// mostTries is how often a request is decided where others move the state, and how often a swap of unknown outcome is made.
 	mostTries = 5
 	// mostAtOnce is how many requests are taken at once, and answersWithin how long one may take.
@@ -38,8 +36,8 @@ const (
 var (
 	// ErrState: a log's state is missing, or isn't one of this log.
 	ErrState = errors.New("witness: no state of the log")
-	// ErrReply: the program's reply isn't one to the request.
-	ErrReply = fmt.Errorf("witness: %w", pipe.ErrReply)
+	// ErrReply: a decision isn't one of the request.
+	ErrReply = errors.New("witness: not a reply to the request")
 	// ErrClock: the clock is behind the last cosignature.
 	ErrClock = errors.New("witness: the clock went back")
 )
@@ -47,7 +45,7 @@ var (
 // emptyRoot is SHA-256 of no bytes: the root of the tree without leaves.
 var emptyRoot = sha256.Sum256(nil)
 
-// tree is a size and a root, as the program's lines have them.
+// tree is a size and a root, as requests and replies have them.
 type tree struct {
 	Root []byte `json:"last_root"`
 	Size uint64 `json:"last_size"`
@@ -120,19 +118,18 @@ func (l Log) Create(ctx context.Context) error {
 type Options struct {
 	Name string
 	Key  ed25519.PrivateKey
-	// Program is the command that decides (ctwitness), with its words, and Within how long it may take for one request; 10 s where it is 0.
-	Program []string
-	Within  time.Duration
+	// Decide returns the reply to a request (docs/WITNESS.md). nil is the proved code, wagtenib.WitnessLine; only tests have another one.
+	Decide proved.Function
 	// Tell is told what an operator has to look at; nil tells nobody.
 	Tell func(event string, words ...any)
 }
 
-// Server is a witness. Its decisions are those of the program, which keeps nothing: the state goes in with each request, and out with each
+// Server is a witness. Its decisions are those of proved code, which keeps nothing: the state goes in with each request, and out with each
 // reply. The state is kept, by a swap from the one that was read, before anything is signed.
 type Server struct {
 	of      Options
 	public  ed25519.PublicKey
-	program *pipe.Client
+	decides *proved.Caller
 	room    chan struct{}
 	metrics *metrics
 	// now is the clock, in seconds.
@@ -149,29 +146,19 @@ func New(of Options) (*Server, error) {
 	if !isName(of.Name) {
 		return nil, fmt.Errorf("%w: a witness's name has neither spaces nor a plus sign", ErrKey)
 	}
-	if len(of.Program) == 0 {
-		return nil, errors.New("witness: there is no program")
-	}
-	if _, err := exec.LookPath(of.Program[0]); err != nil {
-		return nil, fmt.Errorf("witness: %w", err)
-	}
-	if of.Within == 0 {
-		of.Within = 10 * time.Second
+	if of.Decide == nil {
+		of.Decide = wagtenib.WitnessLine
 	}
 	if of.Tell == nil {
 		of.Tell = func(string, ...any) {}
 	}
 	s := &Server{
-		of: of, public: of.Key.Public().(ed25519.PublicKey), room: make(chan struct{}, mostAtOnce), logs: map[string]*Log{}, seen: map[string]tree{},
+		of: of, decides: proved.NewCaller(of.Decide), public: of.Key.Public().(ed25519.PublicKey), room: make(chan struct{}, mostAtOnce), logs: map[string]*Log{}, seen: map[string]tree{},
 		now: func() uint64 { return uint64(time.Now().Unix()) },
 	}
-	s.program = pipe.NewClient(func(context.Context) (*pipe.End, error) { return pipe.Start(of.Program, mostReply) }, of.Within)
-	s.metrics = newMetrics(s)
+	s.metrics = newMetrics()
 	return s, nil
 }
-
-// Close ends the program. The logs' registers stay open.
-func (s *Server) Close() error { return s.program.Close() }
 
 // VerifierKey is what clients know the witness by.
 func (s *Server) VerifierKey() string { return VerifierKey(s.of.Name, s.public) }
@@ -307,9 +294,9 @@ func (s *Server) decide(ctx context.Context, log *Log, text string, before tree,
 		}
 		now = last.Time
 	}
-	said, err := s.ask(ctx, last.tree, r, now)
+	said, err := s.ask(last.tree, r, now)
 	if err != nil {
-		return s.failed("program", log.Origin, err), false
+		return s.failed("decision", log.Origin, err), false
 	}
 	if said.Refused != "" {
 		return s.refusal(log.Origin, said), false
@@ -344,7 +331,7 @@ func swap(ctx context.Context, register stores.Register, old string, next state)
 	return err
 }
 
-// refusal answers one of the program's.
+// refusal answers a decision that refuses.
 func (s *Server) refusal(origin string, said *reply) answer {
 	s.metrics.refused(origin, said.Refused)
 	switch status := statuses[said.Refused]; status {

@@ -21,38 +21,16 @@ import (
 	"strings"
 	"sync"
 	"testing"
-	"time"
 
 	"golang.org/x/mod/sumdb/note"
 	"golang.org/x/mod/sumdb/tlog"
 
+	"wagtenib/bindings/go/wagtenib"
+	"wagtenib/service/proved"
 	"wagtenib/service/signer"
 	"wagtenib/service/stores"
 	"wagtenib/service/trial"
 )
-
-// model is a second program beside the proved one, with the same lines; built is where that one is, once it is built.
-var (
-	model = []string{"python3", "../../tests/witness/model.py"}
-	built = "../../crates/ctwitness/out/ctwitness"
-)
-
-// programs are those that are there.
-func programs() map[string][]string {
-	all := map[string][]string{"model.py": model}
-	if _, err := os.Stat(built); err == nil {
-		all["ctwitness"] = []string{built}
-	}
-	return all
-}
-
-// decider is the proved program where it is built.
-func decider() []string {
-	if one, there := programs()["ctwitness"]; there {
-		return one
-	}
-	return model
-}
 
 var must = trial.Must
 
@@ -161,21 +139,14 @@ func stateIn(t testing.TB, folder string) stores.Register {
 }
 
 // witnessOf is a witness of one log, whose state is in a folder.
-func witnessOf(t testing.TB, folder string, key ed25519.PrivateKey, program []string, by signing) *Server {
-	return witnessOver(t, stateIn(t, folder), key, program, by)
+func witnessOf(t testing.TB, folder string, key ed25519.PrivateKey, by signing) *Server {
+	return witnessOver(t, stateIn(t, folder), key, by)
 }
 
 // witnessOver is one whose state is in this register.
-func witnessOver(t testing.TB, state stores.Register, key ed25519.PrivateKey, program []string, by signing) *Server {
-	s, err := New(Options{Name: "w.example", Key: key, Program: program, Within: trial.Longest})
+func witnessOver(t testing.TB, state stores.Register, key ed25519.PrivateKey, by signing) *Server {
+	s, err := New(Options{Name: "w.example", Key: key})
 	must(t, err)
-	t.Cleanup(func() { s.Close() })
-	for _, right := range programs() {
-		// (what stands in its place doesn't decide)
-		if strings.Join(program, " ") == strings.Join(right, " ") {
-			decidesNow(t, s)
-		}
-	}
 	log := Log{Origin: origin, Keys: []note.Verifier{by.key}, State: state}
 	if err := log.Create(limited(t)); err != nil && !errors.Is(err, stores.ErrExists) {
 		t.Fatal(err)
@@ -183,14 +154,6 @@ func witnessOver(t testing.TB, state stores.Register, key ed25519.PrivateKey, pr
 	must(t, s.Check(limited(t), log))
 	s.SetLogs([]Log{log})
 	return s
-}
-
-// decidesNow has a witness's program decide on the empty tree, of no state: a request has some seconds alone, in which a busy machine doesn't start it.
-func decidesNow(t testing.TB, s *Server) {
-	empty, err := ParseRequest(request(0, nil, plainKey(t, origin).sign(checkpoint(origin, 0, emptyRoot))))
-	must(t, err)
-	_, err = s.ask(limited(t), tree{Root: emptyRoot[:]}, empty, s.now())
-	must(t, err)
 }
 
 // posted posts a body over HTTP.
@@ -227,21 +190,19 @@ func cosignatureIn(t testing.TB, s *Server, text, line string) {
 	}
 }
 
-// TestAddCheckpoint has each status that a witness answers, by both programs and for both types of keys.
+// TestAddCheckpoint has each status that a witness answers, for both types of keys.
 func TestAddCheckpoint(t *testing.T) {
-	for name, program := range programs() {
-		for kind, by := range map[string]signing{"plain": plainKey(t, origin), "head": headKey(t, origin)} {
-			program, by := program, by
-			t.Run(name+"/"+kind, func(t *testing.T) { addsCheckpoints(t, program, by) })
-		}
+	for kind, by := range map[string]signing{"plain": plainKey(t, origin), "head": headKey(t, origin)} {
+		by := by
+		t.Run(kind, func(t *testing.T) { addsCheckpoints(t, by) })
 	}
 }
 
-func addsCheckpoints(t *testing.T, program []string, by signing) {
+func addsCheckpoints(t *testing.T, by signing) {
 	one, other := grown(t, "a", "b", "c", "d", "e", "f", "g"), grown(t, "a", "b", "c", "x", "y", "z", "w")
 	head := func(of *leaves, n int64) string { return checkpoint(origin, n, of.root(t, n)) }
 	signed := func(of *leaves, n int64) []byte { return by.sign(head(of, n)) }
-	s := witnessOf(t, t.TempDir(), newKey(t), program, by)
+	s := witnessOf(t, t.TempDir(), newKey(t), by)
 	some := one.proof(t, 3, 5)
 	many := make([][32]byte, 64)
 	damaged := signed(one, 5)
@@ -316,7 +277,7 @@ func TestExtensionLines(t *testing.T) {
 		{403, head, []byte(strings.Replace(string(head.sign(text)), "\n\n", "\n\nmore\n\n", 1))},
 		{400, plain, plain.sign(text + "more\n")},
 	} {
-		if w := posted(t, witnessOf(t, t.TempDir(), newKey(t), decider(), test.by), request(0, nil, test.signed)); w.Code != test.status {
+		if w := posted(t, witnessOf(t, t.TempDir(), newKey(t), test.by), request(0, nil, test.signed)); w.Code != test.status {
 			t.Errorf("%d, and not %d: %s", w.Code, test.status, w.Body)
 		}
 	}
@@ -329,7 +290,7 @@ func TestExtensionLines(t *testing.T) {
 
 // TestCalls: what isn't add-checkpoint, and what is too long.
 func TestCalls(t *testing.T) {
-	s := witnessOf(t, t.TempDir(), newKey(t), decider(), plainKey(t, origin))
+	s := witnessOf(t, t.TempDir(), newKey(t), plainKey(t, origin))
 	for _, test := range []struct {
 		method, path, body string
 		status             int
@@ -372,7 +333,7 @@ func TestOpenssl(t *testing.T) {
 	must(t, err)
 	key, err := ReadKey(text)
 	must(t, err)
-	s := witnessOf(t, folder, key, decider(), by)
+	s := witnessOf(t, folder, key, by)
 	s.now = func() uint64 { return 1234567890 }
 	head := checkpoint(origin, 3, one.root(t, 3))
 	w := posted(t, s, request(0, nil, by.sign(head)))
@@ -418,7 +379,7 @@ func TestStaleReader(t *testing.T) {
 	by, key, folder := headKey(t, origin), newKey(t), t.TempDir()
 	one := grown(t, "a", "b", "c", "d", "e")
 	signed := func(n int64) []byte { return by.sign(checkpoint(origin, n, one.root(t, n))) }
-	fast, once := witnessOf(t, folder, key, decider(), by), sync.Once{}
+	fast, once := witnessOf(t, folder, key, by), sync.Once{}
 	// Between the slow one's decision and its swap the fast one cosigns a later head.
 	state := swappedState{stateIn(t, folder), func() {
 		once.Do(func() {
@@ -427,7 +388,7 @@ func TestStaleReader(t *testing.T) {
 			}
 		})
 	}, func() {}}
-	slow := witnessOver(t, state, key, decider(), by)
+	slow := witnessOver(t, state, key, by)
 	if w := posted(t, fast, request(0, nil, signed(3))); w.Code != 200 {
 		t.Fatalf("%d %s", w.Code, w.Body)
 	}
@@ -442,7 +403,7 @@ func TestStatePutBack(t *testing.T) {
 	by, ctx, state := headKey(t, origin), limited(t), stateIn(t, t.TempDir())
 	one, fork := grown(t, "a", "b", "c", "d", "e"), grown(t, "a", "b", "c", "another", "e")
 	signed := func(of *leaves, n int64) []byte { return by.sign(checkpoint(origin, n, of.root(t, n))) }
-	s := witnessOver(t, state, newKey(t), decider(), by)
+	s := witnessOver(t, state, newKey(t), by)
 	var told []string
 	s.of.Tell = func(event string, words ...any) { told = append(told, fmt.Sprint(append([]any{event}, words...)...)) }
 	cosigns := func(old, n int64, of *leaves) int {
@@ -489,27 +450,31 @@ func TestStatePutBack(t *testing.T) {
 	}
 }
 
-// saying is a program that replies one thing to each line.
-func saying(reply string) []string {
-	return []string{"sh", "-c", "while read -r line; do printf '%s\\n' '" + reply + "'; done"}
+// saying decides the same of every request.
+func saying(reply string) proved.Function {
+	return func(*[]byte, []byte) ([]byte, error) { return []byte(reply + "\n"), nil }
 }
 
 // lying lets everything through, with the right bytes.
-var lying = []string{"python3", "-c", `
-import base64, json, sys
-for line in sys.stdin:
-    asked = json.loads(line)
-    _, size, root, _ = asked["checkpoint"].split("\n")
-    sign = f"cosignature/v1\ntime {asked['time']}\n{asked['checkpoint']}"
-    print(json.dumps({"last_root": root, "last_size": int(size), "sign": base64.b64encode(sign.encode()).decode()}), flush=True)
-`}
+func lying(_ *[]byte, request []byte) ([]byte, error) {
+	var of asked
+	if err := json.Unmarshal(request, &of); err != nil {
+		return nil, err
+	}
+	size, root, err := TreeOf(of.Checkpoint)
+	if err != nil {
+		return nil, err
+	}
+	line, err := json.Marshal(map[string]any{"last_root": root[:], "last_size": size, "sign": Message(of.Time, of.Checkpoint)})
+	return append(line, '\n'), err
+}
 
-// TestLyingProgram: what lies in the program's place gets nothing signed that doesn't follow the last tree, and moves no state.
-func TestLyingProgram(t *testing.T) {
+// TestWrongDecisions: wrong code in the place of the proved one gets nothing signed that doesn't follow the last tree, and moves no state.
+func TestWrongDecisions(t *testing.T) {
 	by, key, folder := headKey(t, origin), newKey(t), t.TempDir()
 	one, other := grown(t, "a", "b", "c", "d", "e"), grown(t, "a", "b", "x", "y", "z")
 	signed := func(of *leaves, n int64) []byte { return by.sign(checkpoint(origin, n, of.root(t, n))) }
-	right := witnessOf(t, folder, key, decider(), by)
+	right := witnessOf(t, folder, key, by)
 	if w := posted(t, right, request(0, nil, signed(one, 3))); w.Code != 200 {
 		t.Fatalf("%d %s", w.Code, w.Body)
 	}
@@ -525,14 +490,14 @@ func TestLyingProgram(t *testing.T) {
 		return base64.StdEncoding.EncodeToString(Message(seconds, text))
 	}
 	text := checkpoint(origin, 5, one.root(t, 5))
-	through := func(of *leaves, size int, sign string) []string {
+	through := func(of *leaves, size int, sign string) proved.Function {
 		line, err := json.Marshal(map[string]any{"last_root": root(of, 5), "last_size": size, "sign": sign})
 		must(t, err)
 		return saying(string(line))
 	}
 	for name, test := range map[string]struct {
-		program []string
-		body    []byte
+		decide proved.Function
+		body   []byte
 	}{
 		"a fork of as many":              {lying, request(3, nil, signed(other, 3))},
 		"a fork of more":                 {lying, request(3, other.proof(t, 3, 5), signed(other, 5))},
@@ -554,15 +519,15 @@ func TestLyingProgram(t *testing.T) {
 		"a refusal with another size":    {saying(`{"refused":"not-last","size":4}`), grows},
 		"a refusal without the size":     {saying(`{"refused":"not-last"}`), grows},
 		"a refusal with a size too many": {saying(`{"refused":"inconsistent","size":3}`), grows},
-		"it ends":                        {[]string{"sh", "-c", "read -r line"}, grows},
-		"it ends at once":                {[]string{"true"}, grows},
+		"no memory":                      {func(*[]byte, []byte) ([]byte, error) { return nil, wagtenib.ErrMemory }, grows},
 	} {
-		s := witnessOf(t, folder, key, test.program, by)
+		s := witnessOf(t, folder, key, by)
+		s.decides = proved.NewCaller(test.decide)
 		s.now = func() uint64 { return moment }
 		var told []string
 		s.of.Tell = func(event string, words ...any) { told = append(told, event) }
 		w := posted(t, s, test.body)
-		if w.Code != 503 || strings.Contains(w.Body.String(), "—") || strings.Join(told, " ") != "program" {
+		if w.Code != 503 || strings.Contains(w.Body.String(), "—") || strings.Join(told, " ") != "decision" {
 			t.Errorf("%s: %d %s", name, w.Code, w.Body)
 		}
 		if text, err := stateIn(t, folder).Read(limited(t)); err != nil || text != before {
@@ -571,37 +536,6 @@ func TestLyingProgram(t *testing.T) {
 	}
 	if w := posted(t, right, grows); w.Code != 200 {
 		t.Errorf("behind all that: %d %s", w.Code, w.Body)
-	}
-}
-
-// TestProgramIsStartedAnew: where the first one of it gives no reply, ends, or replies what is none, the next one decides.
-func TestProgramIsStartedAnew(t *testing.T) {
-	for _, first := range []string{"exec sleep 600", "exit 1", "while echo {}; do read -r line || exit; done"} {
-		isStartedAnew(t, first)
-	}
-}
-
-func isStartedAnew(t *testing.T, does string) {
-	by, one, folder := headKey(t, origin), grown(t, "a", "b", "c"), t.TempDir()
-	first := request(0, nil, by.sign(checkpoint(origin, 3, one.root(t, 3))))
-	marks := filepath.Join(folder, "mark")
-	program := []string{"sh", "-c", "if mkdir " + marks + " 2>/dev/null; then read -r line; " + does + "; fi; exec " + strings.Join(decider(), " ")}
-	s, err := New(Options{Name: "w.example", Key: newKey(t), Program: program, Within: 5 * time.Second})
-	must(t, err)
-	defer s.Close()
-	log := Log{Origin: origin, Keys: []note.Verifier{by.key}, State: stateIn(t, folder)}
-	must(t, log.Create(limited(t)))
-	s.SetLogs([]Log{log})
-	// (under load the one that decides may be late, too)
-	came := 503
-	for try := 0; came == 503 && try < 100; try++ {
-		came = posted(t, s, first).Code
-	}
-	if came != 200 && came != 409 {
-		t.Errorf("%s: status %d", does, came)
-	}
-	if s.program.Opens() < 2 {
-		t.Errorf("it was started %d times", s.program.Opens())
 	}
 }
 
@@ -616,9 +550,8 @@ func TestStates(t *testing.T) {
 		"no JSON":        "x",
 		"two":            `{} {}`,
 	} {
-		s, err := New(Options{Name: "w.example", Key: newKey(t), Program: decider(), Within: trial.Longest})
+		s, err := New(Options{Name: "w.example", Key: newKey(t)})
 		must(t, err)
-		defer s.Close()
 		state := stateIn(t, t.TempDir())
 		if text != "" {
 			must(t, state.Create(limited(t), text))
@@ -642,7 +575,7 @@ func TestStates(t *testing.T) {
 // TestClock: moments don't go back. A clock that is behind a little has the last moment, and one that is far behind cosigns nothing.
 func TestClock(t *testing.T) {
 	by, one := headKey(t, origin), grown(t, "a", "b", "c")
-	s := witnessOf(t, t.TempDir(), newKey(t), decider(), by)
+	s := witnessOf(t, t.TempDir(), newKey(t), by)
 	body := request(0, nil, by.sign(checkpoint(origin, 3, one.root(t, 3))))
 	again := request(3, nil, by.sign(checkpoint(origin, 3, one.root(t, 3))))
 	for _, test := range []struct {
@@ -669,10 +602,8 @@ func TestClock(t *testing.T) {
 // TestSeveralLogs: each has its own state, and one that isn't among the settings any more is unknown.
 func TestSeveralLogs(t *testing.T) {
 	first, second := headKey(t, "a.example"), plainKey(t, "b.example")
-	s, err := New(Options{Name: "w.example", Key: newKey(t), Program: decider(), Within: trial.Longest})
+	s, err := New(Options{Name: "w.example", Key: newKey(t)})
 	must(t, err)
-	defer s.Close()
-	decidesNow(t, s)
 	logs := []Log{
 		{Origin: "a.example", Keys: []note.Verifier{first.key}, State: stateIn(t, t.TempDir())},
 		{Origin: "b.example", Keys: []note.Verifier{second.key, headKey(t, "b.example").key}, State: stateIn(t, t.TempDir())},
@@ -698,7 +629,7 @@ func TestSeveralLogs(t *testing.T) {
 	w := httptest.NewRecorder()
 	s.Operator().ServeHTTP(w, httptest.NewRequest("GET", "/metrics", nil))
 	for _, line := range []string{`ctwitness_entries{origin="a.example"} 3`, `ctwitness_cosignatures_total{origin="b.example"} 2`, `ctwitness_requests_total{status="409"} 1`,
-		`ctwitness_refusals_total{origin="b.example",refused="not-last"} 1`, "ctwitness_program_starts_total 1"} {
+		`ctwitness_refusals_total{origin="b.example",refused="not-last"} 1`} {
 		if !strings.Contains(w.Body.String(), line+"\n") {
 			t.Errorf("no %s", line)
 		}
@@ -732,13 +663,8 @@ func TestKeys(t *testing.T) {
 		}
 	}
 	for _, name := range []string{"", "a b", "a+b", " a"} {
-		if _, err := New(Options{Name: name, Key: key, Program: decider()}); !errors.Is(err, ErrKey) {
+		if _, err := New(Options{Name: name, Key: key}); !errors.Is(err, ErrKey) {
 			t.Errorf("%q: %v", name, err)
-		}
-	}
-	for _, program := range [][]string{nil, {"/nowhere/ctwitness"}} {
-		if _, err := New(Options{Name: "w", Key: key, Program: program}); err == nil {
-			t.Errorf("%q is a program", program)
 		}
 	}
 }

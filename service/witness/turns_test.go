@@ -6,14 +6,10 @@ import (
 	"errors"
 	"fmt"
 	"net/http"
-	"os"
-	"path/filepath"
 	"strings"
 	"sync/atomic"
 	"testing"
 	"time"
-
-	"golang.org/x/mod/sumdb/note"
 
 	"wagtenib/service/stores"
 	"wagtenib/service/trial"
@@ -128,7 +124,7 @@ func (b bounded) Read(ctx context.Context) (string, error) {
 func TestRequestHasAnEnd(t *testing.T) {
 	by, one := headKey(t, origin), grown(t, "a", "b", "c")
 	state := bounded{&held{}, make(chan time.Duration, 4)}
-	s := witnessOver(t, state, newKey(t), decider(), by)
+	s := witnessOver(t, state, newKey(t), by)
 	// (a start looks at it, too)
 	<-state.has
 	if w := posted(t, s, request(0, nil, by.sign(checkpoint(origin, 3, one.root(t, 3))))); w.Code != 200 {
@@ -136,32 +132,6 @@ func TestRequestHasAnEnd(t *testing.T) {
 	}
 	if has := <-state.has; has > answersWithin || has < answersWithin/2 {
 		t.Errorf("it has %v", has)
-	}
-}
-
-// TestProgramIsAskedOnceMore: a program that ended since it was asked last decides all the same, within the request; one that is silent has the time that was set, and no
-// more.
-func TestProgramIsAskedOnceMore(t *testing.T) {
-	by, one, folder := headKey(t, origin), grown(t, "a", "b", "c"), t.TempDir()
-	body := request(0, nil, by.sign(checkpoint(origin, 3, one.root(t, 3))))
-	ended := filepath.Join(folder, "ended")
-	script := filepath.Join(folder, "program.sh")
-	must(t, os.WriteFile(script, []byte(fmt.Sprintf("mkdir '%s' 2>/dev/null && { read -r x; exit 1; }; exec %s", ended, strings.Join(decider(), " "))), 0o700))
-	s := witnessOver(t, &held{}, newKey(t), []string{"sh", script}, by)
-	if w := posted(t, s, body); w.Code != 200 || s.program.Opens() != 2 {
-		t.Errorf("%d %s, started %d times", w.Code, w.Body, s.program.Opens())
-	}
-	var fault error
-	s, err := New(Options{Name: "w.example", Key: newKey(t), Program: []string{"sleep", "600"}, Within: 20 * time.Millisecond, Tell: func(_ string, words ...any) {
-		fault, _ = words[len(words)-1].(error)
-	}})
-	must(t, err)
-	defer s.Close()
-	log := Log{Origin: origin, Keys: []note.Verifier{by.key}, State: &held{}}
-	must(t, log.Create(limited(t)))
-	s.SetLogs([]Log{log})
-	if w := posted(t, s, body); w.Code != 503 || fault == nil || !strings.Contains(fault.Error(), "none in 20ms") {
-		t.Errorf("%d %s, and %v is told", w.Code, w.Body, fault)
 	}
 }
 

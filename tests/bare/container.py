@@ -117,20 +117,14 @@ class Container:
 
 def trial(tool, work, given):
     releases = Releases(work, given.built)
-    if releases.lacking:
-        print(f"In place of {', '.join(releases.lacking)}, which aren't built here, programs in Python stand.", flush=True)
     packages = [path for path in releases.make(work / "out") if path.name.startswith("wagtenib_")]
     context = work / "context"
     context.mkdir()
     for path in [*packages, ROOT / "service" / "Containerfile"]:
         shutil.copy(path, context)
-    of = given.base or base(tool, work, "ca-certificates" + (",python3" if releases.lacking else ""))
+    of = given.base or base(tool, work, "ca-certificates")
     print(f"The base is {of}" + ("." if given.base else ", made here by mmdebstrap: no registry is asked."), flush=True)
     tool.buildah("build", "--network", "host", "--isolation", "chroot", "--build-arg", f"BASE={of}", "--tag", IMAGE, "--file", context / "Containerfile", context)
-    if releases.lacking:
-        name = tool.buildah("from", IMAGE)
-        tool.buildah("copy", name, ROOT / "tests", "/opt/tests")
-        tool.buildah("commit", "--rm", name, IMAGE)
     sys.path.append(str(ROOT / "tests"))
     from readme import free_port
 

@@ -3,7 +3,7 @@
 
     model.py [--origin TEXT] [--receipts in-head|promised] < lines > replies
 
-It serves where ctguard isn't built, too: each reply is handed on before the next line is read. Nothing but hashlib is used for the tree;
+Each reply is handed on before the next line is read. Nothing but hashlib is used for the tree;
 what JSON a line is comes from tests/json_lines.py, which shares no code with ctguard either.
 """
 import argparse

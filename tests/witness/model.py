@@ -3,7 +3,7 @@
 
     model.py < lines > replies
 
-It serves where ctwitness isn't built, too: each reply is handed on before the next line is read. Nothing is kept between lines. Nothing but
+Each reply is handed on before the next line is read. Nothing is kept between lines. Nothing but
 hashlib is used for the tree; what JSON a line is comes from tests/json_lines.py, which shares no code with ctwitness either.
 """
 import base64

@@ -1,43 +1,18 @@
--- A party with where its tasks come from and where its replies go, and what the three do in turn.
-use Rattle.std.specs.Prelude.{◌≡◌, ◌⊎◌, ℕ, List}
-use Rattle.std.specs.declared.alloc.AllocError.{AllocError}
+-- What a party does for a list of tasks, in turn.
+use Rattle.std.specs.Prelude.{◌≡◌, ◌<◌, ℕ, List, ◌++◌, length}
+use Rattle.std.specs.List.{flat_map}
 use Rattle.ct_core.specs.Replies.{Answer}
 use Rattle.ct_lines.specs.ReplyText.{reply_line}
 use Rattle.ct_parties.specs.InTurn.{InTurn}
 
--- where tasks come from, who does them, and where the replies go, between two tasks
-pub record Serving (S P K : Type 0) : Type 0 where
-  pub source : S
-  pub party : P
-  pub sink : K
+-- all of the tasks are done in turn, and the replies to them follow what was written before, in their order
+abbrev pub ServesAll : {State Task : Type 0} → (State → Task → List ℕ → State → Type 0) → State → List Task → List ℕ → State → List ℕ → Type 0
+ServesAll does a ts before b text = (rs : List (List ℕ)) × InTurn does a ts rs b × (text ≡ before ++ flat_map (λ r. r) rs)
 
--- One turn: a task came with a mark (`took`), was done (`did`), and its reply was put, with that mark (`put`).
-pub record Turn {S P K M T : Type 0} (takes : S → M → T → S → Type 0) (does : P → T → List ℕ → P → Type 0) (puts : K → M → List ℕ → K → Type 0)
-    (a : Serving S P K) (task : M × T) (reply : List ℕ) (b : Serving S P K) : Type 0 where
-  pub took : takes a.source task.0 task.1 b.source
-  pub did : does a.party task.1 reply b.party
-  pub put : puts a.sink task.0 reply b.sink
-
--- All tasks that came were done in turn, and their replies were put in that order; then no more came.
-pub record ServesAll {S P K M T : Type 0} (takes : S → M → T → S → Type 0) (ends : S → S → Type 0) (does : P → T → List ℕ → P → Type 0)
-    (puts : K → M → List ℕ → K → Type 0) (a b : Serving S P K) : Type 0 where
-  pub tasks : List (M × T)
-  pub replies : List (List ℕ)
-  pub before_end : S
-  pub turns : InTurn (Turn takes does puts) a tasks replies (record { source = before_end; party = b.party; sink = b.sink })
-  pub ended : ends before_end b.source
-
--- All tasks that came but the last were done so, and then no reply to the last was put: a growth was refused, or the sink refused it.
-pub record ServesAllButLast {S P K M T F : Type 0} (takes : S → M → T → S → Type 0) (does : P → T → List ℕ → P → Type 0)
-    (puts : K → M → List ℕ → K → Type 0) (of_memory : AllocError → F → Type 0) (refuses : K → F → K → Type 0)
-    (a : Serving S P K) (fault : F) (source : S) (sink : K) : Type 0 where
-  pub tasks : List (M × T)
-  pub replies : List (List ℕ)
-  pub between : Serving S P K
-  pub turns : InTurn (Turn takes does puts) a tasks replies between
-  pub last : M × T
-  pub took : takes between.source last.0 last.1 source
-  pub ended : ((sink ≡ between.sink) × (e : AllocError) × of_memory e fault) ⊎ refuses between.sink fault sink
+-- Some first tasks are done so, and not all. Nothing but the replies to them is written: a growth was refused then.
+abbrev pub ServesFirst : {State Task : Type 0} → (State → Task → List ℕ → State → Type 0) → State → List Task → List ℕ → List ℕ → Type 0
+ServesFirst {State} {Task} does a ts before text =
+    (done left : List Task) × (ts ≡ done ++ left) × (0 < length left) × ((b : State) × ServesAll does a done before b text)
 
 -- a party does a task with an answer, goes on, and replies with the line of the answer
 pub record DoesWithLine {State Task : Type 0} (does : State → Task → Answer → State → Type 0) (goes_on : State → State → Type 0)

@@ -1,7 +1,6 @@
 //! The workers of a log in memory, its parties: what each front, the operator, and then the closed log do for lines of requests.
 //!
-//! - `serving` is the one loop of a party: it takes the next task from a source, does it, and hands the reply on to a sink;
-//!   `listed` has a list for a source and a buffer for a sink.
+//! - `serving` is the one loop of a party, over a list of tasks.
 //! - `front_work` and `operator_work` do the tasks of a front and of the operator, and `waiting` is how a task waits for
 //!   another party.
 //! - `closing` closes the log.
@@ -9,11 +8,10 @@
 
 mod closing;
 mod front_work;
-mod listed;
 mod operator_work;
 mod serving;
 mod waiting;
 
 pub use closing::close;
-pub use serving::{Party, Sink, Source, serve_all};
+pub use serving::{Party, serve_all};
 pub use waiting::Waiting;

@@ -1,6 +1,6 @@
 -- The end of a shift, front after front, and shifts one after the other.
 use Rattle.std.proofs.Common.{◌≡◌, ◌≢◌, ◌⊎◌, ◌<◌, ◌≤◌, ◌+◌, ℕ, zero, suc, List, [], ◌∷◌, ◌++◌, length, refl, sym, ap, subst, ◌∙◌, arith, inl, inr, append_assoc}
-use Rattle.std.proofs.Common.{append-nil, length-append}
+use Rattle.std.proofs.Common.{length-append}
 use Rattle.std.specs.Prelude.{All, Some, slice_get}
 use Rattle.std.specs.List.{AllZip}
 use Rattle.std.proofs.lemmas.Bool.{cases_lt}
@@ -181,19 +181,6 @@ shift_refused start begun end shifts done s rest e before work is (inr clock) = 
     refused = clock.1;
   },
 )
-
--- ---- what is done, and what is left
-
--- the next of what is left
-pub cut_here : {A : Type 0} (all done left : List A) (x : A) (rest : List A) → done ++ left ≡ all → left ≡ x ∷ rest → all ≡ done ++ x ∷ rest
-cut_here all done left x rest e is = sym e ∙ ap (λ l. done ++ l) is
-
-pub cut_on : {A : Type 0} (all done left : List A) (x : A) (rest : List A) → done ++ left ≡ all → left ≡ x ∷ rest → (done ++ x ∷ []) ++ rest ≡ all
-cut_on all done left x rest e is = append_assoc done (x ∷ []) rest ∙ sym (cut_here all done left x rest e is)
-
-pub cut_end : {A : Type 0} (all done left : List A) → done ++ left ≡ all → length left ≡ 0 → done ≡ all
-cut_end all done [] e none = sym (append-nil done) ∙ e
-cut_end all done (x ∷ left) e none = absurd (omega arith)
 
 -- the next front is of the house
 pub next_of_house : (s : HouseState) (all done : List FrontParty) (p : FrontParty) (rest : List FrontParty) → AreFrontsOf s (fronts_of all)

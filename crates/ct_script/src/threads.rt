@@ -31,8 +31,7 @@ fn serve_front_shift<R: Threads + Wait + Sync>(
         mut front,
         mut replies,
     } = party;
-    let mut tasks = tasks.into_iter();
-    match serve_all(rt, alloc, waiting, &mut tasks, &mut front, &mut replies) {
+    match serve_all(rt, alloc, waiting, tasks, &mut front, &mut replies) {
         Ok(()) => Ok(FrontParty { front, replies }),
         Err(error) => {
             waiting.end();
@@ -148,8 +147,7 @@ fn serve_in_threads<'e: 's, 's, R: Threads + Wait + Sync>(
             return Err(fault);
         }
     };
-    let mut tasks = tasks.into_iter();
-    let operated = serve_all(rt, alloc, waiting, &mut tasks, sequencer, told);
+    let operated = serve_all(rt, alloc, waiting, tasks, sequencer, told);
     if operated.is_err() {
         waiting.end();
     }

@@ -339,7 +339,7 @@ func (l *Log) Figures() log.Figures {
 	figures := log.Figures{
 		Queue: len(l.waiting), MostQueue: l.MostQueue, Entries: l.head.TreeSize,
 		HeadAge: time.Since(time.UnixMilli(int64(l.head.Timestamp))), LostSwaps: 3, Unpublished: 18, SinceRound: 2500 * time.Millisecond,
-		Swept: 4, SweptHeads: 8, Scrubbed: 5, Damaged: 6, Damage: l.Damage, DeciderStarts: 9, ReaderStarts: 3, SignerStarts: 7,
+		Swept: 4, SweptHeads: 8, Scrubbed: 5, Damaged: 6, Damage: l.Damage, SignerStarts: 7,
 		Written: 16, Phases: []log.Phase{{Name: "stage", Count: 17, Took: 1500 * time.Millisecond}}, SweptBundles: 11, Staged: 12, TendFailures: 13, TendFailure: "nothing is deleted",
 		DamagedIssuers: 9, Mended: 10, LastMended: "issuer/07", SweptTo: 512, ReadNext: 19, Faults: l.faults, LastFault: l.lastFault,
 		Batches:   log.Batches{Steps: 20, Submissions: 21, AtMost: map[int]uint64{1: 18, 8: 20}},

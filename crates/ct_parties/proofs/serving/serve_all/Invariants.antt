@@ -1,7 +1,10 @@
-use Rattle.ct_parties.proofs.TurnLemmas.{ServesSoFar}
+use Rattle.std.proofs.Common.{◌≡◌, ◌++◌}
+use Rattle.std.specs.Vec.Iter.{into_iter_items}
+use Rattle.ct_parties.specs.Serving.{ServesAll}
 use Rattle.ct_parties.proofs.serving.serve_all.Given as goal
 
-abbrev pub invariant-loop : goal.invariant-loop
-invariant-loop g l = ServesSoFar g.S.Source.takes g.P.Party.does g.K.Sink.puts
-    (record { source = l.fn.source; party = l.fn.party; sink = l.fn.sink })
-    (record { source = l.source; party = l.party; sink = l.sink })
+abbrev pub invariant-loop-task : goal.invariant-loop-task
+invariant-loop-task g l =
+    (goal.iterator-loop-task g).can_next l.task-iterator × (goal.iterator-loop-task g).is_finite l.task-iterator
+    × (l.yielded ++ into_iter_items l.task-iterator ≡ l.fn.tasks.items)
+    × ServesAll g.P.Party.does l.fn.party l.yielded l.fn.replies.items l.party l.replies.items

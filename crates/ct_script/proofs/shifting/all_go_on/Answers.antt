@@ -8,7 +8,8 @@ use Rattle.ct_script.specs.Parties.{fronts_of}
 use Rattle.ct_script.specs.Shifts.{IsSuccessor, Succeeds}
 use Rattle.ct_script.specs.declared.party.FrontParty.{FrontParty}
 use Rattle.ct_tasks.proofs.PlanLemmas.{all_zip_more}
-use Rattle.ct_script.proofs.ShiftLemmas.{Going, cut_end, cut_here, cut_on, going_all, going_more, going_none, next_number, next_of_house}
+use Rattle.ct_parties.proofs.TurnLemmas.{cut_end, cut_here, cut_on}
+use Rattle.ct_script.proofs.ShiftLemmas.{Going, going_all, going_more, going_none, next_number, next_of_house}
 use Rattle.ct_script.proofs.shifting.all_go_on.Goals as goal
 
 pub loop-party-init : goal.loop-party-init

@@ -2,7 +2,8 @@ use Rattle.std.proofs.Common.{◌+◌, [], ◌∷◌, refl, arith, length-append
 use Rattle.std.specs.Vec.Iter.{into_iter_items}
 use Rattle.ct_script.specs.Shifts.{start_of}
 use Rattle.ct_parties.proofs.FrontLemmas.{if_err_is}
-use Rattle.ct_script.proofs.ShiftLemmas.{cut_here, cut_on, do_shifts_more, does_stay, next_count, shift_refused, shifts_stay}
+use Rattle.ct_parties.proofs.TurnLemmas.{cut_here, cut_on}
+use Rattle.ct_script.proofs.ShiftLemmas.{do_shifts_more, does_stay, next_count, shift_refused, shifts_stay}
 use Rattle.ct_script.proofs.shifting.serve_shifts.Goals as goal
 
 pub serve_shift-requires-clause-count : goal.serve_shift-requires-clause-count

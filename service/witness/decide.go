@@ -2,24 +2,20 @@ package witness
 
 import (
 	"bytes"
-	"context"
-	"encoding/json"
 	"errors"
 	"fmt"
 	"net/http"
 
 	"golang.org/x/mod/sumdb/tlog"
-
-	"wagtenib/service/pipe"
 )
 
-// statuses has the status of each of the program's refusals (docs/WITNESS.md).
+// statuses has the status of each refusal (docs/WITNESS.md).
 var statuses = map[string]int{
 	"old-above": http.StatusBadRequest, "no-checkpoint": http.StatusBadRequest, "not-last": http.StatusConflict, "fork": http.StatusConflict,
 	"proof-not-empty": http.StatusUnprocessableEntity, "inconsistent": http.StatusUnprocessableEntity,
 }
 
-// asked is a line to the program.
+// asked is a request for a decision.
 type asked struct {
 	tree
 	Checkpoint string   `json:"checkpoint"`
@@ -28,7 +24,7 @@ type asked struct {
 	Time       uint64   `json:"time"`
 }
 
-// reply is one of the program's: the next tree and the bytes to sign, or a refusal.
+// reply is a decision: the next tree and the bytes to sign, or a refusal.
 type reply struct {
 	tree
 	Sign    []byte  `json:"sign"`
@@ -37,25 +33,12 @@ type reply struct {
 	Size    *uint64 `json:"size"`
 }
 
-// ask has the program decide. One that ended is started anew, once; one that gives no reply is ended.
-func (s *Server) ask(ctx context.Context, last tree, r Request, now uint64) (*reply, error) {
-	line, err := json.Marshal(asked{last, r.Text, r.Old, slices(r.Proof), now})
-	if err != nil {
-		return nil, fmt.Errorf("witness: %w", err)
-	}
-	line = append(line, '\n')
-	var said *reply
-	read := func(came [][]byte) (err error) {
-		said, err = readReply(came[0], last, r, now)
+// ask has a request decided.
+func (s *Server) ask(last tree, r Request, now uint64) (said *reply, err error) {
+	err = s.decides.Call(asked{last, r.Text, r.Old, slices(r.Proof), now}, func(line []byte) (err error) {
+		said, err = readReply(line, last, r, now)
 		return err
-	}
-	err = s.program.Exchange(ctx, line, 1, read)
-	if errors.Is(err, pipe.ErrGone) && ctx.Err() == nil {
-		err = s.program.Exchange(ctx, line, 1, read)
-	}
-	if errors.Is(err, pipe.ErrGone) {
-		return nil, fmt.Errorf("witness: %w", err)
-	}
+	})
 	if err != nil {
 		return nil, err
 	}
@@ -70,8 +53,8 @@ func slices(hashes [][32]byte) [][]byte {
 	return all
 }
 
-// readReply reads a reply to a request. What lets a tree through is believed where it is the checkpoint's, the bytes are those under this
-// moment's cosignature of it, and x/mod's tlog finds that the proof leads to it, too.
+// readReply reads a reply to a request. A reply that lets a tree through is believed if the tree is the checkpoint's, the bytes are those under this
+// timestamp's cosignature of it, and x/mod's tlog finds that the proof leads to it, too.
 func readReply(line []byte, last tree, r Request, now uint64) (*reply, error) {
 	wrong := func(why string) (*reply, error) { return nil, fmt.Errorf("%w: %s: %.200q", ErrReply, why, line) }
 	said := &reply{}

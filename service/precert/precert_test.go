@@ -1,4 +1,4 @@
-package step
+package precert
 
 import (
 	"bytes"
@@ -8,6 +8,7 @@ import (
 	"strings"
 	"testing"
 
+	"wagtenib/service/proved"
 	"wagtenib/service/trial"
 )
 
@@ -26,29 +27,29 @@ func tbsWith(t *testing.T, extensions string) []byte {
 	return wrapped(0x30, fields)
 }
 
-// TestPrecertificates has the stand-in cut out the poison.
+// TestPrecertificates has the proved function cut out the poison.
 func TestPrecertificates(t *testing.T) {
-	c, ctx := client(t, trial.Longest, program...), within(t)
+	c := New()
 	const poison, number, other = "3013060a2b06010401d6790204030101ff04020500", "3013060a2b06010401d6790204030101ff04020201", "3009060355041d0402aabb"
 	for extensions, want := range map[string]string{poison: "", poison + other: other, other + poison: other, other + poison + other: other + other} {
-		entry, err := c.WithoutPoison(ctx, tbsWith(t, extensions))
+		entry, err := c.WithoutPoison(tbsWith(t, extensions))
 		if err != nil || !bytes.Equal(entry, tbsWith(t, want)) {
 			t.Errorf("%s: %x, %v", extensions, entry, err)
 		}
 	}
 	for extensions, want := range map[string]error{"": NoExtension, other: NoExtension, poison + other + poison: SecondExtension, number: BadPoison, other[:len(other)-2]: Unread} {
-		if entry, err := c.WithoutPoison(ctx, tbsWith(t, extensions)); !errors.Is(err, want) {
+		if entry, err := c.WithoutPoison(tbsWith(t, extensions)); !errors.Is(err, want) {
 			t.Errorf("%s: %x, %v", extensions, entry, err)
 		}
 	}
-	_, err := c.WithoutPoison(ctx, append(tbsWith(t, poison), 0))
+	_, err := c.WithoutPoison(append(tbsWith(t, poison), 0))
 	if !errors.Is(err, Unread) || !strings.Contains(err.Error(), "trailing in tbs of the certificate") {
 		t.Error(err)
 	}
 }
 
-// TestWrongCuts has a program reply with entries that aren't the precertificate's: another certificate's, one bit of the right one changed, one byte less, the order
-// of its extensions, or an extension more or less. None may be used, and each must end the program.
+// TestWrongCuts has a function reply with entries that aren't the precertificate's: another certificate's, one bit of the right one changed, one byte less, the order
+// of its extensions, or an extension more or less. None may be used.
 func TestWrongCuts(t *testing.T) {
 	t.Parallel()
 	const poison, one, two = "3013060a2b06010401d6790204030101ff04020500", "3009060355041d0402aabb", "3009060355041e0402ccdd"
@@ -72,25 +73,22 @@ func TestWrongCuts(t *testing.T) {
 	}
 	for _, of := range []struct {
 		entry []byte
-		ends  bool
-	}{{right, false}, {another, true}} {
+		right bool
+	}{{right, true}, {another, false}} {
 		line, err := json.Marshal(map[string][]byte{"tbs_certificate": of.entry})
-		must(t, err)
-		c, err := NewClient([]string{"sh", "-c", "while read -r x; do echo '" + string(line) + "'; done"}, trial.Longest)
-		must(t, err)
-		for i := 0; i < 2; i++ {
-			if entry, err := c.WithoutPoison(within(t), tbs); of.ends != errors.Is(err, ErrReply) || of.ends != (entry == nil) {
-				t.Errorf("%x: %x, %v", of.entry, entry, err)
-			}
+		trial.Must(t, err)
+		if entry, err := replying(string(line)).WithoutPoison(tbs); of.right != (err == nil) || of.right != (entry != nil) || !of.right && !errors.Is(err, ErrReply) {
+			t.Errorf("%x: %x, %v", of.entry, entry, err)
 		}
-		if ended := c.Starts() == 2; ended != of.ends {
-			t.Errorf("%x: the program was started %d times", of.entry, c.Starts())
-		}
-		c.Close()
 	}
 }
 
-// TestWrongPrecertificates asks programs that reply what is no entry.
+// replying returns a cutter over a function that replies one line to every request.
+func replying(reply string) *Cutter {
+	return Over(func(*[]byte, []byte) ([]byte, error) { return []byte(reply + "\n"), nil })
+}
+
+// TestWrongPrecertificates has a function reply what is no entry, or refuse.
 func TestWrongPrecertificates(t *testing.T) {
 	tbs := tbsWith(t, "")
 	for _, reply := range []string{
@@ -98,19 +96,13 @@ func TestWrongPrecertificates(t *testing.T) {
 		`{"refused":""}`,
 	} {
 		reply = strings.ReplaceAll(reply, "' + long + '", strings.Repeat("AAAA", len(tbs)/3+1))
-		c := client(t, trial.Longest, script(t, "read x; echo '"+reply+"'\n")...)
-		if entry, err := c.WithoutPoison(within(t), tbs); !errors.Is(err, ErrReply) {
+		if entry, err := replying(reply).WithoutPoison(tbs); !errors.Is(err, ErrReply) {
 			t.Errorf("%s: %x, %v", reply, entry, err)
 		}
 	}
-	for reply, want := range map[string]Refusal{`{"document":"certificate","refused":"no-extension"}`: NoExtension, `{"refused":"bad-poison"}`: BadPoison, `{"refused":"too-long"}`: TooLong} {
-		c := client(t, trial.Longest, script(t, "read x; echo '"+reply+"'\n")...)
-		if entry, err := c.WithoutPoison(within(t), tbs); !errors.Is(err, want) {
+	for reply, want := range map[string]proved.Refusal{`{"document":"certificate","refused":"no-extension"}`: NoExtension, `{"refused":"bad-poison"}`: BadPoison, `{"refused":"too-long"}`: TooLong} {
+		if entry, err := replying(reply).WithoutPoison(tbs); !errors.Is(err, want) {
 			t.Errorf("%s: %x, %v", reply, entry, err)
 		}
-	}
-	c := client(t, trial.Longest, script(t, "read x; exit\n")...)
-	if entry, err := c.WithoutPoison(within(t), tbs); !errors.Is(err, ErrProcess) {
-		t.Errorf("%x, %v", entry, err)
 	}
 }

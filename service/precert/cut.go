@@ -1,4 +1,4 @@
-package step
+package precert
 
 import (
 	"bytes"
@@ -57,8 +57,8 @@ func withoutPoison(extensions cryptobyte.String) (kept []byte, ok bool) {
 	return kept, cut == 1
 }
 
-// isCut reports whether an entry is a precertificate's TBSCertificate without the poison extension, and else the same, except the lengths around. The program is
-// proved to reply that, but nothing else would show that its reply is to another request: a wrong entry has no root that it can be compared with.
+// isCut reports whether an entry is a precertificate's TBSCertificate without the poison extension, and otherwise the same, except the lengths around. The
+// function is proved to reply that. This also guards the way to it and back: a wrong entry has no root that it can be compared with.
 func isCut(tbs, entry []byte) bool {
 	before, extensions, ok := extensionsIn(tbs)
 	entryBefore, left, entryOK := extensionsIn(entry)

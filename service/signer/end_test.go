@@ -1,4 +1,4 @@
-package pipe
+package signer
 
 import (
 	"bufio"
@@ -20,13 +20,9 @@ import (
 	"wagtenib/service/trial"
 )
 
-var must, wants = trial.Must, trial.Wants
-
-func limited(t testing.TB) context.Context { return trial.Limited(t, trial.Longest) }
-
 // script starts a shell's lines.
-func script(t *testing.T, lines string, most int, environment ...string) *End {
-	e, err := Start([]string{"sh", "-c", lines}, most, environment...)
+func script(t *testing.T, lines string, environment ...string) *End {
+	e, err := Start([]string{"sh", "-c", lines}, environment...)
 	must(t, err)
 	t.Cleanup(func() { e.Close() })
 	return e
@@ -35,28 +31,25 @@ func script(t *testing.T, lines string, most int, environment ...string) *End {
 // TestReadLine: a line has at most so many bytes with its end, in however many parts it comes, and one without an end is none.
 func TestReadLine(t *testing.T) {
 	t.Parallel()
+	most := strings.Repeat("x", MostLine-1)
 	for _, of := range []struct {
-		text string
-		most int
-		line string
-		err  error
+		text, line string
+		err        error
 	}{
-		{"one\ntwo\n", 20, "one", nil},
-		{"\n", 1, "", nil},
-		{strings.Repeat("x", 49) + "\n", 50, strings.Repeat("x", 49), nil},
-		{"one", 20, "", io.EOF},
-		{strings.Repeat("x", 40), 50, "", io.EOF},
-		{"", 20, "", io.EOF},
+		{"one\ntwo\n", "one", nil},
+		{"\n", "", nil},
+		{most + "\n", most, nil},
+		{"one", "", io.EOF},
+		{"", "", io.EOF},
 	} {
-		// (16 bytes are the least that a reader holds)
-		line, err := ReadLine(bufio.NewReaderSize(strings.NewReader(of.text), 16), of.most)
+		line, err := readLine(bufio.NewReader(strings.NewReader(of.text)))
 		if !errors.Is(err, of.err) || string(line) != of.line {
-			t.Errorf("of %q: %q, %v", of.text, line, err)
+			t.Errorf("of %d bytes: %d, %v", len(of.text), len(line), err)
 		}
 	}
-	for _, text := range []string{strings.Repeat("x", 50) + "\n", strings.Repeat("x", 200), strings.Repeat("x", 200) + "\n"} {
-		if line, err := ReadLine(bufio.NewReaderSize(strings.NewReader(text), 16), 50); err == nil || !strings.Contains(err.Error(), "more than 50 bytes") {
-			t.Errorf("of %d bytes: %q, %v", len(text), line, err)
+	for _, text := range []string{most + "x\n", most + "xx"} {
+		if line, err := readLine(bufio.NewReader(strings.NewReader(text))); err == nil || !strings.Contains(err.Error(), "more than 67108864 bytes") {
+			t.Errorf("of %d bytes: %d, %v", len(text), len(line), err)
 		}
 	}
 }
@@ -73,8 +66,8 @@ func TestSaid(t *testing.T) {
 	if text := string(said.bytes); len(text) != mostSaid || !strings.HasSuffix(text, strings.Repeat("b", 300)+"the end") || !strings.HasPrefix(text, "a") {
 		t.Errorf("%d bytes: %q", len(text), text)
 	}
-	e := script(t, "read x; for i in 1 2 3 4 5 6 7 8 9 10; do printf '%0100d' 0 >&2; done; echo why it ends >&2; exit 1", 100)
-	if _, err := e.Exchange(limited(t), trial.Longest, []byte("x\n"), 1); !errors.Is(err, ErrGone) || !strings.Contains(err.Error(), "why it ends") {
+	e := script(t, "read x; for i in 1 2 3 4 5 6 7 8 9 10; do printf '%0100d' 0 >&2; done; echo why it ends >&2; exit 1")
+	if _, err := e.exchange(limited(t), trial.Longest, []byte("x\n")); !errors.Is(err, ErrGone) || !strings.Contains(err.Error(), "why it ends") {
 		t.Error(err)
 	}
 }
@@ -86,10 +79,10 @@ func TestEnvironment(t *testing.T) {
 		more []string
 		says string
 	}{{nil, "own "}, {[]string{"PIPE_MORE=more"}, "own more"}} {
-		e := script(t, `read x; echo "$PIPE_OWN $PIPE_MORE"; read x`, 100, of.more...)
-		replies, err := e.Exchange(limited(t), trial.Longest, []byte("x\n"), 1)
-		if err != nil || string(replies[0]) != of.says {
-			t.Errorf("%q, %v", replies, err)
+		e := script(t, `read x; echo "$PIPE_OWN $PIPE_MORE"; read x`, of.more...)
+		reply, err := e.exchange(limited(t), trial.Longest, []byte("x\n"))
+		if err != nil || string(reply) != of.says {
+			t.Errorf("%q, %v", reply, err)
 		}
 	}
 }
@@ -98,10 +91,10 @@ func TestEnvironment(t *testing.T) {
 func TestNoProgram(t *testing.T) {
 	t.Parallel()
 	for _, words := range [][]string{nil, {"/nowhere/is"}, {filepath.Join(t.TempDir(), "nothing")}} {
-		_, err := Start(words, 100)
+		_, err := Start(words)
 		wants(t, err, ErrGone)
 	}
-	_, err := Dial(limited(t), filepath.Join(t.TempDir(), "socket"), 100)
+	_, err := Dial(limited(t), filepath.Join(t.TempDir(), "socket"))
 	wants(t, err, ErrGone)
 }
 
@@ -111,13 +104,13 @@ func alive(pid int) bool { return syscall.Kill(pid, 0) == nil }
 // TestCloseKills: a process ends with its end, whatever signals it ignores, and so does what it started.
 func TestCloseKills(t *testing.T) {
 	t.Parallel()
-	e, err := Start([]string{"sh", "-c", "trap '' TERM HUP INT; read -r x; sleep 600 & echo $$; echo $!; while :; do wait; done"}, 100)
+	e, err := Start([]string{"sh", "-c", "trap '' TERM HUP INT; read -r x; sleep 600 & echo $$ $!; while :; do wait; done"})
 	must(t, err)
-	replies, err := e.Exchange(limited(t), trial.Longest, []byte("x\n"), 2)
+	reply, err := e.exchange(limited(t), trial.Longest, []byte("x\n"))
 	must(t, err)
 	var pids []int
-	for _, reply := range replies {
-		pid, err := strconv.Atoi(string(reply))
+	for _, text := range strings.Fields(string(reply)) {
+		pid, err := strconv.Atoi(text)
 		must(t, err)
 		pids = append(pids, pid)
 	}
@@ -153,9 +146,9 @@ func TestCloseKills(t *testing.T) {
 // TestUnreadLines: who replies without having read what it is asked has replied to something else.
 func TestUnreadLines(t *testing.T) {
 	t.Parallel()
-	e := script(t, "head -c 1 >/dev/null; exec <&-; echo yes; exec sleep 600", 100)
-	if replies, err := e.Exchange(limited(t), trial.Longest, []byte(strings.Repeat("x", 1<<20)+"\n"), 1); !errors.Is(err, ErrGone) || replies != nil {
-		t.Errorf("%q, %v", replies, err)
+	e := script(t, "head -c 1 >/dev/null; exec <&-; echo yes; exec sleep 600")
+	if reply, err := e.exchange(limited(t), trial.Longest, []byte(strings.Repeat("x", 1<<20)+"\n")); !errors.Is(err, ErrGone) || reply != nil {
+		t.Errorf("%q, %v", reply, err)
 	}
 }
 
@@ -185,15 +178,15 @@ func TestDialCloses(t *testing.T) {
 			t.Fatalf("%s: the connection stays open", what)
 		}
 	}
-	e, err := Dial(limited(t), path, 100)
+	e, err := Dial(limited(t), path)
 	must(t, err)
 	ended, cancel := context.WithCancel(context.Background())
 	cancel()
-	if _, err = e.Exchange(ended, trial.Longest, []byte("x\n"), 1); !errors.Is(err, ErrGone) || !strings.Contains(err.Error(), context.Canceled.Error()) {
+	if _, err = e.exchange(ended, trial.Longest, []byte("x\n")); !errors.Is(err, ErrGone) || !strings.Contains(err.Error(), context.Canceled.Error()) {
 		t.Errorf("who is gone: %v", err)
 	}
 	waits("behind an error")
-	e, err = Dial(limited(t), path, 100)
+	e, err = Dial(limited(t), path)
 	must(t, err)
 	e.Close()
 	waits("behind Close")
@@ -203,14 +196,14 @@ func TestDialCloses(t *testing.T) {
 // an end anew, and where none can be opened the one behind that does.
 func TestWaiting(t *testing.T) {
 	t.Parallel()
-	c := NewClient(cat, 50*time.Millisecond)
-	defer c.Close()
+	c := newAsker(cat, 50*time.Millisecond)
+	defer c.close()
 	e := <-c.turn
 	gone, cancel := context.WithCancel(context.Background())
 	cancel()
 	came := make(chan error, 1)
 	go func() {
-		_, err := exchange(c, gone, []byte("one\n"), 1)
+		_, err := said(c, gone, "one\n")
 		came <- err
 	}()
 	select {
@@ -220,61 +213,61 @@ func TestWaiting(t *testing.T) {
 		t.Error("who is gone waits")
 	}
 	c.turn <- e
-	if _, err := exchange(c, limited(t), []byte("half a line"), 1); !errors.Is(err, ErrGone) || !strings.Contains(err.Error(), "none in 50ms") {
+	if _, err := said(c, limited(t), "half a line"); !errors.Is(err, ErrGone) || !strings.Contains(err.Error(), "none in 50ms") {
 		t.Errorf("no reply: %v", err)
 	}
 	fails, opens := errors.New("it isn't there"), 0
-	c = NewClient(func(ctx context.Context) (*End, error) {
+	c = newAsker(func(ctx context.Context) (*End, error) {
 		if opens++; opens == 1 {
 			return nil, fails
 		}
 		return cat(ctx)
 	}, trial.Longest)
-	defer c.Close()
-	_, err := exchange(c, limited(t), []byte("one\n"), 1)
+	defer c.close()
+	_, err := said(c, limited(t), "one\n")
 	wants(t, err, fails)
 	for i := 0; i < 2; i++ {
-		replies, err := exchange(c, limited(t), []byte("two\n"), 1)
-		if err != nil || string(replies[0]) != "two" {
-			t.Fatalf("%q, %v", replies, err)
+		reply, err := said(c, limited(t), "two\n")
+		if err != nil || reply != "two" {
+			t.Fatalf("%q, %v", reply, err)
 		}
-		must(t, c.Close())
+		c.close()
 	}
-	if c.Opens() != 2 {
-		t.Errorf("opened %d times", c.Opens())
+	if c.opens.Load() != 2 {
+		t.Errorf("opened %d times", c.opens.Load())
 	}
 }
 
 // TestClientCloses: a process ends with the client that asks it, and the next exchange starts another one.
 func TestClientCloses(t *testing.T) {
 	t.Parallel()
-	c := NewClient(func(context.Context) (*End, error) {
-		return Start([]string{"sh", "-c", "while read -r x; do echo $$; done"}, 100)
+	c := newAsker(func(context.Context) (*End, error) {
+		return Start([]string{"sh", "-c", "while read -r x; do echo $$; done"})
 	}, trial.Longest)
 	for i := 0; i < 2; i++ {
-		replies, err := exchange(c, limited(t), []byte("x\n"), 1)
+		reply, err := said(c, limited(t), "x\n")
 		must(t, err)
-		pid, err := strconv.Atoi(string(replies[0]))
+		pid, err := strconv.Atoi(reply)
 		must(t, err)
-		must(t, c.Close())
+		c.close()
 		if alive(pid) {
 			_ = syscall.Kill(pid, syscall.SIGKILL)
 			t.Errorf("process %d goes on", pid)
 		}
 	}
-	must(t, c.Close())
-	if c.Opens() != 2 {
-		t.Errorf("opened %d times", c.Opens())
+	c.close()
+	if c.opens.Load() != 2 {
+		t.Errorf("opened %d times", c.opens.Load())
 	}
 }
 
 // TestOwnGroup: what a terminal sends to this process's group doesn't reach the other end.
 func TestOwnGroup(t *testing.T) {
 	t.Parallel()
-	e := script(t, "read -r x; echo $$; exec sleep 600", 100)
-	replies, err := e.Exchange(limited(t), trial.Longest, []byte("x\n"), 1)
+	e := script(t, "read -r x; echo $$; exec sleep 600")
+	reply, err := e.exchange(limited(t), trial.Longest, []byte("x\n"))
 	must(t, err)
-	pid, err := strconv.Atoi(string(replies[0]))
+	pid, err := strconv.Atoi(string(reply))
 	must(t, err)
 	if group, err := syscall.Getpgid(pid); err != nil || group != pid {
 		t.Errorf("process %d is of the group %d, %v", pid, group, err)
@@ -283,25 +276,9 @@ func TestOwnGroup(t *testing.T) {
 	}
 }
 
-// TestLongReplies: of a reply in parts that is as long as the one before all is read into one place; a shorter and a longer one are read, too.
-func TestLongReplies(t *testing.T) {
-	t.Parallel()
-	e := script(t, "while read -r n; do head -c $n /dev/zero | tr '\\0' x; echo; done", 1<<22)
-	for i, of := range []struct{ bytes, most int }{{1 << 20, 0}, {1 << 20, 1<<20 + 1<<18}, {1<<20 + 1<<16, 1<<20 + 1<<18}, {10, 4096}, {1 << 20, 0}} {
-		replies, err := e.Exchange(limited(t), trial.Longest, []byte(strconv.Itoa(of.bytes)+"\n"), 1)
-		if err != nil || string(replies[0]) != strings.Repeat("x", of.bytes) {
-			t.Fatalf("%d: %d bytes, %v", i, len(replies[0]), err)
-		}
-		// (where no reply was so long, the place grows)
-		if room := cap(replies[0]); of.most > 0 && room > of.most {
-			t.Errorf("%d: of %d bytes %d are held", i, of.bytes, room)
-		}
-	}
-}
-
 // TestWidth: both pipes of a process hold a long line at once.
 func TestWidth(t *testing.T) {
-	e, err := cat(context.Background())
+	e, err := cat(limited(t))
 	trial.Must(t, err)
 	defer e.Close()
 	raw, err := e.in.(syscall.Conn).SyscallConn()
@@ -312,12 +289,12 @@ func TestWidth(t *testing.T) {
 		}
 	}))
 	// (as the process itself sees both: 1032 is F_GETPIPE_SZ)
-	seen, err := Start([]string{"python3", "-c", "import fcntl; input(); print(*(fcntl.fcntl(of, 1032) for of in (0, 1)), flush=True)"}, 100)
+	seen, err := Start([]string{"python3", "-c", "import fcntl; input(); print(*(fcntl.fcntl(of, 1032) for of in (0, 1)), flush=True)"})
 	trial.Must(t, err)
 	defer seen.Close()
-	replies, err := seen.Exchange(trial.Limited(t, trial.Longest), trial.Longest, []byte("\n"), 1)
-	if want := fmt.Sprintf("%d %d", width, width); err != nil || string(replies[0]) != want {
-		t.Errorf("its pipes hold %q bytes, and not %s: %v", replies, want, err)
+	reply, err := seen.exchange(limited(t), trial.Longest, []byte("\n"))
+	if want := fmt.Sprintf("%d %d", width, width); err != nil || string(reply) != want {
+		t.Errorf("its pipes hold %q bytes, and not %s: %v", reply, want, err)
 	}
 	// (what isn't a pipe stays as it is)
 	widen(nil)
