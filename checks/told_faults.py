@@ -52,8 +52,8 @@ WAITS = {
 # How often each file tells each of these faults, and where.
 TOLD = {
     "json_lines/src/lines.rt": {
-        "Error": (2, "behind the last turn over a line's pieces, and the last line's number"),
-        "ErrorKind::Other": (2, "of these"),
+        "Error": (1, "after the last turn over a line's pieces"),
+        "ErrorKind::Other": (1, "of this"),
         "ErrorKind::Interrupted": (1, "of a call that was interrupted"),
     },
     "json_lines/src/sending.rt": {

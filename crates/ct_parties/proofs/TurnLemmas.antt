@@ -38,7 +38,7 @@ cut_end all done (x ∷ left) e none = absurd (omega arith)
 
 -- ---- a party, and the text of its replies
 
-text_of : List (List ℕ) → List ℕ
+abbrev text_of : List (List ℕ) → List ℕ
 text_of rs = flat_map (λ (r : List ℕ). r) rs
 
 text_more : (rs : List (List ℕ)) (r : List ℕ) → text_of (rs ++ r ∷ []) ≡ text_of rs ++ r
