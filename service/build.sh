@@ -13,7 +13,10 @@ programs=(ctserve ctcheck ctload ctread ctwitness-serve)
 # The tests stop nodes and signers between what they do, for which no program is built (phases_hooked.go).
 tags=
 case $what in test | vet) tags=phases ;; esac
-export GOFLAGS="-trimpath -buildvcs=false -tags=$tags -p=${PROCESSORS:-$(nproc)}"
+# vet must not run with -trimpath: Go's cache would then give it the paths of another checkout's files, and that checkout may be gone.
+trimmed=-trimpath
+[ "$what" != vet ] || trimmed=
+export GOFLAGS="$trimmed -buildvcs=false -tags=$tags -p=${PROCESSORS:-$(nproc)}"
 case $what in
   test)
     package=${1:-}
