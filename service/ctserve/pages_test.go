@@ -62,7 +62,7 @@ func TestPagesNameSettings(t *testing.T) {
 	}
 	for _, said := range []struct{ name, onPage, standard string }{
 		{"operator-listen", "`operator-listen` (127.0.0.1:8619;", `default "127.0.0.1:8619"`},
-		{"most-connections-by-address", "64 connections, or behind nginx requests, at once (`most-connections-by-address`)", "default 64)"},
+		{"most-connections-by-address", "64 connections at once, or 64 requests at once through nginx (`most-connections-by-address`)", "default 64)"},
 		{"most-clock-skew", "`most-clock-skew` (10 s)", "default 10s)"},
 		{"end-within", "`end-within` (30 s)", "default 30s)"},
 		{"guard", "`guard` is on by default", "default true)"},
@@ -152,7 +152,7 @@ func TestUnit(t *testing.T) {
 		}
 	}
 	trial.Says(t, trial.Page(t, "../../docs/OPERATING.md"), map[string]bool{
-		"ends with status 3, which the unit doesn't start again": statusSetBack == 3,
-		"A setting of unknown name ends a start with status 2":   run([]string{"--no-such-word"}, &bytes.Buffer{}, openNode) == 2,
+		"ends with status 3, which the unit doesn't start again":    statusSetBack == 3,
+		"A setting with an unknown name ends a start with status 2": run([]string{"--no-such-word"}, &bytes.Buffer{}, openNode) == 2,
 	})
 }

@@ -71,10 +71,10 @@ func TestPageSaysBounds(t *testing.T) {
 		"| the tree | 2^40 entries: `full` |":                                  step.MostLeaves == 1<<40,
 	})
 	trial.Says(t, trial.Page(t, "../../docs/OPERATING.md"), map[string]bool{
-		"(the last name in heads/ is SIZE-MOMENT)":                          headsPrefix == "heads/" && headName(step.State{Size: 5, Moment: 7}) == "heads/00000000000000000005-00000000000000000007",
+		"(the last name in heads/ is SIZE-TIMESTAMP)":                       headsPrefix == "heads/" && headName(step.State{Size: 5, Moment: 7}) == "heads/00000000000000000005-00000000000000000007",
 		"Partial tiles take up to 5 GB at `most-written` (16 MiB a second)": config.MostWritten == 16<<20 && partials >= 5e9 && partials < 5.1e9,
 		"off by more than `most-clock-skew` (10 s), either way":             config.MostSkew == 10*time.Second,
-		"how late, where nothing below speaks: a day more":                  mostStood == 24*time.Hour,
+		"if no other source answers, the latest one: a day more":            mostStood == 24*time.Hour,
 		"and a `nodes-secret` of 16 bytes or more":                          LeastSecret == 16,
 		"at `most-written` (16 MiB a second)":                               config.MostWritten == 16<<20,
 	})

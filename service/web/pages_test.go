@@ -26,9 +26,9 @@ func TestPageSaysBounds(t *testing.T) {
 		"and of one event at most 50 lines a second": mostLines == 50,
 	})
 	trial.Says(t, trial.Page(t, "../../docs/OPERATING.md"), map[string]bool{
-		"64 connections, or behind nginx requests, at once (`most-connections-by-address`)": limits.ConnectionsByAddress == 64,
-		"64 timestamps a head, 128 a second at `interval 500ms`":                            limits.ConnectionsByAddress == 64 && limits.ConnectionsByAddress*int(time.Second/(500*time.Millisecond)) == 128,
-		"(tiles have no rate), and ten seconds of it at once; what is above is 429 `too-often`. `submitters` have none": burst == 10*time.Second && tileCall.costs == 0 &&
+		"64 connections at once, or 64 requests at once through nginx (`most-connections-by-address`)": limits.ConnectionsByAddress == 64,
+		"at most 64 SCTs for each tree head: 128 a second at `interval 500ms`":                         limits.ConnectionsByAddress == 64 && limits.ConnectionsByAddress*int(time.Second/(500*time.Millisecond)) == 128,
+		"tiles have no rate. An address may use ten seconds of its rate at once. A request above the rate gets 429 `too-often`. `submitters` have no rate": burst == 10*time.Second && tileCall.costs == 0 &&
 			tooOften.status == 429 && tooOften.name == "too-often",
 	})
 }
