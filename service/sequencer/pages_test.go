@@ -31,7 +31,7 @@ func TestPageSaysBounds(t *testing.T) {
 	restsLeast, restsMost := over.interval(100*time.Millisecond, true, 0)
 	week := 7 * 24 * time.Hour
 	trial.Says(t, trial.Page(t, "../README.md"), map[string]bool{
-		"A step begins as soon as a submission waits. - After another step, it begins when all clients that were answered are back, or after half the time that the step took, at most 8 ms.": config.Interval == 0 && mostPause == 8*time.Millisecond &&
+		"A step begins as soon as a submission waits. - After another step, it begins when all clients that were answered are back. It begins without them half as long after the step's end as the step took, at most 8 ms.": config.Interval == 0 && mostPause == 8*time.Millisecond &&
 			least == 5*time.Millisecond && most == 15*time.Millisecond,
 		"no more than 16 MiB a second are written (`most-written`)":                                            config.MostWritten == 16<<20,
 		"Over engines, and with witnesses, a step begins at least 50 ms after the beginning of the one before": over.Interval == 50*time.Millisecond,
