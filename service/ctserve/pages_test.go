@@ -85,7 +85,7 @@ func TestPageSaysBounds(t *testing.T) {
 	s, err := parse([]string{"--roots", "r", "--origin", "o.example", "--signing-key", "k"}, &bytes.Buffer{})
 	trial.Must(t, err)
 	trial.Says(t, trial.Page(t, "../README.md"), map[string]bool{
-		"more than `most-written` lets through in a second (16 MiB)": s.node.mostWritten == 16<<20,
+		"more than `most-written` allows in a second (16 MiB)": s.node.mostWritten == 16<<20,
 	})
 	if s.node.mostProofs != 64 || s.limits.ProofsByAddress != 16 {
 		t.Errorf("%d proofs at once, of one address %d", s.node.mostProofs, s.limits.ProofsByAddress)

@@ -31,29 +31,30 @@ func TestPageSaysBounds(t *testing.T) {
 	restsLeast, restsMost := over.interval(100*time.Millisecond, true, 0)
 	week := 7 * 24 * time.Hour
 	trial.Says(t, trial.Page(t, "../README.md"), map[string]bool{
-		"A step begins once somebody waits, and behind another once all are back who were answered, or half as long as that took, up to 8 ms": config.Interval == 0 && mostPause == 8*time.Millisecond &&
+		"A step begins as soon as a submission waits. - After another step, it begins when all clients that were answered are back. It begins without them half as long after the step's end as the step took, at most 8 ms.": config.Interval == 0 && mostPause == 8*time.Millisecond &&
 			least == 5*time.Millisecond && most == 15*time.Millisecond,
-		"no more than 16 MiB a second are written (`most-written`)":                                config.MostWritten == 16<<20,
-		"Over engines, and with witnesses, it begins 50 ms behind the beginning of the one before": over.Interval == 50*time.Millisecond,
-		"over engines once all are back who were answered, or twice as late as the last step took, up to half a second": mostRest == 500*time.Millisecond &&
+		"no more than 16 MiB a second are written (`most-written`)":                                            config.MostWritten == 16<<20,
+		"Over engines, and with witnesses, a step begins at least 50 ms after the beginning of the one before": over.Interval == 50*time.Millisecond,
+		"Over engines, a step then begins when all clients that were answered are back. It begins without them at the later of two times: - twice as long after the last step's beginning as that step took, at most half a second;": mostRest == 500*time.Millisecond &&
 			restsLeast == 50*time.Millisecond && restsMost == 200*time.Millisecond,
-		"or where that is later half as long behind its end as it took, up to a quarter":                mostHalf == 250*time.Millisecond,
-		"a partial tile once its full one has stood for five minutes":                                   config.SweepTilesAfter == 5*time.Minute,
-		"as `swept/ENTRIES`: a start goes on there, 256 tiles of a level before":                        sweptPrefix == "swept/" && mostSweptAgain == 256,
-		"a head once a later one has stood for an hour":                                                 config.SweepAfter == time.Hour,
-		"and behind ten seconds already where another one stands less than five seconds before it":      thinsAfter == 10*time.Second && headsApart == 5*time.Second,
-		"the one that set the newest state in the last three seconds":                                   handsWithin == 3*time.Second,
-		"A head without new entries is made every hour":                                                 config.Refresh == time.Hour,
-		"sixteen at once, and 32 MiB of them are kept":                                                  mostBeside == 16 && mostKeptBytes == 32<<20,
-		"A round waits for them for a quarter of a second, and for 20 ms where new entries wait behind": mostRepeating == 250*time.Millisecond && mostBefore == 20*time.Millisecond,
-		"Where the register can't be read, or for two seconds":                                          mostUnread == 2*time.Second,
-		"an entry above 128 KiB, since a request of the step has to hold 255 of them":                   MostEntry == 128<<10 && tileWidth-1 == 255,
-		"told to who waits after five seconds":                                                          config.Patience == 5*time.Second,
-		"a first one more than a day beyond the newest head":                                            mostStood == 24*time.Hour,
-		"behind each time in which the register couldn't be read (or for a minute)":                     mostUnvouched == time.Minute,
-		"reading all old tiles again within a week (`read-all-within`)":                                 config.ReadAllWithin == week,
+		"- half as long after the last step's end as that step took, at most a quarter of a second.":                mostHalf == 250*time.Millisecond,
+		"| a partial tile | five minutes after its full tile came, if the full tile is whole |":                     config.SweepTilesAfter == 5*time.Minute,
+		"as `swept/ENTRIES`. A node that starts continues there, 256 tiles of each level earlier":                   sweptPrefix == "swept/" && mostSweptAgain == 256,
+		"| a tree head | an hour after a later head came |":                                                         config.SweepAfter == time.Hour,
+		"| a tree head less than five seconds after another one that stays | ten seconds after a later head came |": thinsAfter == 10*time.Second && headsApart == 5*time.Second,
+		"the node that set the newest state in the last three seconds":                                              handsWithin == 3*time.Second,
+		"A head without new entries is made every hour":                                                             config.Refresh == time.Hour,
+		"sixteen at once, and 32 MiB of them are kept":                                                              mostBeside == 16 && mostKeptBytes == 32<<20,
+		"A round waits for these tiles for a quarter of a second, or for 20 ms if new entries wait too":             mostRepeating == 250*time.Millisecond && mostBefore == 20*time.Millisecond,
+		"If the register cannot be read, or does not answer for two seconds":                                        mostUnread == 2*time.Second,
+		"- an entry above 128 KiB.": MostEntry == 128<<10,
+		"An entry has at most 128 KiB because a request for a step must be able to hold 255 of them": MostEntry == 128<<10 && tileWidth-1 == 255,
+		"Waiting clients get an error after five seconds":                                            config.Patience == 5*time.Second,
+		"a first step more than a day after the newest head":                                         mostStood == 24*time.Hour,
+		"after the register could not be read, or was not read for a minute":                         mostUnvouched == time.Minute,
+		"reading all old tiles again within a week (`read-all-within`)":                              config.ReadAllWithin == week,
 		// (a week's turns of one tile each, and of the most)
-		"one data tile a second does for 1.5 x 10^8 entries, 16 (the most) for 2.5 x 10^9": config.TendEvery == time.Second && mostReadAgain == 16 &&
+		"one data tile a second is enough for 1.5 x 10^8 entries, and 16 (the maximum) for 2.5 x 10^9": config.TendEvery == time.Second && mostReadAgain == 16 &&
 			week/time.Second*tileWidth/1e7 == 15 && week/time.Second*tileWidth*mostReadAgain/1e8 == 24,
 	})
 	// 255 of the largest entries and a step's new ones, with what a tile and a line have beside them, and a tile of the largest.
@@ -64,11 +65,11 @@ func TestPageSaysBounds(t *testing.T) {
 	// (half of what is written are partial tiles, and these stand for as long again as they have to)
 	partials := float64(config.MostWritten) / 2 * 2 * config.SweepTilesAfter.Seconds()
 	trial.Says(t, trial.Page(t, "../README.md"), map[string]bool{
-		"in base64, with 12 MiB of new ones, 62 MB of the 64 MiB that it may have": MostBatchBytes == 12<<20 && request/1e6 == 62 && request < wagtenib.MaxStepRequest && wagtenib.MaxStepRequest == 64<<20,
-		"So a data tile has 34 MB at most, of which answers hold 15 at once, and two for one address": math.Round(float64(tile)/1e6) == 34 && tile < stores.MostObject &&
+		"In base64, with 12 MiB of new ones, these are 62 MB of the 64 MiB that a request may have": MostBatchBytes == 12<<20 && request/1e6 == 62 && request < wagtenib.MaxStepRequest && wagtenib.MaxStepRequest == 64<<20,
+		"So a data tile has at most 34 MB. Answers hold at most 15 of these at once, and two for one address": math.Round(float64(tile)/1e6) == 34 && tile < stores.MostObject &&
 			answers/tile == 15 && ofOne/tile == 2,
-		"which stand for five to ten minutes until they are swept: up to 5 GB": config.SweepTilesAfter == 5*time.Minute && partials >= 5e9 && partials < 5.1e9,
-		"| the tree | 2^40 entries: `full` |":                                  step.MostLeaves == 1<<40,
+		"which stay for five to ten minutes until they are deleted: up to 5 GB": config.SweepTilesAfter == 5*time.Minute && partials >= 5e9 && partials < 5.1e9,
+		"| the tree | 2^40 entries: `full` |":                                   step.MostLeaves == 1<<40,
 	})
 	trial.Says(t, trial.Page(t, "../../docs/OPERATING.md"), map[string]bool{
 		"(the last name in heads/ is SIZE-TIMESTAMP)":                       headsPrefix == "heads/" && headName(step.State{Size: 5, Moment: 7}) == "heads/00000000000000000005-00000000000000000007",

@@ -10,7 +10,7 @@ import (
 // TestPageSaysBounds: the bounds that service/README.md says of stores are those that are here.
 func TestPageSaysBounds(t *testing.T) {
 	trial.Says(t, trial.Page(t, "../README.md"), map[string]bool{
-		"Each call has 1.5 s at one member":                   mostCall == 1500*time.Millisecond,
-		"are left out, and looked at again ten seconds later": leftOutFor == 10*time.Second,
+		"Each call has 1.5 s at one member":               mostCall == 1500*time.Millisecond,
+		"are left out, and asked again ten seconds later": leftOutFor == 10*time.Second,
 	})
 }

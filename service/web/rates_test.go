@@ -321,9 +321,9 @@ func TestTooOften(t *testing.T) {
 // TestRatesOnThePages: what the pages say of rates is so.
 func TestRatesOnThePages(t *testing.T) {
 	trial.Says(t, trial.Page(t, "../README.md"), map[string]bool{
-		"ten seconds of it at once":                               burst == 10*time.Second,
-		"Of 65,536 addresses it is known how often they asked":    mostRated == 65536,
-		"Above a rate it is 429 `too-often`, with Retry-After: 1": tooOften.status == 429 && tooOften.name == "too-often" && tooOften.after == 1,
+		"An address may use ten seconds of its rate at once":                        burst == 10*time.Second,
+		"`ctserve` remembers how often 65,536 addresses asked":                      mostRated == 65536,
+		"A request above the rate gets status 429 `too-often`, with Retry-After: 1": tooOften.status == 429 && tooOften.name == "too-often" && tooOften.after == 1,
 	})
 	limits := DefaultLimits()
 	trial.Says(t, trial.Page(t, "../../docs/OPERATING.md"), map[string]bool{
