@@ -27,9 +27,25 @@ TYPES = {
     "&mut LeafInfo": "struct wagtenib_leaf_info *{}",
     "&TreeHead": "const struct wagtenib_head *{}",
     "&mut TreeHead": "struct wagtenib_head *{}",
+    "TreeHead": "struct wagtenib_head {}",
+    "&mut [u8; 56]": "uint8_t {}[56]",
+    "NodeState": "struct wagtenib_node_state {}",
+    "&NodeState": "const struct wagtenib_node_state *{}",
+    "&mut NodeState": "struct wagtenib_node_state *{}",
+    "&NodeCommand": "const struct wagtenib_node_command *{}",
+    "&mut NodeCommand": "struct wagtenib_node_command *{}",
+    "&NodeOutcome": "const struct wagtenib_node_outcome *{}",
+    "&NodeFound": "const struct wagtenib_node_found *{}",
     "Global": None,
 }
-ALIASES = {"LeafInfo": "wagtenib_leaf_info", "TreeHead": "wagtenib_head"}
+ALIASES = {
+    "LeafInfo": "wagtenib_leaf_info",
+    "TreeHead": "wagtenib_head",
+    "NodeState": "wagtenib_node_state",
+    "NodeCommand": "wagtenib_node_command",
+    "NodeOutcome": "wagtenib_node_outcome",
+    "NodeFound": "wagtenib_node_found",
+}
 # A fault of another crate that has another name in C.
 NAMES = {"Memory": "OutOfMemory"}
 

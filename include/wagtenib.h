@@ -50,7 +50,19 @@ enum {
     WAGTENIB_STATE_ROLLED_BACK = 37, /* the state's head is before that of a state that was seen */
     WAGTENIB_LATER_LEAF = 38,        /* the leaf's timestamp is later than the last head's */
     WAGTENIB_OTHER_INDEX = 39,       /* the leaf has extensions, and they are not only its index */
-    WAGTENIB_NOT_FIRST = 40          /* the head is neither that of the empty tree nor the named one */
+    WAGTENIB_NOT_FIRST = 40,         /* the head is neither that of the empty tree nor the named one */
+    WAGTENIB_BAD_COMMAND = 112,      /* no command of a node has this number */
+    WAGTENIB_BAD_OUTCOME = 113,      /* no outcome of a command has this number */
+    WAGTENIB_BAD_LOCK_TEXT = 114,    /* the bytes are no lock's text */
+    WAGTENIB_BAD_BATCH_NAME = 115,   /* the bytes are no name of a staged batch */
+    WAGTENIB_CREATES_LOCK = 116,     /* the node must create the lock of a new log */
+    WAGTENIB_LOCK_GONE = 117,        /* there is no lock, and none is to be created, or there is something of a log */
+    WAGTENIB_BEHIND_SEEN = 118,      /* this machine saw a head that is later than the lock's, or another one with its size and timestamp */
+    WAGTENIB_BEHIND_SIGNED = 119,    /* a head was signed that is later than the lock's */
+    WAGTENIB_TWO_ROOTS = 120,        /* another head with the lock's size and timestamp was signed */
+    WAGTENIB_SIGNED_BEHIND_LISTED = 121, /* the store lists a head that is later than the last one that was signed */
+    WAGTENIB_BEHIND_LISTED = 122,    /* the store lists a head that is later than the lock's */
+    WAGTENIB_BEHIND_PUBLISHED = 123  /* a head is published that is later than the lock's */
 };
 
 /* out = SHA-256(00 || leaf), the hash of a leaf (RFC 6962 section 2.1). */
@@ -133,6 +145,90 @@ uint32_t wagtenib_guard_receipt(const uint8_t *last, size_t last_length, const u
 /* Reads a state. 0: its head is in `head`, and is the head of the state `seen`, or has a later timestamp and no fewer leaves. 36: one of both is not the
  * TreeHeadSignature of a head. 37: the state was rolled back. Nothing is written unless the result is 0. To read a state without another, pass it twice. */
 uint32_t wagtenib_guard_state(const uint8_t *seen, size_t seen_length, const uint8_t *state, size_t state_length, struct wagtenib_head *head);
+
+/* A node of a log: which command it carries out next (docs/NODE.md). Any number of nodes can write one log over one lock with compare-and-set and one store of
+ * objects. A node begins with the command 0 (read the lock). It carries a command out, and calls wagtenib_node_next with the command and its outcome. Then the log
+ * is one growing list, however many nodes call it, and whichever of them is killed at whichever command.
+ *
+ * A state of the log has a timestamp (milliseconds since 1970), the timestamp of the state that it was made from, and a salt, which is a random number. A lock's
+ * text is a state's line, the address of the node that set it, and these numbers. The caller keeps the texts; wagtenib_lock_state says which state a text is of. */
+struct wagtenib_node_state {
+    uint64_t timestamp;
+    uint64_t previous_timestamp;
+    uint64_t salt;
+};
+
+/* A command. Those numbers and states that it is not about are 0.
+ *
+ *   0  read the lock
+ *   1  look whether the head of the state `seen` is published, and if it is not, read the state's staged batch
+ *   2  make a step from the state `seen`, or name a staged batch that may be deleted
+ *   3  put the staged batch of the state `next`, which was made from `seen` and has `objects` objects
+ *   4  swap the lock from the text of `seen` to that of `next`
+ *   5  delete the staged batch of the state `next`
+ *   6  put all `objects` objects of the state `next` under their public names
+ *   7  add the entries of the state `next` to the index
+ *   8  have the head of the state `next` signed, and publish it
+ *   9  answer the submissions of the state `next` */
+struct wagtenib_node_command {
+    struct wagtenib_node_state seen;
+    struct wagtenib_node_state next;
+    uint64_t objects;
+    uint32_t command;
+};
+
+/* The outcome of a command.
+ *
+ *   0  it is done
+ *   1  it is not done, or is not known to be done and is not tried any more
+ *   2  the lock has the text of `state`
+ *   3  the head is published
+ *   4  the staged batch was read, and has `objects` objects
+ *   5  a step was made: it led to `state`, which has `objects` objects
+ *   6  the store has a staged batch of `state` */
+struct wagtenib_node_outcome {
+    struct wagtenib_node_state state;
+    uint64_t objects;
+    uint32_t outcome;
+};
+
+/* The command that follows a command, by its outcome. 0: it is in `next`. An outcome that does not belong to the command gives the command again. 112 or 113:
+ * nothing is written. */
+uint32_t wagtenib_node_next(const struct wagtenib_node_command *command, const struct wagtenib_node_outcome *outcome,
+                            struct wagtenib_node_command *next);
+
+/* What a node finds of a log when it starts, beside the lock's text. `flags` is the sum of: 1 if the machine saw a head before (`seen`), 2 if a head was
+ * signed (`signed_head`), 4 if a head is published, 8 if the store lists a head (the newest one), 16 if a guard decides what is signed, 32 if the store
+ * has any object of a log, 64 if the operator asks for a new log. */
+struct wagtenib_node_found {
+    struct wagtenib_head seen;
+    struct wagtenib_head signed_head;
+    uint64_t published_size;
+    uint64_t published_timestamp;
+    uint64_t listed_size;
+    uint64_t listed_timestamp;
+    uint32_t flags;
+};
+
+/* What a node does when it starts. It must read the lock first and the rest after it; lock_length is 0 if there is no lock. 0: it continues from the lock's text, since
+ * no head that it found is later. 116: it creates the lock. 117 to 123: it must do neither, for the first reason in this order: 117 if there is no lock; otherwise
+ * 118, 120 or 119, 121, 122, 123. 114: the bytes are no lock's text. */
+uint32_t wagtenib_node_start(const uint8_t *lock, size_t lock_length, const struct wagtenib_node_found *found);
+
+/* Writes a lock's text: `line` is the state's line that a step gave, `node` the address of this node (UTF-8 without a line end), `previous_timestamp` that of the state
+ * from which the step was made, and `salt` a new random number. 0: the text is written. 9: *length says how much room it needs, and nothing else is
+ * written. 8: nothing is written. wagtenib_lock_state refuses the text if the line is none. */
+uint32_t wagtenib_lock_text(const uint8_t *line, size_t line_length, const uint8_t *node, size_t node_length, uint64_t previous_timestamp,
+                            uint64_t salt, uint8_t *text, size_t room, uint64_t *length);
+
+/* Reads a lock's text. 0: its state and number of entries are written. 114: nothing is written. */
+uint32_t wagtenib_lock_state(const uint8_t *text, size_t text_length, struct wagtenib_node_state *state, uint64_t *tree_size);
+
+/* Writes the name of a state's staged batch, `staging/` and 48 hexadecimal digits. */
+void wagtenib_batch_name(const struct wagtenib_node_state *state, uint8_t name[56]);
+
+/* Reads the name of a staged batch. 0: its state is written. 115: nothing is written. */
+uint32_t wagtenib_batch_state(const uint8_t *name, size_t name_length, struct wagtenib_node_state *state);
 
 /* The decisions of the programs over lines, as calls. A call writes, byte for byte, what the program of that name writes on its standard output for that
  * line. The replies are lines of JSON, and each ends with a line end.

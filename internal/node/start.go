@@ -2,7 +2,6 @@ package node
 
 import (
 	"context"
-	"encoding/hex"
 	"errors"
 	"fmt"
 
@@ -80,7 +79,7 @@ func rooted(head *signer.Head) *decider.Rooted {
 	if head == nil {
 		return nil
 	}
-	return &decider.Rooted{Point: decider.Point{Size: head.Size, Moment: head.Moment}, Root: hex.EncodeToString(head.Root[:])}
+	return &decider.Rooted{Point: decider.Point{Size: head.Size, Moment: head.Moment}, Root: head.Root}
 }
 
 // find reads the lock, and after that everything that may be ahead of it.

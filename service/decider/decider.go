@@ -1,20 +1,19 @@
-// Package decider decides what a node of a log does next, by the proved function of ctnode in this process (docs/NODE.md).
+// Package decider decides what a node of a log does next, by the proved functions for nodes in this process (docs/NODE.md). The library knows a state by three
+// numbers. This package keeps the texts and names that belong to them.
 package decider
 
 import (
-	"encoding/json"
 	"errors"
 	"fmt"
 
 	"wagtenib/bindings/go/wagtenib"
-	"wagtenib/service/proved"
 )
 
 // The errors of decisions. Each is found by errors.Is.
 var (
-	// ErrReply: the reply isn't one to the request.
-	ErrReply = proved.ErrReply
-	// ErrRefused: the report is refused as none: a text that isn't a register's, or a name that isn't a bundle's.
+	// ErrReply: the library returned a command that is about no state that the node has.
+	ErrReply = errors.New("decider: a command of another state")
+	// ErrRefused: the outcome is refused as none: a text that is not a lock's, or a name that is not a staged batch's.
 	ErrRefused = errors.New("decider: refused")
 )
 
@@ -32,204 +31,264 @@ const (
 	Delete = "delete"
 )
 
-// Held is a register's text, and what it says.
+// names are the commands' by their numbers.
+var names = map[wagtenib.NodeCommandKind]string{
+	wagtenib.ReadLock: Read, wagtenib.LookForHead: Look, wagtenib.MakeStep: Step, wagtenib.StageBatch: Stage, wagtenib.SwapLock: Swap,
+	wagtenib.PutObjects: Put, wagtenib.AddToIndex: Place, wagtenib.PublishHead: Head, wagtenib.AnswerAll: Answer, wagtenib.DeleteBatch: Delete,
+}
+
+// Held is a lock's text, and what it says.
 type Held struct {
-	Text string `json:"text"`
-	// Bundle is the name of the bundle of the text's step.
-	Bundle string `json:"bundle"`
-	// Moment and Size are the head's timestamp in milliseconds, and the number of entries.
-	Moment uint64 `json:"moment"`
-	Size   uint64 `json:"size"`
+	Text string
+	// Bundle is the name of the staged batch of the text's step.
+	Bundle string
+	// Moment is the head's timestamp in milliseconds, and Size the number of entries.
+	Moment uint64
+	Size   uint64
+}
+
+// known is a lock's text with its state.
+type known struct {
+	held  Held
+	state wagtenib.NodeState
+}
+
+// readText reads a lock's text.
+func readText(text string) (known, error) {
+	state, size, err := wagtenib.LockState([]byte(text))
+	if err != nil {
+		return known{}, fmt.Errorf("%w: %w", ErrRefused, err)
+	}
+	return known{Held{Text: text, Bundle: wagtenib.BatchName(state), Moment: state.Timestamp, Size: size}, state}, nil
 }
 
 // Command is what a node does next, and all that is to be known of the node.
 type Command struct {
-	Do string `json:"do"`
-	// Seen is the text that is gone by, and New the one that is made of it, or is rolled out.
-	Seen Held `json:"seen"`
-	New  Held `json:"new"`
+	Do string
+	// Seen is the text that the command starts from, and New the one that is made of it, or is published.
+	Seen, New Held
 	// Objects are those of New, each as it was told.
-	Objects []string `json:"objects"`
-	// Bundle is the name of the one that is to be deleted.
-	Bundle string `json:"bundle"`
+	Objects []string
+	// Bundle is the name of the staged batch that must be deleted.
+	Bundle string
 
-	said json.RawMessage
+	node wagtenib.NodeCommand
 }
 
-// Begin is the command of a node that starts.
-func Begin() *Command { return &Command{Do: Read, said: json.RawMessage(`{"do":"read"}`)} }
+// Begin returns the command of a node that starts.
+func Begin() *Command { return &Command{Do: Read} }
 
-// Told is what came of a command.
-type Told map[string]any
+// Told is the outcome of a command.
+type Told = *Outcome
 
-// Done: it is done.
-func Done() Told { return Told{"came": "done"} }
+// Outcome is what came of a command, with its texts and names.
+type Outcome struct {
+	kind wagtenib.NodeOutcomeKind
+	// text is the lock's, and name a staged batch's.
+	text, name string
+	// line, node and salt are of a step.
+	line, node string
+	salt       uint64
+	objects    []string
+}
 
-// Lost: it isn't done, or isn't known to be and isn't tried any more.
-func Lost() Told { return Told{"came": "lost"} }
+// Done returns the outcome of a command that is done.
+func Done() Told { return &Outcome{kind: wagtenib.WasDone} }
 
-// Published: the head of the text that was looked at stands.
-func Published() Told { return Told{"came": "published"} }
+// Lost returns the outcome of a command that is not done, or is not known to be done and is not tried any more.
+func Lost() Told { return &Outcome{kind: wagtenib.WasLost} }
 
-// Held by the register.
-func WasRead(text string) Told { return Told{"came": "read", "text": text} }
+// Published returns the outcome if the head of the text that was looked at is published.
+func Published() Told { return &Outcome{kind: wagtenib.WasPublished} }
 
-// Bundled: the bundle of the text that was looked at has these objects.
-func Bundled(objects []string) Told { return Told{"came": "bundle", "objects": objects} }
+// WasRead returns the outcome if the lock has this text.
+func WasRead(text string) Told { return &Outcome{kind: wagtenib.LockRead, text: text} }
 
-// Stepped: a step was made, to a state's line, with these objects, by the node that is asked there; the salt is a number of chance.
+// Bundled returns the outcome if the staged batch of the text that was looked at has these objects.
+func Bundled(objects []string) Told { return &Outcome{kind: wagtenib.BatchRead, objects: objects} }
+
+// Stepped returns the outcome if a step was made to a state's line, with these objects, by the node with this address. The salt is a random number.
 func Stepped(line, node string, salt uint64, objects []string) Told {
-	return Told{"came": "stepped", "line": line, "node": node, "salt": salt, "objects": objects}
+	return &Outcome{kind: wagtenib.StepMade, line: line, node: node, salt: salt, objects: objects}
 }
 
-// Listed: there is a bundle of this name.
-func Listed(bundle string) Told { return Told{"came": "listed", "bundle": bundle} }
+// Listed returns the outcome if the store has a staged batch with this name.
+func Listed(bundle string) Told { return &Outcome{kind: wagtenib.BatchListed, name: bundle} }
+
+// read returns the outcome as the library takes it, and the text that came with it.
+func (o *Outcome) read(command *Command) (told wagtenib.NodeOutcome, came known, err error) {
+	told = wagtenib.NodeOutcome{Kind: o.kind, Objects: uint64(len(o.objects))}
+	switch o.kind {
+	case wagtenib.LockRead:
+		came, err = readText(o.text)
+		told.State = came.state
+	case wagtenib.StepMade:
+		var text []byte
+		if text, err = wagtenib.LockText([]byte(o.line), []byte(o.node), command.Seen.Moment, o.salt); err == nil {
+			came, err = readText(string(text))
+		}
+		told.State = came.state
+	case wagtenib.BatchListed:
+		if told.State, err = wagtenib.BatchState([]byte(o.name)); err != nil {
+			err = fmt.Errorf("%w: %w", ErrRefused, err)
+		}
+	}
+	return told, came, err
+}
 
 // Point is how far a log is by one of its heads: its entries, and its timestamp in milliseconds.
-type Point struct {
-	Size   uint64 `json:"size"`
-	Moment uint64 `json:"moment"`
-}
+type Point struct{ Size, Moment uint64 }
 
-// Rooted is a head: its root in 64 digits in hexadecimal, in lower case.
+// Rooted is a head.
 type Rooted struct {
 	Point
-	Root string `json:"root"`
+	Root [32]byte
 }
 
-// Found is what a node finds of a log where it starts; what is nil, and an empty text, isn't there.
+// Found is what a node finds of a log when it starts. What is nil, and an empty text, is not there.
 type Found struct {
-	// Register is the register's text.
-	Register string `json:"register,omitempty"`
-	// Seen is the newest head that this machine saw, and Guard the last that the guard let through, where there is one (Guarded).
-	Seen    *Rooted `json:"seen,omitempty"`
-	Guard   *Rooted `json:"guard,omitempty"`
-	Guarded bool    `json:"guarded"`
+	// Register is the lock's text.
+	Register string
+	// Seen is the newest head that this machine saw, and Guard the last that was signed, if there is a guard (Guarded).
+	Seen, Guard *Rooted
+	Guarded     bool
 	// Published is the newest head that is published, and Listed the newest in the store.
-	Published *Point `json:"published,omitempty"`
-	Listed    *Point `json:"listed,omitempty"`
-	// Stands says that the store has anything of a log, and Creates that one is to be made where there is none.
-	Stands  bool `json:"stands"`
-	Creates bool `json:"creates"`
+	Published, Listed *Point
+	// Stands says that the store has an object of a log, and Creates that a log must be created if there is none.
+	Stands, Creates bool
 }
 
-// Refusal is why a node doesn't go on from what it finds.
+// inCall returns what the library takes of it.
+func (f Found) inCall() wagtenib.NodeFound {
+	head := func(of *Rooted) *wagtenib.TreeHead {
+		if of == nil {
+			return nil
+		}
+		return &wagtenib.TreeHead{TreeSize: of.Size, Timestamp: of.Moment, Root: of.Root}
+	}
+	return wagtenib.NodeFound{
+		Seen: head(f.Seen), Signed: head(f.Guard), Published: f.Published.sized(), Listed: f.Listed.sized(),
+		Guarded: f.Guarded, HasObject: f.Stands, Creates: f.Creates,
+	}
+}
+
+// sized returns the same as the library takes it.
+func (p *Point) sized() *wagtenib.HeadSize {
+	if p == nil {
+		return nil
+	}
+	return &wagtenib.HeadSize{TreeSize: p.Size, Timestamp: p.Moment}
+}
+
+// Refusal is why a node does not continue from what it finds.
 type Refusal string
 
 // The refusals.
 const (
-	// Gone: there is no register, and none is to be created, or something of a log is there.
+	// Gone: there is no lock, and none may be created, or there is something of a log.
 	Gone Refusal = "gone"
-	// BehindSeen: this machine saw a later head than the register's, or another of its size and moment.
+	// BehindSeen: this machine saw a later head than the lock's, or another one with its size and timestamp.
 	BehindSeen Refusal = "behind-seen"
-	// BehindGuard: the guard let a later head through; TwoRoots: it let another of its size and moment through.
+	// BehindGuard: a later head was signed. TwoRoots: another head with the lock's size and timestamp was signed.
 	BehindGuard Refusal = "behind-guard"
 	TwoRoots    Refusal = "two-roots"
-	// GuardBehind: the store has a later head than the guard's last.
+	// GuardBehind: the store has a later head than the last one that was signed.
 	GuardBehind Refusal = "guard-behind"
-	// BehindListed: the store has a later head; BehindPublished: a later one is published.
+	// BehindListed: the store has a later head. BehindPublished: a later head is published.
 	BehindListed    Refusal = "behind-listed"
 	BehindPublished Refusal = "behind-published"
 )
 
 func (r Refusal) Error() string { return "decider: " + string(r) }
 
-// isOne reports whether it is one of these.
-func (r Refusal) isOne() bool {
-	switch r {
-	case Gone, BehindSeen, BehindGuard, TwoRoots, GuardBehind, BehindListed, BehindPublished:
-		return true
-	}
-	return false
+// refusals are the library's errors of a node that must not start.
+var refusals = map[error]Refusal{
+	wagtenib.ErrLockGone: Gone, wagtenib.ErrBehindSeen: BehindSeen, wagtenib.ErrBehindSigned: BehindGuard, wagtenib.ErrTwoRoots: TwoRoots,
+	wagtenib.ErrSignedBehindListed: GuardBehind, wagtenib.ErrBehindListed: BehindListed, wagtenib.ErrBehindPublished: BehindPublished,
 }
 
+// Function returns the command that follows a command, as wagtenib.NodeNext does.
+type Function func(wagtenib.NodeCommand, wagtenib.NodeOutcome) (wagtenib.NodeCommand, error)
+
 // Decider decides for nodes. It keeps nothing of a node from one call to the next. Its methods may be called at once.
-type Decider struct{ caller *proved.Caller }
+type Decider struct{ next Function }
 
 // New returns a decider.
-func New() *Decider { return Over(wagtenib.NodeLine) }
+func New() *Decider { return Over(wagtenib.NodeNext) }
 
 // Over returns a decider over another function than the proved one, for tests.
-func Over(function proved.Function) *Decider { return &Decider{proved.NewCaller(function)} }
+func Over(function Function) *Decider { return &Decider{function} }
 
-// Next returns the command that follows a command, by what came of it.
-func (d *Decider) Next(command *Command, told Told) (next *Command, err error) {
-	for key, value := range told {
-		if objects, ok := value.([]string); ok && objects == nil {
-			told[key] = []string{}
-		}
+// Next returns the command that follows a command, by its outcome.
+func (d *Decider) Next(command *Command, told Told) (*Command, error) {
+	outcome, came, err := told.read(command)
+	if err != nil {
+		return nil, err
 	}
-	err = d.caller.Call(map[string]any{"node": command.said, "told": told}, func(reply []byte) (err error) {
-		next, err = read(reply)
-		return err
-	})
+	node, err := d.next(command.node, outcome)
+	if err != nil {
+		return nil, fmt.Errorf("decider: %w", err)
+	}
+	seen, made := known{command.Seen, command.node.Seen}, known{command.New, command.node.Next}
+	next := &Command{Do: names[node.Kind], node: node}
+	if next.Do == "" {
+		return nil, fmt.Errorf("%w: no command has the number %d", ErrReply, node.Kind)
+	}
+	switch node.Kind {
+	case wagtenib.LookForHead, wagtenib.MakeStep, wagtenib.StageBatch, wagtenib.SwapLock, wagtenib.DeleteBatch:
+		next.Seen, err = ofState(node.Seen, seen, came)
+	}
+	if err != nil {
+		return nil, err
+	}
+	switch node.Kind {
+	case wagtenib.StageBatch, wagtenib.SwapLock, wagtenib.PutObjects, wagtenib.AddToIndex, wagtenib.PublishHead, wagtenib.AnswerAll:
+		next.New, err = ofState(node.Next, made, seen, came)
+	case wagtenib.DeleteBatch:
+		next.Bundle = wagtenib.BatchName(node.Next)
+	}
+	if err != nil {
+		return nil, err
+	}
+	next.Objects, err = next.objects(command, told)
 	return next, err
 }
 
-// Start reports whether a node that finds this is to create the register. If not, it goes on from the register's text. A Refusal says that it
-// must do neither.
+// ofState returns the text of a state, which must be one of these.
+func ofState(state wagtenib.NodeState, all ...known) (Held, error) {
+	for _, k := range all {
+		if k.held.Text != "" && k.state == state {
+			return k.held, nil
+		}
+	}
+	return Held{}, fmt.Errorf("%w: the one at %d ms", ErrReply, state.Timestamp)
+}
+
+// objects returns the objects of a command that is about some. They came with the outcome, or were the last command's.
+func (c *Command) objects(before *Command, told Told) ([]string, error) {
+	switch c.node.Kind {
+	case wagtenib.StageBatch, wagtenib.SwapLock, wagtenib.PutObjects:
+	default:
+		return nil, nil
+	}
+	objects := before.Objects
+	if before.Do == Step || before.Do == Look {
+		objects = append([]string{}, told.objects...)
+	}
+	if uint64(len(objects)) != c.node.Objects {
+		return nil, fmt.Errorf("%w: it has %d objects, and not %d", ErrReply, len(objects), c.node.Objects)
+	}
+	return objects, nil
+}
+
+// Start reports whether a node that finds this must create the lock. If not, it continues from the lock's text. A Refusal says that it must do neither.
 func (d *Decider) Start(found Found) (creates bool, err error) {
-	var began string
-	err = d.caller.Call(map[string]any{"begin": found}, func(reply []byte) (err error) {
-		began, err = readBegin(reply)
-		return err
-	})
-	return err == nil && began == "creates", err
-}
-
-// readBegin reads a reply to what a node finds.
-func readBegin(line []byte) (string, error) {
-	var reply struct {
-		Begin   string
-		Refused Refusal
+	err = wagtenib.NodeStart([]byte(found.Register), found.inCall())
+	if err == nil || errors.Is(err, wagtenib.ErrCreatesLock) {
+		return err != nil, nil
 	}
-	err := json.Unmarshal(line, &reply)
-	switch {
-	case err == nil && reply.Refused == "bad-line" && reply.Begin == "":
-		return "", ErrRefused
-	case err == nil && reply.Refused.isOne() && reply.Begin == "":
-		return "", reply.Refused
-	case err == nil && reply.Refused == "" && (reply.Begin == "goes" || reply.Begin == "creates"):
-		return reply.Begin, nil
+	if refusal, ok := refusals[err]; ok {
+		return false, refusal
 	}
-	return "", fmt.Errorf("%w: %.80q", ErrReply, line)
-}
-
-// read reads a reply.
-func read(line []byte) (*Command, error) {
-	if proved.IsRefusal(line) {
-		return nil, ErrRefused
-	}
-	var reply struct{ Node json.RawMessage }
-	if err := json.Unmarshal(line, &reply); err != nil {
-		return nil, fmt.Errorf("%w: %v", ErrReply, err)
-	}
-	command := &Command{said: reply.Node}
-	if err := json.Unmarshal(reply.Node, command); err != nil {
-		return nil, fmt.Errorf("%w: %v", ErrReply, err)
-	}
-	if !command.isWhole() {
-		return nil, fmt.Errorf("%w: %.80q", ErrReply, line)
-	}
-	return command, nil
-}
-
-// isWhole reports whether a command is one, and has all that it is about.
-func (c *Command) isWhole() bool {
-	seen, new := c.Seen.Text != "" && c.Seen.Bundle != "", c.New.Text != "" && c.New.Bundle != ""
-	switch c.Do {
-	case Read:
-		return true
-	case Look, Step:
-		return seen
-	case Stage, Swap:
-		return seen && new && c.Objects != nil
-	case Put:
-		return new && c.Objects != nil
-	case Place, Head, Answer:
-		return new
-	case Delete:
-		return seen && c.Bundle != ""
-	}
-	return false
+	return false, fmt.Errorf("%w: %w", ErrRefused, err)
 }

@@ -7,16 +7,10 @@ import (
 	"testing"
 
 	"wagtenib/bindings/go/wagtenib"
-	"wagtenib/service/proved"
 	"wagtenib/service/trial"
 )
 
 var must = trial.Must
-
-// replying returns a decider over a function that replies one line to every request.
-func replying(reply string) *Decider {
-	return Over(func(*[]byte, []byte) ([]byte, error) { return []byte(reply + "\n"), nil })
-}
 
 // line is a state's, of so many entries at a moment.
 func line(size, moment uint64) string {
@@ -58,32 +52,16 @@ func TestWay(t *testing.T) {
 	} {
 		next, err := c.Next(command, step.told)
 		must(t, err)
-		next.said, command = nil, next
-		if fmt.Sprintf("%q", *next) != fmt.Sprintf("%q", step.want) {
-			t.Fatalf("behind %v comes %+v, and not %+v", step.told, *next, step.want)
-		}
-		// (what was said is asked again)
-		if command, err = again(command); err != nil {
-			t.Fatal(err)
+		command = next
+		got := *next
+		got.node = step.want.node
+		if fmt.Sprintf("%q", got) != fmt.Sprintf("%q", step.want) {
+			t.Fatalf("after %+v comes %+v, and expected was %+v", step.told, got, step.want)
 		}
 	}
 }
 
-// again is a command as its own fields say it.
-func again(command *Command) (*Command, error) {
-	said := fmt.Sprintf(`{"do":%q,"bundle":%q,"seen":{"text":%q},"new":{"text":%q},"objects":[`, command.Do, command.Bundle, command.Seen.Text, command.New.Text)
-	for i, object := range command.Objects {
-		if i > 0 {
-			said += ","
-		}
-		said += fmt.Sprintf("%q", object)
-	}
-	next := *command
-	next.said = []byte(said + "]}")
-	return &next, nil
-}
-
-// TestRefusals: what isn't a register's text or a bundle's name is refused, and so is a line that is too long.
+// TestRefusals: what is not a lock's text or the name of a staged batch is refused, and so is a line that is none.
 func TestRefusals(t *testing.T) {
 	t.Parallel()
 	c := New()
@@ -92,8 +70,7 @@ func TestRefusals(t *testing.T) {
 	step, err := c.Next(look, Published())
 	must(t, err)
 	for _, err := range []error{
-		second(c.Next(Begin(), WasRead("a text"))), second(c.Next(step, Listed("staging/0"))), second(c.Next(step, Told{"came": "nothing"})),
-		second(c.Next(step, Stepped(strings.Repeat("x", wagtenib.MaxNodeRequest), "-", 1, nil))),
+		second(c.Next(Begin(), WasRead("a text"))), second(c.Next(step, Listed("staging/0"))), second(c.Next(step, Stepped(strings.Repeat("x", 100_000), "-", 1, nil))),
 	} {
 		if !errors.Is(err, ErrRefused) {
 			t.Error(err)
@@ -107,9 +84,9 @@ func second(_ *Command, err error) error { return err }
 func TestStarts(t *testing.T) {
 	t.Parallel()
 	c := New()
-	root, other := strings.Repeat("0", 64), strings.Repeat("1", 64)
+	root, other := [32]byte{}, [32]byte{1}
 	at := func(size, moment uint64) *Point { return &Point{size, moment} }
-	rooted := func(size, moment uint64, root string) *Rooted { return &Rooted{*at(size, moment), root} }
+	rooted := func(size, moment uint64, root [32]byte) *Rooted { return &Rooted{*at(size, moment), root} }
 	text := textOf(3, 7, 5, 1)
 	for _, it := range []struct {
 		found Found
@@ -153,47 +130,46 @@ func TestStarts(t *testing.T) {
 			t.Errorf("%+v: %s, and expected was %s", it.found, got, it.want)
 		}
 	}
-	for _, text := range []string{"a text", strings.Repeat("x", wagtenib.MaxNodeRequest)} {
+	for _, text := range []string{"a text", strings.Repeat("x", 100_000)} {
 		if _, err := c.Start(Found{Register: text}); !errors.Is(err, ErrRefused) {
 			t.Error(err)
 		}
 	}
-	for _, reply := range []string{
-		"no", "[]", "{}", "7", `{"begin":7}`, `{"begin":"runs"}`, `{"begin":"goes","refused":"gone"}`, `{"begin":"goes","refused":"bad-line"}`, `{"refused":"away"}`,
-		`{"node":{"do":"read"}}`, `{"begin":"goes","refused":7}`,
-	} {
-		if creates, err := replying(reply).Start(Found{Register: text}); !errors.Is(err, ErrReply) {
-			t.Errorf("%s: %v, %v", reply, creates, err)
-		}
-	}
 }
 
-// TestWrongReplies has a function reply what is no command.
-func TestWrongReplies(t *testing.T) {
+// TestOtherCommands has a function return a command of another state or with another number of objects than the node has, and one that does not exist.
+func TestOtherCommands(t *testing.T) {
 	t.Parallel()
-	text := `{"bundle":"staging/1","moment":1,"size":1,"text":"a"}`
-	for _, reply := range []string{
-		"no", "[]", "{}", `{"node":7}`, `{"node":{}}`, `{"node":{"do":"dance"}}`, `{"node":{"do":"look"}}`, `{"node":{"do":"look","seen":{"text":"a"}}}`,
-		`{"node":{"do":"look","seen":{"bundle":"a"}}}`, `{"node":{"do":"step","new":` + text + `}}`, `{"node":{"do":"stage","new":` + text + `,"objects":[]}}`,
-		`{"node":{"do":"swap","new":` + text + `,"seen":` + text + `}}`, `{"node":{"do":"stage","seen":` + text + `,"objects":[]}}`,
-		`{"node":{"do":"put","new":` + text + `}}`, `{"node":{"do":"put","objects":[]}}`, `{"node":{"do":"promise","seen":` + text + `,"objects":[]}}`,
-		`{"node":{"do":"head","seen":` + text + `}}`, `{"node":{"do":"place"}}`, `{"node":{"do":"answer","new":{}}}`, `{"node":{"do":"delete","seen":` + text + `}}`,
-		`{"node":{"do":"place","new":{"text":"a"}}}`, `{"node":{"do":"place","new":{"bundle":"staging/1"}}}`, `{"node":{"do":"put","new":{"text":"a"},"objects":[]}}`,
-		`{"node":{"do":"delete","bundle":"staging/1"}}`, `{"node":{"do":"read","objects":7}}`,
+	made := wagtenib.NodeState{Timestamp: 9, PreviousTimestamp: 7, Salt: 3}
+	for what, other := range map[string]func(*wagtenib.NodeCommand){
+		"another state that was read": func(c *wagtenib.NodeCommand) { c.Seen.Salt++ },
+		"another state that was made": func(c *wagtenib.NodeCommand) { c.Next = made },
+		"another number of objects":   func(c *wagtenib.NodeCommand) { c.Objects++ },
+		"a command that there is not": func(c *wagtenib.NodeCommand) { c.Kind = 10 },
 	} {
-		if command, err := replying(reply).Next(Begin(), Lost()); !errors.Is(err, ErrReply) {
-			t.Errorf("%s: %+v, %v", reply, command, err)
+		right, lies := New(), Over(func(command wagtenib.NodeCommand, outcome wagtenib.NodeOutcome) (wagtenib.NodeCommand, error) {
+			next, err := wagtenib.NodeNext(command, outcome)
+			other(&next)
+			return next, err
+		})
+		command := Begin()
+		for _, told := range []Told{WasRead(textOf(3, 7, 5, 1)), Published()} {
+			next, err := right.Next(command, told)
+			must(t, err)
+			command = next
+		}
+		stepped := Stepped(line(4, 9), "-", 2, []string{"tile/0/000.p/4 aa"})
+		if next, err := lies.Next(command, stepped); !errors.Is(err, ErrReply) || next != nil {
+			t.Errorf("%s: %+v, %v", what, next, err)
+		}
+		if next, err := right.Next(command, stepped); err != nil || next.Do != Stage {
+			t.Errorf("%s: %+v, %v", what, next, err)
 		}
 	}
-	// (of a command that reads nothing more has to be known, and more may be)
-	if command, err := replying(`{"node":{"do":"read","objects":[],"seen":`+text+`}}`).Next(Begin(), Lost()); err != nil || command.Do != Read {
-		t.Errorf("%+v, %v", command, err)
-	}
-	if _, err := replying(`{"refused":"bad-line"}`).Next(Begin(), Lost()); !errors.Is(err, ErrRefused) {
-		t.Error(err)
-	}
-	dry := Over(func(*[]byte, []byte) ([]byte, error) { return nil, proved.ErrMemory })
-	if command, err := dry.Next(Begin(), Lost()); !errors.Is(err, proved.ErrMemory) || command != nil {
+	fails := Over(func(wagtenib.NodeCommand, wagtenib.NodeOutcome) (wagtenib.NodeCommand, error) {
+		return wagtenib.NodeCommand{}, wagtenib.ErrCommand
+	})
+	if command, err := fails.Next(Begin(), Lost()); !errors.Is(err, wagtenib.ErrCommand) || command != nil {
 		t.Errorf("%+v, %v", command, err)
 	}
 }

@@ -3,7 +3,6 @@ package sequencer
 import (
 	"context"
 	"crypto/sha256"
-	"encoding/json"
 	"errors"
 	"os"
 	"path/filepath"
@@ -15,84 +14,49 @@ import (
 
 	"wagtenib/bindings/go/wagtenib"
 	"wagtenib/service/decider"
-	"wagtenib/service/proved"
 	"wagtenib/service/step"
 	"wagtenib/service/stores"
 )
 
-// saidCommand is a command as the proved function replies it.
-type saidCommand map[string]any
-
-// held returns the text that a command is about, by its key.
-func (n saidCommand) held(key string) map[string]any { return n[key].(map[string]any) }
-
-// another changes the last digit of the salt in a text.
-func (n saidCommand) another(key string) {
-	text := []byte(n.held(key)["text"].(string))
-	if last := &text[len(text)-2]; *last == '0' {
-		*last = '1'
-	} else {
-		*last = '0'
-	}
-	n.held(key)["text"] = string(text)
-}
-
-// liar returns a decider that changes each command DO.
-func liar(t *testing.T, do string, lie func(saidCommand)) *decider.Decider {
-	t.Helper()
-	return decider.Over(func(memory *[]byte, request []byte) ([]byte, error) {
-		reply, err := wagtenib.NodeLine(memory, request)
-		if err != nil {
-			return reply, err
+// liar returns a decider that changes each command of a kind.
+func liar(kind wagtenib.NodeCommandKind, lie func(*wagtenib.NodeCommand)) *decider.Decider {
+	return decider.Over(func(command wagtenib.NodeCommand, outcome wagtenib.NodeOutcome) (wagtenib.NodeCommand, error) {
+		next, err := wagtenib.NodeNext(command, outcome)
+		if err == nil && next.Kind == kind {
+			lie(&next)
 		}
-		var told struct {
-			Node saidCommand `json:"node"`
-		}
-		if err := json.Unmarshal(reply, &told); err != nil {
-			return nil, err
-		}
-		if told.Node["do"] != do {
-			return reply, nil
-		}
-		lie(told.Node)
-		changed, err := json.Marshal(told)
-		return append(changed, '\n'), err
+		return next, err
 	})
 }
 
-// TestLyingDecider: a command that isn't of what this node has isn't carried out, and is told to who waits. Behind a right one all goes on.
+// TestLyingDecider: a command that is about another state than this node has is not carried out, and those who wait are told. After a right one all goes on.
 func TestLyingDecider(t *testing.T) {
 	t.Parallel()
-	elsewhere := "staging/" + strings.Repeat("0", 48)
+	seen, made := func(c *wagtenib.NodeCommand) { c.Seen.Salt ^= 1 }, func(c *wagtenib.NodeCommand) { c.Next.Salt ^= 1 }
+	const another = "a command of another state"
 	for what, of := range map[string]struct {
-		do   string
-		lie  func(saidCommand)
+		kind wagtenib.NodeCommandKind
+		lie  func(*wagtenib.NodeCommand)
 		told string
 	}{
-		"a text that was read is of another size": {decider.Look, func(n saidCommand) { n.held("seen")["size"] = 1_000_000 }, "behind a text that was read"},
-		"another text is looked at":               {decider.Look, func(n saidCommand) { n.another("seen") }, "behind a text that was read"},
-		"a step from another text":                {decider.Step, func(n saidCommand) { n.another("seen") }, "a step from another text"},
-		"no stage behind a step":                  {decider.Stage, func(n saidCommand) { n["do"] = "swap" }, "swap behind a step"},
-		"a bundle under another name":             {decider.Stage, func(n saidCommand) { n.held("new")["bundle"] = elsewhere }, "stage of another step"},
-		"a bundle of another text":                {decider.Stage, func(n saidCommand) { n.another("new") }, "stage of another step"},
-		"a swap from another text":                {decider.Swap, func(n saidCommand) { n.another("seen") }, "swap of another step"},
-		"a swap to another text":                  {decider.Swap, func(n saidCommand) { n.another("new") }, "swap of another step"},
-		"a swap to another bundle":                {decider.Swap, func(n saidCommand) { n.held("new")["bundle"] = elsewhere }, "swap of another step"},
-		"a swap without the step's objects":       {decider.Swap, func(n saidCommand) { n["objects"] = []string{} }, "swap of another step"},
-		"an object that isn't the step's": {decider.Put, func(n saidCommand) {
-			n["objects"].([]any)[0] = "tile/0/999 " + strings.Repeat("0", 64)
-		}, "which isn't there"},
-		"objects are put of another text": {decider.Put, func(n saidCommand) { n.another("new") }, "put of another text"},
-		"places of another text":          {decider.Place, func(n saidCommand) { n.another("new") }, "place of another text"},
-		"a head of another text":          {decider.Head, func(n saidCommand) { n.another("new") }, "head of another text"},
-		"a command that there isn't":      {decider.Put, func(n saidCommand) { n["do"] = "dance" }, "not a reply"},
+		"another text is looked at":         {wagtenib.LookForHead, seen, another},
+		"a step from another text":          {wagtenib.MakeStep, seen, another},
+		"no stage after a step":             {wagtenib.StageBatch, func(c *wagtenib.NodeCommand) { c.Kind = wagtenib.SwapLock }, "swap behind a step"},
+		"a staged batch of another text":    {wagtenib.StageBatch, made, another},
+		"a swap from another text":          {wagtenib.SwapLock, seen, another},
+		"a swap to another text":            {wagtenib.SwapLock, made, another},
+		"a swap without the step's objects": {wagtenib.SwapLock, func(c *wagtenib.NodeCommand) { c.Objects = 0 }, another},
+		"objects are put of another text":   {wagtenib.PutObjects, made, another},
+		"places of another text":            {wagtenib.AddToIndex, made, another},
+		"a head of another text":            {wagtenib.PublishHead, made, another},
+		"a command that there is not":       {wagtenib.PutObjects, func(c *wagtenib.NodeCommand) { c.Kind = 99 }, "no command has the number 99"},
 	} {
 		t.Run(what, func(t *testing.T) {
 			t.Parallel()
 			p, ctx, got := newPlace(t), limited(t), &answers{}
 			config := p.config(t)
 			right := config.Decider
-			config.Decider, config.Patience = liar(t, of.do, of.lie), 200*time.Millisecond
+			config.Decider, config.Patience = liar(of.kind, of.lie), 200*time.Millisecond
 			s, err := New(ctx, config)
 			if err == nil {
 				brief, cancel := context.WithTimeout(ctx, longest)
@@ -111,20 +75,25 @@ func TestLyingDecider(t *testing.T) {
 	}
 }
 
-// TestDeciderWithoutMemory: a node doesn't start if there is no memory for the first decision, and goes on after one for which there was none.
-func TestDeciderWithoutMemory(t *testing.T) {
+// undecided is a function of a decider that fails.
+func undecided(wagtenib.NodeCommand, wagtenib.NodeOutcome) (wagtenib.NodeCommand, error) {
+	return wagtenib.NodeCommand{}, errTried
+}
+
+// TestDeciderThatFails: a node does not start if the first decision fails, and goes on after one that failed.
+func TestDeciderThatFails(t *testing.T) {
 	t.Parallel()
 	p, ctx, got := newPlace(t), limited(t), &answers{}
 	config := p.config(t)
-	var isDry atomic.Bool
-	isDry.Store(true)
-	config.Decider = decider.Over(func(memory *[]byte, request []byte) ([]byte, error) {
-		if isDry.Load() {
-			return nil, proved.ErrMemory
+	var fails atomic.Bool
+	fails.Store(true)
+	config.Decider = decider.Over(func(command wagtenib.NodeCommand, outcome wagtenib.NodeOutcome) (wagtenib.NodeCommand, error) {
+		if fails.Load() {
+			return wagtenib.NodeCommand{}, errTried
 		}
-		return wagtenib.NodeLine(memory, request)
+		return wagtenib.NodeNext(command, outcome)
 	})
-	if _, err := New(ctx, config); !errors.Is(err, proved.ErrMemory) {
+	if _, err := New(ctx, config); !errors.Is(err, errTried) {
 		t.Error(err)
 	}
 	none := config
@@ -132,14 +101,14 @@ func TestDeciderWithoutMemory(t *testing.T) {
 	if _, err := New(ctx, none); !errors.Is(err, ErrConfig) {
 		t.Error(err)
 	}
-	isDry.Store(false)
+	fails.Store(false)
 	s := started(t, config, hooks{})
 	must(t, got.submitAll(ctx, s, 0, 5, 5))
-	isDry.Store(true)
+	fails.Store(true)
 	done := make(chan error, 1)
 	go func() { done <- got.submitAll(ctx, s, 5, 10, 5) }()
-	eventually(t, "a round fails", func() bool { return strings.Contains(s.Figures().Fault, "out of memory") })
-	isDry.Store(false)
+	eventually(t, "a round fails", func() bool { return strings.Contains(s.Figures().Fault, errTried.Error()) })
+	fails.Store(false)
 	must(t, <-done)
 	p.right(t, got)
 }
@@ -324,7 +293,7 @@ func TestAnotherIsWaitedFor(t *testing.T) {
 		t.Errorf("at once: %v, %v", told, err)
 	}
 	k.seen = time.Now().Add(-2 * helpsAfter)
-	if told, err := other.doLook(ctx, &turn{k: k, command: k.look}); err != nil || told["came"] != "bundle" || other.helped.Load() != 1 {
+	if told, err := other.doLook(ctx, &turn{k: k, command: k.look}); err != nil || told == nil || other.helped.Load() != 1 {
 		t.Errorf("behind a while: %v, %v", told, err)
 	}
 	close(release)

@@ -2,7 +2,6 @@ package sequencer
 
 import (
 	"context"
-	"encoding/hex"
 	"errors"
 	"fmt"
 	"strings"
@@ -151,7 +150,7 @@ type found struct {
 
 // rooted is a head as the decider is told it.
 func rooted(head signer.Head) *decider.Rooted {
-	return &decider.Rooted{Point: decider.Point{Size: head.Size, Moment: head.Moment}, Root: hex.EncodeToString(head.Root[:])}
+	return &decider.Rooted{Point: decider.Point{Size: head.Size, Moment: head.Moment}, Root: head.Root}
 }
 
 // find reads the register, and behind it all that may be ahead of it.

@@ -197,7 +197,7 @@ func TestStartOverWhatMoves(t *testing.T) {
 		"heads aren't listed":          {func(c *Config) { c.Objects = unwellObjects{c.Objects, headsPrefix} }, errUnwell},
 		"nor once":                     {func(c *Config) { c.Objects = &listsAt{c.Objects, headsPrefix, 1} }, errUnwell},
 		"what it saw isn't read":       {func(c *Config) { c.LatestHead = t.TempDir() }, syscall.EISDIR},
-		"there is no memory to decide": {func(c *Config) { c.Decider = decider.Over(dry) }, proved.ErrMemory},
+		"there is no decision":         {func(c *Config) { c.Decider = decider.Over(undecided) }, errTried},
 	} {
 		config := p.config(t)
 		it.changes(&config)

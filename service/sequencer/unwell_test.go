@@ -9,6 +9,7 @@ import (
 	"errors"
 	"os"
 	"path/filepath"
+	"reflect"
 	"strings"
 	"sync/atomic"
 	"testing"
@@ -16,7 +17,6 @@ import (
 
 	"wagtenib/service/decider"
 	"wagtenib/service/log"
-	"wagtenib/service/proved"
 	"wagtenib/service/signer"
 	"wagtenib/service/step"
 	"wagtenib/service/stores"
@@ -427,7 +427,7 @@ func TestCommandsThatFail(t *testing.T) {
 		"stage": (*Sequencer).doStage, "put": (*Sequencer).doPut, "place": (*Sequencer).doPlace, "head": (*Sequencer).doHead,
 	} {
 		node := readingNode(s)
-		if told, err := carry(node, ctx, turnOf(node)); err != nil || told["came"] != "done" {
+		if told, err := carry(node, ctx, turnOf(node)); err != nil || !reflect.DeepEqual(told, decider.Done()) {
 			t.Errorf("where all is well: %s: %v, %v", what, told, err)
 		}
 	}
@@ -596,8 +596,8 @@ func TestNoDecisionAtSweeping(t *testing.T) {
 	eventually(t, "a step may be made", func() bool { return s.isStepping() != nil })
 	node := readingNode(s)
 	node.stepping = s.isStepping()
-	node.config.Decider = decider.Over(dry)
-	wants(t, (&tender{s: node}).sweepBundles(ctx), proved.ErrMemory)
+	node.config.Decider = decider.Over(undecided)
+	wants(t, (&tender{s: node}).sweepBundles(ctx), errTried)
 }
 
 // TestWhatIsntDeletedIsntPutRight: where what stands in the way can't be deleted, nothing counts as made again.

@@ -60,6 +60,22 @@ const (
 	ErrNotFirst          Code = C.WAGTENIB_NOT_FIRST           // the head is neither that of the empty tree nor the named one
 )
 
+// The faults of a node's commands and of a lock's text, and what a node that starts must not continue from.
+const (
+	ErrCommand            Code = C.WAGTENIB_BAD_COMMAND          // no command of a node has this number
+	ErrOutcome            Code = C.WAGTENIB_BAD_OUTCOME          // no outcome of a command has this number
+	ErrLockText           Code = C.WAGTENIB_BAD_LOCK_TEXT        // the bytes are no lock's text
+	ErrBatchName          Code = C.WAGTENIB_BAD_BATCH_NAME       // the bytes are no name of a staged batch
+	ErrCreatesLock        Code = C.WAGTENIB_CREATES_LOCK         // the node must create the lock of a new log
+	ErrLockGone           Code = C.WAGTENIB_LOCK_GONE            // there is no lock, and none is to be created, or there is something of a log
+	ErrBehindSeen         Code = C.WAGTENIB_BEHIND_SEEN          // this machine saw a later head than the lock's, or another one with its size and timestamp
+	ErrBehindSigned       Code = C.WAGTENIB_BEHIND_SIGNED        // a later head than the lock's was signed
+	ErrTwoRoots           Code = C.WAGTENIB_TWO_ROOTS            // another head with the lock's size and timestamp was signed
+	ErrSignedBehindListed Code = C.WAGTENIB_SIGNED_BEHIND_LISTED // the store lists a later head than the last one that was signed
+	ErrBehindListed       Code = C.WAGTENIB_BEHIND_LISTED        // the store lists a later head than the lock's
+	ErrBehindPublished    Code = C.WAGTENIB_BEHIND_PUBLISHED     // a later head than the lock's is published
+)
+
 var texts = map[Code]string{
 	ErrIndexOutOfRange:   "the index of the leaf is not below the size of the tree",
 	ErrPathTooLong:       "the proof has more hashes than the tree has levels for it",
@@ -86,6 +102,19 @@ var texts = map[Code]string{
 	ErrLaterLeaf:         "the leaf's timestamp is later than the last head's",
 	ErrOtherIndex:        "the leaf has extensions, and they are not its index alone",
 	ErrNotFirst:          "the head is neither that of the empty tree nor the named one",
+
+	ErrCommand:            "no command of a node has this number",
+	ErrOutcome:            "no outcome of a command has this number",
+	ErrLockText:           "the bytes are no lock's text",
+	ErrBatchName:          "the bytes are no name of a staged batch",
+	ErrCreatesLock:        "the node must create the lock of a new log",
+	ErrLockGone:           "there is no lock, and none may be created",
+	ErrBehindSeen:         "this machine saw a later head than the lock's, or another one with its size and timestamp",
+	ErrBehindSigned:       "a later head than the lock's was signed",
+	ErrTwoRoots:           "another head with the lock's size and timestamp was signed",
+	ErrSignedBehindListed: "the store lists a later head than the last one that was signed",
+	ErrBehindListed:       "the store lists a later head than the lock's",
+	ErrBehindPublished:    "a later head than the lock's is published",
 }
 
 // Error returns the fault in words.

@@ -22,3 +22,27 @@ pub const LATER_LEAF: u32 = 38;
 pub const OTHER_INDEX: u32 = 39;
 /// The head is neither that of the empty tree nor the one that was named.
 pub const NOT_FIRST: u32 = 40;
+/// The number of a command is none.
+pub const BAD_COMMAND: u32 = 112;
+/// The number of an outcome is none.
+pub const BAD_OUTCOME: u32 = 113;
+/// The bytes are no lock's text.
+pub const BAD_LOCK_TEXT: u32 = 114;
+/// The bytes are no name of a staged batch.
+pub const BAD_BATCH_NAME: u32 = 115;
+/// The node must create the lock of a new log.
+pub const CREATES_LOCK: u32 = 116;
+/// There is no lock, and none is to be created, or there is something of a log.
+pub const LOCK_GONE: u32 = 117;
+/// This machine saw a later head, or another one with this size and timestamp.
+pub const BEHIND_SEEN: u32 = 118;
+/// A later head was signed.
+pub const BEHIND_SIGNED: u32 = 119;
+/// Another head with this size and timestamp was signed.
+pub const TWO_ROOTS: u32 = 120;
+/// The store lists a head that is later than the last one that was signed.
+pub const SIGNED_BEHIND_LISTED: u32 = 121;
+/// The store lists a later head.
+pub const BEHIND_LISTED: u32 = 122;
+/// A later head is published.
+pub const BEHIND_PUBLISHED: u32 = 123;

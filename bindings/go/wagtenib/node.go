@@ -1,0 +1,179 @@
+//go:build linux && (amd64 || arm64)
+
+package wagtenib
+
+// #cgo nocallback wagtenib_node_next
+// #cgo noescape wagtenib_node_next
+// #cgo nocallback wagtenib_node_start
+// #cgo noescape wagtenib_node_start
+// #cgo nocallback wagtenib_lock_text
+// #cgo noescape wagtenib_lock_text
+// #cgo nocallback wagtenib_lock_state
+// #cgo noescape wagtenib_lock_state
+// #cgo nocallback wagtenib_batch_name
+// #cgo noescape wagtenib_batch_name
+// #cgo nocallback wagtenib_batch_state
+// #cgo noescape wagtenib_batch_state
+// #include "wagtenib.h"
+import "C"
+
+import "unsafe"
+
+// NodeState is a state of a log, as far as the order of a node's commands goes.
+type NodeState struct {
+	Timestamp         uint64 // milliseconds since 1970
+	PreviousTimestamp uint64 // that of the state that it was made from
+	Salt              uint64 // a random number
+}
+
+func (s NodeState) inC() C.struct_wagtenib_node_state {
+	return C.struct_wagtenib_node_state{timestamp: C.uint64_t(s.Timestamp), previous_timestamp: C.uint64_t(s.PreviousTimestamp), salt: C.uint64_t(s.Salt)}
+}
+
+func ofState(s *C.struct_wagtenib_node_state) NodeState {
+	return NodeState{uint64(s.timestamp), uint64(s.previous_timestamp), uint64(s.salt)}
+}
+
+// NodeCommandKind says what a node does next.
+type NodeCommandKind uint32
+
+// The commands of a node.
+const (
+	ReadLock    NodeCommandKind = 0 // read the lock
+	LookForHead NodeCommandKind = 1 // look whether the head of Seen is published, and if it is not, read its staged batch
+	MakeStep    NodeCommandKind = 2 // make a step from Seen, or name a staged batch that may be deleted
+	StageBatch  NodeCommandKind = 3 // put the staged batch of Next, which was made from Seen
+	SwapLock    NodeCommandKind = 4 // swap the lock from the text of Seen to that of Next
+	DeleteBatch NodeCommandKind = 5 // delete the staged batch of Next
+	PutObjects  NodeCommandKind = 6 // put all objects of Next under their public names
+	AddToIndex  NodeCommandKind = 7 // add the entries of Next to the index
+	PublishHead NodeCommandKind = 8 // have the head of Next signed, and publish it
+	AnswerAll   NodeCommandKind = 9 // answer the submissions of Next
+)
+
+// NodeCommand is a command of a node. Those states and numbers that it is not about are zero. The zero value is the command of a node that starts.
+type NodeCommand struct {
+	Seen, Next NodeState
+	Objects    uint64 // the number of objects of Next
+	Kind       NodeCommandKind
+}
+
+func (c NodeCommand) inC() C.struct_wagtenib_node_command {
+	return C.struct_wagtenib_node_command{seen: c.Seen.inC(), next: c.Next.inC(), objects: C.uint64_t(c.Objects), command: C.uint32_t(c.Kind)}
+}
+
+// NodeOutcomeKind says what came of a command.
+type NodeOutcomeKind uint32
+
+// The outcomes of a command.
+const (
+	WasDone      NodeOutcomeKind = 0 // it is done
+	WasLost      NodeOutcomeKind = 1 // it is not done, or is not known to be done and is not tried any more
+	LockRead     NodeOutcomeKind = 2 // the lock has the text of State
+	WasPublished NodeOutcomeKind = 3 // the head is published
+	BatchRead    NodeOutcomeKind = 4 // the staged batch was read, and has so many Objects
+	StepMade     NodeOutcomeKind = 5 // a step was made: it led to State, which has so many Objects
+	BatchListed  NodeOutcomeKind = 6 // the store has a staged batch of State
+)
+
+// NodeOutcome is the outcome of a command.
+type NodeOutcome struct {
+	State   NodeState
+	Objects uint64
+	Kind    NodeOutcomeKind
+}
+
+// NodeNext returns the command that follows a command, by its outcome. An outcome that does not belong to the command gives the command again. The error is nil,
+// ErrCommand or ErrOutcome.
+func NodeNext(command NodeCommand, outcome NodeOutcome) (NodeCommand, error) {
+	given, told := command.inC(), C.struct_wagtenib_node_outcome{state: outcome.State.inC(), objects: C.uint64_t(outcome.Objects), outcome: C.uint32_t(outcome.Kind)}
+	var next C.struct_wagtenib_node_command
+	if err := result(C.wagtenib_node_next(&given, &told, &next)); err != nil {
+		return NodeCommand{}, err
+	}
+	return NodeCommand{ofState(&next.seen), ofState(&next.next), uint64(next.objects), NodeCommandKind(next.command)}, nil
+}
+
+// HeadSize is the size of a head and its timestamp, in milliseconds since 1970.
+type HeadSize struct{ TreeSize, Timestamp uint64 }
+
+// NodeFound is what a node finds of a log when it starts, beside the lock's text. What is nil is not there.
+type NodeFound struct {
+	Seen      *TreeHead // the newest head that this machine saw
+	Signed    *TreeHead // the last head that was signed
+	Published *HeadSize // the newest head that is published
+	Listed    *HeadSize // the newest head that the store lists
+	Guarded   bool      // a guard decides what is signed
+	HasObject bool      // the store has an object of a log
+	Creates   bool      // the operator asks for a new log
+}
+
+func (f NodeFound) inC() (found C.struct_wagtenib_node_found) {
+	flag := func(is bool, value C.uint32_t) bool {
+		if is {
+			found.flags += value
+		}
+		return is
+	}
+	if flag(f.Seen != nil, 1) {
+		found.seen = f.Seen.inC()
+	}
+	if flag(f.Signed != nil, 2) {
+		found.signed_head = f.Signed.inC()
+	}
+	if flag(f.Published != nil, 4) {
+		found.published_size, found.published_timestamp = C.uint64_t(f.Published.TreeSize), C.uint64_t(f.Published.Timestamp)
+	}
+	if flag(f.Listed != nil, 8) {
+		found.listed_size, found.listed_timestamp = C.uint64_t(f.Listed.TreeSize), C.uint64_t(f.Listed.Timestamp)
+	}
+	flag(f.Guarded, 16)
+	flag(f.HasObject, 32)
+	flag(f.Creates, 64)
+	return found
+}
+
+// NodeStart decides what a node does when it starts. It must read the lock first and the rest after it. No bytes mean that there is no lock.
+//
+// The error is nil exactly if the node continues from the lock's text, since no head that it found is later than the lock's. If it is ErrCreatesLock, the node creates the
+// lock of a new log. Otherwise the node must do neither, and the error is the first reason: ErrLockText, ErrLockGone if there is no lock, or ErrBehindSeen, ErrTwoRoots or
+// ErrBehindSigned, ErrSignedBehindListed, ErrBehindListed, ErrBehindPublished.
+func NodeStart(lock []byte, found NodeFound) error {
+	all := found.inC()
+	return result(C.wagtenib_node_start(ofBytes(lock), C.size_t(len(lock)), &all))
+}
+
+// LockText returns a lock's text: line is the state's line that a step gave, node the address of this node, previousTimestamp that of the state from which the step
+// was made, and salt a new random number. The error is nil or ErrMemory. LockState refuses the text if the line is none.
+func LockText(line, node []byte, previousTimestamp, salt uint64) ([]byte, error) {
+	const rest = 64 // the words and numbers of a text have 45 bytes
+	text := make([]byte, len(line)+len(node)+rest)
+	var length C.uint64_t
+	err := result(C.wagtenib_lock_text(ofBytes(line), C.size_t(len(line)), ofBytes(node), C.size_t(len(node)), C.uint64_t(previousTimestamp), C.uint64_t(salt), ofBytes(text), C.size_t(len(text)), &length))
+	return text[:length], err
+}
+
+// LockState returns the state and the number of entries of a lock's text. The error is nil or ErrLockText.
+func LockState(text []byte) (state NodeState, treeSize uint64, err error) {
+	var found C.struct_wagtenib_node_state
+	var size C.uint64_t
+	err = result(C.wagtenib_lock_state(ofBytes(text), C.size_t(len(text)), &found, &size))
+	return ofState(&found), uint64(size), err
+}
+
+// batchNameBytes is the number of bytes of a staged batch's name.
+const batchNameBytes = 56
+
+// BatchName returns the name of a state's staged batch.
+func BatchName(of NodeState) string {
+	state, name := of.inC(), [batchNameBytes]byte{}
+	C.wagtenib_batch_name(&state, (*C.uint8_t)(unsafe.Pointer(&name)))
+	return string(name[:])
+}
+
+// BatchState returns the state whose staged batch has a name. The error is nil or ErrBatchName.
+func BatchState(name []byte) (NodeState, error) {
+	var state C.struct_wagtenib_node_state
+	err := result(C.wagtenib_batch_state(ofBytes(name), C.size_t(len(name)), &state))
+	return ofState(&state), err
+}

@@ -1,0 +1,2 @@
+pub mod LockText
+pub mod Laws

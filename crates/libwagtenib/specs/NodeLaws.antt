@@ -1,0 +1,127 @@
+-- What calls of `wagtenib_node_next` and `wagtenib_node_start` make of a log, whichever processes make them. H is any hash function on byte lists.
+use Rattle.std.specs.Prelude.{◌≡◌, ◌↔◌, ◌⊎◌, ⊤, ℕ, ◌<◌, List, [], ◌∷◌, length, take, Some}
+use Rattle.ct_data_tiles.specs.TileLeaf.{Tiled}
+use Rattle.ct_growth.specs.Identities.{AreNewFrom}
+use Rattle.ct_log_state.specs.declared.line.StateLine.{StateLine}
+use Rattle.ct_node.specs.declared.state.State.{State}
+use Rattle.ct_node.specs.declared.node.Node.{Node}
+use Rattle.ct_node.specs.declared.node.Node.TheVariants.{Reading, Putting, Answering}
+use Rattle.ct_node.specs.declared.node.Outcome.{Outcome}
+use Rattle.ct_node.specs.declared.starting.Point.{Point}
+use Rattle.ct_node.specs.LookUps.{LooksUp}
+use Rattle.ct_node.specs.Nodes.{after}
+use Rattle.ct_node.specs.Starts.{NoneIsAhead}
+use Rattle.ct_node.specs.Worlds.{Has, Object, World, Happening, Told, happens, beginning, MayHappen, MayBeTold, IsFirstState}
+use Rattle.ct_node_log.specs.Logs.{IsOf, AreStepsMade, StandsOf}
+use Rattle.ct_node_log.specs.Once.{entry_identities, AreStepsAdding}
+use Rattle.ct_step.specs.Steps.{IsLog}
+use Rattle.ct_verify.specs.Laws.{SomeCollide}
+use Rattle.libwagtenib.specs.declared.node.NodeCommand.{NodeCommand}
+use Rattle.libwagtenib.specs.declared.node.NodeOutcome.{NodeOutcome}
+use Rattle.libwagtenib.specs.declared.node.NodeFound.{NodeFound}
+use Rattle.libwagtenib.specs.Node.{node_of_c, c_of_node, outcome_of_c, GivesNext, found_of_c, lock_of, StartsNode}
+
+-- A world, and the commands that calls gave, the newest first.
+pub record CallsWorld : Type 0 where
+  pub world : World
+  pub given : List NodeCommand
+
+-- a log that begins with the state b: there is the command to read the lock
+abbrev pub calls_beginning : State → CallsWorld
+calls_beginning b = record { world = beginning b; given = c_of_node Reading ∷ [] }
+
+-- A call returned 0: its command, which is that of a node; the outcome that was handed in; and what the call wrote over what the caller's memory had.
+pub record NextCall : Type 0 where
+  pub command : NodeCommand
+  pub told : NodeOutcome
+  pub node : Node
+  pub outcome : Outcome
+  pub before : NodeCommand
+  pub next : NodeCommand
+  pub is_node : node_of_c command ≡ Some node
+  pub is_outcome : outcome_of_c told ≡ Some outcome
+  pub returned : GivesNext 0 command told before next
+
+-- What may happen. Beside: what is no call, as ct_node has it. Called: a call that returned 0, of a command that an earlier call gave, or the first one. A call
+-- that never came back gives nothing.
+pub data CallHappening : Type 0 where
+  Beside : Happening → CallHappening
+  Called : NextCall → CallHappening
+
+-- no node is told an outcome
+abbrev pub IsNoTelling : Happening → Type 0
+IsNoTelling (Told s o) = ⊥
+IsNoTelling h = ⊤
+
+-- the world after it: the command that the call wrote is among those that were given
+abbrev pub happens_by_calls : CallsWorld → CallHappening → CallsWorld
+happens_by_calls w (Beside h) = record w { world = happens w.world h }
+happens_by_calls w (Called c) = record { world = happens w.world (Told c.node c.outcome); given = c.next ∷ w.given }
+
+-- what an honest lock and store owe, as ct_node has it: nobody is told an outcome that is not so
+abbrev pub MayHappenByCalls : (State → ℕ) → CallsWorld → CallHappening → Type 0
+MayHappenByCalls count w (Beside h) = IsNoTelling h × MayHappen count w.world h
+MayHappenByCalls count w (Called c) = Has c.command w.given × MayBeTold count w.world c.node c.outcome
+
+-- these happened, one after the other, and led from the one world to the other
+unfoldable pub LeadToByCalls : (State → ℕ) → CallsWorld → List CallHappening → CallsWorld → Type 0
+LeadToByCalls count w [] v = w ≡ v
+LeadToByCalls count w (h ∷ hs) v = MayHappenByCalls count w h × LeadToByCalls count (happens_by_calls w h) hs v
+
+-- a call gave a command, and it is this node's
+abbrev pub GivesNode : CallsWorld → Node → Type 0
+GivesNode w n = (c : NodeCommand) × Has c w.given × (node_of_c c ≡ Some n)
+
+-- The command that a call writes is that of ct_node's next node. So whatever becomes of commands by calls is a history of ct_node's nodes: each command that a call
+-- gave is one that a node of the world gave.
+abbrev pub CallsAreHistories : Type 0
+CallsAreHistories =
+    (count : State → ℕ) (b : State) (hs : List CallHappening) (w : CallsWorld) → LeadToByCalls count (calls_beginning b) hs w → (n : Node)
+    → GivesNode w n → Has n w.world.sent
+
+-- If a call says to answer the submissions of a state, the head of that state is in the store, and its line is that of the entries E.
+abbrev pub AnswersAreOf : (List ℕ → List ℕ) → (State → StateLine) → State → List Tiled → CallsWorld → Type 0
+AnswersAreOf H line b E w = (l : State) → GivesNode w (Answering l) → Has l w.world.heads × IsOf H line b E l
+
+-- Whatever happens by calls, there is one list of entries, which begins with those that were known. All that is in the stores is of it, and all answers are; or
+-- two different strings with one hash are given.
+abbrev pub CallsWriteOneLog : Type 0
+CallsWriteOneLog =
+    (H : List ℕ → List ℕ) (line : State → StateLine) (plan : Object → List ℕ × List ℕ) (known : List Tiled) (count : State → ℕ) (b : State)
+    (hs : List CallHappening) (w : CallsWorld) → IsFirstState count b → LeadToByCalls count (calls_beginning b) hs w → IsLog H known (line b)
+    → AreStepsMade H line count plan w.world.made
+    → ((E : List Tiled) × (known ≡ take (length known) E) × StandsOf H line b plan E w.world × AnswersAreOf H line b E w) ⊎ SomeCollide H
+
+-- Of any two objects that calls say to put, and that have one name, the content is one; or two different strings with one hash are given.
+abbrev pub CallsNameOneContent : Type 0
+CallsNameOneContent =
+    (H : List ℕ → List ℕ) (line : State → StateLine) (plan : Object → List ℕ × List ℕ) (known : List Tiled) (count : State → ℕ) (b : State)
+    (hs : List CallHappening) (w : CallsWorld) → IsFirstState count b → LeadToByCalls count (calls_beginning b) hs w → IsLog H known (line b)
+    → AreStepsMade H line count plan w.world.made → (l m : State) (n c i j : ℕ) → GivesNode w (Putting l n) → GivesNode w (Putting m c) → i < n → j < c
+    → (plan (record { state = l; index = i })).0 ≡ (plan (record { state = m; index = j })).0
+    → ((plan (record { state = l; index = i })).1 ≡ (plan (record { state = m; index = j })).1) ⊎ SomeCollide H
+
+-- a step is made only after its submissions were looked up
+abbrev pub LooksUpByCalls : (State → List (List ℕ)) → CallsWorld → CallHappening → Type 0
+LooksUpByCalls ids w (Beside h) = LooksUp ids w.world h
+LooksUpByCalls ids w (Called c) = ⊤
+
+-- each step on the way is
+unfoldable pub AllLookUpByCalls : (State → List (List ℕ)) → CallsWorld → List CallHappening → Type 0
+AllLookUpByCalls ids w [] = ⊤
+AllLookUpByCalls ids w (h ∷ hs) = LooksUpByCalls ids w h × AllLookUpByCalls ids (happens_by_calls w h) hs
+
+-- Whatever happens by calls, if each step was looked up before and no place is missing, the lock's line is that of a log that begins with the entries that were known
+-- and has no identity of these, and none twice, after them; or two different strings with one hash are given.
+abbrev pub CallsAddOnce : Type 0
+CallsAddOnce =
+    (H : List ℕ → List ℕ) (line : State → StateLine) (ids : State → List (List ℕ)) (known : List Tiled) (count : State → ℕ) (b : State)
+    (hs : List CallHappening) (w : CallsWorld) → IsFirstState count b → LeadToByCalls count (calls_beginning b) hs w → IsLog H known (line b)
+    → (ids b ≡ entry_identities known) → AreStepsAdding H line ids w.world.made → AllLookUpByCalls ids (calls_beginning b) hs
+    → ((E : List Tiled) × IsLog H E (line w.world.held) × (known ≡ take (length known) E) × AreNewFrom (length known) (entry_identities E)) ⊎ SomeCollide H
+
+-- A call returns 0 over a lock's text exactly if no head that the node finds is ahead of the text's.
+abbrev pub CallsStartBehindNone : Type 0
+CallsStartBehindNone =
+    (code : ℕ) (lock : List ℕ) (p : Point) (f : NodeFound) → lock_of lock ≡ Some (Some p) → StartsNode code lock f
+    → ((code ≡ 0) ↔ NoneIsAhead (found_of_c lock (Some p) f) p)

@@ -1,0 +1,40 @@
+//! The laws of many calls of the node's functions. Each is the contract of a function that does nothing but call other laws.
+//!
+//! Any number of processes may make the calls, in any order. A call that never came back is left out.
+
+ghost use Rattle.libwagtenib.specs.NodeLaws.{CallsAreHistories, CallsWriteOneLog, CallsNameOneContent, CallsAddOnce, CallsStartBehindNone};
+
+/// Whatever becomes of commands by calls is a history of `ct_node`'s nodes.
+pub fn commands_by_calls_are_histories()
+    ensures { CallsAreHistories }
+{}
+
+/// There is one list of entries. All that is in the stores is of it, and each call that says to answer submissions does so under a head of it. Or two different strings
+/// with one hash are given.
+pub fn nodes_by_calls_write_one_log()
+    ensures { CallsWriteOneLog }
+{
+    ct_node_log::laws::nodes();
+    ct_node::laws::worlds();
+}
+
+/// Any two objects that calls say to put under one name have one content, or two different strings with one hash are given.
+pub fn nodes_by_calls_name_one_content()
+    ensures { CallsNameOneContent }
+{
+    ct_node_log::laws::nodes();
+}
+
+/// If each step is looked up and no place is missing, no identity is in the log twice after the known entries, or two different strings with one hash are given.
+pub fn nodes_by_calls_add_once()
+    ensures { CallsAddOnce }
+{
+    ct_node_log::laws::no_identity_twice();
+}
+
+/// A node that starts continues from a lock's text exactly if no head that it finds is ahead of the text's.
+pub fn nodes_start_behind_none()
+    ensures { CallsStartBehindNone }
+{
+    ct_node::laws::starts();
+}
