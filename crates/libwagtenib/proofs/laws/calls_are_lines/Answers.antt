@@ -1,4 +1,4 @@
-use Rattle.libwagtenib.proofs.CallLines.{steps, nodes, proofs, witnesses, guards}
+use Rattle.libwagtenib.proofs.CallLines.{steps, nodes, proofs, witnesses}
 use Rattle.libwagtenib.proofs.laws.calls_are_lines.Goals as goal
 
 pub returns-clause-step : goal.returns-clause-step
@@ -12,6 +12,3 @@ returns-clause-proof c = proofs
 
 pub returns-clause-witness : goal.returns-clause-witness
 returns-clause-witness c = witnesses
-
-pub returns-clause-guard : goal.returns-clause-guard
-returns-clause-guard c = guards
