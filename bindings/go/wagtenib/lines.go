@@ -10,8 +10,6 @@ package wagtenib
 // #cgo noescape wagtenib_proof_line
 // #cgo nocallback wagtenib_witness_line
 // #cgo noescape wagtenib_witness_line
-// #cgo nocallback wagtenib_guard_lines
-// #cgo noescape wagtenib_guard_lines
 // #include "wagtenib.h"
 import "C"
 
@@ -23,7 +21,6 @@ const (
 	MaxNodeRequest    = 65_536
 	MaxProofRequest   = 67_108_864
 	MaxWitnessRequest = 1_048_576
-	MaxGuardLine      = 1_048_576
 )
 
 // firstRoom is the number of bytes that memory has at least.
@@ -90,16 +87,5 @@ func ProofLine(memory *[]byte, request []byte) (reply []byte, err error) {
 func WitnessLine(memory *[]byte, request []byte) (reply []byte, err error) {
 	return written(memory, func(reply *C.uint8_t, room C.size_t, length *C.uint64_t) C.uint32_t {
 		return C.wagtenib_witness_line(ofBytes(request), C.size_t(len(request)), reply, room, length)
-	})
-}
-
-// GuardLines returns the output of a run of ctguard over these lines: what a log's key may sign (docs/GUARD.md). `lines` has whole lines,
-// each with its line end. The first one may be the state that an earlier call ended with. The output has a reply to each line, and then the
-// line of the state, which the next call begins with. `origin` and memory are as of StepLine, and `promised` is the option --receipts promised.
-//
-// The error is nil, ErrNotARequest (with the output, in which a reply refuses its line), ErrOrigin or ErrMemory.
-func GuardLines(memory *[]byte, origin string, promised bool, lines []byte) (output []byte, err error) {
-	return written(memory, func(output *C.uint8_t, room C.size_t, length *C.uint64_t) C.uint32_t {
-		return C.wagtenib_guard_lines(ofText(origin), C.size_t(len(origin)), C.bool(promised), ofBytes(lines), C.size_t(len(lines)), output, room, length)
 	})
 }

@@ -68,28 +68,6 @@ func TestRepeatsStoredRuns(t *testing.T) {
 	}
 }
 
-// TestRepeatsStoredRunOfGuard gives the guard all lines of the stored run at once, and then each by itself, after the state.
-func TestRepeatsStoredRunOfGuard(t *testing.T) {
-	lines, due := stored(t, "ctguard", "stdin"), stored(t, "ctguard", "stdout")
-	var memory []byte
-	got, err := wagtenib.GuardLines(&memory, origin, false, lines)
-	if !errors.Is(err, wagtenib.ErrNotARequest) || !bytes.Equal(got, due) {
-		t.Errorf("all lines at once: %.300q, with %v, but the stored run has %.300q", got, err, due)
-	}
-	var told, state []byte
-	for line := range bytes.Lines(lines) {
-		output, err := wagtenib.GuardLines(&memory, origin, false, append(bytes.Clone(state), line...))
-		if err != nil && !errors.Is(err, wagtenib.ErrNotARequest) {
-			t.Fatalf("%.100q: %v", line, err)
-		}
-		end := bytes.LastIndexByte(output[:len(output)-1], '\n') + 1
-		told, state = append(told, output[:end]...), bytes.Clone(output[end:])
-	}
-	if got := append(told, state...); !bytes.Equal(got, due) {
-		t.Errorf("each line by itself: %.300q, but the stored run has %.300q", got, due)
-	}
-}
-
 // TestRepeatsStoredRunsAtOnce has 64 goroutines repeat the stored runs, each with memory of its own.
 func TestRepeatsStoredRunsAtOnce(t *testing.T) {
 	var all sync.WaitGroup
@@ -139,9 +117,6 @@ func TestRefusesOriginsOfSeveralLines(t *testing.T) {
 	for _, bad := range []string{"log\nexample", "log\xff"} {
 		if reply, err := wagtenib.StepLine(&memory, bad, []byte("{}")); !errors.Is(err, wagtenib.ErrOrigin) || reply != nil {
 			t.Errorf("a step with the origin %q: %q, with %v", bad, reply, err)
-		}
-		if output, err := wagtenib.GuardLines(&memory, bad, false, []byte("{}\n")); !errors.Is(err, wagtenib.ErrOrigin) || output != nil {
-			t.Errorf("a guard with the origin %q: %q, with %v", bad, output, err)
 		}
 	}
 }
