@@ -85,7 +85,7 @@ cluster-status: ## says what runs of it
 cluster-stop: ## ends it, and judges what it published and answered
 	@service/cluster.sh stop "$(CLUSTER:~/%=$(HOME)/%)"
 
-link: ## builds libwagtenib, the proof checkers for C, and runs programs in C, Rust and Python over it
+link: ## builds libwagtenib, the proof checkers for C, and runs programs in C and Python over it
 	@checks/needs.sh link
 	@examples/link/link.sh
 

@@ -1,4 +1,4 @@
-"""Writes the cases for verify.c, verify.rs and verify.py: every true path and proof of the Certificate Transparency reference
+"""Writes the cases for verify.c and verify.py: every true path and proof of the Certificate Transparency reference
 tree of eight leaves, and damaged ones, with the answer that the damage calls for. The tree is computed by tests/merkle.py, and none of libwagtenib.
 With --header it writes C tables of the leaves and roots instead.
 """

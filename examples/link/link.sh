@@ -1,5 +1,5 @@
 #!/usr/bin/env bash
-# Builds libwagtenib.a and libwagtenib.so into crates/libwagtenib/out/link, and runs programs in C, Rust and Python over them.
+# Builds libwagtenib.a and libwagtenib.so into crates/libwagtenib/out/link, and runs programs in C and Python over them.
 set -euo pipefail
 cd "$(dirname "$0")/../.."
 out=$PWD/crates/libwagtenib/out/link
@@ -36,12 +36,6 @@ if command -v "${CXX:-c++}" >/dev/null; then
   echo "C++: the header compiles"
 else
   echo "C++: not tried, no ${CXX:-c++} here"
-fi
-if command -v rustc >/dev/null; then
-  rustc --edition 2024 -O -D warnings -L "$out" -l static=wagtenib examples/link/verify.rs -o "$work/verify-rust"
-  "$work/verify-rust" <"$work/cases"
-else
-  echo "Rust: not tried, no rustc here"
 fi
 python3 examples/link/verify.py "$out/libwagtenib.so" <"$work/cases"
 if command -v valgrind >/dev/null && valgrind --quiet true 2>/dev/null; then
