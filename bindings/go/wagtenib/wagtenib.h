@@ -166,12 +166,6 @@ uint32_t wagtenib_proof_line(const uint8_t *request, size_t request_length, uint
  * 0, 8, 9 or 11. */
 uint32_t wagtenib_witness_line(const uint8_t *request, size_t request_length, uint8_t *reply, size_t room, uint64_t *length);
 
-/* What a log's key may sign: what a run of `ctguard` writes over these lines (docs/GUARD.md). `lines` has whole lines, each with its line end, of at most
- * 1,048,576 bytes each; the first one may be the state that an earlier call ended with. `promised` is the option --receipts promised. The output has a reply
- * to each line, and then the line of the state, which the next call begins with. 0, 8, 9, 10 or 11, which says that a line is no request. */
-uint32_t wagtenib_guard_lines(const uint8_t *origin, size_t origin_length, bool promised, const uint8_t *lines, size_t lines_length,
-                              uint8_t *output, size_t room, uint64_t *length);
-
 #ifdef __cplusplus
 }
 #endif
