@@ -87,10 +87,7 @@ fn entry_of(alloc: Global, leaf: &TileLeaf<'_>) -> Result<Option<Entry>, AllocEr
 }
 
 // The batch of tile leaves, each of which is a submission.
-fn batch_of_leaves(
-    alloc: Global,
-    leaves: &[TileLeaf<'_>],
-) -> Result<Option<Vec<Entry>>, AllocError>
+fn batch_of_leaves(alloc: Global, leaves: &[TileLeaf<'_>]) -> Result<Option<Vec<Entry>>, AllocError>
     ensures { IfOk result (λ o. option_map (λ b. map entry_parts b.items) o ≡ batch_in (tiled_all leaves.now)) }
 {
     let mut batch = Vec::new(alloc);

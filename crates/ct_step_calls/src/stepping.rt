@@ -43,10 +43,7 @@ pub(crate) fn first_line(moment: u64) -> StateLine
 }
 
 // Replies with the names of what a step from a line needs.
-fn named_needs(
-    alloc: Global,
-    line: &StateLine,
-) -> Result<Answer, AllocError>
+fn named_needs(alloc: Global, line: &StateLine) -> Result<Answer, AllocError>
     requires { IsStateLine line.now }
     ensures { IfOk result (λ t. IsReplyText [] t (λ reply. reply ≡ names_edge (needed_names line.now.tree_size))) }
 {

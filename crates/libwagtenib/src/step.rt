@@ -148,5 +148,9 @@ pub extern "C" fn wagtenib_step_resume(
     let Some(origin) = origin_of(origin) else {
         return codes::BAD_ORIGIN;
     };
-    tell(ct_step_calls::resume(alloc, origin, state, bundle), out, length)
+    tell(
+        ct_step_calls::resume(alloc, origin, state, bundle),
+        out,
+        length,
+    )
 }
