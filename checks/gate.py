@@ -50,7 +50,7 @@ OF_DIST = ("checks/dist.py", "tests/library/compare.py", "tests/library/guard.py
 # How the programs are broken off: each so many-th growth of memory is refused (make sweep refuses every one).
 BROKEN_OFF = (
     ("sweep.py", "--step", "40"),
-    *(("sweep.py", "--stored", name, "--step", "40") for name in ("ctguard", "ctmonitor", "ctnode", "ctproof", "cttile")),
+    *(("sweep.py", "--stored", name, "--step", "40") for name in ("ctguard", "ctmonitor", "ctnode", "ctproof")),
 )
 
 # How often it says that the gate is still at work, in seconds, while nothing else happens.

@@ -32,7 +32,6 @@ PROGRAMS = {
         ["--origin", "a", "--receipts", "promised", "--origin", "b", "--receipts", "in-head"] * 625,
         [["lines"], ["--origin"], ["--origin", ""], ["--origin", "a\nb"], ["--receipts", "some"], ["--origin", "a", "--origins", "b"], [""], ["a" * 3000]],
     ),
-    "cttile": ("docs/GROWTH.md", "0124", ["--origin", "a"] * 2500, [["lines"], ["--origin"], ["--origin", ""], ["--origin", "a\nb"], ["--receipts", "promised"], [""]]),
     "ctproof": ("docs/TILES.md", "0124", [], OPTIONLESS),
     "ctwitness": ("docs/WITNESS.md", "0124", [], OPTIONLESS),
     "ctnode": ("docs/NODE.md", "0124", [], OPTIONLESS),

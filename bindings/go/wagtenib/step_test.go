@@ -17,8 +17,8 @@ import (
 
 const stepOrigin = "log.example/steps"
 
-// leafOf returns the MerkleTreeLeaf of a submission (RFC 6962, section 3.4), whose one extension is its index (C2SP static-ct-api).
-func leafOf(s wagtenib.Submission, timestamp, index uint64) []byte {
+// steppedLeaf returns the MerkleTreeLeaf of a submission (RFC 6962, section 3.4), whose one extension is its index (C2SP static-ct-api).
+func steppedLeaf(s wagtenib.Submission, timestamp, index uint64) []byte {
 	leaf := binary.BigEndian.AppendUint64([]byte{0, 0}, timestamp)
 	signed := s.Certificate
 	if signed != nil {
@@ -100,7 +100,7 @@ func TestSteps(t *testing.T) {
 		for range count {
 			s := submissionAt(len(log.leaves))
 			batch = append(batch, s)
-			log.append(t, leafOf(s, now, uint64(len(log.leaves))))
+			log.append(t, steppedLeaf(s, now, uint64(len(log.leaves))))
 		}
 		// (the first one once more, with another chain)
 		if count > 0 {

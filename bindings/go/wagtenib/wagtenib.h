@@ -233,10 +233,6 @@ uint32_t wagtenib_step_resume(const uint8_t *origin, size_t origin_length, const
  * length of the request, or 120 KB. A request of real data takes 26 KB of stack, and JSON that nests as deep as is allowed (127) takes 84 KB.
  */
 
-/* A step of a tiled log: what `cttile` replies to a line (docs/TILES.md). A request has at most 67,108,864 bytes. 0, 8, 9, 10 or 11. */
-uint32_t wagtenib_step_line(const uint8_t *origin, size_t origin_length, const uint8_t *request, size_t request_length,
-                            uint8_t *reply, size_t room, uint64_t *length);
-
 /* A node's next command: what `ctnode` replies to a line (docs/NODE.md). A request has at most 65,536 bytes. 0, 8, 9 or 11. */
 uint32_t wagtenib_node_line(const uint8_t *request, size_t request_length, uint8_t *reply, size_t room, uint64_t *length);
 

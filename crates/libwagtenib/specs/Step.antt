@@ -6,8 +6,9 @@ use Rattle.ct_growth.specs.declared.claim.Claim.{Claim}
 use Rattle.ct_step_calls.specs.StepAnswers.{IsReplyTo}
 use Rattle.ct_step_calls.specs.StepAsks.{for_begin, for_needs, for_resume}
 use Rattle.ct_step_calls.specs.StepCalls.{IsReplyToStep, IsReplyToClaim}
-use Rattle.ct_step_calls.specs.StepReplies.{reply_parts}
+use Rattle.ct_step_calls.specs.StepReplies.{answer_parts, reply_parts}
 use Rattle.ct_step_calls.specs.StepWords.{StepReply}
+use Rattle.ct_step_calls.specs.declared.answer.Answer.{Answer}
 use Rattle.ct_step_calls.specs.declared.answer.StepRefusal.{StepRefusal}
 use Rattle.ct_step_calls.specs.declared.answer.StepRefusal.TheVariants.{BadBatch, BadState, TooMany, TooFar, Edge, Entries, ClockBack, Full, TooLong, Bundle, Claim as NoClaim}
 use Rattle.libwagtenib.specs.Output.{IsWrittenIn}
@@ -30,6 +31,11 @@ step_code TooMany = 56
 abbrev pub IsToldIn : Result (List ℕ) StepRefusal → ℕ → List ℕ → List ℕ → ℕ → ℕ → Type 0
 IsToldIn (Err refusal) code before after count_before count = (code ≡ step_code refusal) × (after ≡ before) × (count ≡ count_before)
 IsToldIn (Ok text) code before after count_before count = IsWrittenIn text code before after count
+
+-- An answer is told, or that an allocation was refused (8), and then nothing has changed.
+abbrev pub IsAnswerTold : {F : Type 0} → Result Answer F → ℕ → List ℕ → List ℕ → ℕ → ℕ → Type 0
+IsAnswerTold (Ok answer) code before after count_before count = IsToldIn (answer_parts answer) code before after count_before count
+IsAnswerTold (Err _) code before after count_before count = (code ≡ 8) × (after ≡ before) × (count ≡ count_before)
 
 -- A reply of which this holds is told, of a log with this origin. 8: an allocation was refused, and nothing has changed.
 abbrev pub AnswersIn : List ℕ → (StepReply → Type 0) → ℕ → List ℕ → List ℕ → ℕ → ℕ → Type 0

@@ -1,9 +1,7 @@
 //! The step of a tiled log. Its state is the text of a line, and belongs to the caller.
 
-ghost use Rattle.std.specs.Prelude.{◌≡◌, ℕ, List, [], IfOk, MatchOption};
-ghost use Rattle.ct_step_calls.specs.StepReplies.{IsReplyText};
-ghost use Rattle.ct_step_calls.specs.StepWords.{StepReply};
-ghost use Rattle.libwagtenib.specs.Step.{step_code, AnswersClaim, AnswersIn, BeginsLog, IsOrigin, MakesStep, NamesEdge, ResumesStep};
+ghost use Rattle.std.specs.Prelude.{◌≡◌, MatchOption};
+ghost use Rattle.libwagtenib.specs.Step.{step_code, AnswersClaim, BeginsLog, IsAnswerTold, IsOrigin, MakesStep, NamesEdge, ResumesStep};
 
 use crate::codes;
 use crate::output::write_out;
@@ -32,9 +30,8 @@ fn number_of(refusal: StepRefusal) -> u32
 }
 
 // Tells an answer.
-fn tell(answer: Result<Answer, AllocError>, out: &mut [u8], length: &mut u64) -> u32
-    ensures { (origin : List ℕ) (P : StepReply → Type 0) → IfOk answer (λ t. IsReplyText origin t P)
-        → AnswersIn origin P result out.old out.new length.old length.new }
+fn answer_in(answer: Result<Answer, AllocError>, out: &mut [u8], length: &mut u64) -> u32
+    ensures { IsAnswerTold answer result out.old out.new length.old length.new }
 {
     match answer {
         Ok(Answer::Text(text)) => write_out(&text, out, length),
@@ -54,6 +51,7 @@ fn origin_of(bytes: &[u8]) -> Option<&str>
 }
 
 /// The state of a log without leaves at this timestamp, the text of a line. 0, 8 or 9.
+#[tactic(auto, using(crate::proofs::Told::told))]
 #[unsafe(no_mangle)]
 pub extern "C" fn wagtenib_step_begin(
     alloc: Global,
@@ -63,11 +61,12 @@ pub extern "C" fn wagtenib_step_begin(
 ) -> u32
     ensures { BeginsLog timestamp result out.old out.new length.old length.new }
 {
-    tell(ct_step_calls::begin(alloc, timestamp), out, length)
+    answer_in(ct_step_calls::begin(alloc, timestamp), out, length)
 }
 
 /// The names of the objects whose contents a step from this state has to be handed, in order, each a vector whose length stands in 8 bytes. 0, 8, 9 or 36
 /// (`state` is none).
+#[tactic(auto, using(crate::proofs::Told::told))]
 #[unsafe(no_mangle)]
 pub extern "C" fn wagtenib_step_needs(
     alloc: Global,
@@ -77,11 +76,12 @@ pub extern "C" fn wagtenib_step_needs(
 ) -> u32
     ensures { NamesEdge state.now result out.old out.new length.old length.new }
 {
-    tell(ct_step_calls::needs(alloc, state), out, length)
+    answer_in(ct_step_calls::needs(alloc, state), out, length)
 }
 
 /// A step from a state: of a batch, with the contents of the objects that it needs, at a timestamp that is at most `max_ahead` milliseconds beyond the
 /// state's. 0, 8, 9 or the number of the first reason why there is none, in this order: 10, 55, 56, 48 (the edge is no list), 36, 35, 48 to 52.
+#[tactic(auto, using(crate::proofs::Told::told))]
 #[unsafe(no_mangle)]
 pub extern "C" fn wagtenib_step(
     alloc: Global,
@@ -99,7 +99,7 @@ pub extern "C" fn wagtenib_step(
     let Some(origin) = origin_of(origin) else {
         return codes::BAD_ORIGIN;
     };
-    tell(
+    answer_in(
         ct_step_calls::step(alloc, origin, state, edge, batch, now, max_ahead),
         out,
         length,
@@ -108,6 +108,7 @@ pub extern "C" fn wagtenib_step(
 
 /// The bytes to sign in the receipt of a submission whose entry has this timestamp and is the leaf at this index, if the audit path leads from that leaf
 /// to the root of the state. 0, 8, 9 or the number of the first reason why not, in this order: 55, 36, 54.
+#[tactic(auto, using(crate::proofs::Told::told))]
 #[unsafe(no_mangle)]
 pub extern "C" fn wagtenib_step_claim(
     alloc: Global,
@@ -125,7 +126,7 @@ pub extern "C" fn wagtenib_step_claim(
         leaf_index,
         timestamp,
     };
-    tell(
+    answer_in(
         ct_step_calls::claim(alloc, state, claim, path, submission),
         out,
         length,
@@ -134,6 +135,7 @@ pub extern "C" fn wagtenib_step_claim(
 
 /// The head of the step that made a state, the text of its checkpoint, and the objects in its bundle. 0, 8, 9 or the number of the first reason why not, in
 /// this order: 10, 36, 53.
+#[tactic(auto, using(crate::proofs::Told::told))]
 #[unsafe(no_mangle)]
 pub extern "C" fn wagtenib_step_resume(
     alloc: Global,
@@ -148,7 +150,7 @@ pub extern "C" fn wagtenib_step_resume(
     let Some(origin) = origin_of(origin) else {
         return codes::BAD_ORIGIN;
     };
-    tell(
+    answer_in(
         ct_step_calls::resume(alloc, origin, state, bundle),
         out,
         length,
