@@ -1,4 +1,4 @@
-/* The programs cttile, ctnode, ctproof and ctwitness over libwagtenib, for a machine without the Rattle kit: each by the name that this program is
+/* The programs ctnode, ctproof and ctwitness over libwagtenib, for a machine without the Rattle kit: each by the name that this program is
  * called by, or by its first argument.
  *
  * What is replied to a line is the library's, which is proved. What is here is plain C, and is tested: tests/library/compare.py compares it with the proved programs'
@@ -33,13 +33,7 @@ static const char *origin = "";
 static struct buffer reply;
 static int status;
 
-static uint32_t call_step(const uint8_t *input, size_t length, uint8_t *to, size_t room, uint64_t *to_length) {
-    return wagtenib_step_line((const uint8_t *)origin, strlen(origin), input, length, to, room, to_length);
-}
-
 static const struct program PROGRAMS[] = {
-    {"cttile", "usage: cttile [--origin TEXT] < lines > replies\n\ndocs/GROWTH.md has the form of the lines." STATUSES("each line was a request", "a line was no request"),
-     67108864, true, call_step},
     {"ctnode", "usage: ctnode < lines > replies\n\ndocs/NODE.md has the form of the lines." STATUSES("each line was a node's", "a line was none"),
      65536, false, wagtenib_node_line},
     {"ctproof", "usage: ctproof < lines > replies\n\ndocs/TILES.md has the form of the lines." STATUSES("each line was a request", "a line was no request"),
@@ -169,7 +163,7 @@ int main(int count, char **arguments) {
         first = 2;
     }
     if (program == NULL) {
-        fputs("usage: programs cttile|ctnode|ctproof|ctwitness [OPTION ARGUMENT]..\n", stderr);
+        fputs("usage: programs ctnode|ctproof|ctwitness [OPTION ARGUMENT]..\n", stderr);
         return 2;
     }
     take_arguments(count - first, arguments + first);

@@ -1,9 +1,9 @@
 #!/usr/bin/env python3
 """Gives the built programs a line of 400 MB, and looks that they hold little of it: long_lines.py [NAME..]
 
-A log or a client that is mistrusted may never end its line. ctlog, ctmonitor, cttile, ctproof, ctnode and ctwitness, or those that are named, are
+A log or a client that is mistrusted may never end its line. ctlog, ctmonitor, ctproof, ctnode and ctwitness, or those that are named, are
 given such a line and a good one behind it: the first is replied to with `bad-line`, the second as if it stood alone, and no program takes more than
-64 MB of memory, its own and this script's, but for cttile and ctproof, whose longest good line has 64 MB: twice that. Those that aren't built are
+64 MB of memory, its own and this script's, but for ctproof, whose longest good line has 64 MB: twice that. Those that aren't built are
 named. The status is 1 where something isn't so.
 """
 import base64
@@ -13,7 +13,7 @@ import sys
 
 from sweep import CRATES
 
-PIECE, PIECES, MOST = b" " * (1 << 20), 400, {"cttile": 128 << 10, "ctproof": 128 << 10}
+PIECE, PIECES, MOST = b" " * (1 << 20), 400, {"ctproof": 128 << 10}
 LOG, FROZEN = ["--fronts", "1", "--ring", "4", "--close-at", "7"], b'{"who":"frozen","op":"get-sth"}'
 ROOT = "47DEQpj8HBSa+/TImW+5JCeuQeRkm5NMpJWZG3hSuFU="
 HEAD = f'{{"sha256_root_hash":"{ROOT}","timestamp":7,"tree_size":0}}'
@@ -27,7 +27,6 @@ COSIGNED = base64.b64encode(f"cosignature/v1\ntime 7\nlog.example\n0\n{ROOT}\n".
 PROGRAMS = {
     "ctlog": (LOG, FROZEN, f"{BAD}\n{HEAD}\n", 0),
     "ctmonitor": ([], HEAD.encode(), f'{BAD}\n{{"tree_size":0,"verdict":"accepted"}}\n', 4),
-    "cttile": ([], b'{"begin":7}', f'{REFUSED}\n{{"state":"{STATE}"}}\n', 4),
     "ctwitness": (
         [],
         f'{{"checkpoint":"log.example\\n0\\n{ROOT}\\n","last_root":"{ROOT}","last_size":0,"old":0,"proof":[],"time":7}}'.encode(),

@@ -149,9 +149,9 @@ def make_install(folder, built):
 
 
 def try_models():
-    """tiles/step.py writes the stored outputs of cttile and ctproof over their words and input, and ends with their status; so does node/ctnode.py for
+    """tiles/step.py writes the stored output of ctproof over its words and input, and ends with its status; so does node/ctnode.py for
     ctnode, and witness/model.py for ctwitness. Where ctwitness is built, witness/fuzz.py compares the two."""
-    for script, program in (("tiles/step.py", "cttile"), ("tiles/step.py", "ctproof"), ("node/ctnode.py", "ctnode"), ("witness/model.py", "ctwitness")):
+    for script, program in (("tiles/step.py", "ctproof"), ("node/ctnode.py", "ctnode"), ("witness/model.py", "ctwitness")):
         crate = HERE.parent / "crates" / program
         words = (crate / "args").read_text().split("\n")[:-1] if (crate / "args").exists() else []
         ran = run(script, *words, given=(crate / "stdin").read_bytes())
@@ -312,7 +312,7 @@ def try_release(folder):
         fail(f"release.py, with nothing built: status {ran.returncode}: {ran.stdout}{ran.stderr}")
     if (folder / "none").exists():
         fail("release.py makes something of nothing")
-    programs = {name: folder / "built" / name / "out" / name for name in ("ctlog", "ctmonitor", "cttile", "ctproof", "ctnode", "ctwitness")}
+    programs = {name: folder / "built" / name / "out" / name for name in ("ctlog", "ctmonitor", "ctproof", "ctnode", "ctwitness")}
     programs.update({name: folder / "service" / name for name in ("ctserve", "ctcheck", "ctread", "ctload", "ctwitness-serve")})
     library = {f"libwagtenib.{end}": folder / "built" / "libwagtenib" / "out" / "link" / f"libwagtenib.{end}" for end in ("a", "so")}
     commit = subprocess.run(["git", "log", "-1", "--format=%H"], cwd=HERE, capture_output=True, text=True).stdout[:12]
@@ -368,7 +368,7 @@ def try_release(folder):
             fail(f"release.py: PROVED of {name} names {sorted(named)}")
     bill = json.loads((folder / "first" / "SBOM.spdx.json").read_text())
     named = {package["name"] for package in bill["packages"]}
-    if bill["spdxVersion"] != "SPDX-2.3" or not {"ctserve", "cttile", "sha2", "std"} <= named or len({it["SPDXID"] for it in bill["packages"]}) != len(bill["packages"]):
+    if bill["spdxVersion"] != "SPDX-2.3" or not {"ctserve", "ctproof", "sha2", "std"} <= named or len({it["SPDXID"] for it in bill["packages"]}) != len(bill["packages"]):
         fail(f"release.py: the SBOM names {sorted(named)}")
     has_go = not subprocess.run([HERE.parent / "deps" / "fetch.sh"], env={**os.environ, "SETUP": "no"}, capture_output=True).returncode
     if has_go and (not {"go", "golang.org/x/mod", "github.com/lib/pq"} <= named or "github.com/google/certificate-transparency-go" in named):

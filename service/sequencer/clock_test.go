@@ -455,9 +455,11 @@ func TestMomentTooFar(t *testing.T) {
 	}
 	config := p.config(t)
 	ahead := regexp.MustCompile(`"most_ahead":[0-9]*`)
-	config.Step = step.Over(func(memory *[]byte, request []byte) ([]byte, error) {
-		return wagtenib.StepLine(memory, origin, ahead.ReplaceAll(request, []byte(`"most_ahead":0`)))
-	})
+	functions := step.Proved()
+	functions.Step = func(origin, state string, edge, batch []byte, now, _ uint64) (*wagtenib.Step, error) {
+		return wagtenib.MakeStep(origin, state, edge, batch, now, 0)
+	}
+	config.Step = step.Over(origin, functions)
 	refuses(config, "the log's newest head")
 	config = p.config(t)
 	key, err := signer.OpenKey(filepath.Join(string(p), "key.pem"))

@@ -72,7 +72,6 @@ static void call(void) {
     allocations = live = live_blocks = 0;
     length = UNTOUCHED;
     switch (mode[0]) {
-    case 's': code = wagtenib_step_line(origin, origin_length, request, request_length, reply, room, &length); break;
     case 'n': code = wagtenib_node_line(request, request_length, reply, room, &length); break;
     case 'p': code = wagtenib_proof_line(request, request_length, reply, room, &length); break;
     default: code = wagtenib_witness_line(request, request_length, reply, room, &length);

@@ -2,8 +2,6 @@ package wagtenib_test
 
 import (
 	"bytes"
-	"encoding/base64"
-	"encoding/json"
 	"errors"
 	"os"
 	"path/filepath"
@@ -19,9 +17,6 @@ const origin = "log.example/2026"
 
 // programs are the functions over a line, each by the name of the program whose stored run it must repeat.
 var programs = map[string]func(memory *[]byte, request []byte) ([]byte, error){
-	"cttile": func(memory *[]byte, request []byte) ([]byte, error) {
-		return wagtenib.StepLine(memory, origin, request)
-	},
 	"ctnode":    wagtenib.NodeLine,
 	"ctproof":   wagtenib.ProofLine,
 	"ctwitness": wagtenib.WitnessLine,
@@ -87,37 +82,9 @@ func TestRepeatsStoredRunsAtOnce(t *testing.T) {
 	all.Wait()
 }
 
-// TestMakesRoomForReplies has a step take a certificate that is longer than the memory, so that its reply has no room at first.
-func TestMakesRoomForReplies(t *testing.T) {
-	certificate := bytes.Repeat([]byte("a certificate "), 20_000)
-	batch := bytes.Split(stored(t, "cttile", "stdin"), []byte{'\n'})[2]
-	request := bytes.Replace(batch, []byte(`"QUJD"`), []byte(`"`+base64.StdEncoding.EncodeToString(certificate)+`"`), 1)
-	memory := make([]byte, 1)
-	var replies [2]struct{ Bundle []byte }
-	for turn := range replies {
-		reply, err := wagtenib.StepLine(&memory, origin, request)
-		if err != nil {
-			t.Fatal(err)
-		}
-		if err := json.Unmarshal(reply, &replies[turn]); err != nil || !bytes.Contains(replies[turn].Bundle, certificate) {
-			t.Errorf("turn %d: the bundle of %d bytes lacks the certificate, with %v", turn, len(replies[turn].Bundle), err)
-		}
-		if len(reply) == 0 || &reply[0] != &memory[0] {
-			t.Errorf("turn %d: the reply isn't part of the caller's memory", turn)
-		}
-	}
-	before := &memory[0]
-	if _, err := wagtenib.StepLine(&memory, origin, request); err != nil || before != &memory[0] {
-		t.Errorf("a reply that has room took new memory, with %v", err)
-	}
-}
-
 func TestRefusesOriginsOfSeveralLines(t *testing.T) {
 	var memory []byte
 	for _, bad := range []string{"log\nexample", "log\xff"} {
-		if reply, err := wagtenib.StepLine(&memory, bad, []byte("{}")); !errors.Is(err, wagtenib.ErrOrigin) || reply != nil {
-			t.Errorf("a step with the origin %q: %q, with %v", bad, reply, err)
-		}
 	}
 }
 

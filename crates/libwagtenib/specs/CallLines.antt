@@ -2,18 +2,13 @@
 use Rattle.std.specs.Prelude.{ℕ, List, Option}
 use Rattle.line_program.specs.ByLine.{by_value}
 use Rattle.line_calls.specs.CallReplies.{CallsAreLines}
-use Rattle.ct_step_lines.specs.StepSession.{ComesToStep, step_text, was_no_request}
 use Rattle.ct_node_lines.specs.NodeSession.{ComesToCommand}
 use Rattle.ct_node_lines.specs.NodeWords.{node_line, is_no_node}
 use Rattle.ct_proof_lines.specs.ReaderSession.{ComesToReading, reading_text, is_bad_reading}
 use Rattle.ct_witness_lines.specs.Cosigned.{is_no_cosign_request}
 use Rattle.ct_witness_lines.specs.CosignSession.{LineComesTo, cosigning_text}
 
--- what a call with a line of `cttile` wrote is what a run gives that line, with any origin
-abbrev pub StepCallsAreLines : Type 0
-StepCallsAreLines = (said : Option (List ℕ)) → CallsAreLines ComesToStep (step_text said) was_no_request
-
--- the same of `ctnode`
+-- what a call with a line of `ctnode` wrote is what a run gives that line
 abbrev pub NodeCallsAreLines : Type 0
 NodeCallsAreLines = CallsAreLines (by_value 65536 ComesToCommand) node_line is_no_node
 
