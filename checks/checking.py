@@ -64,9 +64,14 @@ CLAIMS = [
     ),
     Claim(
         "The guard",
-        "Where the newest head that a guard let through is that of a list of leaves, each before it that has leaves is that of a beginning of this list; and of the heads that many guards had signed over one register the earlier one's list begins the later one's, wherever they were killed; or two strings with one hash are given.",
-        "each run begins with the head that the one before ended with. Over a register: a head is signed only once the register took it in place of the one that its guard had, and each is that of some list.",
-        [("ct_guard/src/guard.rt", "pass_head", []), ("ct_guard/src/laws.rt", "heads_go_back", []), ("ct_guard/src/laws.rt", "guards_over_a_register", [])],
+        "Take the heads that were signed over one register, by any number of processes, which may be killed anywhere. If the newest of them is that of a list of leaves, each of them that has leaves is that of a beginning of this list, and the leaf of each signed receipt is in it at its index. If each of them is that of some list, the earlier one's list begins the later one's. Otherwise two strings with one hash are given.",
+        "a head is signed only after the register took its state in place of the one that the call was made over, and nothing else is signed.",
+        [
+            ("ct_guard/src/guard.rt", "pass_head", []),
+            ("libwagtenib/src/guard_laws.rt", "signed_by_calls_go_back", []),
+            ("libwagtenib/src/guard_laws.rt", "signed_by_calls_agree", []),
+            ("libwagtenib/src/guard_laws.rt", "receipts_stand_in_the_newest", []),
+        ],
     ),
     Claim(
         "Many sequencers over one register, and repeats",

@@ -1,4 +1,4 @@
-/* The programs cttile, ctnode, ctproof, ctwitness and ctguard over libwagtenib, for a machine without the Rattle kit: each by the name that this program is
+/* The programs ctnode, ctproof and ctwitness over libwagtenib, for a machine without the Rattle kit: each by the name that this program is
  * called by, or by its first argument.
  *
  * What is replied to a line is the library's, which is proved. What is here is plain C, and is tested: tests/library/compare.py compares it with the proved programs'
@@ -19,7 +19,7 @@ struct program {
     const char *name;
     const char *usage;
     size_t longest; /* the most bytes of a line, without its end */
-    bool has_origin, has_receipts;
+    bool has_origin;
     uint32_t (*call)(const uint8_t *input, size_t length, uint8_t *reply, size_t room, uint64_t *reply_length);
 };
 
@@ -30,30 +30,16 @@ struct buffer {
 
 static const struct program *program;
 static const char *origin = "";
-static bool promised;
 static struct buffer reply;
 static int status;
 
-static uint32_t call_step(const uint8_t *input, size_t length, uint8_t *to, size_t room, uint64_t *to_length) {
-    return wagtenib_step_line((const uint8_t *)origin, strlen(origin), input, length, to, room, to_length);
-}
-
-static uint32_t call_guard(const uint8_t *input, size_t length, uint8_t *to, size_t room, uint64_t *to_length) {
-    return wagtenib_guard_lines((const uint8_t *)origin, strlen(origin), promised, input, length, to, room, to_length);
-}
-
 static const struct program PROGRAMS[] = {
-    {"cttile", "usage: cttile [--origin TEXT] < lines > replies\n\ndocs/GROWTH.md has the form of the lines." STATUSES("each line was a request", "a line was no request"),
-     67108864, true, false, call_step},
     {"ctnode", "usage: ctnode < lines > replies\n\ndocs/NODE.md has the form of the lines." STATUSES("each line was a node's", "a line was none"),
-     65536, false, false, wagtenib_node_line},
+     65536, false, wagtenib_node_line},
     {"ctproof", "usage: ctproof < lines > replies\n\ndocs/TILES.md has the form of the lines." STATUSES("each line was a request", "a line was no request"),
-     67108864, false, false, wagtenib_proof_line},
+     67108864, false, wagtenib_proof_line},
     {"ctwitness", "usage: ctwitness < lines > replies\n\ndocs/WITNESS.md has the form of the lines." STATUSES("each line was a request", "a line was no request"),
-     1048576, false, false, wagtenib_witness_line},
-    {"ctguard", "usage: ctguard [--origin TEXT] [--receipts in-head|promised] < lines > replies\n\ndocs/GUARD.md has the form of the lines."
-                STATUSES("each line was a request, or the first one a state", "a line was no request"),
-     1048576, true, true, call_guard},
+     1048576, false, wagtenib_witness_line},
 };
 
 /* Ends the program with the line of a fault. */
@@ -94,50 +80,29 @@ static void ask(const uint8_t *input, size_t length) {
     reply.length = needed;
 }
 
-/* Reads a line with its end into the buffer, after its first `start` bytes. Of a longer line than the program takes the rest is left out. Returns false where no
+/* Reads a line with its end into the buffer. Of a longer line than the program takes the rest is left out. Returns false where no
  * line is left. */
-static bool read_line(struct buffer *line, size_t start) {
-    size_t most = start + program->longest + 2;
+static bool read_line(struct buffer *line) {
+    size_t most = program->longest + 2;
     int byte;
-    line->length = start;
+    line->length = 0;
     while ((byte = getc(stdin)) != EOF) {
         if (line->length == line->room && line->length < most) make_room(line, line->room < most / 2 ? 2 * line->room + 4096 : most);
         if (line->length < most) line->at[line->length++] = (uint8_t)byte;
         if (byte == '\n') return true;
     }
     if (ferror(stdin)) fail("read");
-    return line->length > start;
+    return line->length > 0;
 }
 
 /* Replies to each line by itself. An empty line is passed over. */
 static void reply_to_lines(void) {
     struct buffer line = {0};
-    while (read_line(&line, 0)) {
+    while (read_line(&line)) {
         size_t length = line.length - (line.at[line.length - 1] == '\n');
         if (length == 0) continue;
         ask(line.at, length);
         put(reply.at, reply.length);
-    }
-}
-
-/* Replies to a guard's lines. A call takes one line, and before it the state that the call before ended with. The last state is written at the end. */
-static void guard_lines(void) {
-    struct buffer input = {0};
-    size_t state = 0;
-    while (read_line(&input, state)) {
-        ask(input.at, input.length);
-        size_t told = reply.length - 1;
-        while (told > 0 && reply.at[told - 1] != '\n') told--;
-        put(reply.at, told);
-        state = reply.length - told;
-        make_room(&input, state);
-        memcpy(input.at, reply.at + told, state);
-    }
-    if (state == 0) {
-        ask((const uint8_t *)"", 0);
-        put(reply.at, reply.length);
-    } else {
-        put(input.at, state);
     }
 }
 
@@ -160,9 +125,7 @@ static bool take_option(const char *name, const char *argument) {
         origin = argument;
         return *argument != 0 && program->call((const uint8_t *)"", 0, (uint8_t *)"", 0, &needed) != WAGTENIB_BAD_ORIGIN;
     }
-    if (!program->has_receipts || strcmp(name, "--receipts") != 0) return false;
-    promised = strcmp(argument, "promised") == 0;
-    return promised || strcmp(argument, "in-head") == 0;
+    return false;
 }
 
 /* Takes the arguments, and ends the program if they don't ask for lines to be read. */
@@ -200,11 +163,10 @@ int main(int count, char **arguments) {
         first = 2;
     }
     if (program == NULL) {
-        fputs("usage: programs cttile|ctnode|ctproof|ctwitness|ctguard [OPTION ARGUMENT]..\n", stderr);
+        fputs("usage: programs ctnode|ctproof|ctwitness [OPTION ARGUMENT]..\n", stderr);
         return 2;
     }
     take_arguments(count - first, arguments + first);
-    if (program->has_receipts) guard_lines();
-    else reply_to_lines();
+    reply_to_lines();
     return status;
 }

@@ -26,13 +26,6 @@ NO_LOG = ["--fronts 17 --ring 4", "--fronts 0 --ring 4", "--fronts 1 --ring 0", 
 PROGRAMS = {
     "ctlog": ("docs/LINES.md", None, ["--fronts", "1", "--ring", "4"], [*map(str.split, NO_LOG), ["lines"], [""], ["a" * 3000]]),
     "ctmonitor": ("docs/MONITOR.md", "01234", ["--name", "a.example"] * 2500, [["lines"], ["--name"], ["--name", "a", "--name"], ["--names", "a"], [""], ["a" * 3000]]),
-    "ctguard": (
-        "docs/GUARD.md",
-        "0124",
-        ["--origin", "a", "--receipts", "promised", "--origin", "b", "--receipts", "in-head"] * 625,
-        [["lines"], ["--origin"], ["--origin", ""], ["--origin", "a\nb"], ["--receipts", "some"], ["--origin", "a", "--origins", "b"], [""], ["a" * 3000]],
-    ),
-    "cttile": ("docs/GROWTH.md", "0124", ["--origin", "a"] * 2500, [["lines"], ["--origin"], ["--origin", ""], ["--origin", "a\nb"], ["--receipts", "promised"], [""]]),
     "ctproof": ("docs/TILES.md", "0124", [], OPTIONLESS),
     "ctwitness": ("docs/WITNESS.md", "0124", [], OPTIONLESS),
     "ctnode": ("docs/NODE.md", "0124", [], OPTIONLESS),

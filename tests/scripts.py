@@ -1,5 +1,5 @@
 #!/usr/bin/env python3
-"""Tries the scripts of examples/ and of this folder: bad_lines.py, pem_lines.py, expected.py, check.py, guard/model.py and those of tiles/ on
+"""Tries the scripts of examples/ and of this folder: bad_lines.py, pem_lines.py, expected.py, check.py and those of tiles/ on
 stored input, sessions.py on its sessions, on damaged ones and on a program that stands in for ctlog, tiles/step.py and node/explore.py on random histories, those of checks/ on a made-up repository, README.md's commands, release.py on
 made-up builds, monitor/watch.sh on logs of its own, and service/cluster.sh over programs in the place of its own.
 
@@ -149,9 +149,9 @@ def make_install(folder, built):
 
 
 def try_models():
-    """guard/model.py writes the stored output of ctguard over its words and input, and ends with its status; so does tiles/step.py for cttile
-    and ctproof, node/ctnode.py for ctnode, and witness/model.py for ctwitness. Where ctwitness is built, witness/fuzz.py compares the two."""
-    for script, program in (("guard/model.py", "ctguard"), ("tiles/step.py", "cttile"), ("tiles/step.py", "ctproof"), ("node/ctnode.py", "ctnode"), ("witness/model.py", "ctwitness")):
+    """tiles/step.py writes the stored output of ctproof over its words and input, and ends with its status; so does node/ctnode.py for
+    ctnode, and witness/model.py for ctwitness. Where ctwitness is built, witness/fuzz.py compares the two."""
+    for script, program in (("tiles/step.py", "ctproof"), ("node/ctnode.py", "ctnode"), ("witness/model.py", "ctwitness")):
         crate = HERE.parent / "crates" / program
         words = (crate / "args").read_text().split("\n")[:-1] if (crate / "args").exists() else []
         ran = run(script, *words, given=(crate / "stdin").read_bytes())
@@ -288,7 +288,7 @@ def try_install(folder):
     due["include/wagtenib.h"] = (HERE.parent / "include" / "wagtenib.h").read_text()
     due["lib/pkgconfig/wagtenib.pc"] = (HERE.parent / "include" / "wagtenib.pc.in").read_text().replace("@PREFIX@", "/opt/log").replace("@VERSION@", "0.1.0")
     to = folder / "to" / "opt" / "log"
-    if ran.returncode or "ctguard isn't built" not in ran.stdout or "ctlog isn't built" in ran.stdout:
+    if ran.returncode or "ctproof isn't built" not in ran.stdout or "ctlog isn't built" in ran.stdout:
         fail(f"make install: status {ran.returncode}: {ran.stdout}{ran.stderr}")
     if installed(to) != due or installed(folder / "to") != {f"opt/log/{path}": text for path, text in due.items()}:
         fail(f"make install: it installed {sorted(installed(folder / 'to'))}, or another text")
@@ -308,11 +308,11 @@ def try_release(folder):
         return subprocess.run(words, capture_output=True, text=True)
 
     ran = make("none", "nothing", "nothing")
-    if ran.returncode != 1 or not all(name in ran.stderr for name in ("ctlog (make demo)", "ctguard (make programs)", "ctserve (make service)", "libwagtenib.so (make link)")):
+    if ran.returncode != 1 or not all(name in ran.stderr for name in ("ctlog (make demo)", "ctproof (make programs)", "ctserve (make service)", "libwagtenib.so (make link)")):
         fail(f"release.py, with nothing built: status {ran.returncode}: {ran.stdout}{ran.stderr}")
     if (folder / "none").exists():
         fail("release.py makes something of nothing")
-    programs = {name: folder / "built" / name / "out" / name for name in ("ctlog", "ctmonitor", "ctguard", "cttile", "ctproof", "ctnode", "ctwitness")}
+    programs = {name: folder / "built" / name / "out" / name for name in ("ctlog", "ctmonitor", "ctproof", "ctnode", "ctwitness")}
     programs.update({name: folder / "service" / name for name in ("ctserve", "ctcheck", "ctread", "ctload", "ctwitness-serve")})
     library = {f"libwagtenib.{end}": folder / "built" / "libwagtenib" / "out" / "link" / f"libwagtenib.{end}" for end in ("a", "so")}
     commit = subprocess.run(["git", "log", "-1", "--format=%H"], cwd=HERE, capture_output=True, text=True).stdout[:12]
@@ -321,7 +321,7 @@ def try_release(folder):
         path.parent.mkdir(parents=True, exist_ok=True)
         path.write_text(texts.get(name, f"made up: {name}"))
         path.chmod(0o755)
-    for name, other in (("ctguard", "ctguard 0.1.1"), ("ctcheck", f"ctcheck 0.1.0 (commit {commit[::-1]})")):
+    for name, other in (("ctnode", "ctnode 0.1.1"), ("ctcheck", f"ctcheck 0.1.0 (commit {commit[::-1]})")):
         programs[name].write_text(f"#!/bin/sh\necho '{other}'\n")
         ran = make("none")
         if ran.returncode != 1 or f"of another version than 0.1.0, or another commit than {commit}: {name} ({other})" not in ran.stderr or (folder / "none").exists():
@@ -368,7 +368,7 @@ def try_release(folder):
             fail(f"release.py: PROVED of {name} names {sorted(named)}")
     bill = json.loads((folder / "first" / "SBOM.spdx.json").read_text())
     named = {package["name"] for package in bill["packages"]}
-    if bill["spdxVersion"] != "SPDX-2.3" or not {"ctserve", "cttile", "sha2", "std"} <= named or len({it["SPDXID"] for it in bill["packages"]}) != len(bill["packages"]):
+    if bill["spdxVersion"] != "SPDX-2.3" or not {"ctserve", "ctproof", "sha2", "std"} <= named or len({it["SPDXID"] for it in bill["packages"]}) != len(bill["packages"]):
         fail(f"release.py: the SBOM names {sorted(named)}")
     has_go = not subprocess.run([HERE.parent / "deps" / "fetch.sh"], env={**os.environ, "SETUP": "no"}, capture_output=True).returncode
     if has_go and (not {"go", "golang.org/x/mod", "github.com/lib/pq"} <= named or "github.com/google/certificate-transparency-go" in named):

@@ -9,14 +9,12 @@ import (
 	"crypto/sha256"
 	"crypto/x509"
 	"encoding/binary"
-	"encoding/json"
 	"errors"
 	"fmt"
 	"math/big"
 	"sync"
 	"time"
 
-	"wagtenib/bindings/go/wagtenib"
 	"wagtenib/service/signer"
 	"wagtenib/service/stores"
 )
@@ -72,63 +70,8 @@ type guarded struct {
 	m *machine
 	// busy says that a call is at work: the signer takes one at a time.
 	busy bool
-	// seen is the newest text of the state that this process saw.
-	seen   string
-	memory []byte
-}
-
-// noHead is the guard's state before the first head.
-const noHead = `{"guard":1,"last":null}`
-
-// asked is a line for the guard.
-type asked struct {
-	Text string `json:"text"`
-	Seen string `json:"seen,omitempty"`
-	*headLine
-	Consistency *[][]byte `json:"consistency,omitempty"`
-	MaxAhead    uint64    `json:"most_ahead,omitempty"`
-	Leaf        []byte    `json:"leaf_input,omitempty"`
-	Index       *uint64   `json:"leaf_index,omitempty"`
-	Path        *[][]byte `json:"audit_path,omitempty"`
-}
-
-// headLine is a head in the guard's lines.
-type headLine struct {
-	Root   []byte `json:"sha256_root_hash"`
-	Moment uint64 `json:"timestamp"`
-	Size   uint64 `json:"tree_size"`
-}
-
-// replied is the guard's reply to a line.
-type replied struct {
-	Sign           []byte
-	New            string
-	Last           *headLine
-	Refused, Fault string
-}
-
-// ask asks the guard some lines, and returns its replies.
-func (g *guarded) ask(lines ...asked) ([]replied, error) {
-	var input []byte
-	for _, line := range lines {
-		text, err := json.Marshal(line)
-		if err != nil {
-			return nil, err
-		}
-		input = append(append(input, text...), '\n')
-	}
-	output, err := wagtenib.GuardLines(&g.memory, Origin, false, input)
-	if err != nil && !errors.Is(err, wagtenib.ErrNotARequest) {
-		return nil, err
-	}
-	texts := bytes.Split(output, []byte("\n"))
-	replies := make([]replied, len(lines))
-	for i := range replies {
-		if err := json.Unmarshal(texts[i], &replies[i]); err != nil {
-			return nil, fmt.Errorf("%w: %.80q", signer.ErrReply, texts[i])
-		}
-	}
-	return replies, nil
+	// seen is the newest state that this process saw.
+	seen signer.State
 }
 
 func (g *guarded) Key() []byte { return keyDER }
@@ -147,27 +90,23 @@ func (g *guarded) turn(ctx context.Context) (*simulated, func(), error) {
 	return inner, func() { g.busy = false; cancel() }, nil
 }
 
-// state reads the guard's state, which the guard must take up.
-func (g *guarded) state(ctx context.Context) (text string, last *signer.Head, err error) {
+// state reads the guard's state, which must not be rolled back.
+func (g *guarded) state(ctx context.Context) (state signer.State, err error) {
+	text := ""
 	err = g.m.call(ctx, "guard", "read", false, func() error {
 		text = g.m.w.stores.guard
 		return nil
 	})
 	if err != nil {
-		return "", nil, err
+		return state, err
 	}
-	replies, err := g.ask(asked{Text: text, Seen: g.seen})
-	if err != nil {
-		return "", nil, err
+	if state, err = signer.ReadState(text); err != nil {
+		return state, err
 	}
-	if replies[0].Refused != "" {
-		return "", nil, fmt.Errorf("%w: %s", signer.ErrState, replies[0].Refused)
+	if err = state.Since(g.seen); err == nil {
+		g.seen = state
 	}
-	g.seen = text
-	if of := replies[0].Last; of != nil {
-		last = &signer.Head{Size: of.Size, Moment: of.Moment, Root: [32]byte(of.Root)}
-	}
-	return text, last, nil
+	return state, err
 }
 
 func (g *guarded) Last(ctx context.Context) (*signer.Head, error) {
@@ -176,57 +115,58 @@ func (g *guarded) Last(ctx context.Context) (*signer.Head, error) {
 		return nil, err
 	}
 	defer done()
-	_, last, err := g.state(inner)
-	return last, err
+	state, err := g.state(inner)
+	if err != nil {
+		return nil, err
+	}
+	return state.Last(), nil
 }
 
-// SignHead signs a head that the guard lets through, after the lock's engine has the guard's new state.
+// SignHead signs a head that the guard approves, after the lock's engine has the guard's new state. Before the first head with leaves it gets that of
+// the empty tree.
 func (g *guarded) SignHead(ctx context.Context, head signer.Head, consistency [][32]byte) ([]byte, error) {
 	inner, done, err := g.turn(ctx)
 	if err != nil {
 		return nil, err
 	}
 	defer done()
-	text, _, err := g.state(inner)
+	state, err := g.state(inner)
 	if err != nil {
 		return nil, err
 	}
-	line := asked{Text: text, headLine: &headLine{head.Root[:], head.Moment, head.Size}, Consistency: listed(consistency), MaxAhead: head.Moment}
-	replies, err := g.ask(line)
+	if state.Begins(head) {
+		empty, err := state.Begin(head)
+		if err != nil {
+			return nil, err
+		}
+		if err := g.swap(inner, state, empty); err != nil {
+			return nil, err
+		}
+		state = empty
+	}
+	next, err := state.After(head, consistency, head.Moment)
 	if err != nil {
 		return nil, err
 	}
-	if refused := replies[0].Refused; refused != "" {
-		return nil, signer.Refusal{Name: refused, Fault: replies[0].Fault}
-	}
-	if err := g.swap(inner, text, replies[0].New); err != nil {
+	if err := g.swap(inner, state, next); err != nil {
 		return nil, err
 	}
 	g.m.w.judge.signs(head)
-	if !bytes.Equal(replies[0].Sign, headMessage(head)) {
+	if !bytes.Equal(next.Signed(), headMessage(head)) {
 		g.m.w.judge.breaks("a signed head is the list's", "the guard has other bytes signed")
 	}
-	return sign(replies[0].Sign), nil
-}
-
-// listed returns hashes as JSON has them.
-func listed(hashes [][32]byte) *[][]byte {
-	texts := make([][]byte, len(hashes))
-	for i := range hashes {
-		texts[i] = hashes[i][:]
-	}
-	return &texts
+	return sign(next.Signed()), nil
 }
 
 // swap replaces the guard's state.
-func (g *guarded) swap(ctx context.Context, old, new string) error {
-	s := &g.m.w.stores
-	err := g.m.call(ctx, "guard", "swap for "+new[:min(len(new), 110)], true, func() error {
+func (g *guarded) swap(ctx context.Context, old, next signer.State) error {
+	s, text := &g.m.w.stores, next.Text()
+	err := g.m.call(ctx, "guard", "swap for "+text[:min(len(text), 110)], true, func() error {
 		switch s.guard {
-		case new:
+		case text:
 			return nil
-		case old:
-			s.setGuard(new)
+		case old.Text():
+			s.setGuard(text)
 			return nil
 		}
 		return stores.ErrLost
@@ -235,36 +175,30 @@ func (g *guarded) swap(ctx context.Context, old, new string) error {
 		return signer.ErrMoved
 	}
 	if err == nil {
-		g.seen = new
+		g.seen = next
 	}
 	return err
 }
 
-// SignTimestamps signs timestamps that the guard lets through, all or none.
+// SignTimestamps signs timestamps that the guard approves, all or none.
 func (g *guarded) SignTimestamps(ctx context.Context, receipts []signer.Receipt) ([][]byte, error) {
 	inner, done, err := g.turn(ctx)
 	if err != nil {
 		return nil, err
 	}
 	defer done()
-	text, _, err := g.state(inner)
+	state, err := g.state(inner)
 	if err != nil {
 		return nil, err
 	}
-	lines := make([]asked, len(receipts))
-	for i, r := range receipts {
-		lines[i] = asked{Text: text, Leaf: r.Leaf, Index: &r.Index, Path: listed(r.Path)}
-	}
-	replies, err := g.ask(lines...)
-	if err != nil {
-		return nil, err
-	}
-	signed := make([][]byte, len(replies))
-	for i, reply := range replies {
-		if reply.Refused != "" {
-			return nil, signer.Refusal{Name: reply.Refused, Fault: reply.Fault}
+	for _, receipt := range receipts {
+		if err := state.Receipt(receipt); err != nil {
+			return nil, err
 		}
-		signed[i] = sign(reply.Sign)
+	}
+	signed := make([][]byte, len(receipts))
+	for i, receipt := range receipts {
+		signed[i] = sign(receipt.Leaf)
 	}
 	return signed, nil
 }

@@ -8,6 +8,7 @@ import (
 	"strings"
 	"time"
 
+	"wagtenib/service/signer"
 	"wagtenib/service/stores"
 )
 
@@ -45,7 +46,7 @@ type change struct {
 }
 
 func newMemory() memory {
-	return memory{objects: map[string][]byte{}, index: map[stores.Identity]stores.Place{}, guard: noHead}
+	return memory{objects: map[string][]byte{}, index: map[stores.Identity]stores.Place{}, guard: signer.NoHead}
 }
 
 // set gives an object a content, or none.

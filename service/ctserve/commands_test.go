@@ -176,7 +176,7 @@ func TestCheck(t *testing.T) {
 		{"register file:", "register         WRONG: ", 1},
 		{"register folder:" + folder, "register         WRONG: ", 1},
 		{"guard false", "guard            off: the signer signs whatever it is asked for", 0},
-		{"guard ctguard", "", 2},
+		{"guard none", "", 2},
 		{"guard-state folder:" + folder, "guard-state      WRONG: ", 1},
 		{"places http://a.example/", "places           WRONG: ", 1},
 		{"places postgres://a.example/b?log=one", "places           postgres, not opened", 0},

@@ -569,7 +569,7 @@ func TestSettings(t *testing.T) {
 		{file(needed + "signer-at x"), "has the place of"},
 		{[]string{"--roots", "a", "--origin", "b", "--signer-at", "c", "--guard"}, "has the place of"},
 		{[]string{"--roots", "a", "--origin", "b", "--signer-at", "c", "--guard=false"}, "has the place of"},
-		{[]string{"--roots", "a", "--origin", "b", "--signing-key", "c", "--guard=ctguard"}, "neither true nor false"},
+		{[]string{"--roots", "a", "--origin", "b", "--signing-key", "c", "--guard=none"}, "neither true nor false"},
 		{[]string{"--nothing"}, "not defined"},
 		{[]string{"word"}, `"word" isn't expected`},
 		{[]string{"--config", at.path("missing")}, "no such file"},

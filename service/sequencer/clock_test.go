@@ -416,6 +416,27 @@ func TestClocksWrongAlike(t *testing.T) {
 	p.right(t, got)
 }
 
+// noneAhead is a signer behind the guard, which is told to let no head's timestamp be after the last one's.
+type noneAhead struct {
+	signer.Signer
+	state stores.Register
+}
+
+func (n *noneAhead) SignHead(ctx context.Context, head signer.Head, proof [][32]byte) ([]byte, error) {
+	text, err := n.state.Read(ctx)
+	if err != nil {
+		return nil, err
+	}
+	state, err := signer.ReadState(text)
+	if err != nil {
+		return nil, err
+	}
+	if _, err = state.After(head, proof, 0); err != nil {
+		return nil, err
+	}
+	return n.Signer.SignHead(ctx, head, proof)
+}
+
 // TestMomentTooFar has a step, and then a guard, that are told to let no moment be beyond the newest head's: each refuses, and who waits is
 // told by how much.
 func TestMomentTooFar(t *testing.T) {
@@ -434,20 +455,20 @@ func TestMomentTooFar(t *testing.T) {
 	}
 	config := p.config(t)
 	ahead := regexp.MustCompile(`"most_ahead":[0-9]*`)
-	config.Step = step.Over(func(memory *[]byte, request []byte) ([]byte, error) {
-		return wagtenib.StepLine(memory, origin, ahead.ReplaceAll(request, []byte(`"most_ahead":0`)))
-	})
+	functions := step.Proved()
+	functions.Step = func(origin, state string, edge, batch []byte, now, _ uint64) (*wagtenib.Step, error) {
+		return wagtenib.MakeStep(origin, state, edge, batch, now, 0)
+	}
+	config.Step = step.Over(origin, functions)
 	refuses(config, "the log's newest head")
 	config = p.config(t)
 	key, err := signer.OpenKey(filepath.Join(string(p), "key.pem"))
 	must(t, err)
 	state, err := stores.OpenFile(p.guardState())
 	must(t, err)
-	config.Signer, err = signer.Behind(ctx, key, signer.Guard{State: state, Judge: func(lines []byte) ([]byte, error) {
-		var memory []byte
-		return wagtenib.GuardLines(&memory, "", false, ahead.ReplaceAll(lines, []byte(`"most_ahead":0`)))
-	}})
+	guarded, err := signer.Behind(ctx, key, signer.Guard{State: state})
 	must(t, err)
+	config.Signer = &noneAhead{guarded, state}
 	refuses(config, "the signer's last head")
 	// The step was decided, and its head is signed once the guard lets it through.
 	p.goesOn(t, got, 5, 10)

@@ -577,12 +577,14 @@ func TestRepeatsThatArentClaimed(t *testing.T) {
 	_, ctx, got, s := begun(t, 5, 5)
 	node := atHand(ctx, t, s, "tile/0/000.p/5", "tile/data/000.p/5")
 	calls := 0
-	node.config.Step = step.Over(func(memory *[]byte, request []byte) ([]byte, error) {
+	functions := step.Proved()
+	functions.Claim = func(state string, index, timestamp uint64, path []wagtenib.Hash, submission []byte) ([]byte, error) {
 		if calls++; calls > 1 {
 			return nil, proved.ErrMemory
 		}
-		return wagtenib.StepLine(memory, origin, request)
-	})
+		return wagtenib.StepClaim(state, index, timestamp, path, submission)
+	}
+	node.config.Step = step.Over(origin, functions)
 	batch := []*waiting{waitsAt(ctx, t, node, got.numberAt(t, 1)), waitsAt(ctx, t, node, 50), waitsAt(ctx, t, node, got.numberAt(t, 3))}
 	left, err := node.answerRepeats(ctx, s.newestKnown(), batch)
 	wants(t, err, proved.ErrMemory)

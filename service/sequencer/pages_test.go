@@ -1,7 +1,6 @@
 package sequencer
 
 import (
-	"encoding/base64"
 	"math"
 	"os"
 	"regexp"
@@ -9,7 +8,6 @@ import (
 	"testing"
 	"time"
 
-	"wagtenib/bindings/go/wagtenib"
 	"wagtenib/service/chains"
 	"wagtenib/service/step"
 	"wagtenib/service/stores"
@@ -59,13 +57,12 @@ func TestPageSaysBounds(t *testing.T) {
 	})
 	// 255 of the largest entries and a step's new ones, with what a tile and a line have beside them, and a tile of the largest.
 	const beside = 10 + 32 + 2*3 + 2 + 8 + 2 + 32*chains.MostCertificates
-	request := base64.StdEncoding.EncodedLen((tileWidth-1)*(MostEntry+beside)+MostBatchBytes) + MostBatch*chainBytes
 	tile, answers := int64(tileWidth*(MostEntry+beside)), web.DefaultLimits().AnswerBytes
 	ofOne := longerOf(answers/8, stores.MostObject+1<<20)
 	// (half of what is written are partial tiles, and these stand for as long again as they have to)
 	partials := float64(config.MostWritten) / 2 * 2 * config.SweepTilesAfter.Seconds()
 	trial.Says(t, trial.Page(t, "../README.md"), map[string]bool{
-		"In base64, with 12 MiB of new ones, these are 62 MB of the 64 MiB that a request may have": MostBatchBytes == 12<<20 && request/1e6 == 62 && request < wagtenib.MaxStepRequest && wagtenib.MaxStepRequest == 64<<20,
+		"An entry has at most 128 KiB because a step holds 255 of them, in the partial data tile, beside 12 MiB of new ones": MostEntry == 128<<10 && MostBatchBytes == 12<<20,
 		"So a data tile has at most 34 MB. Answers hold at most 15 of these at once, and two for one address": math.Round(float64(tile)/1e6) == 34 && tile < stores.MostObject &&
 			answers/tile == 15 && ofOne/tile == 2,
 		"which stay for five to ten minutes until they are deleted: up to 5 GB": config.SweepTilesAfter == 5*time.Minute && partials >= 5e9 && partials < 5.1e9,

@@ -286,7 +286,7 @@ func (s *Sequencer) waitsFor(ctx context.Context, k known) (bool, error) {
 // moment is that of a step, and how far it may be beyond the newest head's, in milliseconds.
 type moment struct{ now, most uint64 }
 
-// tooFar is the refusal of a moment that is too far beyond another one, by cttile or by the guard.
+// tooFar is the refusal of a moment that is too far beyond another one, by the step or by the guard.
 func tooFar(now, last uint64, of string) error {
 	return fmt.Errorf("%w: a moment of %d ms is refused, which is beyond %s by %v", log.ErrClock, now, of, time.Duration(now-last)*time.Millisecond)
 }

@@ -5,6 +5,7 @@ import (
 	"crypto/ecdsa"
 	"crypto/elliptic"
 	"crypto/rand"
+	"encoding/base64"
 	"encoding/binary"
 	"encoding/json"
 	"errors"
@@ -39,16 +40,23 @@ func refused(t testing.TB, name string, err error) {
 	}
 }
 
-// stateOf is the line of a guard's state.
-func stateOf(last *Head) string {
-	line, err := json.Marshal(struct {
-		Guard int       `json:"guard"`
-		Last  *headLine `json:"last"`
-	}{1, lineOf(last)})
-	if err != nil {
-		panic(err)
+// none is the text of the state before the first head.
+const none = `{"guard":1,"last":null}`
+
+// textOf returns the text of a guard's state, as existing registers have it.
+func textOf(last *Head) string {
+	if last == nil {
+		return none
 	}
-	return string(line)
+	return fmt.Sprintf(`{"guard":1,"last":{"sha256_root_hash":"%s","timestamp":%d,"tree_size":%d}}`, base64.StdEncoding.EncodeToString(last.Root[:]), last.Moment, last.Size)
+}
+
+// kept returns what the register of a guard's state has.
+func kept(t *testing.T, g *Guarded) string {
+	t.Helper()
+	text, err := g.of.State.Read(limited(t))
+	must(t, err)
+	return text
 }
 
 func limited(t testing.TB) context.Context { return trial.Limited(t, trial.Longest) }
@@ -410,9 +418,9 @@ func TestStates(t *testing.T) {
 	first := right.head(t, 5, 100)
 	_, err := Behind(ctx, key, Guard{State: register(t, t.TempDir())})
 	wants(t, err, ErrState)
-	for _, text := range []string{"x", `{"guard":2,"last":null}`, `{"guard":1,"last":{}}`, `{"last":null,"guard":1}`, `{"guard": 1, "last": null}`, stateOf(&first)[1:],
-		strings.ReplaceAll(stateOf(&first), ":", ": "), " " + stateOf(&first), stateOf(&first) + " ",
-		strings.Replace(stateOf(&first), `"tree_size":5`, `"tree_size":05`, 1), strings.Replace(stateOf(&first), `"timestamp"`, `"x":1,"timestamp"`, 1)} {
+	for _, text := range []string{"x", `{"guard":2,"last":null}`, `{"guard":1,"last":{}}`, `{"last":null,"guard":1}`, `{"guard": 1, "last": null}`, textOf(&first)[1:],
+		strings.ReplaceAll(textOf(&first), ":", ": "), " " + textOf(&first), textOf(&first) + " ",
+		strings.Replace(textOf(&first), `"tree_size":5`, `"tree_size":05`, 1), strings.Replace(textOf(&first), `"timestamp"`, `"x":1,"timestamp"`, 1)} {
 		of := Guard{State: register(t, t.TempDir())}
 		must(t, of.State.Create(ctx, text))
 		if _, err := Behind(ctx, key, of); !errors.Is(err, ErrState) {
@@ -428,7 +436,7 @@ func TestStates(t *testing.T) {
 	if must(t, err); text != "x\n" {
 		t.Errorf("%q", text)
 	}
-	must(t, of.State.Swap(ctx, "x\n", stateOf(&first)+"\n"))
+	must(t, of.State.Swap(ctx, "x\n", textOf(&first)+"\n"))
 	g, err := Behind(ctx, key, of)
 	must(t, err)
 	_, err = g.SignHead(ctx, right.head(t, 9, 101), right.proof(t, 5, 9))
@@ -436,7 +444,7 @@ func TestStates(t *testing.T) {
 	full := &unsure.Register{Register: register(t, t.TempDir()), Every: 3, Fails: errors.New("a disk is full")}
 	_, err = Behind(ctx, key, Guard{State: full, Create: true})
 	wants(t, err, full.Fails)
-	must(t, full.Register.Create(ctx, stateOf(&first)+"\n"))
+	must(t, full.Register.Create(ctx, textOf(&first)+"\n"))
 	_, err = Behind(ctx, key, Guard{State: full})
 	wants(t, err, full.Fails)
 }
@@ -455,7 +463,7 @@ func TestStateSetBack(t *testing.T) {
 	must(t, err)
 	newest, err := os.ReadFile(text)
 	must(t, err)
-	for _, state := range []string{string(old), none, stateOf(&Head{5, 50, [32]byte{1}}), stateOf(&Head{4, 60, [32]byte{}}), strings.Replace(string(newest), ":", ": ", 1)} {
+	for _, state := range []string{string(old), none, textOf(&Head{5, 50, [32]byte{1}}), textOf(&Head{4, 60, [32]byte{}}), strings.Replace(string(newest), ":", ": ", 1)} {
 		must(t, stores.KeepFile(text, []byte(state)))
 		if _, err := g.Last(ctx); !errors.Is(err, ErrState) {
 			t.Errorf("%s: %v", state, err)
@@ -482,8 +490,11 @@ func TestStateSetBack(t *testing.T) {
 func TestTwoSigners(t *testing.T) {
 	t.Parallel()
 	ctx, key, folder, right, fork := limited(t), newKey(t), t.TempDir(), listOf(t, 20, 20), listOf(t, 20, 4)
-	one, two := behind(t, key, folder), behind(t, key, folder)
-	_, err := one.SignHead(ctx, right.head(t, 5, 100), nil)
+	one := behind(t, key, folder)
+	_, err := one.SignHead(ctx, right.head(t, 0, 99), nil)
+	must(t, err)
+	two := behind(t, key, folder)
+	_, err = one.SignHead(ctx, right.head(t, 5, 100), nil)
 	must(t, err)
 	// The same head, of which the second didn't know: it isn't another one.
 	_, err = two.SignHead(ctx, right.head(t, 5, 100), nil)
@@ -579,7 +590,7 @@ func TestLyingRegister(t *testing.T) {
 	t.Parallel()
 	ctx, key, right, fork := limited(t), newKey(t), listOf(t, 20, 20), listOf(t, 20, 3)
 	older, other, later := right.head(t, 5, 100), fork.head(t, 9, 101), right.head(t, 12, 103)
-	for _, reads := range []string{none, stateOf(&older), stateOf(&other), stateOf(&later)} {
+	for _, reads := range []string{none, textOf(&older), textOf(&other), textOf(&later)} {
 		state := &lying{Register: register(t, t.TempDir())}
 		g, err := Behind(ctx, key, Guard{State: state, Create: true})
 		must(t, err)

@@ -64,6 +64,14 @@ func hashes(texts [][]byte) ([][32]byte, error) {
 	return all, nil
 }
 
+func hashesOf(hashes [][32]byte) [][]byte {
+	texts := make([][]byte, 0, len(hashes))
+	for i := range hashes {
+		texts = append(texts, hashes[i][:])
+	}
+	return texts
+}
+
 // answer has a signer do what a line asks for.
 func answer(ctx context.Context, s Signer, line []byte) (came reply, err error) {
 	if receipts, ok := readReceipts(line); ok {

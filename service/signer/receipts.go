@@ -54,27 +54,6 @@ func readReceipts(line []byte) (receipts []Receipt, ok bool) {
 	return receipts, c.AtEnd() && !wrong
 }
 
-// appendGuarded writes the guard's line of a receipt over a register's text, which is quoted already.
-func appendGuarded(line, quoted []byte, one Receipt) []byte {
-	line = append(append(line, `{"text":`...), quoted...)
-	line = jsonline.AppendBytes(append(line, `,"leaf_input":`...), one.Leaf)
-	line = strconv.AppendUint(append(line, `,"leaf_index":`...), one.Index, 10)
-	line = jsonline.AppendHashes(append(line, `,"audit_path":`...), one.Path)
-	return append(line, "}\n"...)
-}
-
-// readGuarded reads the guard's reply to it.
-func readGuarded(line []byte) (reply guardReply, err error) {
-	c := jsonline.Over(line)
-	c.Want(`{"sign":`)
-	reply.Sign = c.Bytes()
-	if c.Want(`}`); c.AtEnd() {
-		return reply, nil
-	}
-	reply = guardReply{}
-	return reply, json.Unmarshal(line, &reply)
-}
-
 // appendSignatures writes the reply that has signatures alone.
 func appendSignatures(line []byte, signatures [][]byte) []byte {
 	return append(jsonline.AppendList(append(line, `{"signatures":`...), signatures), '}')

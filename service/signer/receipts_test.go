@@ -65,17 +65,9 @@ func TestReceiptsOfAnotherForm(t *testing.T) {
 			t.Errorf("%s is read as %+v, %v", text, came, err)
 		}
 	}
-	for text, want := range map[string]guardReply{
-		`{"sign":"eA=="}`: {Sign: []byte("x")}, `{"sign":"eA==","new":"one","old":"other"}`: {Sign: []byte("x"), New: "one", Old: "other"}, `{"fault":"path-too-long","refused":"not-in-head"}`: {Refused: "not-in-head", Fault: "path-too-long"},
-	} {
-		if reply, err := readGuarded([]byte(text)); err != nil || !reflect.DeepEqual(reply, want) {
-			t.Errorf("%s is read as %+v, %v", text, reply, err)
-		}
-	}
-	for _, text := range []string{"", "{", `{"sign":"eA="}`, `{"sign":7}`, `{"signatures":["eA="]}`} {
-		_, err := readReply([]byte(text))
-		if _, guarded := readGuarded([]byte(text)); err == nil && guarded == nil {
-			t.Errorf("%s is read", text)
+	for _, text := range []string{"", "{", `{"refused":7}`, `{"signatures":["eA="]}`} {
+		if came, err := readReply([]byte(text)); err == nil {
+			t.Errorf("%s is read as %+v", text, came)
 		}
 	}
 }
@@ -96,23 +88,5 @@ func TestHashesOfAnotherLength(t *testing.T) {
 		if _, err := answer(limited(t), nil, line); !errors.Is(err, ErrReply) {
 			t.Errorf("hashes of %d bytes: %v", lengths, err)
 		}
-	}
-}
-
-// TestGuardedLine: the guard's line of a receipt has its text, index and path.
-func TestGuardedLine(t *testing.T) {
-	one := someReceipts()[0]
-	quoted, err := json.Marshal("a \"text\"")
-	must(t, err)
-	line := appendGuarded([]byte("before\n"), quoted, one)
-	var read struct {
-		Text  string   `json:"text"`
-		Leaf  []byte   `json:"leaf_input"`
-		Index *uint64  `json:"leaf_index"`
-		Path  [][]byte `json:"audit_path"`
-	}
-	must(t, json.Unmarshal(bytes.TrimPrefix(line, []byte("before\n")), &read))
-	if read.Text != "a \"text\"" || string(read.Leaf) != "a leaf" || read.Index == nil || *read.Index != 7 || !reflect.DeepEqual(read.Path, hashesOf(one.Path)) || line[len(line)-1] != '\n' {
-		t.Errorf("%s", line)
 	}
 }

@@ -65,6 +65,8 @@ func TestFaultyState(t *testing.T) {
 	g, err := Behind(ctx, key, Guard{State: state, Create: true})
 	must(t, err)
 	size, moment := 0, uint64(100)
+	_, err = g.SignHead(ctx, l.head(t, 0, moment), nil)
+	must(t, err)
 	for _, of := range []struct {
 		what  string
 		err   error
@@ -102,7 +104,7 @@ func TestFaultyState(t *testing.T) {
 			size += 2
 		}
 		last, err := g.Last(ctx)
-		if must(t, err); (last == nil) != (size == 0) || last != nil && last.Size != uint64(size) {
+		if must(t, err); last == nil || last.Size != uint64(size) {
 			t.Errorf("%s: behind it %+v stands", of.what, last)
 		}
 	}
@@ -120,8 +122,8 @@ func TestFaultyStart(t *testing.T) {
 		"it can't be created":                  {"", "create", errTried, errTried},
 		"it can't be read":                     {none, "read", errTried, errTried},
 		"it is gone by then":                   {none, "read", stores.ErrAbsent, ErrState},
-		"its line's end can't be taken away":   {stateOf(&head) + "\n", "swap", errTried, errTried},
-		"it moves as its line's end goes away": {stateOf(&head) + "\n", "swap", stores.ErrLost, stores.ErrLost},
+		"its line's end can't be taken away":   {textOf(&head) + "\n", "swap", errTried, errTried},
+		"it moves as its line's end goes away": {textOf(&head) + "\n", "swap", stores.ErrLost, stores.ErrLost},
 	} {
 		state := &asked{Register: register(t, t.TempDir())}
 		if of.text != "" {
@@ -140,11 +142,11 @@ func TestFaultyStart(t *testing.T) {
 	}
 	for _, creates := range []bool{false, true} {
 		state := register(t, t.TempDir())
-		must(t, state.Create(ctx, stateOf(&head)))
+		must(t, state.Create(ctx, textOf(&head)))
 		g, err := Behind(ctx, key, Guard{State: state, Create: creates})
 		must(t, err)
-		if text, err := g.known(ctx); err != nil || text != stateOf(&head) {
-			t.Errorf("it is to be created: %t: it goes on from %s, %v", creates, text, err)
+		if state, err := g.known(ctx); err != nil || state.Text() != textOf(&head) {
+			t.Errorf("it is to be created: %t: it goes on from %s, %v", creates, state.Text(), err)
 		}
 	}
 }
@@ -188,19 +190,19 @@ func TestUnguardedEnds(t *testing.T) {
 	}
 }
 
-// TestMostAhead: a head that isn't ahead of this machine's time of day, by as much as two clocks may be apart, may be as far beyond the last one as it is; another has
-// the guard's own bound.
-func TestMostAhead(t *testing.T) {
+// TestMaxAhead: a head that is not ahead of this machine's time of day, except by as much as two clocks may be apart, may be as far after the last one
+// as its timestamp says. Another head may be an hour after it.
+func TestMaxAhead(t *testing.T) {
 	t.Parallel()
 	now := uint64(time.Now().UnixMilli())
 	for _, moment := range []uint64{0, 1, now - 86_400_000, now, now + 30_000} {
-		if most := mostAhead(Head{Moment: moment}); most != moment {
-			t.Errorf("at %d the moment %d may be %d ahead", now, moment, most)
+		if max := maxAhead(Head{Moment: moment}); max != moment {
+			t.Errorf("at %d the moment %d may be %d ahead", now, moment, max)
 		}
 	}
 	for _, moment := range []uint64{now + 120_000 + 60_000, now + 3_600_000, 1 << 62, 1 << 63, 1<<64 - 1} {
-		if most := mostAhead(Head{Moment: moment}); most != 0 {
-			t.Errorf("at %d the moment %d may be %d ahead", now, moment, most)
+		if max := maxAhead(Head{Moment: moment}); max != 3_600_000 {
+			t.Errorf("at %d the moment %d may be %d ahead", now, moment, max)
 		}
 	}
 }

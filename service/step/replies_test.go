@@ -2,29 +2,15 @@ package step
 
 import (
 	"crypto/sha256"
+	"encoding/binary"
 	"encoding/hex"
-	"encoding/json"
 	"errors"
 	"fmt"
 	"strings"
 	"testing"
+
+	"wagtenib/bindings/go/wagtenib"
 )
-
-// replying returns a stepper over a function that replies one line to every request.
-func replying(reply string) *Stepper {
-	return Over(func(memory *[]byte, _ []byte) ([]byte, error) {
-		*memory = append((*memory)[:0], reply+"\n"...)
-		return *memory, nil
-	})
-}
-
-// liar is replying with JSON of a value.
-func liar(t *testing.T, reply any) *Stepper {
-	t.Helper()
-	text, err := json.Marshal(reply)
-	must(t, err)
-	return replying(string(text))
-}
 
 // lineOf is a state's line: its size and moment, and of its four hashes the first bytes.
 func lineOf(size, moment uint64, hashes ...[32]byte) string {
@@ -41,13 +27,18 @@ func lineOf(size, moment uint64, hashes ...[32]byte) string {
 
 // TestWrongBegins: the line of a log without entries has neither entries nor a bundle, and is of the moment that was asked for.
 func TestWrongBegins(t *testing.T) {
+	begins := func(line string) *Stepper {
+		of := Proved()
+		of.Begin = func(uint64) (string, error) { return line, nil }
+		return Over(origin, of)
+	}
 	root := sha256.Sum256(nil)
 	right := lineOf(0, 5, root)
-	if line, err := liar(t, map[string]string{"state": right}).Begin(5); err != nil || line != right {
+	if line, err := begins(right).Begin(5); err != nil || line != right {
 		t.Fatalf("%s, %v", line, err)
 	}
-	for what, line := range map[string]string{"an entry": lineOf(1, 5, root), "another moment": lineOf(0, 6, root), "a bundle": lineOf(0, 5, root, [32]byte{1})} {
-		if _, err := liar(t, map[string]string{"state": line}).Begin(5); !errors.Is(err, ErrReply) {
+	for what, line := range map[string]string{"an entry": lineOf(1, 5, root), "another moment": lineOf(0, 6, root), "a bundle": lineOf(0, 5, root, [32]byte{1}), "no state": "growth"} {
+		if _, err := begins(line).Begin(5); !errors.Is(err, ErrReply) {
 			t.Errorf("%s: %v", what, err)
 		}
 	}
@@ -55,81 +46,112 @@ func TestWrongBegins(t *testing.T) {
 
 // TestWrongNeeds: names that are no tiles' aren't wanted.
 func TestWrongNeeds(t *testing.T) {
+	needs := func(names ...string) *Stepper {
+		of := Proved()
+		of.Needs = func(string) ([]string, error) { return names, nil }
+		return Over(origin, of)
+	}
 	line := lineOf(1, 5)
-	if names, err := liar(t, map[string]any{"names": []string{"tile/0/000.p/1", "tile/data/000.p/1"}}).Needs(line); err != nil || strings.Join(names, " ") != "tile/0/000.p/1 tile/data/000.p/1" {
+	if names, err := needs("tile/0/000.p/1", "tile/data/000.p/1").Needs(line); err != nil || strings.Join(names, " ") != "tile/0/000.p/1 tile/data/000.p/1" {
 		t.Errorf("%q, %v", names, err)
 	}
 	for _, name := range []string{"", "heads/1", "/tile/0/000", "issuer/00"} {
-		if names, err := liar(t, map[string]any{"names": []string{"tile/0/000.p/1", name}}).Needs(line); !errors.Is(err, ErrReply) || names != nil {
+		if names, err := needs("tile/0/000.p/1", name).Needs(line); !errors.Is(err, ErrReply) || names != nil {
 			t.Errorf("%q: %q, %v", name, names, err)
 		}
 	}
 }
 
-// TestWrongHeads: a step's head, and one that is resumed, is the state's in each of its parts, and has a note and bytes to be signed.
+// signedOf returns the TreeHeadSignature of a head (RFC 6962, section 3.5).
+func signedOf(size, moment uint64, root [32]byte) (signed wagtenib.SignedBytes) {
+	signed[1] = 1
+	binary.BigEndian.PutUint64(signed[2:], moment)
+	binary.BigEndian.PutUint64(signed[10:], size)
+	copy(signed[18:], root[:])
+	return signed
+}
+
+// TestWrongHeads: a step's head, and one that is resumed, is the state's in each of its parts, and has a note.
 func TestWrongHeads(t *testing.T) {
 	bundle := []byte("a bundle")
 	before := lineOf(3, 5)
 	line := lineOf(3, 7, [32]byte{1}, sha256.Sum256(bundle), [32]byte{}, Digest(before))
-	for what, bend := range map[string]func(h *Head){
-		"as it is":             func(*Head) {},
-		"another size":         func(h *Head) { h.Head.TreeSize++ },
-		"another moment":       func(h *Head) { h.Head.Timestamp++ },
-		"another root":         func(h *Head) { h.Head.RootHash[31] ^= 1 },
-		"a short root":         func(h *Head) { h.Head.RootHash = h.Head.RootHash[:31] },
-		"no note":              func(h *Head) { h.Checkpoint = "" },
-		"nothing to be signed": func(h *Head) { h.Sign = nil },
+	right := wagtenib.Published{Checkpoint: "a note", Signed: signedOf(3, 7, [32]byte{1})}
+	for what, bend := range map[string]func(p *wagtenib.Published){
+		"as it is":           func(*wagtenib.Published) {},
+		"another size":       func(p *wagtenib.Published) { p.Signed[17]++ },
+		"another moment":     func(p *wagtenib.Published) { p.Signed[9]++ },
+		"another root":       func(p *wagtenib.Published) { p.Signed[49] ^= 1 },
+		"another version":    func(p *wagtenib.Published) { p.Signed[0] = 1 },
+		"a timestamp's type": func(p *wagtenib.Published) { p.Signed[1] = 0 },
+		"no note":            func(p *wagtenib.Published) { p.Checkpoint = "" },
 	} {
-		head := Head{Checkpoint: "a note", Sign: []byte{1}}
-		head.Head.RootHash, head.Head.Timestamp, head.Head.TreeSize = append([]byte{1}, make([]byte, 31)...), 7, 3
-		bend(&head)
-		right := what == "as it is"
-		if _, err := liar(t, Stepped{Head: head, Line: line, Bundle: bundle}).Step(before, nil, nil, 7, MostAhead); right != (err == nil) || !right && !errors.Is(err, ErrReply) {
+		bent := right
+		bend(&bent)
+		due := what == "as it is"
+		if _, err := steps(&wagtenib.Step{Published: bent, State: line, Bundle: bundle}).Step(before, nil, nil, 7, MostAhead); due != (err == nil) || !due && !errors.Is(err, ErrReply) {
 			t.Errorf("a step's head has %s: %v", what, err)
 		}
-		if _, err := liar(t, head).Resume(line, bundle); right != (err == nil) || !right && !errors.Is(err, ErrReply) {
+		of := Proved()
+		of.Resume = func(string, string, []byte) (*wagtenib.Published, error) { return &bent, nil }
+		if _, err := Over(origin, of).Resume(line, bundle); due != (err == nil) || !due && !errors.Is(err, ErrReply) {
 			t.Errorf("a head that is resumed has %s: %v", what, err)
 		}
 	}
 	// What is whole in itself isn't the reply to another request.
-	head := Head{Checkpoint: "a note", Sign: []byte{1}}
-	head.Head.RootHash, head.Head.Timestamp, head.Head.TreeSize = append([]byte{1}, make([]byte, 31)...), 7, 3
-	whole := Stepped{Head: head, Line: line, Bundle: bundle}
+	whole := wagtenib.Step{Published: right, State: line, Bundle: bundle}
 	for what, of := range map[string]struct {
 		before string
 		now    uint64
 	}{"of another moment": {before, 8}, "of another size": {lineOf(2, 5), 7}, "behind another line": {lineOf(3, 6), 7}} {
-		if _, err := liar(t, whole).Step(of.before, nil, nil, of.now, MostAhead); !errors.Is(err, ErrReply) {
+		if _, err := steps(&whole).Step(of.before, nil, nil, of.now, MostAhead); !errors.Is(err, ErrReply) {
 			t.Errorf("a step %s: %v", what, err)
 		}
 	}
 	whole.Bundle = []byte("another")
-	if _, err := liar(t, whole).Step(before, nil, nil, 7, MostAhead); !errors.Is(err, ErrReply) {
+	if _, err := steps(&whole).Step(before, nil, nil, 7, MostAhead); !errors.Is(err, ErrReply) {
 		t.Errorf("a step with another bundle: %v", err)
 	}
-	if _, err := replying("").Resume("growth", bundle); !errors.Is(err, ErrState) {
+	if _, err := New(origin).Resume("growth", bundle); !errors.Is(err, ErrState) {
 		t.Error(err)
 	}
 }
 
-// TestWrongClaims: a receipt is that of the place that is claimed, and has bytes to be signed.
+// TestWrongClaims: a receipt has bytes to be signed, and what is no claim isn't asked.
 func TestWrongClaims(t *testing.T) {
-	line := lineOf(3, 7)
-	for what, of := range map[string]struct {
-		receipt *Receipt
-		right   bool
-	}{
-		"as it is":             {&Receipt{1, 6, []byte{1}}, true},
-		"none":                 {nil, false},
-		"another place":        {&Receipt{2, 6, []byte{1}}, false},
-		"another moment":       {&Receipt{1, 7, []byte{1}}, false},
-		"nothing to be signed": {&Receipt{1, 6, nil}, false},
+	of := Proved()
+	of.Claim = func(string, uint64, uint64, []wagtenib.Hash, []byte) ([]byte, error) { return nil, nil }
+	if receipt, err := Over(origin, of).Claim(lineOf(3, 7), 1, 6, nil, Submission{LeafCertificate: []byte("x")}); !errors.Is(err, ErrReply) || receipt != nil {
+		t.Errorf("%+v, %v", receipt, err)
+	}
+	c := New(origin)
+	if _, err := c.Claim(lineOf(3, 7), 1, 6, [][]byte{make([]byte, 31)}, Submission{LeafCertificate: []byte("x")}); !errors.Is(err, NoClaim) {
+		t.Error(err)
+	}
+	for what, s := range map[string]Submission{
+		"nothing":             {},
+		"a short fingerprint": {LeafCertificate: []byte("x"), Chain: [][]byte{make([]byte, 31)}},
+		"too many issuers":    {LeafCertificate: []byte("x"), Chain: make2048()},
+		"a short key hash":    {PreCertificate: []byte("p"), TBSCertificate: []byte("t"), IssuerKeyHash: make([]byte, 31)},
+		"no precertificate":   {TBSCertificate: []byte("t"), IssuerKeyHash: make([]byte, 32)},
+		"a long certificate":  {LeafCertificate: make([]byte, 1<<24)},
 	} {
-		receipt, err := liar(t, map[string]any{"receipt": of.receipt}).Claim(line, 1, 6, nil, Submission{LeafCertificate: []byte("x")})
-		if of.right != (err == nil) || !of.right && (!errors.Is(err, ErrReply) || receipt != nil) {
-			t.Errorf("%s: %+v, %v", what, receipt, err)
+		if _, err := c.Claim(lineOf(3, 7), 1, 6, nil, s); !errors.Is(err, BadBatch) {
+			t.Errorf("%s: %v", what, err)
+		}
+		if _, err := c.Step(lineOf(0, 5, sha256.Sum256(nil)), nil, []Submission{{LeafCertificate: []byte("x")}, s}, 6, MostAhead); !errors.Is(err, BadBatch) {
+			t.Errorf("%s: %v", what, err)
 		}
 	}
+}
+
+// make2048 returns one fingerprint more than a chain has.
+func make2048() [][]byte {
+	chain := make([][]byte, 2048)
+	for i := range chain {
+		chain[i] = make([]byte, 32)
+	}
+	return chain
 }
 
 // TestClaimOfOne: the one entry of a log is claimed by an empty path, of an entry without issuers.
@@ -157,50 +179,25 @@ func TestBounds(t *testing.T) {
 	}
 }
 
-// TestRefusedByFault: a refusal that names a fault is found by its name, and says where the fault is.
-func TestRefusedByFault(t *testing.T) {
-	refused := map[string]string{"document": "submission", "fault": "trailing", "place": "leaf", "refused": "bad-line"}
-	_, err := liar(t, refused).Needs(lineOf(1, 5))
-	if !errors.Is(err, BadLine) || !strings.Contains(err.Error(), "trailing in leaf of the submission") {
-		t.Error(err)
-	}
-	_, err = liar(t, map[string]string{"refused": "full"}).Needs(lineOf(1, 5))
-	if !errors.Is(err, Full) || err.Error() != "refused: full" {
-		t.Error(err)
-	}
-}
-
 // TestLinesThatAreNone: a step from what is no line, and to what is none, is no step.
 func TestLinesThatAreNone(t *testing.T) {
 	bundle := []byte("a bundle")
 	before := lineOf(3, 5)
-	whole := Stepped{Head: Head{Checkpoint: "a note", Sign: []byte{1}}, Line: lineOf(3, 7, [32]byte{1}, sha256.Sum256(bundle), [32]byte{}, Digest(before)), Bundle: bundle}
-	whole.Head.Head.RootHash, whole.Head.Head.Timestamp, whole.Head.Head.TreeSize = append([]byte{1}, make([]byte, 31)...), 7, 3
-	if _, err := liar(t, whole).Step(before, nil, nil, 7, MostAhead); err != nil {
+	whole := wagtenib.Step{
+		Published: wagtenib.Published{Checkpoint: "a note", Signed: signedOf(3, 7, [32]byte{1})},
+		State:     lineOf(3, 7, [32]byte{1}, sha256.Sum256(bundle), [32]byte{}, Digest(before)), Bundle: bundle,
+	}
+	if _, err := steps(&whole).Step(before, nil, nil, 7, MostAhead); err != nil {
 		t.Fatal(err)
 	}
-	if _, err := liar(t, whole).Step(before+"0", nil, nil, 7, MostAhead); !errors.Is(err, ErrState) {
+	if _, err := steps(&whole).Step(before+"0", nil, nil, 7, MostAhead); !errors.Is(err, ErrState) {
 		t.Errorf("from no line: %v", err)
 	}
-	for _, line := range []string{"", "growth", whole.Line + "0"} {
+	for _, line := range []string{"", "growth", whole.State + "0"} {
 		other := whole
-		other.Line = line
-		if _, err := liar(t, other).Step(before, nil, nil, 7, MostAhead); !errors.Is(err, ErrReply) {
+		other.State = line
+		if _, err := steps(&other).Step(before, nil, nil, 7, MostAhead); !errors.Is(err, ErrReply) {
 			t.Errorf("to %q: %v", line, err)
 		}
-	}
-}
-
-// TestClaimIsWritten: a claim without a path and of an entry without issuers has both as empty lists, which the function wants.
-func TestClaimIsWritten(t *testing.T) {
-	var text string
-	c := Over(func(_ *[]byte, request []byte) ([]byte, error) {
-		text = string(request)
-		return []byte(`{"receipt":{"leaf_index":0,"timestamp":6,"sign":"AQ=="}}` + "\n"), nil
-	})
-	_, err := c.Claim(lineOf(1, 7), 0, 6, nil, Submission{LeafCertificate: []byte("x")})
-	must(t, err)
-	if want := `{"claim":{"leaf_index":0,"timestamp":6},"path":[],"state":"` + lineOf(1, 7) + `","submission":{"chain":[],"leaf_certificate":"eA=="}}`; text != want {
-		t.Errorf("%s, and not %s", text, want)
 	}
 }

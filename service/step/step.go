@@ -1,143 +1,167 @@
-// Package step makes the steps of a log, by the proved function of cttile in this process (docs/GROWTH.md). It compares each reply with its request.
+// Package step makes the steps of a log, by the proved functions in this process (docs/GROWTH.md). It compares each reply with its request.
 package step
 
 import (
 	"bytes"
 	"crypto/sha256"
-	"encoding/json"
+	"encoding/binary"
+	"errors"
 	"fmt"
-	"sync"
 
 	"wagtenib/bindings/go/wagtenib"
 	"wagtenib/service/proved"
 )
 
-// MostAhead is how many milliseconds a step's timestamp may be beyond its line's if a request doesn't say: the bound of cttile.
+// MostAhead is how many milliseconds a step's timestamp is beyond its line's at most, unless a caller has a reason for more: an hour.
 const MostAhead = 3_600_000
 
 // ErrReply is the error of a reply that isn't one to the request.
 var ErrReply = proved.ErrReply
 
-// Refusal is the name by which a request was refused. Nothing has changed then.
-type Refusal = proved.Refusal
+// Refusal is the reason for which a request was refused. Nothing has changed then.
+type Refusal wagtenib.Code
 
 // The refusals.
 const (
-	BadLine           = proved.BadLine
-	BadState  Refusal = "bad-state"
-	TooFar    Refusal = "moment-too-far"
-	Edge      Refusal = "edge"
-	Entries   Refusal = "entries"
-	ClockBack Refusal = "clock-back"
-	Full      Refusal = "full"
-	Bundle    Refusal = "bundle"
-	NoClaim   Refusal = "claim"
+	BadBatch  = Refusal(wagtenib.ErrBatch)
+	TooMany   = Refusal(wagtenib.ErrTooMany)
+	BadState  = Refusal(wagtenib.ErrState)
+	TooFar    = Refusal(wagtenib.ErrTimestampTooFar)
+	Edge      = Refusal(wagtenib.ErrEdge)
+	Entries   = Refusal(wagtenib.ErrEntries)
+	ClockBack = Refusal(wagtenib.ErrClockBack)
+	Full      = Refusal(wagtenib.ErrLogFull)
+	TooLong   = Refusal(wagtenib.ErrDataTileTooLong)
+	Bundle    = Refusal(wagtenib.ErrBundle)
+	NoClaim   = Refusal(wagtenib.ErrClaim)
 )
+
+// texts has the refusals in words.
+var texts = map[Refusal]string{
+	BadBatch:  "the batch is no list of submissions",
+	TooMany:   "the batch has more than 4,096 submissions",
+	BadState:  "the state is none",
+	TooFar:    "the timestamp is too far beyond the state's",
+	Edge:      "the partial tiles are not the state's",
+	Entries:   "the partial data tile is not the state's",
+	ClockBack: "the timestamp is not later than the state's",
+	Full:      "the log would have more than 2^40 entries",
+	TooLong:   "a data tile would have 2^32 bytes or more",
+	Bundle:    "the bundle is not the state's",
+	NoClaim:   "the path does not lead to the state's root",
+}
+
+// Error returns the refusal in words.
+func (r Refusal) Error() string { return "refused: " + texts[r] }
+
+// Functions are the proved functions of a step, or others in tests.
+type Functions struct {
+	Begin  func(timestamp uint64) (state string, err error)
+	Needs  func(state string) (names []string, err error)
+	Step   func(origin, state string, edge, batch []byte, now, most uint64) (*wagtenib.Step, error)
+	Claim  func(state string, index, timestamp uint64, path []wagtenib.Hash, submission []byte) (signed []byte, err error)
+	Resume func(origin, state string, bundle []byte) (*wagtenib.Published, error)
+}
+
+// Proved are the proved functions.
+func Proved() Functions {
+	return Functions{wagtenib.StepBegin, wagtenib.StepNeeds, wagtenib.MakeStep, wagtenib.StepClaim, wagtenib.StepResume}
+}
 
 // Stepper makes the steps of one log. It keeps nothing of the log from one call to the next. Its methods may be called at once.
 type Stepper struct {
-	caller *proved.Caller
-	// steps is the caller of Step, whose replies are long.
-	steps *proved.Caller
-	// lines has the memory of requests for steps, which are long.
-	lines sync.Pool
+	origin    string
+	functions Functions
 }
 
 // New returns the stepper of the log with this origin (C2SP tlog-checkpoint).
-func New(origin string) *Stepper {
-	return Over(func(memory *[]byte, request []byte) ([]byte, error) {
-		return wagtenib.StepLine(memory, origin, request)
-	})
-}
+func New(origin string) *Stepper { return Over(origin, Proved()) }
 
-// Over returns a stepper over another function than the proved one, for tests.
-func Over(function proved.Function) *Stepper {
-	return &Stepper{caller: proved.NewCaller(function), steps: proved.NewCaller(function)}
-}
-
-// Submission is one entry of a batch.
-type Submission struct {
-	// Chain are the fingerprints of the issuers.
-	Chain [][]byte `json:"chain"`
-	// LeafCertificate is the certificate; or the other three are there, of a precertificate.
-	LeafCertificate []byte `json:"leaf_certificate,omitempty"`
-	IssuerKeyHash   []byte `json:"issuer_key_hash,omitempty"`
-	PreCertificate  []byte `json:"pre_certificate,omitempty"`
-	TBSCertificate  []byte `json:"tbs_certificate,omitempty"`
-}
+// Over returns a stepper over other functions than the proved ones, for tests.
+func Over(origin string, functions Functions) *Stepper { return &Stepper{origin, functions} }
 
 // Receipt is where an entry of a batch stands, and the bytes under its timestamp's signature (RFC 6962, section 3.2).
 type Receipt struct {
-	LeafIndex uint64 `json:"leaf_index"`
-	Timestamp uint64 `json:"timestamp"`
-	Sign      []byte `json:"sign"`
+	LeafIndex uint64
+	Timestamp uint64
+	Sign      []byte
 }
 
 // Head is a head that is to be signed.
 type Head struct {
 	// Checkpoint is the body of its note, and Sign the bytes under its signature (RFC 6962, section 3.5).
-	Checkpoint string `json:"checkpoint"`
-	Sign       []byte `json:"sign"`
+	Checkpoint string
+	Sign       []byte
 	Head       struct {
-		RootHash  []byte `json:"sha256_root_hash"`
-		Timestamp uint64 `json:"timestamp"`
-		TreeSize  uint64 `json:"tree_size"`
-	} `json:"head"`
+		RootHash  []byte
+		Timestamp uint64
+		TreeSize  uint64
+	}
 }
 
-// check compares a head with the state that it is of.
-func (h Head) check(s State) error {
-	if h.Head.TreeSize != s.Size || h.Head.Timestamp != s.Moment || !bytes.Equal(h.Head.RootHash, s.Root[:]) {
-		return fmt.Errorf("%w: the head isn't the state's", ErrReply)
+// refused returns the error of a call.
+func refused(err error) error {
+	var code wagtenib.Code
+	if !errors.As(err, &code) || code == wagtenib.ErrMemory {
+		return fmt.Errorf("step: %w", err)
 	}
-	if h.Checkpoint == "" || len(h.Sign) == 0 {
-		return fmt.Errorf("%w: the head has no note, or nothing to be signed", ErrReply)
+	if _, ok := texts[Refusal(code)]; ok {
+		return Refusal(code)
 	}
-	return nil
+	return fmt.Errorf("step: %w", err)
+}
+
+// headOf reads the head that is published of a state, and compares it with the state.
+func headOf(p wagtenib.Published, s State) (h Head, err error) {
+	h.Checkpoint, h.Sign = p.Checkpoint, p.Signed[:]
+	h.Head.Timestamp = binary.BigEndian.Uint64(h.Sign[2:])
+	h.Head.TreeSize = binary.BigEndian.Uint64(h.Sign[10:])
+	h.Head.RootHash = h.Sign[18:]
+	if h.Sign[0] != 0 || h.Sign[1] != 1 || h.Head.TreeSize != s.Size || h.Head.Timestamp != s.Moment || !bytes.Equal(h.Head.RootHash, s.Root[:]) {
+		return Head{}, fmt.Errorf("%w: the head isn't the state's", ErrReply)
+	}
+	if h.Checkpoint == "" {
+		return Head{}, fmt.Errorf("%w: the head has no note", ErrReply)
+	}
+	return h, nil
 }
 
 // Begin returns the line of a log without entries.
 func (s *Stepper) Begin(moment uint64) (string, error) {
-	var reply struct{ State string }
-	err := s.caller.CallInto(map[string]any{"begin": moment}, &reply, func() error {
-		if state, err := ParseState(reply.State); err != nil || state.Size != 0 || state.Moment != moment || !state.IsBegin() {
-			return fmt.Errorf("%w: the state isn't that of a log without entries", ErrReply)
-		}
-		return nil
-	})
+	line, err := s.functions.Begin(moment)
 	if err != nil {
-		return "", err
+		return "", refused(err)
 	}
-	return reply.State, nil
+	if state, err := ParseState(line); err != nil || state.Size != 0 || state.Moment != moment || !state.IsBegin() {
+		return "", fmt.Errorf("%w: the state isn't that of a log without entries", ErrReply)
+	}
+	return line, nil
 }
 
 // Needs returns the names of the objects that a step from this line takes: its edge.
 func (s *Stepper) Needs(line string) ([]string, error) {
-	var reply struct{ Names []string }
-	err := s.caller.CallInto(map[string]any{"needs": line}, &reply, func() error {
-		for _, name := range reply.Names {
-			if err := checkTile(name); err != nil {
-				return err
-			}
-		}
-		return nil
-	})
+	names, err := s.functions.Needs(line)
 	if err != nil {
-		return nil, err
+		return nil, refused(err)
 	}
-	return reply.Names, nil
+	for _, name := range names {
+		if err := checkTile(name); err != nil {
+			return nil, err
+		}
+	}
+	return names, nil
 }
 
 // Stepped is what a step gives.
 type Stepped struct {
 	Head
-	Line   string `json:"state"`
-	Bundle []byte `json:"bundle"`
+	Line   string
+	Bundle []byte
 	// Receipts are one for each submission of the batch, in its order: of a repeat that of the first.
-	Receipts []Receipt `json:"receipts"`
+	Receipts []Receipt
 	// State is the line's, and Objects are what is published, out of the bundle.
-	State   State    `json:"-"`
-	Objects []Object `json:"-"`
+	State   State
+	Objects []Object
 }
 
 // Step returns the state after a batch, with the objects that it publishes. The edge are the contents of the names that Needs
@@ -147,91 +171,72 @@ func (s *Stepper) Step(line string, edge [][]byte, batch []Submission, now, most
 	if err != nil {
 		return nil, err
 	}
-	spare, ok := s.lines.Get().(*[]byte)
-	if !ok {
-		spare = new([]byte)
+	submissions, err := batchBytes(batch)
+	if err != nil {
+		return nil, err
 	}
-	defer s.lines.Put(spare)
-	if *spare, err = appendStep((*spare)[:0], line, edge, batch, now, most); err != nil {
-		return nil, fmt.Errorf("step: request: %w", err)
+	reply, err := s.functions.Step(s.origin, line, edgeBytes(edge), submissions, now, most)
+	if err != nil {
+		return nil, refused(err)
 	}
-	var stepped *Stepped
-	err = s.steps.CallLine(*spare, func(reply []byte) (err error) {
-		stepped, err = readStep(reply, line, before.Size, len(batch), now)
-		return err
-	})
-	return stepped, err
+	return stepped(reply, line, before.Size, len(batch), now)
 }
 
-// readStep reads the reply to a request for a step from a line, whose log has so many entries, with so many more.
-func readStep(answered []byte, line string, size uint64, batch int, now uint64) (*Stepped, error) {
-	var told struct {
-		Stepped
-		References []reference `json:"objects"`
-	}
-	if proved.IsRefusal(answered) {
-		return nil, proved.RefusalIn(answered)
-	}
-	bundle, rest, err := cutBundle(answered)
-	if err == nil {
-		var receipts []Receipt
-		receipts, rest, _ = cutReceipts(rest)
-		told.Receipts = receipts
-		err = json.Unmarshal(rest, &told)
-	}
+// stepped reads the reply to a request for a step from a line, whose log has so many entries, with so many more.
+func stepped(reply *wagtenib.Step, line string, size uint64, batch int, now uint64) (*Stepped, error) {
+	state, err := ParseState(reply.State)
 	if err != nil {
 		return nil, fmt.Errorf("%w: %v", ErrReply, err)
 	}
-	reply := &told.Stepped
-	if bundle != nil {
-		reply.Bundle = bundle
-	}
-	if reply.State, err = ParseState(reply.Line); err != nil {
-		return nil, fmt.Errorf("%w: %v", ErrReply, err)
-	}
-	s := reply.State
 	if len(reply.Receipts) != batch {
 		return nil, fmt.Errorf("%w: %d receipts of %d entries", ErrReply, len(reply.Receipts), batch)
 	}
-	before := size
+	receipts, before := make([]Receipt, batch), size
 	for i, r := range reply.Receipts {
 		if r.LeafIndex == size {
 			size++
 		}
-		if r.LeafIndex < before || r.LeafIndex >= size || r.Timestamp != now || len(r.Sign) == 0 {
+		if r.LeafIndex < before || r.LeafIndex >= size || r.Timestamp != now || len(r.Signed) == 0 {
 			return nil, fmt.Errorf("%w: receipt %d isn't an entry's of this batch", ErrReply, i)
 		}
+		receipts[i] = Receipt{r.LeafIndex, r.Timestamp, r.Signed}
 	}
-	if s.Size != size || s.Moment != now || s.Before != Digest(line) || s.Bundle != sha256.Sum256(reply.Bundle) {
+	if state.Size != size || state.Moment != now || state.Before != Digest(line) || state.Bundle != sha256.Sum256(reply.Bundle) {
 		return nil, fmt.Errorf("%w: the state isn't the one behind this batch", ErrReply)
 	}
-	if reply.Objects, err = objectsIn(reply.Bundle, told.References); err != nil {
+	objects, err := objectsIn(reply.Bundle, reply.Objects)
+	if err != nil {
 		return nil, err
 	}
-	return reply, reply.Head.check(s)
+	head, err := headOf(reply.Published, state)
+	if err != nil {
+		return nil, err
+	}
+	return &Stepped{head, reply.State, reply.Bundle, receipts, state, objects}, nil
 }
 
 // Claim returns the receipt of a submission whose entry is at this index of the log of this line, if the audit path, hashes from the leaf up
 // (RFC 9162, section 2.1.3.2), leads from the entry's leaf to the line's root. Otherwise it returns NoClaim.
 func (s *Stepper) Claim(line string, index, timestamp uint64, path [][]byte, submission Submission) (*Receipt, error) {
-	if path == nil {
-		path = [][]byte{}
-	}
-	if submission.Chain == nil {
-		submission.Chain = [][]byte{}
-	}
-	place := map[string]uint64{"leaf_index": index, "timestamp": timestamp}
-	var reply struct{ Receipt *Receipt }
-	err := s.caller.CallInto(map[string]any{"claim": place, "path": path, "state": line, "submission": submission}, &reply, func() error {
-		if r := reply.Receipt; r == nil || r.LeafIndex != index || r.Timestamp != timestamp || len(r.Sign) == 0 {
-			return fmt.Errorf("%w: the receipt isn't that of the place", ErrReply)
+	hashes := make([]wagtenib.Hash, len(path))
+	for i, hash := range path {
+		if len(hash) != wagtenib.HashSize {
+			return nil, fmt.Errorf("%w: a hash of %d bytes", NoClaim, len(hash))
 		}
-		return nil
-	})
+		hashes[i] = wagtenib.Hash(hash)
+	}
+	asked, err := batchBytes([]Submission{submission})
 	if err != nil {
 		return nil, err
 	}
-	return reply.Receipt, nil
+	signed, err := s.functions.Claim(line, index, timestamp, hashes, asked)
+	if err != nil {
+		return nil, refused(err)
+	}
+	if len(signed) == 0 {
+		return nil, fmt.Errorf("%w: the receipt has nothing to be signed", ErrReply)
+	}
+	return &Receipt{index, timestamp, signed}, nil
 }
 
 // Resumed is what is published of a step that was decided.
@@ -246,19 +251,17 @@ func (s *Stepper) Resume(line string, bundle []byte) (*Resumed, error) {
 	if err != nil {
 		return nil, err
 	}
-	var reply struct {
-		Head
-		References []reference `json:"objects"`
+	published, err := s.functions.Resume(s.origin, line, bundle)
+	if err != nil {
+		return nil, refused(err)
 	}
-	var objects []Object
-	err = s.caller.CallInto(map[string]any{"resume": line, "bundle": bundle}, &reply, func() (err error) {
-		if objects, err = objectsIn(bundle, reply.References); err != nil {
-			return err
-		}
-		return reply.Head.check(state)
-	})
+	objects, err := objectsIn(bundle, published.Objects)
 	if err != nil {
 		return nil, err
 	}
-	return &Resumed{reply.Head, objects}, nil
+	head, err := headOf(*published, state)
+	if err != nil {
+		return nil, err
+	}
+	return &Resumed{head, objects}, nil
 }

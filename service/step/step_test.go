@@ -3,7 +3,6 @@ package step
 import (
 	"bytes"
 	"crypto/sha256"
-	"encoding/base64"
 	"errors"
 	"strings"
 	"testing"
@@ -77,29 +76,18 @@ func TestSteps(t *testing.T) {
 			t.Errorf("%v, and not %s", err, want)
 		}
 	}
-	if _, err := c.Step(one.Line, edge, []Submission{{}}, 8, MostAhead); !errors.Is(err, BadLine) {
+	if _, err := c.Step(one.Line, edge, []Submission{{}}, 8, MostAhead); !errors.Is(err, BadBatch) {
 		t.Error(err)
-	}
-}
-
-// TestWrongReplies has a function reply what is no reply to the request.
-func TestWrongReplies(t *testing.T) {
-	for what, reply := range map[string]string{
-		"no JSON":       "no",
-		"a list":        "[]",
-		"no state":      "{}",
-		"another state": `{"state":"growth ` + strings.Repeat("0", 288) + `"}`,
-		"half a reply":  `{"state":`,
-	} {
-		if line, err := replying(reply).Begin(1); !errors.Is(err, ErrReply) || line != "" {
-			t.Errorf("%s: %q, %v", what, line, err)
-		}
 	}
 }
 
 // TestOutOfMemory has a function refuse for want of memory: that is told, and nothing is returned.
 func TestOutOfMemory(t *testing.T) {
-	c := Over(func(*[]byte, []byte) ([]byte, error) { return nil, proved.ErrMemory })
+	of := Proved()
+	of.Step = func(string, string, []byte, []byte, uint64, uint64) (*wagtenib.Step, error) {
+		return nil, wagtenib.ErrMemory
+	}
+	c := Over(origin, of)
 	if stepped, err := c.Step(lineOf(1, 2), nil, nil, 3, 4); !errors.Is(err, proved.ErrMemory) || stepped != nil {
 		t.Errorf("%+v, %v", stepped, err)
 	}
@@ -121,17 +109,17 @@ var oneSubmission = []Submission{{LeafCertificate: []byte("one")}}
 
 // TestWrongStates has a function reply a step's state that has one thing of it wrong: what it says must follow from the request.
 func TestWrongStates(t *testing.T) {
-	_, line, right := oneEntry(t)
+	line, right := oneReply(t)
 	asked := func(state string) error {
 		reply := *right
-		reply.Line = state
-		_, err := liar(t, reply).Step(line, nil, oneSubmission, 7, MostAhead)
+		reply.State = state
+		_, err := steps(&reply).Step(line, nil, oneSubmission, 7, MostAhead)
 		return err
 	}
-	must(t, asked(right.Line))
+	must(t, asked(right.State))
 	// Where the numbers and hashes stand in the line, in bytes.
 	for what, at := range map[string]int{"the size": 7, "the moment": 15, "the root": 16, "the bundle's digest": 48, "the digest of the line before": 112} {
-		digits := []byte(right.Line)
+		digits := []byte(right.State)
 		digit := &digits[len(growth)+2*at]
 		if *digit++; *digit > '9' {
 			*digit = '0'
@@ -163,76 +151,78 @@ func TestReceipts(t *testing.T) {
 	if right.State.Size != 4 {
 		t.Errorf("%d entries", right.State.Size)
 	}
-	for what, wrong := range map[string]func([]Receipt) []Receipt{
-		"none":                   func(r []Receipt) []Receipt { return nil },
-		"one too few":            func(r []Receipt) []Receipt { return r[:4] },
-		"one too many":           func(r []Receipt) []Receipt { return append(r, r[4]) },
-		"one of the log before":  func(r []Receipt) []Receipt { r[2].LeafIndex = 0; return r },
-		"one behind the entries": func(r []Receipt) []Receipt { r[4].LeafIndex = 4; return r },
-		"one farther behind":     func(r []Receipt) []Receipt { r[4].LeafIndex = 5; return r },
-		"one out of turn":        func(r []Receipt) []Receipt { r[1], r[3] = r[3], r[1]; return r },
-		"an entry without one":   func(r []Receipt) []Receipt { r[3] = r[4]; return r },
-		"of another moment":      func(r []Receipt) []Receipt { r[0].Timestamp++; return r },
-		"nothing to be signed":   func(r []Receipt) []Receipt { r[4].Sign = nil; return r },
+	reply, err := wagtenib.MakeStep(origin, before.Line, edgeBytes(edge), bytesOf(t, batch), 7, MostAhead)
+	must(t, err)
+	for what, wrong := range map[string]func([]wagtenib.Receipt) []wagtenib.Receipt{
+		"none":                   func(r []wagtenib.Receipt) []wagtenib.Receipt { return nil },
+		"one too few":            func(r []wagtenib.Receipt) []wagtenib.Receipt { return r[:4] },
+		"one too many":           func(r []wagtenib.Receipt) []wagtenib.Receipt { return append(r, r[4]) },
+		"one of the log before":  func(r []wagtenib.Receipt) []wagtenib.Receipt { r[2].LeafIndex = 0; return r },
+		"one behind the entries": func(r []wagtenib.Receipt) []wagtenib.Receipt { r[4].LeafIndex = 4; return r },
+		"one farther behind":     func(r []wagtenib.Receipt) []wagtenib.Receipt { r[4].LeafIndex = 5; return r },
+		"one out of turn":        func(r []wagtenib.Receipt) []wagtenib.Receipt { r[1], r[3] = r[3], r[1]; return r },
+		"an entry without one":   func(r []wagtenib.Receipt) []wagtenib.Receipt { r[3] = r[4]; return r },
+		"of another moment":      func(r []wagtenib.Receipt) []wagtenib.Receipt { r[0].Timestamp++; return r },
+		"nothing to be signed":   func(r []wagtenib.Receipt) []wagtenib.Receipt { r[4].Signed = nil; return r },
 	} {
-		reply := *right
-		reply.Receipts = wrong(append([]Receipt{}, right.Receipts...))
-		if _, err := liar(t, reply).Step(before.Line, edge, batch, 7, MostAhead); !errors.Is(err, ErrReply) {
+		bent := *reply
+		bent.Receipts = wrong(append([]wagtenib.Receipt{}, reply.Receipts...))
+		if _, err := steps(&bent).Step(before.Line, edge, batch, 7, MostAhead); !errors.Is(err, ErrReply) {
 			t.Errorf("%s: %v", what, err)
 		}
 	}
 }
 
+// bytesOf returns the bytes of a batch.
+func bytesOf(t *testing.T, batch []Submission) []byte {
+	t.Helper()
+	text, err := batchBytes(batch)
+	must(t, err)
+	return text
+}
+
+// steps returns a stepper over a function that replies one step to every request.
+func steps(reply *wagtenib.Step) *Stepper {
+	of := Proved()
+	of.Step = func(string, string, []byte, []byte, uint64, uint64) (*wagtenib.Step, error) { return reply, nil }
+	return Over(origin, of)
+}
+
+// oneReply returns a line of a log without entries, and the proved function's reply with the first entry after it.
+func oneReply(t *testing.T) (line string, reply *wagtenib.Step) {
+	t.Helper()
+	line, err := wagtenib.StepBegin(5)
+	must(t, err)
+	reply, err = wagtenib.MakeStep(origin, line, nil, bytesOf(t, oneSubmission), 7, MostAhead)
+	must(t, err)
+	return line, reply
+}
+
 // TestReferences has a function tell other places in a bundle than an object's: each is told apart from a reply.
 func TestReferences(t *testing.T) {
-	_, line, one := oneEntry(t)
-	digest := func(content string) []byte { sum := sha256.Sum256([]byte(content)); return sum[:] }
+	line, one := oneReply(t)
+	right := one.Objects[0]
 	bundle := string(one.Bundle)
-	for what, wrong := range map[string]reference{
-		"none that is published":  {At: 3, Length: 4, Name: "heads/1", Digest: digest(bundle[3:7])},
-		"behind the end":          {At: uint64(len(bundle)), Length: 1, Name: "tile/0/000.p/1", Digest: digest("")},
-		"farther than a number":   {At: 1, Length: 1<<64 - 1, Name: "tile/0/000.p/1", Digest: digest("")},
-		"begins behind the end":   {At: 1<<64 - 1, Length: 1, Name: "tile/0/000.p/1", Digest: digest("")},
-		"one byte further":        {At: one.at(0) + 1, Length: 32, Name: "tile/0/000.p/1", Digest: one.Objects[0].Digest[:]},
-		"one byte less":           {At: one.at(0), Length: 31, Name: "tile/0/000.p/1", Digest: one.Objects[0].Digest[:]},
-		"another object's digest": {At: one.at(0), Length: 32, Name: "tile/0/000.p/1", Digest: one.Objects[1].Digest[:]},
-		"no digest":               {At: one.at(0), Length: 32, Name: "tile/0/000.p/1"},
+	for what, wrong := range map[string]wagtenib.Object{
+		"none that is published":  {Name: "heads/1", Start: 3, Length: 4, Digest: sha256.Sum256([]byte(bundle[3:7]))},
+		"behind the end":          {Name: "tile/0/000.p/1", Start: uint64(len(bundle)), Length: 1, Digest: sha256.Sum256(nil)},
+		"farther than a number":   {Name: "tile/0/000.p/1", Start: 1, Length: 1<<64 - 1, Digest: sha256.Sum256(nil)},
+		"begins behind the end":   {Name: "tile/0/000.p/1", Start: 1<<64 - 1, Length: 1, Digest: sha256.Sum256(nil)},
+		"one byte further":        {Name: right.Name, Start: right.Start + 1, Length: 32, Digest: right.Digest},
+		"one byte less":           {Name: right.Name, Start: right.Start, Length: 31, Digest: right.Digest},
+		"another object's digest": {Name: right.Name, Start: right.Start, Length: 32, Digest: one.Objects[1].Digest},
+		"no digest":               {Name: right.Name, Start: right.Start, Length: 32},
 	} {
-		for _, reply := range []any{
-			struct {
-				Stepped
-				References []reference `json:"objects"`
-			}{*one, []reference{wrong}},
-			struct {
-				Head
-				References []reference `json:"objects"`
-			}{one.Head, []reference{wrong}},
-		} {
-			liar, err := liar(t, reply), error(nil)
-			if _, ok := reply.(struct {
-				Head
-				References []reference `json:"objects"`
-			}); ok {
-				_, err = liar.Resume(one.Line, one.Bundle)
-			} else {
-				_, err = liar.Step(line, nil, oneSubmission, 7, MostAhead)
-			}
-			if !errors.Is(err, ErrReply) {
-				t.Errorf("%s: %v", what, err)
-			}
+		bent := *one
+		bent.Objects = []wagtenib.Object{wrong}
+		if _, err := steps(&bent).Step(line, nil, oneSubmission, 7, MostAhead); !errors.Is(err, ErrReply) {
+			t.Errorf("a step, %s: %v", what, err)
 		}
-	}
-}
-
-// at is where an object's content stands in the bundle.
-func (s *Stepped) at(object int) uint64 {
-	return uint64(bytes.Index(s.Bundle, s.Objects[object].Content))
-}
-
-// TestLongRequest: a request that is longer than the function takes is refused.
-func TestLongRequest(t *testing.T) {
-	if _, err := New(origin).Resume("growth "+strings.Repeat("0", 288), make([]byte, wagtenib.MaxStepRequest)); !errors.Is(err, BadLine) {
-		t.Error(err)
+		of := Proved()
+		of.Resume = func(string, string, []byte) (*wagtenib.Published, error) { return &bent.Published, nil }
+		if _, err := Over(origin, of).Resume(one.State, one.Bundle); !errors.Is(err, ErrReply) {
+			t.Errorf("a bundle, %s: %v", what, err)
+		}
 	}
 }
 
@@ -246,37 +236,5 @@ func TestTexts(t *testing.T) {
 		if s, err := ParseState(line); !errors.Is(err, ErrState) {
 			t.Errorf("%q: %+v, %v", line, s, err)
 		}
-	}
-}
-
-// TestStepsReplies: a step's bundle is read where it stands first in the reply, as the proved function has it, and elsewhere; bytes that aren't its base64 are no reply, and
-// neither is a bundle beside a refusal.
-func TestStepsReplies(t *testing.T) {
-	bundle := strings.Repeat("a bundle", 20_000)
-	before := lineOf(3, 5)
-	line := lineOf(3, 7, [32]byte{1}, sha256.Sum256([]byte(bundle)), [32]byte{}, Digest(before))
-	root := base64.StdEncoding.EncodeToString(append([]byte{1}, make([]byte, 31)...))
-	rest := `"checkpoint":"a note","head":{"sha256_root_hash":"` + root + `","timestamp":7,"tree_size":3},"objects":[],"receipts":[],"sign":"AQ==","state":"` + line + `"`
-	text := base64.StdEncoding.EncodeToString([]byte(bundle))
-	for what, of := range map[string]struct {
-		reply string
-		right bool
-	}{
-		"first":           {`{"bundle":"` + text + `",` + rest + `}`, true},
-		"last":            {`{` + rest + `,"bundle":"` + text + `"}`, true},
-		"none":            {`{` + rest + `}`, false},
-		"another":         {`{"bundle":"AAAA",` + rest + `}`, false},
-		"cut":             {`{"bundle":"` + text[:len(text)-1] + `",` + rest + `}`, false},
-		"no rest":         {`{"bundle":"` + text + `"}`, false},
-		"beside no JSON":  {`{"bundle":"` + text + `",` + rest, false},
-		"beside a number": {`{"bundle":"` + text + `",1` + rest + `}`, false},
-	} {
-		stepped, err := replying(of.reply).Step(before, nil, nil, 7, MostAhead)
-		if of.right != (err == nil) || of.right && string(stepped.Bundle) != bundle || !of.right && !errors.Is(err, ErrReply) {
-			t.Errorf("%s: %v", what, err)
-		}
-	}
-	if _, err := replying(`{"bundle":"AAAA","refused":"full"}`).Step(before, nil, nil, 7, MostAhead); !errors.Is(err, ErrReply) {
-		t.Error(err)
 	}
 }

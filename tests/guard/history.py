@@ -1,20 +1,10 @@
-"""Histories of a made-up log as ctguard's lines (docs/GUARD.md): heads, forks, older heads, false proofs, receipts, damaged lines.
+"""A made-up log and its forks, with their proofs, over hashlib alone (tests/merkle.py).
 
-The trees are hashlib's alone (tests/merkle.py). `Log` keeps each subtree's hash, so that a history of some hundred lines takes milliseconds.
+`Log` keeps each subtree's hash, so that many proofs take milliseconds.
 """
-import base64
-import json
 import struct
 
 from merkle import leaf_hash, node_hash, sha256, split
-
-
-def text(data):
-    return base64.b64encode(data).decode()
-
-
-def line(value):
-    return json.dumps(value, separators=(",", ":")).encode()
 
 
 def leaf(moment, certificate, key_hash=b""):
@@ -60,11 +50,3 @@ class Log:
         if first <= k:
             return self.subproof(first, start, k, whole) + [self.root(k, end)]
         return self.subproof(first, k, end, False) + [self.root(start, k)]
-
-    def head(self, first, size, moment):
-        """The line of a head, with the proof from the first leaves, as far as there is one."""
-        proof = self.subproof(first, 0, size, True) if 0 < first < size else []
-        return {"consistency": [text(one) for one in proof], "sha256_root_hash": text(self.root(0, size)), "timestamp": moment, "tree_size": size}
-
-    def receipt(self, index, size):
-        return {"audit_path": [text(one) for one in self.path(index, 0, size)], "leaf_index": index, "leaf_input": text(self.leaves[index])}

@@ -61,9 +61,8 @@ def code_of(call):
 
 def guard_at(state):
     """The model's guard with the head of a state, or None if it is the state of no head."""
-    guard = model.Guard()
-    guard.last = head_in(state)
-    return guard if guard.last else None
+    head = head_in(state)
+    return model.Guard(head) if head else None
 
 
 def reply(code, written, room=50):

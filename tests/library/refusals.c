@@ -1,4 +1,4 @@
-/* Calls the functions of libwagtenib over lines, and refuses memory and room: refusals step|node|proof|witness|guard ORIGIN [EACH] < lines
+/* Calls the functions of libwagtenib over lines, and refuses memory and room: refusals step|node|proof|witness ORIGIN [EACH] < lines
  *
  * For each line, which without its end is a request, it calls the function with ample room; then with one byte less than the reply needs: 9, the same length,
  * and the memory as it was; and then once for each allocation (or, of a line with more than EACH of them, for about EACH of them), which is refused: 8, and neither the
@@ -72,11 +72,9 @@ static void call(void) {
     allocations = live = live_blocks = 0;
     length = UNTOUCHED;
     switch (mode[0]) {
-    case 's': code = wagtenib_step_line(origin, origin_length, request, request_length, reply, room, &length); break;
     case 'n': code = wagtenib_node_line(request, request_length, reply, room, &length); break;
     case 'p': code = wagtenib_proof_line(request, request_length, reply, room, &length); break;
-    case 'w': code = wagtenib_witness_line(request, request_length, reply, room, &length); break;
-    default: code = wagtenib_guard_lines(origin, origin_length, false, request, request_length, reply, room, &length);
+    default: code = wagtenib_witness_line(request, request_length, reply, room, &length);
     }
     expect(live == 0 && live_blocks == 0, "memory wasn't given back");
 }
@@ -145,7 +143,7 @@ int main(int words, char **word) {
     char *line = NULL;
     size_t held = 0;
     for (ssize_t got; (got = getline(&line, &held, stdin)) > 0;) {
-        if (line[got - 1] == '\n' && mode[0] != 'g') got--;
+        if (line[got - 1] == '\n') got--;
         if (got == 0) continue;
         request = (const uint8_t *)line;
         request_length = (size_t)got;

@@ -58,6 +58,15 @@ const (
 	ErrLaterLeaf         Code = C.WAGTENIB_LATER_LEAF          // the leaf's timestamp is later than the last head's
 	ErrOtherIndex        Code = C.WAGTENIB_OTHER_INDEX         // the leaf has extensions, and they are not its index alone
 	ErrNotFirst          Code = C.WAGTENIB_NOT_FIRST           // the head is neither that of the empty tree nor the named one
+	ErrEdge              Code = C.WAGTENIB_EDGE                // the partial tiles aren't those of the state, or the edge is no list of contents
+	ErrEntries           Code = C.WAGTENIB_ENTRIES             // the partial data tile isn't that of the state
+	ErrClockBack         Code = C.WAGTENIB_CLOCK_BACK          // the timestamp of the step isn't later than the state's
+	ErrLogFull           Code = C.WAGTENIB_LOG_FULL            // the log would have more than 2^40 leaves
+	ErrDataTileTooLong   Code = C.WAGTENIB_DATA_TILE_TOO_LONG  // a data tile would have 2^32 bytes or more
+	ErrBundle            Code = C.WAGTENIB_BUNDLE              // the bundle isn't that of the state
+	ErrClaim             Code = C.WAGTENIB_CLAIM               // the path doesn't lead from the claimed entry to the state's root
+	ErrBatch             Code = C.WAGTENIB_BAD_BATCH           // the bytes are no list of submissions, or not one submission
+	ErrTooMany           Code = C.WAGTENIB_TOO_MANY            // the batch has more than 4,096 submissions
 )
 
 // The faults of a node's commands and of a lock's text, and what a node that starts must not continue from.
@@ -102,6 +111,15 @@ var texts = map[Code]string{
 	ErrLaterLeaf:         "the leaf's timestamp is later than the last head's",
 	ErrOtherIndex:        "the leaf has extensions, and they are not its index alone",
 	ErrNotFirst:          "the head is neither that of the empty tree nor the named one",
+	ErrEdge:              "the partial tiles are not those of the state, or the edge is no list of contents",
+	ErrEntries:           "the partial data tile is not that of the state",
+	ErrClockBack:         "the timestamp of the step is not later than the state's",
+	ErrLogFull:           "the log would have more than 2^40 leaves",
+	ErrDataTileTooLong:   "a data tile would have 2^32 bytes or more",
+	ErrBundle:            "the bundle is not that of the state",
+	ErrClaim:             "the path does not lead from the claimed entry to the root of the state",
+	ErrBatch:             "the bytes are no list of submissions, or not one submission",
+	ErrTooMany:           "the batch has more than 4,096 submissions",
 
 	ErrCommand:            "no command of a node has this number",
 	ErrOutcome:            "no outcome of a command has this number",

@@ -3,13 +3,13 @@
  *
  * A hash is 32 bytes (SHA-256). A list of hashes is given by a pointer to its first byte and the number of hashes, which
  * stand one after the other. No call keeps a pointer or has any state, so every call may run in any thread at any time.
- * wagtenib_root and the functions whose names end in _line or _lines take memory (malloc), and give it back before they return. All other
+ * wagtenib_root, the functions of the step, and those whose names end in _line or _lines take memory (malloc), and give it back before they return. All other
  * memory is the caller's. A length is a number of bytes.
  *
  * What the caller owes, and nothing checks: each pointer points to as many bytes as is said, readable, and writable where
  * the pointer isn't const, which no other thread writes during the call (nor reads, where they are writable); what is
- * written overlaps no other argument; a length in bytes is below 2^63. The stack has 16 KB left, or 128 KB for the functions whose names end in
- * _line or _lines. No pointer is NULL: for a length of 0 any other pointer serves. Beyond that every number and every byte is allowed.
+ * written overlaps no other argument; a length in bytes is below 2^63. The stack has 16 KB left, or 128 KB for the functions of the step and those
+ * whose names end in _line or _lines. No pointer is NULL: for a length of 0 any other pointer serves. Beyond that every number and every byte is allowed.
  */
 #ifndef WAGTENIB_H
 #define WAGTENIB_H
@@ -51,6 +51,15 @@ enum {
     WAGTENIB_LATER_LEAF = 38,        /* the leaf's timestamp is later than the last head's */
     WAGTENIB_OTHER_INDEX = 39,       /* the leaf has extensions, and they are not only its index */
     WAGTENIB_NOT_FIRST = 40,         /* the head is neither that of the empty tree nor the named one */
+    WAGTENIB_EDGE = 48,              /* the partial tiles are not those of the state, or the edge is no list of contents */
+    WAGTENIB_ENTRIES = 49,           /* the partial data tile is not that of the state */
+    WAGTENIB_CLOCK_BACK = 50,        /* the timestamp of the step is not later than the state's */
+    WAGTENIB_LOG_FULL = 51,          /* the log would have more than 2^40 leaves */
+    WAGTENIB_DATA_TILE_TOO_LONG = 52, /* a data tile would have 2^32 bytes or more */
+    WAGTENIB_BUNDLE = 53,            /* the bundle is not that of the state */
+    WAGTENIB_CLAIM = 54,             /* the audit path does not lead from the claimed entry to the root of the state */
+    WAGTENIB_BAD_BATCH = 55,         /* the batch is no list of submissions, or the claim's submission is not one */
+    WAGTENIB_TOO_MANY = 56,          /* the batch has more than 4,096 submissions */
     WAGTENIB_BAD_COMMAND = 112,      /* no command of a node has this number */
     WAGTENIB_BAD_OUTCOME = 113,      /* no outcome of a command has this number */
     WAGTENIB_BAD_LOCK_TEXT = 114,    /* the bytes are no lock's text */
@@ -145,6 +154,79 @@ uint32_t wagtenib_guard_receipt(const uint8_t *last, size_t last_length, const u
 /* Reads a state. 0: its head is in `head`, and is the head of the state `seen`, or has a later timestamp and no fewer leaves. 36: one of both is not the
  * TreeHeadSignature of a head. 37: the state was rolled back. Nothing is written unless the result is 0. To read a state without another, pass it twice. */
 uint32_t wagtenib_guard_state(const uint8_t *seen, size_t seen_length, const uint8_t *state, size_t state_length, struct wagtenib_head *head);
+
+/* The step of a tiled log (C2SP static-ct-api). Its state is the text of a line, `growth ` and 288 hexadecimal digits, and belongs to the caller, who keeps it
+ * in a register with compare-and-set. The state names the tree's size, timestamp and root, and the SHA-256 hashes of the step's bundle, of the partial data
+ * tile and of the state before. To add entries:
+ *
+ *   1. read the state, and the contents of the objects that wagtenib_step_needs names;
+ *   2. call wagtenib_step with them, and store the bundle;
+ *   3. after that, store the new state, only if the old state is still there;
+ *   4. after that, put the objects of the bundle, and sign the head and the receipts.
+ *
+ * What crosses is in the presentation language of RFC 5246, section 4:
+ *
+ *   opaque Vector<0..2^64-1>;                  the length in 8 bytes, the highest first, and then the bytes
+ *
+ *   Vector edge[];                             the contents of the objects that the step needs, in the order of their names
+ *
+ *   TileLeaf batch[];                          at most 4,096 submissions, one after the other as in a data tile (C2SP static-ct-api), each with the
+ *                                              timestamp 0 and no extensions: 8 bytes 0; the entry type (2 bytes) and the signed entry, a certificate
+ *                                              (length in 3 bytes), or the issuer key hash (32 bytes) and the TBSCertificate (length in 3 bytes); 2 bytes
+ *                                              0; of a precertificate the precertificate (length in 3 bytes); and the SHA-256 fingerprints of the chain's
+ *                                              issuers (length in 2 bytes), at most 2,047
+ *
+ *   Vector names[];                            the names of the objects that a step needs
+ *
+ *   struct {
+ *       Vector name;                           "tile/0/000" and so on (C2SP tlog-tiles)
+ *       uint64 start;                          where the content begins in the bundle
+ *       uint64 length;
+ *       opaque sha256[32];
+ *   } Object;
+ *
+ *   struct {
+ *       opaque tree_head_signature[50];        what is signed for the head (RFC 6962, section 3.5)
+ *       Vector checkpoint;                     the text of its checkpoint (C2SP tlog-checkpoint), without a signature
+ *       Object objects<0..2^64-1>;             the objects of the bundle, in order
+ *   } Published;
+ *
+ *   struct {
+ *       uint64 leaf_index;
+ *       uint64 timestamp;
+ *       Vector signed;                         what is signed for the SCT (RFC 6962, section 3.2), which is also the leaf
+ *   } Receipt;
+ *
+ *   struct {
+ *       Published published;
+ *       Vector state;                          the new state
+ *       Vector bundle;
+ *       Receipt receipts[];                    one for each submission, in the batch's order; of a repeat that of the first
+ *   } Step;
+ *
+ * Entries repeat one another if their entry types and signed entries are equal; of these the first is taken in. A reply goes into `out`, which has `room`
+ * bytes; bytes after the reply are unchanged. 9 (WAGTENIB_NO_ROOM): *length says how much room the reply needs, and nothing else is written; the call has
+ * done all its work, so give a second call at least that much. On any other code but 0 nothing is written, not even *length. */
+
+/* The state of a log without leaves, at this timestamp: 295 bytes. 0, 8 or 9. */
+uint32_t wagtenib_step_begin(uint64_t timestamp, uint8_t *out, size_t room, uint64_t *length);
+
+/* The names of the objects whose contents a step from this state needs. 0, 8, 9 or 36. */
+uint32_t wagtenib_step_needs(const uint8_t *state, size_t state_length, uint8_t *out, size_t room, uint64_t *length);
+
+/* A step from this state, a Step, at the timestamp `now`, which is at most max_ahead milliseconds beyond the state's. 0, 8, 9 or the first reason in this
+ * order: 10, 55, 56, 48 (the edge is no list), 36, 35, 48, 49, 50, 51, 52. */
+uint32_t wagtenib_step(const uint8_t *origin, size_t origin_length, const uint8_t *state, size_t state_length, const uint8_t *edge, size_t edge_length,
+                       const uint8_t *batch, size_t batch_length, uint64_t now, uint64_t max_ahead, uint8_t *out, size_t room, uint64_t *length);
+
+/* The bytes to sign in the receipt of a submission, a batch of one, whose entry has this timestamp and is the leaf at leaf_index, by an audit path from that
+ * leaf to the root of the state. The fingerprints of the submission's chain are not compared. 0, 8, 9 or the first reason in this order: 55, 36, 54. */
+uint32_t wagtenib_step_claim(const uint8_t *state, size_t state_length, uint64_t leaf_index, uint64_t timestamp, const uint8_t *path, size_t path_length,
+                             const uint8_t *submission, size_t submission_length, uint8_t *out, size_t room, uint64_t *length);
+
+/* What is Published of the step that made this state, by its bundle. 0, 8, 9 or the first reason in this order: 10, 36, 53. */
+uint32_t wagtenib_step_resume(const uint8_t *origin, size_t origin_length, const uint8_t *state, size_t state_length, const uint8_t *bundle,
+                              size_t bundle_length, uint8_t *out, size_t room, uint64_t *length);
 
 /* A node of a log: which command it carries out next (docs/NODE.md). Any number of nodes can write one log over one lock with compare-and-set and one store of
  * objects. A node begins with the command 0 (read the lock). It carries a command out, and calls wagtenib_node_next with the command and its outcome. Then the log
@@ -247,10 +329,6 @@ uint32_t wagtenib_batch_state(const uint8_t *name, size_t name_length, struct wa
  * length of the request, or 120 KB. A request of real data takes 26 KB of stack, and JSON that nests as deep as is allowed (127) takes 84 KB.
  */
 
-/* A step of a tiled log: what `cttile` replies to a line (docs/TILES.md). A request has at most 67,108,864 bytes. 0, 8, 9, 10 or 11. */
-uint32_t wagtenib_step_line(const uint8_t *origin, size_t origin_length, const uint8_t *request, size_t request_length,
-                            uint8_t *reply, size_t room, uint64_t *length);
-
 /* A node's next command: what `ctnode` replies to a line (docs/NODE.md). A request has at most 65,536 bytes. 0, 8, 9 or 11. */
 uint32_t wagtenib_node_line(const uint8_t *request, size_t request_length, uint8_t *reply, size_t room, uint64_t *length);
 
@@ -261,12 +339,6 @@ uint32_t wagtenib_proof_line(const uint8_t *request, size_t request_length, uint
 /* Whether a witness cosigns a checkpoint (C2SP tlog-witness): what `ctwitness` replies to a line (docs/WITNESS.md). A request has at most 1,048,576 bytes.
  * 0, 8, 9 or 11. */
 uint32_t wagtenib_witness_line(const uint8_t *request, size_t request_length, uint8_t *reply, size_t room, uint64_t *length);
-
-/* What a log's key may sign: what a run of `ctguard` writes over these lines (docs/GUARD.md). `lines` has whole lines, each with its line end, of at most
- * 1,048,576 bytes each; the first one may be the state that an earlier call ended with. `promised` is the option --receipts promised. The output has a reply
- * to each line, and then the line of the state, which the next call begins with. 0, 8, 9, 10 or 11, which says that a line is no request. */
-uint32_t wagtenib_guard_lines(const uint8_t *origin, size_t origin_length, bool promised, const uint8_t *lines, size_t lines_length,
-                              uint8_t *output, size_t room, uint64_t *length);
 
 #ifdef __cplusplus
 }

@@ -27,7 +27,7 @@ use Rattle.ct_verify.specs.declared.fault.ProofFault.TheVariants.{SizesOutOfRang
 use Rattle.libwagtenib.specs.Codes.{proof_code, leaf_code, head_code, receipt_code}
 use Rattle.libwagtenib.specs.Guard.{IsStateOf, IsOfNoHead, MayFollow, GuardsFirstHead, GuardsHead, GuardsReceipt}
 use Rattle.libwagtenib.specs.GuardLaws.{Over, no_state, the_state, LetsThrough, HeadCall, held_of, AreTaken, HoldsStateOf, head_step_of, head_steps_of, passed_step}
-use Rattle.libwagtenib.specs.GuardLaws.{TakenAreSteps, TakenAgree, TakenGoBack, ReceiptCall, ReceiptsStandInNewest, ReceiptsAreNoHeads}
+use Rattle.libwagtenib.specs.GuardLaws.{TakenAreSteps, TakenAgree, TakenGoBack, ReceiptCall, ReceiptsStandInNewest, ReceiptsAreNoHeads, StatesDiffer, StatesAreReadBack}
 
 -- ---- 0 is the number of no refusal
 above_0-proof : (f : ProofFault) → 0 < proof_code f
@@ -199,3 +199,13 @@ pub receipts_are_no_heads : ReceiptsAreNoHeads
 receipts_are_no_heads H r head is =
     let p = (let_through H r.state r.leaf r.index r.path r.returned).2.0 in
     signed_texts_stand_apart.kinds head.timestamp head.tree_size p.0 head.root p.1 p.2 (sym is.text ∙ p.3.text)
+
+-- ---- states
+pub states_differ : StatesDiffer
+states_differ = same_head
+
+pub states_are_read_back : StatesAreReadBack
+states_are_read_back head state s code before after (inl (bad, inl none, kept)) = absurd (none head s)
+states_are_read_back head state s code before after (inl (bad, inr none, kept)) = absurd (none head s)
+states_are_read_back head state s code before after (inr (found, old, f, o, inl read)) = (read.0, read.2 ∙ same_head found head state f s)
+states_are_read_back head state s code before after (inr (found, old, f, o, inr back)) = absurd (back.1 (inl (same_head found old state f o)))

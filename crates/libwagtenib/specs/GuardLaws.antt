@@ -6,7 +6,8 @@ use Rattle.ct_guard.specs.NewestHead.{HeadStep, AreHeadSteps, NewestIsOf, IsHead
 use Rattle.ct_monitor.specs.Heads.{IsHeadOfAll}
 use Rattle.ct_tree.specs.declared.head.Head.{Head}
 use Rattle.ct_verify.specs.Laws.{SomeCollide}
-use Rattle.libwagtenib.specs.Guard.{GuardsFirstHead, GuardsHead, GuardsReceipt, IsStateOf, IsOfNoHead}
+use Rattle.libwagtenib.specs.Guard.{head_of_c, GuardsFirstHead, GuardsHead, GuardsReceipt, IsStateOf, IsOfNoHead, ReadsGuardState}
+use Rattle.libwagtenib.specs.declared.head.TreeHead.{TreeHead}
 
 -- A call is made over no state, with the head that the operator named, or over this state, the last TreeHeadSignature.
 pub data Over : Type 0 where
@@ -102,3 +103,13 @@ ReceiptsStandInNewest =
 -- The bytes of a leaf that was let through are the TreeHeadSignature of no head. So no signature of a receipt is one of a head.
 abbrev pub ReceiptsAreNoHeads : Type 0
 ReceiptsAreNoHeads = (H : List ℕ → List ℕ) (r : ReceiptCall H) → IsOfNoHead r.leaf
+
+-- No two heads have the same state.
+abbrev pub StatesDiffer : Type 0
+StatesDiffer = (a b : Head) (state : List ℕ) → IsStateOf a state → IsStateOf b state → a ≡ b
+
+-- A call of `wagtenib_guard_state` that reads a head's state, without another one that was seen, returns 0 and writes this head.
+abbrev pub StatesAreReadBack : Type 0
+StatesAreReadBack =
+    (head : Head) (state : List ℕ) → IsStateOf head state → (code : ℕ) (before after : TreeHead) → ReadsGuardState code state state before after
+    → (code ≡ 0) × (head_of_c after ≡ head)

@@ -22,6 +22,24 @@ pub const LATER_LEAF: u32 = 38;
 pub const OTHER_INDEX: u32 = 39;
 /// The head is neither that of the empty tree nor the one that was named.
 pub const NOT_FIRST: u32 = 40;
+/// The partial tiles are not those of the state, or the edge is no list of contents.
+pub const EDGE: u32 = 48;
+/// The partial data tile is not that of the state.
+pub const ENTRIES: u32 = 49;
+/// The timestamp of a step is not later than that of the state.
+pub const CLOCK_BACK: u32 = 50;
+/// The log would have more than 2^40 leaves.
+pub const LOG_FULL: u32 = 51;
+/// A data tile would have 2^32 bytes or more.
+pub const DATA_TILE_TOO_LONG: u32 = 52;
+/// The bundle is not that of the state.
+pub const BUNDLE: u32 = 53;
+/// The audit path does not lead from the claimed entry to the root of the state.
+pub const CLAIM: u32 = 54;
+/// The bytes are no list of submissions, or not one submission.
+pub const BAD_BATCH: u32 = 55;
+/// The batch has more than 4,096 submissions.
+pub const TOO_MANY: u32 = 56;
 /// The number of a command is none.
 pub const BAD_COMMAND: u32 = 112;
 /// The number of an outcome is none.

@@ -3,7 +3,7 @@
 //! A call that let a head or a receipt through is one that returned 0. The laws speak of what [`crate::guard`] ensures of it, for any hash function
 //! with hashes of 32 bytes in place of SHA-256.
 
-ghost use Rattle.libwagtenib.specs.GuardLaws.{TakenAreSteps, TakenAgree, TakenGoBack, ReceiptsStandInNewest, ReceiptsAreNoHeads};
+ghost use Rattle.libwagtenib.specs.GuardLaws.{TakenAreSteps, TakenAgree, TakenGoBack, ReceiptsStandInNewest, ReceiptsAreNoHeads, StatesDiffer, StatesAreReadBack};
 
 /// Heads that were signed over one register were let through one after the other, as the laws of `ct_guard` and of `ct_node_log` speak of heads. Each
 /// was signed only after the register answered that it holds the head's state. Any number of processes may make calls, and may be killed anywhere.
@@ -34,4 +34,10 @@ pub fn receipts_stand_in_the_newest()
 #[tactic(auto, using(crate::proofs::GuardLaws::receipts_are_no_heads))]
 pub fn receipts_are_no_heads()
     ensures { ReceiptsAreNoHeads }
+{}
+
+/// A state is that of one head. A call that reads it, without another one that was seen, returns 0 and writes this head.
+pub fn states_are_read_back()
+    ensures differ { StatesDiffer }
+    ensures read { StatesAreReadBack }
 {}

@@ -7,9 +7,9 @@ ghost use Rattle.ct_lock_text.specs.LockText.{bundle_name};
 
 use crate::codes;
 use crate::node::{NodeState, of_state, state_of};
-use crate::room::write_in;
+use crate::output::write_out;
 use ct_lock_text::{said_in, state_of_name, text_of, write_name};
-use line_calls::codes::{NO_ROOM, OUT_OF_MEMORY};
+use line_calls::codes::OUT_OF_MEMORY;
 use std::alloc::{AllocError, Global};
 
 /// Writes the lock's text of a step's state line, which the node sets in place of a state with the timestamp `previous_timestamp`, into `text`, and its length into
@@ -27,13 +27,7 @@ pub extern "C" fn wagtenib_lock_text(
     ensures { WritesLockText result line.now node.now previous_timestamp salt text.old text.new length.old length.new }
 {
     match text_of(alloc, line, node, previous_timestamp, salt) {
-        Ok(made) => {
-            if write_in(&made, text, length) {
-                codes::OK
-            } else {
-                NO_ROOM
-            }
-        }
+        Ok(made) => write_out(&made, text, length),
         Err(AllocError) => OUT_OF_MEMORY,
     }
 }

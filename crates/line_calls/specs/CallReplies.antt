@@ -1,5 +1,5 @@
 -- What a call with one request writes into the caller's memory, and the code that it returns: 0 (OK), 8 (OUT_OF_MEMORY), 9 (NO_ROOM) or 11 (NOT_A_REQUEST).
-use Rattle.std.specs.Prelude.{◌≡◌, ◌≢◌, ◌<◌, ◌⊎◌, ◌++◌, ℕ, Bool, List, [], ◌∷◌, length, drop, Option, Some, if◌then◌else◌}
+use Rattle.std.specs.Prelude.{◌≡◌, ◌<◌, ◌⊎◌, ◌++◌, ℕ, Bool, List, ◌∷◌, length, drop, if◌then◌else◌}
 use Rattle.line_program.specs.ByLine.{LineGave, GivesAlone}
 
 -- the memory begins with the text, the rest of it is unchanged, and the length is the text's
@@ -14,24 +14,12 @@ HasNoRoom text before after count = (after ≡ before) × (count ≡ length text
 abbrev pub replied_code : Bool → ℕ
 replied_code refused = if refused then 11 else 0
 
--- the code of a call whose run is written, by the run's exit status: 0 if that is 0, otherwise 11
-abbrev pub IsRanCode : ℕ → ℕ → Type 0
-IsRanCode code status = ((code ≡ 0) × (status ≡ 0)) ⊎ ((code ≡ 11) × (status ≢ 0))
-
 -- What a call with a request returns. `comes` says what the request may come to, `text` what is replied then, and `refused` whether the request is refused
 -- as none. 0 or 11: the reply's text is written. 9: the memory has no room for it. 8: an allocation was refused, and nothing has changed.
 abbrev pub RepliesIn : {G : Type 0} → (G → Type 0) → (G → List ℕ) → (G → Bool) → ℕ → List ℕ → List ℕ → ℕ → ℕ → Type 0
 RepliesIn {G} comes text refused code before after count_before count =
     ((gave : G) × comes gave × (((code ≡ replied_code (refused gave)) × WritesText (text gave) before after count)
     ⊎ ((code ≡ 9) × HasNoRoom (text gave) before after count)))
-    ⊎ ((code ≡ 8) × (after ≡ before) × (count ≡ count_before))
-
--- What a call with a whole run's input returns. `runs` says which text a run over the input writes, and with which exit status it ends. 0 or 11: the text is
--- written. 9: the memory has no room for it. 8: an allocation was refused, and nothing has changed.
-abbrev pub RunsIn : (Option (List ℕ) → Option (List ℕ) → Option (List ℕ) → ℕ → Type 0) → ℕ → List ℕ → List ℕ → List ℕ → ℕ → ℕ → Type 0
-RunsIn runs code input before after count_before count =
-    ((text : List ℕ) × (status : ℕ) × runs (Some input) (Some []) (Some text) status
-    × ((IsRanCode code status × WritesText text before after count) ⊎ ((code ≡ 9) × HasNoRoom text before after count)))
     ⊎ ((code ≡ 8) × (after ≡ before) × (count ≡ count_before))
 
 -- If a call wrote a reply to a request that isn't empty, then a run of the program may give that line this reply.

@@ -9,7 +9,7 @@ use line_program::Replier;
 use std::alloc::{AllocError, Global};
 
 // Writes a text to the beginning of memory, and returns whether the memory has room for it. The length becomes the text's in both cases.
-pub(crate) fn write_in(text: &[u8], memory: &mut [u8], length: &mut u64) -> bool
+fn write_in(text: &[u8], memory: &mut [u8], length: &mut u64) -> bool
     ensures written { result ≡ true → WritesText text.now memory.old memory.new length.new }
     ensures full { result ≡ false → HasNoRoom text.now memory.old memory.new length.new }
 {

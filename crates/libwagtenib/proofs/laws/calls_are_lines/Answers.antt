@@ -1,8 +1,5 @@
-use Rattle.libwagtenib.proofs.CallLines.{steps, nodes, proofs, witnesses, guards}
+use Rattle.libwagtenib.proofs.CallLines.{nodes, proofs, witnesses}
 use Rattle.libwagtenib.proofs.laws.calls_are_lines.Goals as goal
-
-pub returns-clause-step : goal.returns-clause-step
-returns-clause-step c = steps
 
 pub returns-clause-node : goal.returns-clause-node
 returns-clause-node c = nodes
@@ -12,6 +9,3 @@ returns-clause-proof c = proofs
 
 pub returns-clause-witness : goal.returns-clause-witness
 returns-clause-witness c = witnesses
-
-pub returns-clause-guard : goal.returns-clause-guard
-returns-clause-guard c = guards

@@ -1,9 +1,0 @@
-pub mod Plain
-pub mod ReadBack
-pub mod Short
-pub mod NoFloat
-pub mod Kept
-pub mod GuardRuns
-pub mod GivenRuns
-pub mod CutRuns
-pub mod Register

@@ -1,0 +1,17 @@
+pub mod StepKept
+pub mod Attempts
+pub mod Splitting
+pub mod StepObjects
+pub mod EdgeParts
+pub mod Claims
+pub mod FirstIndexes
+pub mod Splits
+pub mod AddedOnce
+pub mod RolledOut
+pub mod Standing
+pub mod NamedObjects
+pub mod Pushed
+pub mod Contents
+pub mod Leaves
+pub mod Receipts
+pub mod Calls

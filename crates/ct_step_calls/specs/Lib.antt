@@ -1,0 +1,10 @@
+pub mod StepWords
+pub mod StepReplies
+pub mod StepRepeats
+pub mod SplitSoFar
+pub mod StepBytes
+pub mod StepAsks
+pub mod StepAnswers
+pub mod StepLaws
+pub mod RolledOut
+pub mod StepCalls

@@ -1,0 +1,65 @@
+-- What is replied to a request, as values.
+use Rattle.std.specs.Prelude.{◌≡◌, ◌+◌, ◌∷◌, [], ℕ, List, length, take, drop, map, filter_map, slice_get}
+use Rattle.ct_growth.specs.Leaves.{receipt_parts}
+use Rattle.ct_log_state.specs.declared.line.StateLine.{StateLine}
+use Rattle.ct_step.specs.declared.step.Step.{Step}
+use Rattle.ct_tile_names.specs.Names.{IsTile, name_text}
+use Rattle.ct_tile_names.specs.declared.tile.Tile.{Tile}
+use Rattle.ct_step_calls.specs.declared.places.Place.{Place}
+use Rattle.ct_step_calls.specs.declared.answer.StepRefusal.{StepRefusal}
+
+-- the bytes are the name of a tile (C2SP tlog-tiles, "Merkle Tree"; static-ct-api, "Log Entries")
+abbrev pub IsTileName : List ℕ → Type 0
+IsTileName name = (tile : Tile) × IsTile tile × (name_text tile ≡ name)
+
+-- Where an object stands in the bundle of its step: its name, the place at which its content begins, how many bytes that has, and its digest.
+pub record Reference : Type 0 where
+  pub name : List ℕ
+  pub start : ℕ
+  pub size : ℕ
+  pub digest : List ℕ
+
+-- how many bytes of a bundle an object has: two that say the length of its name, the name, four that say the length of its content, the content
+abbrev pub object_size : List ℕ × List ℕ → ℕ
+object_size o = 6 + length o.0 + length o.1
+
+-- how many bytes a bundle of objects has
+abbrev pub bundle_size : List (List ℕ × List ℕ) → ℕ
+bundle_size [] = 0
+bundle_size (o ∷ objects) = object_size o + bundle_size objects
+
+-- that of an object whose bytes begin at a place
+abbrev pub reference_at : (List ℕ → List ℕ) → ℕ → List ℕ × List ℕ → Reference
+reference_at H place o = record { name = o.0; start = place + (6 + length o.0); size = length o.1; digest = H o.1 }
+
+-- those of objects, one behind the other, whose bytes begin at a place
+abbrev pub references_from : (List ℕ → List ℕ) → ℕ → List (List ℕ × List ℕ) → List Reference
+references_from H place [] = []
+references_from H place (o ∷ objects) = reference_at H place o ∷ references_from H (place + object_size o) objects
+
+-- those of the objects of a bundle
+abbrev pub references_of : (List ℕ → List ℕ) → List (List ℕ × List ℕ) → List Reference
+references_of H objects = references_from H 0 objects
+
+-- what stands there in a bundle: the name, and so many bytes from the place on
+abbrev pub slice_at : List ℕ → Reference → List ℕ × List ℕ
+slice_at bundle r = (r.name, take r.size (drop r.start bundle))
+
+-- the same as the code has it
+abbrev pub place_parts : Place → Reference
+place_parts p = record { name = p.name.now; start = p.start; size = p.length; digest = p.digest }
+
+-- the receipts at these places of a step's
+abbrev pub receipts_at : Step → List ℕ → List (ℕ × ℕ × List ℕ)
+receipts_at step places = filter_map (slice_get (map receipt_parts step.receipts.items)) places
+
+-- What is replied to a request: the state of a log that begins, the names of what a step has to be given, a step, the places of the submissions
+-- among its entries and those of its objects in its bundle, these of a step that was decided, with its line, the receipt of an entry (leaf index,
+-- moment, bytes to be signed), or a refusal.
+pub data StepReply : Type 0 where
+  begins : StateLine → StepReply
+  names_edge : List (List ℕ) → StepReply
+  steps : Step → List ℕ → List Reference → StepReply
+  rolls_out : StateLine → List Reference → StepReply
+  stands : ℕ × ℕ × List ℕ → StepReply
+  refuses : StepRefusal → StepReply

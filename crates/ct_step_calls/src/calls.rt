@@ -1,0 +1,88 @@
+//! The calls.
+
+ghost use Rattle.std.specs.Prelude.{[], IfOk};
+ghost use Rattle.ct_step_calls.specs.StepAnswers.{IsReplyTo};
+ghost use Rattle.ct_step_calls.specs.StepAsks.{for_begin, for_needs, for_resume};
+ghost use Rattle.ct_step_calls.specs.StepCalls.{IsReplyToClaim, IsReplyToStep};
+ghost use Rattle.ct_step_calls.specs.StepReplies.{IsReplyText};
+
+use crate::answer::{Answer, StepRefusal};
+use crate::reading::{batch_of, contents_of};
+use crate::replies::{begun_line, refused_line};
+use crate::stepping::{claim_reply, first_line, needs_reply, resume_reply, step_reply};
+use ct_growth::Claim;
+use std::alloc::{AllocError, Global};
+
+// How many submissions a batch has at most.
+const MOST: usize = 4096;
+
+/// The state of a log without leaves, at a timestamp.
+pub fn begin(alloc: Global, timestamp: u64) -> Result<Answer, AllocError>
+    ensures { IfOk result (λ t. IsReplyText [] t (IsReplyTo (for_begin timestamp))) }
+{
+    begun_line(alloc, &first_line(timestamp))
+}
+
+/// The names of what a step from a state has to be handed, in order.
+pub fn needs(alloc: Global, state: &[u8]) -> Result<Answer, AllocError>
+    ensures { IfOk result (λ t. IsReplyText [] t (IsReplyTo (for_needs state.now))) }
+{
+    needs_reply(alloc, state)
+}
+
+/// A step of a log with this origin from a state: of a batch and with the contents of the objects that it needs, at a timestamp that may be so many
+/// milliseconds beyond the state's.
+pub fn step(
+    alloc: Global,
+    origin: &str,
+    state: &[u8],
+    edge: &[u8],
+    batch: &[u8],
+    now: u64,
+    most: u64,
+) -> Result<Answer, AllocError>
+    ensures { IfOk result (λ t. IsReplyText origin.now t (IsReplyToStep batch.now edge.now now state.now most)) }
+{
+    let contents = contents_of(alloc, edge)?;
+    let Some(entries) = batch_of(alloc, batch)? else {
+        return refused_line(StepRefusal::BadBatch);
+    };
+    if entries.len() > MOST {
+        return refused_line(StepRefusal::TooMany);
+    }
+    match contents {
+        Some(contents) => step_reply(alloc, origin, entries, &contents, now, most, state),
+        None => refused_line(StepRefusal::Edge),
+    }
+}
+
+/// The objects of the step that made a state, by its bundle, of a log with this origin.
+pub fn resume(
+    alloc: Global,
+    origin: &str,
+    state: &[u8],
+    bundle: &[u8],
+) -> Result<Answer, AllocError>
+    ensures { IfOk result (λ t. IsReplyText origin.now t (IsReplyTo (for_resume bundle.now state.now))) }
+{
+    resume_reply(alloc, origin, bundle, state)
+}
+
+/// What is signed in the receipt of a submission's entry, by the place that is claimed for it and an audit path to the root of a state.
+pub fn claim(
+    alloc: Global,
+    state: &[u8],
+    claim: Claim,
+    path: &[[u8; 32]],
+    submission: &[u8],
+) -> Result<Answer, AllocError>
+    ensures { IfOk result (λ t. IsReplyText [] t (IsReplyToClaim submission.now claim path.now state.now)) }
+{
+    let Some(batch) = batch_of(alloc, submission)? else {
+        return refused_line(StepRefusal::BadBatch);
+    };
+    if batch.len() != 1 {
+        return refused_line(StepRefusal::BadBatch);
+    }
+    claim_reply(alloc, claim, path, state, &batch[0].submission)
+}

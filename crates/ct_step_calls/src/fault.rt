@@ -1,0 +1,138 @@
+//! What an error of a crate below says of a run.
+
+ghost use Rattle.std.specs.Prelude.{◌≡◌, ◌≢◌, MatchResult, MatchOption};
+ghost use Rattle.ct_log_state.specs.declared.rolling_out.ResumeFault.TheVariants.{Bundle, Memory as ResumeMemory};
+ghost use Rattle.ct_codec.specs.declared.refusal.Refusal.{Refusal as RefusalOf};
+ghost use Rattle.ct_codec.specs.declared.refusal.Refusal.TheVariants.{Memory as Refused};
+ghost use Rattle.ct_growth.specs.declared.growth.GrowthFault.TheVariants.{Refused as GrowthRefused};
+ghost use Rattle.ct_growth.specs.declared.claim.ClaimFault.TheVariants.{Refused as ClaimRefused};
+ghost use Rattle.ct_step.specs.declared.step.StepFault.TheVariants.{Growth};
+ghost use Rattle.ct_data_tiles.specs.declared.fault.DataTileFault.TheVariants.{Memory as DataTileMemory};
+ghost use Rattle.ct_tile_names.specs.declared.tile.NameFault.TheVariants.{NoSuchTile, Memory as NameMemory};
+ghost use Rattle.ct_step_calls.specs.StepAnswers.{NamesStepFault};
+
+use crate::answer::StepRefusal;
+use ct_codec::Refusal;
+use ct_data_tiles::DataTileFault;
+use ct_growth::{ClaimFault, GrowthFault};
+use ct_log_state::ResumeFault;
+use ct_step::StepFault;
+use ct_tile_names::NameFault;
+use std::alloc::AllocError;
+
+// Of a step that wasn't taken: the name of the refusal, unless a growth was refused. Another refusal of the codec has none.
+#[derive(Drop)]
+pub(crate) struct NotTaken {
+    pub(crate) told: Result<Option<StepRefusal>, AllocError>,
+}
+
+impl From<StepFault> for NotTaken {
+    ghost from_gives = { λ fault taken. MatchResult taken.told
+        (λ o. MatchOption o ((e : RefusalOf) × (fault ≡ Growth (GrowthRefused e)) × (e ≢ Refused)) (λ r. NamesStepFault fault r))
+        (λ _. fault ≡ Growth (GrowthRefused Refused)) };
+
+    fn from(fault: StepFault) -> NotTaken {
+        let told = match fault {
+            StepFault::Edge => Ok(Some(StepRefusal::Edge)),
+            StepFault::Entries => Ok(Some(StepRefusal::Entries)),
+            StepFault::TooLong => Ok(Some(StepRefusal::TooLong)),
+            StepFault::Growth(GrowthFault::ClockBack) => Ok(Some(StepRefusal::ClockBack)),
+            StepFault::Growth(GrowthFault::Full) => Ok(Some(StepRefusal::Full)),
+            StepFault::Growth(GrowthFault::Refused(Refusal::Memory)) => Err(AllocError),
+            StepFault::Growth(GrowthFault::Refused(_)) => Ok(None),
+        };
+        NotTaken { told }
+    }
+}
+
+// Of a bundle that isn't rolled out: it is none of the line, unless a growth was refused.
+#[derive(Drop)]
+pub(crate) struct NotRolledOut {
+    pub(crate) told: Result<(), AllocError>,
+}
+
+impl From<ResumeFault> for NotRolledOut {
+    ghost from_gives = { λ fault rolled. MatchResult rolled.told (λ _. fault ≡ Bundle) (λ _. fault ≡ ResumeMemory) };
+
+    fn from(fault: ResumeFault) -> NotRolledOut {
+        let told = match fault {
+            ResumeFault::Bundle => Ok(()),
+            ResumeFault::Memory => Err(AllocError),
+        };
+        NotRolledOut { told }
+    }
+}
+
+// Of a claim that isn't believed: it isn't true of the state, unless a growth was refused.
+#[derive(Drop)]
+pub(crate) struct NotBelieved {
+    pub(crate) told: Result<(), AllocError>,
+}
+
+impl From<ClaimFault> for NotBelieved {
+    ghost from_gives = { λ fault believed. MatchResult believed.told (λ _. fault ≢ ClaimRefused Refused) (λ _. fault ≡ ClaimRefused Refused) };
+
+    fn from(fault: ClaimFault) -> NotBelieved {
+        let told = match fault {
+            ClaimFault::IndexTooLarge => Ok(()),
+            ClaimFault::ProofRefused(_) => Ok(()),
+            ClaimFault::Refused(Refusal::Memory) => Err(AllocError),
+            ClaimFault::Refused(_) => Ok(()),
+        };
+        NotBelieved { told }
+    }
+}
+
+// Of a text that isn't read as a tile's name: it is none, unless a growth was refused.
+#[derive(Drop)]
+pub(crate) struct NoName {
+    pub(crate) told: Result<(), AllocError>,
+}
+
+impl From<NameFault> for NoName {
+    ghost from_gives = { λ fault no_name. MatchResult no_name.told (λ _. fault ≡ NoSuchTile) (λ _. fault ≡ NameMemory) };
+
+    fn from(fault: NameFault) -> NoName {
+        let told = match fault {
+            NameFault::NoSuchTile => Ok(()),
+            NameFault::Memory => Err(AllocError),
+        };
+        NoName { told }
+    }
+}
+
+// Of bytes that aren't made: whether a growth was refused.
+#[derive(Drop)]
+pub(crate) struct NotMade {
+    pub(crate) told: Result<(), AllocError>,
+}
+
+impl From<Refusal> for NotMade {
+    ghost from_gives = { λ refusal made. MatchResult made.told (λ _. refusal ≢ Refused) (λ _. refusal ≡ Refused) };
+
+    fn from(refusal: Refusal) -> NotMade {
+        let told = match refusal {
+            Refusal::Memory => Err(AllocError),
+            _ => Ok(()),
+        };
+        NotMade { told }
+    }
+}
+
+// Of bytes that aren't read as tile leaves: they are none, unless a growth was refused.
+#[derive(Drop)]
+pub(crate) struct NoTile {
+    pub(crate) told: Result<(), AllocError>,
+}
+
+impl From<DataTileFault> for NoTile {
+    ghost from_gives = { λ fault no_tile. MatchResult no_tile.told (λ _. fault ≢ DataTileMemory) (λ _. fault ≡ DataTileMemory) };
+
+    fn from(fault: DataTileFault) -> NoTile {
+        let told = match fault {
+            DataTileFault::AtLeaf(_, _) => Ok(()),
+            DataTileFault::Memory => Err(AllocError),
+        };
+        NoTile { told }
+    }
+}

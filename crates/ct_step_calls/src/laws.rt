@@ -1,0 +1,53 @@
+//! What follows of the definitions, each the contract of a function that does nothing.
+
+ghost use Rattle.ct_step_calls.specs.RolledOut.{ReferencesAreSlices, RepliedObjectsChange, ResumedLinesAreRolledOut};
+ghost use Rattle.ct_step_calls.specs.StepLaws.{BatchesAreSplit, ClaimsStandThere, FirstLineBegins, OneEntryAnIdentityByLines, ReceiptsNameEntries, RepliedStepsAreAttempts};
+
+/// The line that a log begins with is that of a log without entries. The laws are of every hash function, where two strings are given of those
+/// with hashes of 32 bytes; the program's is SHA-256.
+pub fn first_line_begins()
+    ensures { FirstLineBegins }
+{}
+
+/// A step that is replied is one of the law over sequencers (`ct_step::laws::sequencers_over_lines`), whoever handed over the edge.
+pub fn replied_steps_are_attempts()
+    ensures { RepliedStepsAreAttempts }
+{}
+
+/// Where a reply says that objects stand in a bundle, they stand (`slices`): of a step the tiles and data tiles that change by it, or two different
+/// strings with one hash are given (`change`).
+pub fn objects_stand_there()
+    ensures slices { ReferencesAreSlices }
+    ensures change { RepliedObjectsChange }
+{
+    ct_step::laws::edges();
+}
+
+/// Whoever rolls a step out by the line that a register holds puts what its maker would have put, or two different strings with one hash are given.
+pub fn rolled_out_by_lines()
+    ensures { ResumedLinesAreRolledOut }
+{}
+
+/// A claim's receipt has the claimed index and moment, and what is signed is the submission's leaf of these, which stands there in the log
+/// whose state was given; or two different strings with one digest are given.
+pub fn claims()
+    ensures { ClaimsStandThere }
+{}
+
+/// Among the entries that a batch becomes no identity stands twice, and each submission's place has the first of its identity.
+pub fn batches()
+    ensures { BatchesAreSplit }
+{}
+
+/// Each submission of a batch gets the receipt of the first of its identity: its leaf index in the log, the moment, and the bytes of
+/// that leaf, whatever edge was handed in.
+pub fn receipts()
+    ensures { ReceiptsNameEntries }
+{}
+
+/// However many sequencers carry on a log by lines: where each miss was true when the step's state was read, and the identities of a step
+/// that was taken were in the store before the next one looked its own up, the log that the register's line names has at most one entry
+/// to an identity behind those that were known, and none of theirs; or two different strings with one digest are given.
+pub fn one_entry_an_identity_by_lines()
+    ensures { OneEntryAnIdentityByLines }
+{}

@@ -1,0 +1,43 @@
+//! Where the objects of a step stand in its bundle.
+
+ghost use Rattle.std.specs.Prelude.{◌≡◌, ◌<◌, ◌^◌, IfOk, map};
+ghost use Rattle.sha2.specs.Sha256.{sha256};
+ghost use Rattle.ct_log_state.specs.Resumed.{object_parts};
+ghost use Rattle.ct_step_calls.specs.StepWords.{bundle_size, place_parts, references_of};
+
+use ct_log_state::Object;
+use ct_tree::{NodeHash, Sha256Hash};
+use std::alloc::{AllocError, Global};
+
+// Where an object stands in a bundle: its name, at which byte its content begins, how many bytes that has, and its SHA-256.
+#[derive(Drop)]
+pub struct Place<'a> {
+    pub(crate) name: &'a [u8],
+    pub(crate) start: u64,
+    pub(crate) length: u64,
+    pub(crate) digest: [u8; 32],
+}
+
+// Where the objects of a bundle stand in it.
+pub(crate) fn places_of<'a>(
+    alloc: Global,
+    objects: &[Object<'a>],
+) -> Result<Vec<Place<'a>>, AllocError>
+    requires { bundle_size (map object_parts objects.now) < 2 ^ 64 }
+    ensures { IfOk result (λ places. map place_parts places.items ≡ references_of sha256 (map object_parts objects.now)) }
+{
+    let mut places = Vec::new(alloc);
+    let mut end = 0u64;
+    for object in objects {
+        let start = end + (6 + object.name.len() as u64);
+        let length = object.content.len() as u64;
+        places.push(Place {
+            name: object.name,
+            start,
+            length,
+            digest: Sha256Hash.hash(&[object.content]),
+        })?;
+        end = start + length;
+    }
+    Ok(places)
+}
