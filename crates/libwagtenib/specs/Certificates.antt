@@ -101,8 +101,8 @@ WritesPromised certificate issuer t x code before after count_before count field
     ⊎ ((2 ^ 16 ≤ length x) × (code ≡ 91) × (after ≡ before) × (count ≡ count_before) × (field ≡ field_before))
 
 -- the leaf that was promised is not in the tree at this index by this path: this is the number of the reason
-abbrev pub RefusesKept : List ℕ → List ℕ → ℕ → List ℕ → ℕ → ℕ → List (List ℕ) → List ℕ → ℕ → Type 0
-RefusesKept certificate issuer t x index size path root code =
+abbrev pub RefusesIncluded : List ℕ → List ℕ → ℕ → List ℕ → ℕ → ℕ → List (List ℕ) → List ℕ → ℕ → Type 0
+RefusesIncluded certificate issuer t x index size path root code =
     (leaf : List ℕ) × (f : ProofFault) × IsPromised certificate issuer t x leaf
     × RefusesInclusion sha256 (hash_leaf sha256 leaf) index size path root f × (code ≡ proof_code f)
 
@@ -114,6 +114,6 @@ ChecksPromise certificate issuer t x index size path root code field_before fiel
     ((length x < 2 ^ 16)
     × (((code ≡ 0) × IsPromiseKept certificate issuer t x index size path root × StandsInAll certificate issuer t x index size path root
     × (field ≡ field_before))
-    ⊎ ((RefusesKept certificate issuer t x index size path root code × (field ≡ field_before))
+    ⊎ ((RefusesIncluded certificate issuer t x index size path root code × (field ≡ field_before))
     ⊎ (TellsUnfit (promised_at certificate issuer t x) code field ⊎ ((code ≡ 8) × (field ≡ field_before))))))
     ⊎ ((2 ^ 16 ≤ length x) × (code ≡ 91) × (field ≡ field_before))

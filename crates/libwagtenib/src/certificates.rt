@@ -4,6 +4,7 @@ ghost use Rattle.std.specs.Prelude.{◌≡◌, ◌+◌};
 ghost use Rattle.libwagtenib.specs.Certificates.{der_code, cut_code, unfit_code, place_number, document_number, cut_place, unfit_field};
 ghost use Rattle.libwagtenib.specs.Certificates.{WritesEntry, WritesPromised, ChecksPromise};
 
+use crate::codes::OUT_OF_MEMORY;
 use crate::output::write_output;
 use crate::{codes, proofs};
 use ct_der::DerFault;
@@ -123,7 +124,7 @@ pub extern "C" fn wagtenib_precertificate_entry(
             *field = field_of(unfit);
             number_of(unfit)
         }
-        Err(PromiseFault::Memory) => codes::OUT_OF_MEMORY,
+        Err(PromiseFault::Memory) => OUT_OF_MEMORY,
     }
 }
 
@@ -151,7 +152,7 @@ pub extern "C" fn wagtenib_promised_leaf(
             *field = field_of(unfit);
             number_of(unfit)
         }
-        Err(PromiseFault::Memory) => codes::OUT_OF_MEMORY,
+        Err(PromiseFault::Memory) => OUT_OF_MEMORY,
     }
 }
 
@@ -192,6 +193,6 @@ pub extern "C" fn wagtenib_check_promise(
             *field = field_of(unfit);
             number_of(unfit)
         }
-        Err(Unkept::Memory) => codes::OUT_OF_MEMORY,
+        Err(Unkept::Memory) => OUT_OF_MEMORY,
     }
 }
