@@ -22,6 +22,8 @@ TYPES = {
     "&mut [[u8; 32]]": "uint8_t *{}, size_t *",
     "bool": "bool {}",
     "&mut [u8]": "uint8_t *{}, size_t *",
+    "&[u64]": "const uint64_t *{}, size_t *",
+    "&mut u32": "uint32_t *{}",
     "&mut u64": "uint64_t *{}",
     "&mut usize": "size_t *{}",
     "&mut LeafInfo": "struct wagtenib_leaf_info *{}",

@@ -3,7 +3,7 @@
  *
  * A hash is 32 bytes (SHA-256). A list of hashes is given by a pointer to its first byte and the number of hashes, which
  * stand one after the other. No call keeps a pointer or has any state, so every call may run in any thread at any time.
- * wagtenib_root, the functions of the step, and those whose names end in _line or _lines take memory (malloc), and give it back before they return. All other
+ * wagtenib_root, the functions over steps, certificates and tiles, and those whose names end in _line or _lines take memory (malloc), and give it back before they return. All other
  * memory is the caller's. A length is a number of bytes.
  *
  * What the caller owes, and nothing checks: each pointer points to as many bytes as is said, readable, and writable where
@@ -59,7 +59,23 @@ enum {
     WAGTENIB_BUNDLE = 53,            /* the bundle is not that of the state */
     WAGTENIB_CLAIM = 54,             /* the audit path does not lead from the claimed entry to the root of the state */
     WAGTENIB_BAD_BATCH = 55,         /* the batch is no list of submissions, or the claim's submission is not one */
-    WAGTENIB_TOO_MANY = 56           /* the batch has more than 4,096 submissions */
+    WAGTENIB_TOO_MANY = 56,          /* the batch has more than 4,096 submissions */
+    WAGTENIB_EMPTY_TREE = 64,        /* a tree without leaves has no tiles */
+    WAGTENIB_TOO_MANY_TILES = 65,    /* more tiles are given than are needed */
+    WAGTENIB_MISSING_TILE = 66,      /* fewer tiles are given than are needed */
+    WAGTENIB_BAD_TILE = 67,          /* a tile does not have 32 bytes for each of its hashes */
+    WAGTENIB_DER_TRUNCATED = 80,     /* the bytes end before an element of DER is whole */
+    WAGTENIB_DER_LONG_TAG = 81,      /* the tag of an element has more than one byte */
+    WAGTENIB_DER_INDEFINITE_LENGTH = 82, /* the length of an element is indefinite, which DER does not allow */
+    WAGTENIB_DER_LONG_LENGTH = 83,   /* the length of an element has more than four bytes after the first */
+    WAGTENIB_DER_PADDED_LENGTH = 84, /* the length of an element has more bytes than it needs, which DER does not allow */
+    WAGTENIB_DER_OTHER_TAG = 85,     /* an element has another tag than its field must have */
+    WAGTENIB_DER_TRAILING = 86,      /* bytes follow the last element */
+    WAGTENIB_NO_EXTENSION = 87,      /* the certificate does not have the extension */
+    WAGTENIB_SECOND_EXTENSION = 88,  /* the certificate has the extension twice */
+    WAGTENIB_BAD_POISON = 89,        /* the poison is not critical, or its value is not NULL */
+    WAGTENIB_TBS_TOO_LONG = 90,      /* the TBSCertificate has 2^24 bytes or more */
+    WAGTENIB_EXTENSIONS_TOO_LONG = 91 /* the extensions of a timestamp have 2^16 bytes or more */
 };
 
 /* out = SHA-256(00 || leaf), the hash of a leaf (RFC 6962 section 2.1). */
@@ -215,6 +231,30 @@ uint32_t wagtenib_step_claim(const uint8_t *state, size_t state_length, uint64_t
 /* What is Published of the step that made this state, by its bundle. 0, 8, 9 or the first reason in this order: 10, 36, 53. */
 uint32_t wagtenib_step_resume(const uint8_t *origin, size_t origin_length, const uint8_t *state, size_t state_length, const uint8_t *bundle,
                               size_t bundle_length, uint8_t *out, size_t room, uint64_t *length);
+
+/* Certificates (RFC 6962 sections 3.1 to 3.4), in DER. Output of a length that only the call knows goes into `entry` or `leaf`, which has room for that many
+ * bytes, and *length gets its length. 9: it has no room, *length says how much it needs, and nothing else is written. 80 to 90: a certificate gives nothing.
+ * This is the first reason that reading meets, and *field says where: the fields of a certificate (RFC 5280 section 4.1) have the numbers 1 certificate, 2
+ * tbsCertificate, 3 signatureAlgorithm, 4 signatureValue, 5 version, 6 serialNumber, 7 signature, 8 issuer, 9 validity, 10 subject, 11
+ * subjectPublicKeyInfo, 12 issuerUniqueID, 13 subjectUniqueID and 14 extensions, and 16 is added for the certificate of the issuer. *field is written with no
+ * other code. 8: memory is refused. Nothing else is written with 8, 80 to 91. A call takes about as much memory as its arguments have bytes, three times. */
+
+/* The entry of the precertificate with this TBSCertificate: the same without the poison extension (section 3.2). All other bytes stay as they are, except the
+ * lengths around them. If a precertificate signing certificate issued it, the caller must replace the issuer and its key identifier first. 0, 8, 9, or 80
+ * to 89. */
+uint32_t wagtenib_precertificate_entry(const uint8_t *tbs, size_t tbs_length, uint8_t *entry, size_t room, uint64_t *length, uint32_t *field);
+
+/* The leaf (MerkleTreeLeaf, section 3.4) that a timestamp in this certificate promises, with this time in milliseconds and these CtExtensions (without their
+ * length): of the certificate without its list of timestamps, and of SHA-256 of its issuer's key. The log signs these bytes (section 3.2). 0, 8, 9, 80 to 88,
+ * 90, or 91. */
+uint32_t wagtenib_promised_leaf(const uint8_t *certificate, size_t certificate_length, const uint8_t *issuer, size_t issuer_length, uint64_t timestamp,
+                                const uint8_t *extensions, size_t extensions_length, uint8_t *leaf, size_t room, uint64_t *length, uint32_t *field);
+
+/* Whether that leaf is in a tree. 0: the audit path leads from it to the root, so it is at leaf_index of every list of tree_size leaves with this root
+ * (assuming no SHA-256 collision). 1 to 4: the path does not. Otherwise as of wagtenib_promised_leaf. */
+uint32_t wagtenib_check_promise(const uint8_t *certificate, size_t certificate_length, const uint8_t *issuer, size_t issuer_length, uint64_t timestamp,
+                                const uint8_t *extensions, size_t extensions_length, uint64_t leaf_index, uint64_t tree_size, const uint8_t *path,
+                                size_t path_length, const uint8_t root[32], uint32_t *field);
 
 /* The decisions of the programs over lines, as calls. A call writes, byte for byte, what the program of that name writes on its standard output for that
  * line. The replies are lines of JSON, and each ends with a line end.
