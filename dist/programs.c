@@ -1,4 +1,4 @@
-/* The programs cttile, ctnode, ctproof, ctwitness and ctguard over libwagtenib, for a machine without the Rattle kit: each by the name that this program is
+/* The programs cttile, ctnode, ctproof and ctguard over libwagtenib, for a machine without the Rattle kit: each by the name that this program is
  * called by, or by its first argument.
  *
  * What is replied to a line is the library's, which is proved. What is here is plain C, and is tested: tests/library/compare.py compares it with the proved programs'
@@ -49,8 +49,6 @@ static const struct program PROGRAMS[] = {
      65536, false, false, wagtenib_node_line},
     {"ctproof", "usage: ctproof < lines > replies\n\ndocs/TILES.md has the form of the lines." STATUSES("each line was a request", "a line was no request"),
      67108864, false, false, wagtenib_proof_line},
-    {"ctwitness", "usage: ctwitness < lines > replies\n\ndocs/WITNESS.md has the form of the lines." STATUSES("each line was a request", "a line was no request"),
-     1048576, false, false, wagtenib_witness_line},
     {"ctguard", "usage: ctguard [--origin TEXT] [--receipts in-head|promised] < lines > replies\n\ndocs/GUARD.md has the form of the lines."
                 STATUSES("each line was a request, or the first one a state", "a line was no request"),
      1048576, true, true, call_guard},
@@ -200,7 +198,7 @@ int main(int count, char **arguments) {
         first = 2;
     }
     if (program == NULL) {
-        fputs("usage: programs cttile|ctnode|ctproof|ctwitness|ctguard [OPTION ARGUMENT]..\n", stderr);
+        fputs("usage: programs cttile|ctnode|ctproof|ctguard [OPTION ARGUMENT]..\n", stderr);
         return 2;
     }
     take_arguments(count - first, arguments + first);

@@ -1,8 +1,8 @@
 #!/bin/sh
-# Makes cttile, ctnode, ctproof, ctwitness and ctguard of the files of this folder in FOLDER/bin, by a C compiler: programs.sh FOLDER
+# Makes cttile, ctnode, ctproof and ctguard of the files of this folder in FOLDER/bin, by a C compiler: programs.sh FOLDER
 set -eu
 here=$(cd "$(dirname "$0")" && pwd)
 code=$("$here/processor.sh")
 mkdir -p "$1/bin"
 "${CC:-gcc}" -std=c11 -O2 -Wall -Wextra -I"$here/../include" "$here/programs.c" "$here/memory.c" "$code" -o "$1/bin/programs"
-for name in cttile ctnode ctproof ctwitness ctguard; do ln -sf programs "$1/bin/$name"; done
+for name in cttile ctnode ctproof ctguard; do ln -sf programs "$1/bin/$name"; done

@@ -34,7 +34,6 @@ PROGRAMS = {
     ),
     "cttile": ("docs/GROWTH.md", "0124", ["--origin", "a"] * 2500, [["lines"], ["--origin"], ["--origin", ""], ["--origin", "a\nb"], ["--receipts", "promised"], [""]]),
     "ctproof": ("docs/TILES.md", "0124", [], OPTIONLESS),
-    "ctwitness": ("docs/WITNESS.md", "0124", [], OPTIONLESS),
     "ctnode": ("docs/NODE.md", "0124", [], OPTIONLESS),
 }
 # What help is, of those whose help tells no exit statuses. Any text may stand for `...`.

@@ -18,7 +18,7 @@ import tempfile
 
 from sweep import CRATES, HERE, line
 
-PROGRAMS = ("ctlog", "ctmonitor", "ctguard", "cttile", "ctproof", "ctnode", "ctwitness")
+PROGRAMS = ("ctlog", "ctmonitor", "ctguard", "cttile", "ctproof", "ctnode")
 
 
 def long_reply():

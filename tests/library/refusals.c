@@ -75,7 +75,6 @@ static void call(void) {
     case 's': code = wagtenib_step_line(origin, origin_length, request, request_length, reply, room, &length); break;
     case 'n': code = wagtenib_node_line(request, request_length, reply, room, &length); break;
     case 'p': code = wagtenib_proof_line(request, request_length, reply, room, &length); break;
-    case 'w': code = wagtenib_witness_line(request, request_length, reply, room, &length); break;
     default: code = wagtenib_guard_lines(origin, origin_length, false, request, request_length, reply, room, &length);
     }
     expect(live == 0 && live_blocks == 0, "memory wasn't given back");

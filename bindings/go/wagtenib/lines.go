@@ -8,8 +8,6 @@ package wagtenib
 // #cgo noescape wagtenib_node_line
 // #cgo nocallback wagtenib_proof_line
 // #cgo noescape wagtenib_proof_line
-// #cgo nocallback wagtenib_witness_line
-// #cgo noescape wagtenib_witness_line
 // #cgo nocallback wagtenib_guard_lines
 // #cgo noescape wagtenib_guard_lines
 // #include "wagtenib.h"
@@ -19,11 +17,10 @@ import "unsafe"
 
 // The longest requests, in bytes without a line end. A longer one is refused by its reply.
 const (
-	MaxStepRequest    = 67_108_864
-	MaxNodeRequest    = 65_536
-	MaxProofRequest   = 67_108_864
-	MaxWitnessRequest = 1_048_576
-	MaxGuardLine      = 1_048_576
+	MaxStepRequest  = 67_108_864
+	MaxNodeRequest  = 65_536
+	MaxProofRequest = 67_108_864
+	MaxGuardLine    = 1_048_576
 )
 
 // firstRoom is the number of bytes that memory has at least.
@@ -80,16 +77,6 @@ func NodeLine(memory *[]byte, request []byte) (reply []byte, err error) {
 func ProofLine(memory *[]byte, request []byte) (reply []byte, err error) {
 	return written(memory, func(reply *C.uint8_t, room C.size_t, length *C.uint64_t) C.uint32_t {
 		return C.wagtenib_proof_line(ofBytes(request), C.size_t(len(request)), reply, room, length)
-	})
-}
-
-// WitnessLine returns the reply of ctwitness to one request: whether a witness cosigns a checkpoint (C2SP tlog-witness; docs/WITNESS.md).
-// Request, reply and memory are as of StepLine.
-//
-// The error is nil, ErrNotARequest (with the reply, which refuses the request) or ErrMemory.
-func WitnessLine(memory *[]byte, request []byte) (reply []byte, err error) {
-	return written(memory, func(reply *C.uint8_t, room C.size_t, length *C.uint64_t) C.uint32_t {
-		return C.wagtenib_witness_line(ofBytes(request), C.size_t(len(request)), reply, room, length)
 	})
 }
 

@@ -22,9 +22,8 @@ var programs = map[string]func(memory *[]byte, request []byte) ([]byte, error){
 	"cttile": func(memory *[]byte, request []byte) ([]byte, error) {
 		return wagtenib.StepLine(memory, origin, request)
 	},
-	"ctnode":    wagtenib.NodeLine,
-	"ctproof":   wagtenib.ProofLine,
-	"ctwitness": wagtenib.WitnessLine,
+	"ctnode":  wagtenib.NodeLine,
+	"ctproof": wagtenib.ProofLine,
 }
 
 // stored returns a file of a program's stored run.

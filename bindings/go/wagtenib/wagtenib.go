@@ -9,7 +9,8 @@
 // A call keeps no state, does no input or output, and returns for every input, by proof. It can be made from any number of goroutines at
 // once. Nothing may write to its arguments meanwhile.
 //
-// A call runs on the stack of an operating system's thread. The values' functions take at most 16 KB of it, and those over lines 128 KB.
+// A call runs on the stack of an operating system's thread. The functions over values take at most 16 KB of it, and those of the witness and those
+// over lines 128 KB.
 // The threads of Go have 8 MB with glibc (ulimit -s).
 package wagtenib
 
@@ -31,7 +32,7 @@ type Hash = [HashSize]byte
 // Code is an answer of the library (wagtenib.h) that reports a fault. It is the type of all errors of this package.
 type Code uint32
 
-// The faults of an audit path, of a consistency proof and of a leaf, the reasons for which a call has no reply, and those of the guard.
+// The faults of an audit path, of a consistency proof and of a leaf, the reasons for which a call has no reply, and those of the guard and of the witness.
 const (
 	ErrIndexOutOfRange   Code = C.WAGTENIB_INDEX_OUT_OF_RANGE  // the index of the leaf isn't below the size of the tree
 	ErrPathTooLong       Code = C.WAGTENIB_PATH_TOO_LONG       // hashes are left after the last level of the tree
@@ -51,13 +52,19 @@ const (
 	ErrTrailing          Code = C.WAGTENIB_TRAILING            // bytes follow the leaf
 	ErrSizeFalls         Code = C.WAGTENIB_SIZE_FALLS          // the head has fewer leaves than the last one
 	ErrTimestampNotLater Code = C.WAGTENIB_TIMESTAMP_NOT_LATER // the head differs from the last one, and its timestamp is not later
-	ErrFork              Code = C.WAGTENIB_FORK                // the head has the size of the last one, and another root
+	ErrFork              Code = C.WAGTENIB_FORK                // the head or the checkpoint has the size of the last one, and another root
 	ErrTimestampTooFar   Code = C.WAGTENIB_TIMESTAMP_TOO_FAR   // the head's timestamp is too far beyond the last one's
-	ErrState             Code = C.WAGTENIB_BAD_STATE           // a state is not the TreeHeadSignature of a head
-	ErrStateRolledBack   Code = C.WAGTENIB_STATE_ROLLED_BACK   // the state's head is before that of a state that was seen
+	ErrState             Code = C.WAGTENIB_BAD_STATE           // a state is not the TreeHeadSignature of a head, or not the message of a cosignature
+	ErrStateRolledBack   Code = C.WAGTENIB_STATE_ROLLED_BACK   // the state is before one that was seen
 	ErrLaterLeaf         Code = C.WAGTENIB_LATER_LEAF          // the leaf's timestamp is later than the last head's
 	ErrOtherIndex        Code = C.WAGTENIB_OTHER_INDEX         // the leaf has extensions, and they are not its index alone
 	ErrNotFirst          Code = C.WAGTENIB_NOT_FIRST           // the head is neither that of the empty tree nor the named one
+	ErrNoCheckpoint      Code = C.WAGTENIB_NO_CHECKPOINT       // the text is not that of a checkpoint without extension lines
+	ErrOtherOrigin       Code = C.WAGTENIB_OTHER_ORIGIN        // the checkpoint is of another log than the state
+	ErrOldAbove          Code = C.WAGTENIB_OLD_ABOVE           // the old size is above the checkpoint's
+	ErrNotLast           Code = C.WAGTENIB_NOT_LAST            // the old size is not that of the tree that was cosigned last
+	ErrProofNotEmpty     Code = C.WAGTENIB_PROOF_NOT_EMPTY     // there is a proof, although both trees are the same or the last one has no leaves
+	ErrTimeFalls         Code = C.WAGTENIB_TIME_FALLS          // the time of a cosignature is 0, or earlier than the last one's
 )
 
 var texts = map[Code]string{
@@ -79,13 +86,19 @@ var texts = map[Code]string{
 	ErrTrailing:          "bytes follow the leaf",
 	ErrSizeFalls:         "the head has fewer leaves than the last one",
 	ErrTimestampNotLater: "the head differs from the last one, and its timestamp is not later",
-	ErrFork:              "the head has the size of the last one, and another root",
+	ErrFork:              "the head or the checkpoint has the size of the last one, and another root",
 	ErrTimestampTooFar:   "the head's timestamp is too far beyond the last one's",
-	ErrState:             "a state is not the TreeHeadSignature of a head (50 bytes)",
-	ErrStateRolledBack:   "the state's head is before that of a state that was seen",
+	ErrState:             "a state is not the bytes that were signed last (a TreeHeadSignature of 50 bytes, or the message of a cosignature)",
+	ErrStateRolledBack:   "the state is before one that was seen",
 	ErrLaterLeaf:         "the leaf's timestamp is later than the last head's",
 	ErrOtherIndex:        "the leaf has extensions, and they are not its index alone",
 	ErrNotFirst:          "the head is neither that of the empty tree nor the named one",
+	ErrNoCheckpoint:      "the text is not that of a checkpoint without extension lines",
+	ErrOtherOrigin:       "the checkpoint is of another log than the state",
+	ErrOldAbove:          "the old size is above the checkpoint's",
+	ErrNotLast:           "the old size is not that of the tree that was cosigned last",
+	ErrProofNotEmpty:     "there is a proof, although both trees are the same or the last one has no leaves",
+	ErrTimeFalls:         "the time of a cosignature is 0, or earlier than that of the last one",
 }
 
 // Error returns the fault in words.

@@ -6,8 +6,6 @@ use Rattle.ct_step_lines.specs.StepSession.{ComesToStep, step_text, was_no_reque
 use Rattle.ct_node_lines.specs.NodeSession.{ComesToCommand}
 use Rattle.ct_node_lines.specs.NodeWords.{node_line, is_no_node}
 use Rattle.ct_proof_lines.specs.ReaderSession.{ComesToReading, reading_text, is_bad_reading}
-use Rattle.ct_witness_lines.specs.Cosigned.{is_no_cosign_request}
-use Rattle.ct_witness_lines.specs.CosignSession.{LineComesTo, cosigning_text}
 use Rattle.ct_guard_lines.specs.GuardSession.{GuardOptions, GuardRun}
 use Rattle.ct_guard_lines.specs.GuardWords.{IsGuarded}
 
@@ -22,10 +20,6 @@ NodeCallsAreLines = CallsAreLines (by_value 65536 ComesToCommand) node_line is_n
 -- the same of `ctproof`
 abbrev pub ProofCallsAreLines : Type 0
 ProofCallsAreLines = CallsAreLines (by_value 67108864 ComesToReading) reading_text is_bad_reading
-
--- the same of `ctwitness`
-abbrev pub WitnessCallsAreLines : Type 0
-WitnessCallsAreLines = CallsAreLines LineComesTo cosigning_text is_no_cosign_request
 
 -- what a call with lines of `ctguard` wrote is a run over these lines
 abbrev pub GuardCallsAreRuns : Type 0

@@ -1,6 +1,6 @@
 //! What follows of the definitions, each a clause of a function that does nothing.
 
-ghost use Rattle.libwagtenib.specs.CallLines.{StepCallsAreLines, NodeCallsAreLines, ProofCallsAreLines, WitnessCallsAreLines, GuardCallsAreRuns};
+ghost use Rattle.libwagtenib.specs.CallLines.{StepCallsAreLines, NodeCallsAreLines, ProofCallsAreLines, GuardCallsAreRuns};
 
 /// If a call wrote a reply (`OK` or `NOT_A_REQUEST`) to a request that isn't empty, then a run of the program may give that line this reply. What a call of
 /// the guard wrote is a run over its lines. So the laws of the programs hold of calls too.
@@ -8,6 +8,5 @@ pub fn calls_are_lines()
     ensures step { StepCallsAreLines }
     ensures node { NodeCallsAreLines }
     ensures proof { ProofCallsAreLines }
-    ensures witness { WitnessCallsAreLines }
     ensures guard { GuardCallsAreRuns }
 {}

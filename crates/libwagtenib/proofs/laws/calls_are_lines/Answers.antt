@@ -1,4 +1,4 @@
-use Rattle.libwagtenib.proofs.CallLines.{steps, nodes, proofs, witnesses, guards}
+use Rattle.libwagtenib.proofs.CallLines.{steps, nodes, proofs, guards}
 use Rattle.libwagtenib.proofs.laws.calls_are_lines.Goals as goal
 
 pub returns-clause-step : goal.returns-clause-step
@@ -9,9 +9,6 @@ returns-clause-node c = nodes
 
 pub returns-clause-proof : goal.returns-clause-proof
 returns-clause-proof c = proofs
-
-pub returns-clause-witness : goal.returns-clause-witness
-returns-clause-witness c = witnesses
 
 pub returns-clause-guard : goal.returns-clause-guard
 returns-clause-guard c = guards

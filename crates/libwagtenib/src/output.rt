@@ -1,0 +1,19 @@
+//! Output of a length that only the call knows, which goes into the caller's memory.
+
+ghost use Rattle.libwagtenib.specs.Output.{WritesOutput};
+
+use crate::codes;
+use line_calls::codes::NO_ROOM;
+
+// Writes bytes to the beginning of the memory, if it has room for them. The length becomes theirs in both cases.
+pub(crate) fn write_output(bytes: &[u8], memory: &mut [u8], length: &mut u64) -> u32
+    ensures { WritesOutput bytes.now result memory.old memory.new length.new }
+{
+    let n = bytes.len();
+    *length = n as u64;
+    if n > memory.len() {
+        return NO_ROOM;
+    }
+    memory[..n].copy_from_slice(bytes);
+    codes::OK
+}
