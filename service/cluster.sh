@@ -103,7 +103,7 @@ END_OF_CONF
 
 # last_of NUMBER: the size and the root of the tree that a witness cosigned last.
 # (the message is after two lines, and its checkpoint after two more: docs/WITNESS.md)
-last_of() { cat "$folder/witness-$1"/*/text | sed -n '6{h;n;H;g;s/\n/ /p;}'; }
+last_of() { cat "$folder/witness-$1"/*/text | sed -n '3s/^none yet$/0 none/p;6{h;n;H;g;s/\n/ /p;}'; }
 
 # judge: says who cosigned the last head that is published, and which trees the witnesses cosigned last. It fails where fewer than the half and one of them
 # cosigned it, or stand at it, or one stands elsewhere at its size or above it.

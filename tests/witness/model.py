@@ -1,4 +1,4 @@
-"""What a witness cosigns (docs/WITNESS.md; C2SP tlog-witness, tlog-cosignature), as the page says it: an oracle for tests beside the proved calls of libwagtenib,
+"""Decides as a witness does (docs/WITNESS.md; C2SP tlog-witness, tlog-cosignature), as the page says it: an oracle for tests beside the proved calls of libwagtenib,
 plain and slow. It uses only hashlib for the tree, and shares no code with the calls."""
 import base64
 import binascii
@@ -11,13 +11,13 @@ sys.path.insert(0, str(pathlib.Path(__file__).resolve().parent.parent))
 
 from merkle import fault_of_proof, sha256  # noqa: E402
 
-# What was cosigned last of a log. The time is in seconds.
+# The last cosignature of a log. The time is in seconds.
 Cosigned = collections.namedtuple("Cosigned", "origin size root time")
 NUMBER = re.compile("0|[1-9][0-9]*")
 
 
 def none_yet(origin):
-    """What stands for the last cosignature before the first one."""
+    """The last cosignature before the first one."""
     return Cosigned(origin, 0, sha256(b""), 0)
 
 

@@ -154,7 +154,7 @@ func TestWitnessRefusesDamagedTexts(t *testing.T) {
 	log.append(t, []byte("b"))
 	text := checkpointOf(witnessed, 1, log.root(t, 1))
 	state := messageOf(7, text)
-	for name, wrong := range map[string]string{"nothing": "", "half a line": text[:9], "no last line end": text[:len(text)-1], "an extension line": text + "more\n", "a carriage return": strings.Replace(text, "\n", "\r\n", 1),
+	for name, wrong := range map[string]string{"nothing": "", "half a line": text[:9], "no last line end": text[:len(text)-1], "an extension line": text + "more\n", "carriage returns": strings.ReplaceAll(text, "\n", "\r\n"),
 		"a leading zero": strings.Replace(text, "\n1\n", "\n01\n", 1), "a plus": strings.Replace(text, "\n1\n", "\n+1\n", 1), "a size of 65 bits": strings.Replace(text, "\n1\n", "\n18446744073709551616\n", 1),
 		"no origin": text[len(witnessed):], "a short root": checkpointOf(witnessed, 1, wagtenib.Hash{})[:len(text)-5] + "\n", "no UTF-8": "\xff" + text, "a message": string(state)} {
 		if _, err := wagtenib.WitnessCosign(state, wrong, 1, nil, 7); !errors.Is(err, wagtenib.ErrNoCheckpoint) {
