@@ -29,9 +29,10 @@ TYPES = {
     "&mut LeafInfo": "struct wagtenib_leaf_info *{}",
     "&TreeHead": "const struct wagtenib_head *{}",
     "&mut TreeHead": "struct wagtenib_head *{}",
+    "&mut WitnessedTree": "struct wagtenib_witnessed_tree *{}",
     "Global": None,
 }
-ALIASES = {"LeafInfo": "wagtenib_leaf_info", "TreeHead": "wagtenib_head"}
+ALIASES = {"LeafInfo": "wagtenib_leaf_info", "TreeHead": "wagtenib_head", "WitnessedTree": "wagtenib_witnessed_tree"}
 # A fault of another crate that has another name in C.
 NAMES = {"Memory": "OutOfMemory"}
 

@@ -9,7 +9,8 @@
 // A call keeps no state, does no input or output, and returns for every input, by proof. It can be made from any number of goroutines at
 // once. Nothing may write to its arguments meanwhile.
 //
-// A call runs on the stack of an operating system's thread. The values' functions take at most 16 KB of it, and those over lines 128 KB.
+// A call runs on the stack of an operating system's thread. The functions over values take at most 16 KB of it, and those of the witness and those
+// over lines 128 KB.
 // The threads of Go have 8 MB with glibc (ulimit -s).
 package wagtenib
 
@@ -31,7 +32,8 @@ type Hash = [HashSize]byte
 // Code is an answer of the library (wagtenib.h) that reports a fault. It is the type of all errors of this package, except that a *CertificateError wraps it.
 type Code uint32
 
-// The faults of an audit path, of a consistency proof and of a leaf, the reasons for which a call has no reply, and those of the guard, of tiles and of certificates.
+// The faults of an audit path, of a consistency proof and of a leaf, the reasons for which a call has no reply, and those of the guard, of the step, of tiles, of certificates and of
+// the witness.
 const (
 	ErrIndexOutOfRange     Code = C.WAGTENIB_INDEX_OUT_OF_RANGE    // the index of the leaf isn't below the size of the tree
 	ErrPathTooLong         Code = C.WAGTENIB_PATH_TOO_LONG         // hashes are left after the last level of the tree
@@ -83,6 +85,12 @@ const (
 	ErrBadPoison           Code = C.WAGTENIB_BAD_POISON            // the poison is not critical, or its value is not NULL
 	ErrTBSTooLong          Code = C.WAGTENIB_TBS_TOO_LONG          // the TBSCertificate has 2^24 bytes or more
 	ErrExtensionsTooLong   Code = C.WAGTENIB_EXTENSIONS_TOO_LONG   // the extensions of a timestamp have 2^16 bytes or more
+	ErrNoCheckpoint        Code = C.WAGTENIB_NO_CHECKPOINT         // the text is not that of a checkpoint without extension lines
+	ErrOtherOrigin         Code = C.WAGTENIB_OTHER_ORIGIN          // the checkpoint is of another log than the state
+	ErrOldAbove            Code = C.WAGTENIB_OLD_ABOVE             // the old size is above the checkpoint's
+	ErrNotLast             Code = C.WAGTENIB_NOT_LAST              // the old size is not that of the tree that was cosigned last
+	ErrProofNotEmpty       Code = C.WAGTENIB_PROOF_NOT_EMPTY       // there is a proof, although both trees are the same or the last one has no leaves
+	ErrTimeFalls           Code = C.WAGTENIB_TIME_FALLS            // the time of a cosignature is 0, or earlier than the last one's
 )
 
 var texts = map[Code]string{
@@ -136,6 +144,12 @@ var texts = map[Code]string{
 	ErrBadPoison:           "the poison is not critical, or its value is not NULL",
 	ErrTBSTooLong:          "the TBSCertificate has 2^24 bytes or more",
 	ErrExtensionsTooLong:   "the extensions of a timestamp have 2^16 bytes or more",
+	ErrNoCheckpoint:        "the text is not that of a checkpoint without extension lines",
+	ErrOtherOrigin:         "the checkpoint is of another log than the state",
+	ErrOldAbove:            "the old size is above the checkpoint's",
+	ErrNotLast:             "the old size is not that of the tree that was cosigned last",
+	ErrProofNotEmpty:       "there is a proof, although both trees are the same or the last one has no leaves",
+	ErrTimeFalls:           "the time of a cosignature is 0, or earlier than that of the last one",
 }
 
 // Error returns the fault in words.
