@@ -1,7 +1,7 @@
 #!/usr/bin/env python3
 """What the documents name is there: links, files, functions, words of the code, and targets of the Makefile.
 
-It reads README.md, docs/*.md (but for the texts of sources that checking.py puts into docs/CHECKING.md) and the README.md of bench/, bindings/go/wagtenib/, bindings/rust/, checks/, dist/, internal/node/,
+It reads README.md, docs/*.md (but for the texts of sources that checking.py puts into docs/CHECKING.md) and the README.md of bench/, bindings/go/wagtenib/, bindings/python/, bindings/rust/, checks/, dist/, internal/node/,
 internal/sim/, examples/, examples/link/, release/, service/ and tests/. A link has to lead to a file, and its # to a heading there. In code
 (spans and blocks) a path has to be a file of this repository, `Type::name` a function or a case, `name()` a function, `make name` a target; a
 name with a capital inside or an underscore, and a span of one word, have to stand in the code outside of comments, or in elsewhere.txt. And
@@ -42,7 +42,7 @@ def files():
 
 
 def pages():
-    return [ROOT / "README.md", *sorted((ROOT / "docs").glob("**/*.md")), *(ROOT / folder / "README.md" for folder in ("bench", "bindings/go/wagtenib", "bindings/rust", "checks", "dist", "examples", "examples/link", "internal/node", "internal/sim", "release", "service", "tests"))]
+    return [ROOT / "README.md", *sorted((ROOT / "docs").glob("**/*.md")), *(ROOT / folder / "README.md" for folder in ("bench", "bindings/go/wagtenib", "bindings/python", "bindings/rust", "checks", "dist", "examples", "examples/link", "internal/node", "internal/sim", "release", "service", "tests"))]
 
 
 def words_of_code(paths):

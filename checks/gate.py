@@ -3,7 +3,8 @@
 more, with the tests of the Go part in it, of which the file COUNT in the environment has how many passed and failed, and with what is run over the
 programs once `rt ci` has built them: all by words of their own (tests/command_lines.py), ctlog over sessions (tests/sessions.py), all while some growths
 of memory are refused (tests/sweep.py), and the parts of the demo (examples/demo.sh); dist/ is made again and compared (checks/dist.py), and its programs
-with the proved ones (tests/library/compare.py), its guard with a model (tests/library/guard.py), and its step with another (tests/library/step.py), also by way of the Rust crate (tests/library/rust.py). The status is that of `rt ci`, or 1 where one of these failed.
+with the proved ones (tests/library/compare.py), its guard, step and witness with models (tests/library/guard.py, step.py, witness.py), the Rust crate with some of
+these (tests/library/rust.py), and the Python package with models (bindings/python/tests/compare.py). The status is that of `rt ci`, or 1 where one of these failed.
 
 `rt ci` tells of a crate when it is done, and not how many of its functions are proved so far; while it tells nothing, a line a minute says
 how long it has been at work. Behind it a line says how many processor minutes it took.
@@ -45,7 +46,15 @@ MEMORY = 4_000_000_000
 DEMO = ("path", "monitor", "log", "watched", "tiles", "followed")
 
 # What compares dist/ with what is proved.
-OF_DIST = ("checks/dist.py", "tests/library/compare.py", "tests/library/guard.py", "tests/library/step.py", "tests/library/rust.py")
+OF_DIST = (
+    "checks/dist.py",
+    "tests/library/compare.py",
+    "tests/library/guard.py",
+    "tests/library/step.py",
+    "tests/library/witness.py",
+    "tests/library/rust.py",
+    "bindings/python/tests/compare.py",
+)
 
 # How the programs are broken off: each so many-th growth of memory is refused (make sweep refuses every one).
 BROKEN_OFF = (

@@ -22,6 +22,8 @@ TYPES = {
     "&mut [[u8; 32]]": "uint8_t *{}, size_t *",
     "bool": "bool {}",
     "&mut [u8]": "uint8_t *{}, size_t *",
+    "&[u64]": "const uint64_t *{}, size_t *",
+    "&mut u32": "uint32_t *{}",
     "&mut u64": "uint64_t *{}",
     "&mut usize": "size_t *{}",
     "&mut LeafInfo": "struct wagtenib_leaf_info *{}",
@@ -36,11 +38,13 @@ TYPES = {
     "&mut NodeCommand": "struct wagtenib_node_command *{}",
     "&NodeOutcome": "const struct wagtenib_node_outcome *{}",
     "&NodeFound": "const struct wagtenib_node_found *{}",
+    "&mut WitnessedTree": "struct wagtenib_witnessed_tree *{}",
     "Global": None,
 }
 ALIASES = {
     "LeafInfo": "wagtenib_leaf_info",
     "TreeHead": "wagtenib_head",
+    "WitnessedTree": "wagtenib_witnessed_tree",
     "NodeState": "wagtenib_node_state",
     "NodeCommand": "wagtenib_node_command",
     "NodeOutcome": "wagtenib_node_outcome",

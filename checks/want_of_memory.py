@@ -25,7 +25,8 @@ ANGLE = r"<(?:[^()=<>{};]|->|<(?:[^()=<>{};]|<[^()=<>{};]*>)*>)*"
 BEFORE = re.compile(rf"(?:\blet\b[^=]*|\b(?:const|static)\s+\w+:[^=]*|->[^{{;=]*|{ANGLE}|\btype\s[^;]*|[!=]= (?:\w+::)*)$")
 BEHIND = re.compile(r"^(?:\([^()]*\)|\{[^{}]*\})?\s*[)}]*\s*(?:if\b[^=]*)?(?:\|(?!\|)|=>)|^>")
 # The library for C and the calls below it, their number, and the one place that may name it without a pattern.
-NUMBERED, NUMBER = ("libwagtenib", "line_calls"), re.compile(r"(?<!; )\b8(?:_?[iu](?:\d+|size))?\b|\bOUT_OF_MEMORY\b")
+# (A field of a certificate has the same number.)
+NUMBERED, NUMBER = ("libwagtenib", "line_calls"), re.compile(r"(?<!; )(?<!Place::Issuer => )\b8(?:_?[iu](?:\d+|size))?\b|\bOUT_OF_MEMORY\b")
 CONSTANT = re.compile(r"\buse [^;]*;|\bpub const OUT_OF_MEMORY: u32 = 8;")
 # The one file that may ask for all places that there are.
 COUNT = "shared/src/count.rt"

@@ -38,8 +38,6 @@ static const struct program PROGRAMS[] = {
      65536, false, wagtenib_node_line},
     {"ctproof", "usage: ctproof < lines > replies\n\ndocs/TILES.md has the form of the lines." STATUSES("each line was a request", "a line was no request"),
      67108864, false, wagtenib_proof_line},
-    {"ctwitness", "usage: ctwitness < lines > replies\n\ndocs/WITNESS.md has the form of the lines." STATUSES("each line was a request", "a line was no request"),
-     1048576, false, wagtenib_witness_line},
 };
 
 /* Ends the program with the line of a fault. */
@@ -163,7 +161,7 @@ int main(int count, char **arguments) {
         first = 2;
     }
     if (program == NULL) {
-        fputs("usage: programs ctnode|ctproof|ctwitness [OPTION ARGUMENT]..\n", stderr);
+        fputs("usage: programs ctnode|ctproof [OPTION ARGUMENT]..\n", stderr);
         return 2;
     }
     take_arguments(count - first, arguments + first);

@@ -1,15 +1,15 @@
-/* wagtenib: the proved checks of a Certificate Transparency log's proofs (RFC 6962, RFC 9162), and the proved decisions of what its key may sign and of its
- * programs over lines.
+/* wagtenib: the proved checks of a Certificate Transparency log's proofs (RFC 6962, RFC 9162), and the proved decisions of what its key may sign, of what a
+ * witness cosigns, and of its programs over lines.
  *
  * A hash is 32 bytes (SHA-256). A list of hashes is given by a pointer to its first byte and the number of hashes, which
  * stand one after the other. No call keeps a pointer or has any state, so every call may run in any thread at any time.
- * wagtenib_root, the functions of the step, and those whose names end in _line or _lines take memory (malloc), and give it back before they return. All other
+ * wagtenib_root, the functions over steps, certificates and tiles, those of the witness, and those whose names end in _line take memory (malloc), and give it back before they return. All other
  * memory is the caller's. A length is a number of bytes.
  *
  * What the caller owes, and nothing checks: each pointer points to as many bytes as is said, readable, and writable where
  * the pointer isn't const, which no other thread writes during the call (nor reads, where they are writable); what is
- * written overlaps no other argument; a length in bytes is below 2^63. The stack has 16 KB left, or 128 KB for the functions of the step and those
- * whose names end in _line or _lines. No pointer is NULL: for a length of 0 any other pointer serves. Beyond that every number and every byte is allowed.
+ * written overlaps no other argument; a length in bytes is below 2^63. The stack has 16 KB left, or 128 KB for the functions of the step and of the witness, and
+ * those whose names end in _line. No pointer is NULL: for a length of 0 any other pointer serves. Beyond that every number and every byte is allowed.
  */
 #ifndef WAGTENIB_H
 #define WAGTENIB_H
@@ -44,10 +44,10 @@ enum {
     WAGTENIB_TRAILING = 22,          /* bytes follow the leaf */
     WAGTENIB_SIZE_FALLS = 32,        /* the head has fewer leaves than the last one */
     WAGTENIB_TIMESTAMP_NOT_LATER = 33, /* the head differs from the last one, and its timestamp is not later */
-    WAGTENIB_FORK = 34,              /* the head has the size of the last one, and another root */
+    WAGTENIB_FORK = 34,              /* the head or the checkpoint has the size of the last one, and another root */
     WAGTENIB_TIMESTAMP_TOO_FAR = 35, /* the head's timestamp is more than max_ahead beyond the last one's */
-    WAGTENIB_BAD_STATE = 36,         /* a state is not the TreeHeadSignature of a head */
-    WAGTENIB_STATE_ROLLED_BACK = 37, /* the state's head is before that of a state that was seen */
+    WAGTENIB_BAD_STATE = 36,         /* a state is not the bytes that were signed last: the guard's TreeHeadSignature, the witness's message */
+    WAGTENIB_STATE_ROLLED_BACK = 37, /* the state is before one that was seen */
     WAGTENIB_LATER_LEAF = 38,        /* the leaf's timestamp is later than the last head's */
     WAGTENIB_OTHER_INDEX = 39,       /* the leaf has extensions, and they are not only its index */
     WAGTENIB_NOT_FIRST = 40,         /* the head is neither that of the empty tree nor the named one */
@@ -60,6 +60,28 @@ enum {
     WAGTENIB_CLAIM = 54,             /* the audit path does not lead from the claimed entry to the root of the state */
     WAGTENIB_BAD_BATCH = 55,         /* the batch is no list of submissions, or the claim's submission is not one */
     WAGTENIB_TOO_MANY = 56,          /* the batch has more than 4,096 submissions */
+    WAGTENIB_EMPTY_TREE = 64,        /* a tree without leaves has no tiles */
+    WAGTENIB_TOO_MANY_TILES = 65,    /* more tiles are given than are needed */
+    WAGTENIB_MISSING_TILE = 66,      /* fewer tiles are given than are needed */
+    WAGTENIB_BAD_TILE = 67,          /* a tile does not have 32 bytes for each of its hashes */
+    WAGTENIB_DER_TRUNCATED = 80,     /* the bytes end before an element of DER is whole */
+    WAGTENIB_DER_LONG_TAG = 81,      /* the tag of an element has more than one byte */
+    WAGTENIB_DER_INDEFINITE_LENGTH = 82, /* the length of an element is indefinite, which DER does not allow */
+    WAGTENIB_DER_LONG_LENGTH = 83,   /* the length of an element has more than four bytes after the first */
+    WAGTENIB_DER_PADDED_LENGTH = 84, /* the length of an element has more bytes than it needs, which DER does not allow */
+    WAGTENIB_DER_OTHER_TAG = 85,     /* an element has another tag than its field must have */
+    WAGTENIB_DER_TRAILING = 86,      /* bytes follow the last element */
+    WAGTENIB_NO_EXTENSION = 87,      /* the certificate does not have the extension */
+    WAGTENIB_SECOND_EXTENSION = 88,  /* the certificate has the extension twice */
+    WAGTENIB_BAD_POISON = 89,        /* the poison is not critical, or its value is not NULL */
+    WAGTENIB_TBS_TOO_LONG = 90,      /* the TBSCertificate has 2^24 bytes or more */
+    WAGTENIB_EXTENSIONS_TOO_LONG = 91, /* the extensions of a timestamp have 2^16 bytes or more */
+    WAGTENIB_NO_CHECKPOINT = 96,     /* the text is not that of a checkpoint without extension lines */
+    WAGTENIB_OTHER_ORIGIN = 97,      /* the checkpoint is of another log than the state */
+    WAGTENIB_OLD_ABOVE = 98,         /* the old size is above the checkpoint's */
+    WAGTENIB_NOT_LAST = 99,          /* the old size is not that of the tree that was cosigned last */
+    WAGTENIB_PROOF_NOT_EMPTY = 100,  /* there is a proof, although both trees are the same or the last one has no leaves */
+    WAGTENIB_TIME_FALLS = 101,       /* the time of a cosignature is 0, or earlier than the last one's */
     WAGTENIB_BAD_COMMAND = 112,      /* no command of a node has this number */
     WAGTENIB_BAD_OUTCOME = 113,      /* no outcome of a command has this number */
     WAGTENIB_BAD_LOCK_TEXT = 114,    /* the bytes are no lock's text */
@@ -312,6 +334,67 @@ void wagtenib_batch_name(const struct wagtenib_node_state *state, uint8_t name[5
 /* Reads the name of a staged batch. 0: its state is written. 115: nothing is written. */
 uint32_t wagtenib_batch_state(const uint8_t *name, size_t name_length, struct wagtenib_node_state *state);
 
+/* Certificates (RFC 6962 sections 3.1 to 3.4), in DER. Output of a length that only the call knows goes into `entry` or `leaf`, which has room for that many
+ * bytes, and *length gets its length. 9: it has no room, *length says how much it needs, and nothing else is written. 80 to 90: a certificate gives nothing.
+ * This is the first reason that reading meets, and *field says where: the fields of a certificate (RFC 5280 section 4.1) have the numbers 1 certificate, 2
+ * tbsCertificate, 3 signatureAlgorithm, 4 signatureValue, 5 version, 6 serialNumber, 7 signature, 8 issuer, 9 validity, 10 subject, 11
+ * subjectPublicKeyInfo, 12 issuerUniqueID, 13 subjectUniqueID and 14 extensions, and 16 is added for the certificate of the issuer. *field is written with no
+ * other code. 8: memory is refused. Nothing else is written with 8, 80 to 91. A call takes about as much memory as its arguments have bytes, three times. */
+
+/* The entry of the precertificate with this TBSCertificate: the same without the poison extension (section 3.2). All other bytes stay as they are, except the
+ * lengths around them. If a precertificate signing certificate issued it, the caller must replace the issuer and its key identifier first. 0, 8, 9, or 80
+ * to 89. */
+uint32_t wagtenib_precertificate_entry(const uint8_t *tbs, size_t tbs_length, uint8_t *entry, size_t room, uint64_t *length, uint32_t *field);
+
+/* The leaf (MerkleTreeLeaf, section 3.4) that a timestamp in this certificate promises, with this time in milliseconds and these CtExtensions (without their
+ * length): of the certificate without its list of timestamps, and of SHA-256 of its issuer's key. The log signs these bytes (section 3.2). 0, 8, 9, 80 to 88,
+ * 90, or 91. */
+uint32_t wagtenib_promised_leaf(const uint8_t *certificate, size_t certificate_length, const uint8_t *issuer, size_t issuer_length, uint64_t timestamp,
+                                const uint8_t *extensions, size_t extensions_length, uint8_t *leaf, size_t room, uint64_t *length, uint32_t *field);
+
+/* Whether that leaf is in a tree. 0: the audit path leads from it to the root, so it is at leaf_index of every list of tree_size leaves with this root
+ * (assuming no SHA-256 collision). 1 to 4: the path does not. Otherwise as of wagtenib_promised_leaf. */
+uint32_t wagtenib_check_promise(const uint8_t *certificate, size_t certificate_length, const uint8_t *issuer, size_t issuer_length, uint64_t timestamp,
+                                const uint8_t *extensions, size_t extensions_length, uint64_t leaf_index, uint64_t tree_size, const uint8_t *path,
+                                size_t path_length, const uint8_t root[32], uint32_t *field);
+
+/* What a witness cosigned last of a log. */
+struct wagtenib_witnessed_tree {
+    uint64_t tree_size; /* leaves */
+    uint64_t time;      /* seconds since 1970 */
+    uint8_t root[32];
+};
+
+/* The witness decides which checkpoints are cosigned (C2SP tlog-witness). Its state is, for each log, the message that it cosigned last (C2SP tlog-cosignature,
+ * "cosignature/v1": a line with the version, a line with the time in seconds, and the checkpoint's text), and belongs to the caller, who keeps it in a place that
+ * one process at a time can change. To cosign a checkpoint:
+ *
+ *   1. check the log's signature, read the state, and call wagtenib_witness_cosign with it (wagtenib_witness_first if the log was never cosigned);
+ *   2. after 0, store the *length bytes of `out` as the new state, only if the old state is still there (or the new one already);
+ *   3. after that, sign these bytes.
+ *
+ * Then all trees that were cosigned are those of beginnings of one list, however many processes call the witness and wherever they are killed. An empty or
+ * damaged state is never taken for none: it is refused as 36. The calls take memory (malloc), and give it back before they return. */
+
+/* Whether `checkpoint` may be the first that is cosigned of the log with this origin (its name, without a line end). Call it only if the operator added the log,
+ * and never because a state is missing. It is as wagtenib_witness_cosign after the tree without leaves, at the time 0. */
+uint32_t wagtenib_witness_first(const uint8_t *origin, size_t origin_length, const uint8_t *checkpoint, size_t checkpoint_length, uint64_t old,
+                                const uint8_t *proof, size_t proof_length, uint64_t time, uint8_t *out, size_t room, uint64_t *length);
+
+/* Whether `checkpoint`, the text of a note with its last line end, may be cosigned at this time (in seconds since 1970) after the message `state`. `old` is the
+ * size that the consistency proof is from. 0: the checkpoint has the origin of the state, `old` is the size of the state's tree, the proof leads from that tree to
+ * the checkpoint's (it is empty if both are the same, or the last one has no leaves), and the time is neither 0 nor earlier than the state's; `out` begins with
+ * the message, which has *length bytes, and the rest of it is unchanged. 9: the message has *length bytes, and `out` has no room for them; 41 bytes more than the
+ * checkpoint has are always enough. Otherwise nothing is written, and the result is the first reason in this order: 36, 96, 97, 98, 99, 34, 100, then 5, 2, 3, 6
+ * or 4 of the proof, 101; or 8. */
+uint32_t wagtenib_witness_cosign(const uint8_t *state, size_t state_length, const uint8_t *checkpoint, size_t checkpoint_length, uint64_t old,
+                                 const uint8_t *proof, size_t proof_length, uint64_t time, uint8_t *out, size_t room, uint64_t *length);
+
+/* Reads a state. 0: its tree and time are in `last`, and it is the state `seen`, or that of a later cosignature of the same log: its time is not earlier, and its
+ * tree is the same or has more leaves. 36: one of both is not the message of a cosignature. 37: the state was rolled back, or is of another log. 8: malloc
+ * refused. Nothing is written unless the result is 0. To read a state without another, pass it twice. */
+uint32_t wagtenib_witness_state(const uint8_t *seen, size_t seen_length, const uint8_t *state, size_t state_length, struct wagtenib_witnessed_tree *last);
+
 /* The decisions of the programs over lines, as calls. A call writes, byte for byte, what the program of that name writes on its standard output for that
  * line. The replies are lines of JSON, and each ends with a line end.
  *
@@ -335,10 +418,6 @@ uint32_t wagtenib_node_line(const uint8_t *request, size_t request_length, uint8
 /* A root, a path, a consistency proof or an entry for a reader: what `ctproof` replies to a line (docs/TILES.md). A request has at most 67,108,864 bytes.
  * 0, 8, 9 or 11. */
 uint32_t wagtenib_proof_line(const uint8_t *request, size_t request_length, uint8_t *reply, size_t room, uint64_t *length);
-
-/* Whether a witness cosigns a checkpoint (C2SP tlog-witness): what `ctwitness` replies to a line (docs/WITNESS.md). A request has at most 1,048,576 bytes.
- * 0, 8, 9 or 11. */
-uint32_t wagtenib_witness_line(const uint8_t *request, size_t request_length, uint8_t *reply, size_t room, uint64_t *length);
 
 #ifdef __cplusplus
 }

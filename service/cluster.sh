@@ -102,7 +102,8 @@ END_OF_CONF
 }
 
 # last_of NUMBER: the size and the root of the tree that a witness cosigned last.
-last_of() { cat "$folder/witness-$1"/*/text | sed -n 's/^.*"last_root":"\([^"]*\)","last_size":\([0-9]*\),.*$/\2 \1/p'; }
+# (the message is after two lines, and its checkpoint after two more: docs/WITNESS.md)
+last_of() { cat "$folder/witness-$1"/*/text | sed -n '3s/^none yet$/0 none/p;6{h;n;H;g;s/\n/ /p;}'; }
 
 # judge: says who cosigned the last head that is published, and which trees the witnesses cosigned last. It fails where fewer than the half and one of them
 # cosigned it, or stand at it, or one stands elsewhere at its size or above it.

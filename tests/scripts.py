@@ -149,19 +149,14 @@ def make_install(folder, built):
 
 
 def try_models():
-    """tiles/step.py writes the stored output of ctproof over its words and input, and ends with its status; so does node/ctnode.py for
-    ctnode, and witness/model.py for ctwitness. Where ctwitness is built, witness/fuzz.py compares the two."""
-    for script, program in (("tiles/step.py", "ctproof"), ("node/ctnode.py", "ctnode"), ("witness/model.py", "ctwitness")):
+    """tiles/step.py writes the stored output of ctproof over its words and input, and ends with its status; so does and node/ctnode.py for
+    ctnode."""
+    for script, program in (("tiles/step.py", "ctproof"), ("node/ctnode.py", "ctnode")):
         crate = HERE.parent / "crates" / program
         words = (crate / "args").read_text().split("\n")[:-1] if (crate / "args").exists() else []
         ran = run(script, *words, given=(crate / "stdin").read_bytes())
         if ran.stdout != (crate / "stdout").read_bytes() or ran.returncode != int((crate / "status").read_text()):
             fail(f"{script} writes another output than crates/{program}/stdout, with status {ran.returncode}: {ran.stderr.decode()}")
-    witness = HERE.parent / "crates" / "ctwitness" / "out" / "ctwitness"
-    if witness.exists():
-        ran = run("witness/fuzz.py", witness, 2000)
-        if ran.returncode:
-            fail(f"witness/fuzz.py: {ran.stderr.decode()}")
 
 
 def try_tiles():
@@ -312,7 +307,7 @@ def try_release(folder):
         fail(f"release.py, with nothing built: status {ran.returncode}: {ran.stdout}{ran.stderr}")
     if (folder / "none").exists():
         fail("release.py makes something of nothing")
-    programs = {name: folder / "built" / name / "out" / name for name in ("ctlog", "ctmonitor", "ctproof", "ctnode", "ctwitness")}
+    programs = {name: folder / "built" / name / "out" / name for name in ("ctlog", "ctmonitor", "ctproof", "ctnode")}
     programs.update({name: folder / "service" / name for name in ("ctserve", "ctcheck", "ctread", "ctload", "ctwitness-serve")})
     library = {f"libwagtenib.{end}": folder / "built" / "libwagtenib" / "out" / "link" / f"libwagtenib.{end}" for end in ("a", "so")}
     commit = subprocess.run(["git", "log", "-1", "--format=%H"], cwd=HERE, capture_output=True, text=True).stdout[:12]

@@ -18,7 +18,7 @@ import tempfile
 
 from sweep import CRATES, HERE, line
 
-PROGRAMS = ("ctlog", "ctmonitor", "ctproof", "ctnode", "ctwitness")
+PROGRAMS = ("ctlog", "ctmonitor", "ctproof", "ctnode")
 
 
 def long_reply():

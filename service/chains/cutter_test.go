@@ -9,8 +9,8 @@ import (
 	"fmt"
 	"testing"
 
+	"wagtenib/bindings/go/wagtenib"
 	"wagtenib/service/precert"
-	"wagtenib/service/proved"
 )
 
 // The one form of the poison extension: its OID, critical, and NULL in an OCTET STRING.
@@ -28,18 +28,18 @@ func (byASN1) WithoutPoison(tbs []byte) ([]byte, error) {
 func listOf(tbs []byte) (fields, extensions []asn1.RawValue, err error) {
 	fields, err = inside(tbs)
 	if err != nil || len(fields) == 0 {
-		return nil, nil, fmt.Errorf("%w: %v", precert.Unread, err)
+		return nil, nil, fmt.Errorf("%w: %v", precert.ErrUnread, err)
 	}
 	last := len(fields) - 1
 	if fields[last].Class != asn1.ClassContextSpecific || fields[last].Tag != 3 {
-		return nil, nil, precert.NoExtension
+		return nil, nil, precert.ErrNoExtension
 	}
 	lists, err := values(fields[last].Bytes)
 	if err == nil && len(lists) == 1 {
 		extensions, err = values(lists[0].Bytes)
 	}
 	if err != nil || len(lists) != 1 {
-		return nil, nil, fmt.Errorf("%w: %v", precert.Unread, err)
+		return nil, nil, fmt.Errorf("%w: %v", precert.ErrUnread, err)
 	}
 	return fields[:last], extensions, nil
 }
@@ -61,11 +61,11 @@ func plainly(tbs []byte) (made []byte, place int, err error) {
 	}
 	switch {
 	case len(cut) == 0:
-		return nil, 0, precert.NoExtension
+		return nil, 0, precert.ErrNoExtension
 	case len(cut) > 1:
-		return nil, 0, precert.SecondExtension
+		return nil, 0, precert.ErrSecondExtension
 	case !bytes.Equal(cut[0].FullBytes, poison):
-		return nil, 0, precert.BadPoison
+		return nil, 0, precert.ErrBadPoison
 	}
 	if len(kept) > 0 {
 		fields = append(fields, wrapped(asn1.ClassContextSpecific, 3, []asn1.RawValue{wrapped(asn1.ClassUniversal, asn1.TagSequence, kept)}))
@@ -90,8 +90,8 @@ func TestCutters(t *testing.T) {
 		err  error
 		want Refusal
 	}{
-		{precert.NoExtension, NoPoison}, {precert.SecondExtension, NoPoison}, {precert.BadPoison, BadPoison}, {precert.TooLong, NoCertificate},
-		{fmt.Errorf("%w: trailing in tbs of the certificate", precert.Unread), NoCertificate}, {proved.BadLine, ""}, {gone, ""},
+		{precert.ErrNoExtension, NoPoison}, {precert.ErrSecondExtension, NoPoison}, {precert.ErrBadPoison, BadPoison},
+		{fmt.Errorf("%w: trailing in tbs of the certificate", precert.ErrUnread), NoCertificate}, {wagtenib.ErrMemory, ""}, {gone, ""},
 	} {
 		entry, err := NewChecker(a.roots(t, "root"), Window{}, answers{[]byte("an entry"), test.err}).Precertificate(chain)
 		if entry != nil || RefusalOf(err) != test.want || test.want == "" && !errors.Is(err, test.err) {
@@ -119,13 +119,13 @@ func TestPoisonTwice(t *testing.T) {
 				t.Fatal(err)
 			}
 			again := poisoned(t, poisoned(t, entry, 0), 1)
-			if _, err := cutter.WithoutPoison(again); !errors.Is(err, precert.SecondExtension) {
+			if _, err := cutter.WithoutPoison(again); !errors.Is(err, precert.ErrSecondExtension) {
 				t.Errorf("%T: two of them: %v", cutter, err)
 			}
-			if _, err := cutter.WithoutPoison(entry); !errors.Is(err, precert.NoExtension) {
+			if _, err := cutter.WithoutPoison(entry); !errors.Is(err, precert.ErrNoExtension) {
 				t.Errorf("%T: none of them: %v", cutter, err)
 			}
-			if _, err := cutter.WithoutPoison(append(append([]byte{}, tbs...), 0)); !errors.Is(err, precert.Unread) {
+			if _, err := cutter.WithoutPoison(append(append([]byte{}, tbs...), 0)); !errors.Is(err, precert.ErrUnread) {
 				t.Errorf("%T: a byte behind it: %v", cutter, err)
 			}
 		}

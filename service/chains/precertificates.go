@@ -73,11 +73,11 @@ func (c *Checker) entryOf(tbs []byte) ([]byte, error) {
 	switch {
 	case err == nil:
 		return entry, nil
-	case errors.Is(err, precert.NoExtension), errors.Is(err, precert.SecondExtension):
+	case errors.Is(err, precert.ErrNoExtension), errors.Is(err, precert.ErrSecondExtension):
 		return nil, fmt.Errorf("%w: it has to be there once: %v", NoPoison, err)
-	case errors.Is(err, precert.BadPoison):
+	case errors.Is(err, precert.ErrBadPoison):
 		return nil, fmt.Errorf("%w: it isn't critical, or its value isn't NULL", BadPoison)
-	case errors.Is(err, precert.Unread), errors.Is(err, precert.TooLong):
+	case errors.Is(err, precert.ErrUnread):
 		return nil, fmt.Errorf("%w: a TBSCertificate isn't as it has to be in DER: %v", NoCertificate, err)
 	}
 	return nil, err

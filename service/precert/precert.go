@@ -1,49 +1,52 @@
-// Package precert makes the entry of a precertificate, by the proved function of ctproof in this process (docs/TILES.md).
+// Package precert makes the entry of a precertificate by the proved function, in this process.
 package precert
 
 import (
+	"errors"
 	"fmt"
 
 	"wagtenib/bindings/go/wagtenib"
-	"wagtenib/service/proved"
 )
 
-// ErrReply is the error of a reply that isn't one to the request.
-var ErrReply = proved.ErrReply
+// ErrReply is the error of an entry that isn't the precertificate's. The function is proved to give none, so it is a fault of this process: of its
+// machine, of its compiler, or of the request.
+var ErrReply = errors.New("precert: not the entry of the precertificate")
 
-// The refusals of a precertificate: the poison extension isn't there, or twice; it isn't in its one form; the TBSCertificate can't be
-// read, or is too long for an entry.
+// ErrUnread is the error of a TBSCertificate that isn't as it has to be in DER. It is found beside the wagtenib.CertificateError with the field.
+var ErrUnread = errors.New("precert: the TBSCertificate can't be read")
+
+// The refusals of a precertificate: the poison extension isn't there, or twice; it isn't in its one form.
 const (
-	NoExtension     proved.Refusal = "no-extension"
-	SecondExtension proved.Refusal = "second-extension"
-	BadPoison       proved.Refusal = "bad-poison"
-	Unread          proved.Refusal = "unread"
-	TooLong         proved.Refusal = "too-long"
+	ErrNoExtension     = wagtenib.ErrNoExtension
+	ErrSecondExtension = wagtenib.ErrSecondExtension
+	ErrBadPoison       = wagtenib.ErrBadPoison
 )
+
+// Function makes an entry, as wagtenib.PrecertificateEntry does.
+type Function func(tbs []byte) (entry []byte, err error)
 
 // Cutter cuts the poison extension out of precertificates. Its method may be called at once.
-type Cutter struct{ caller *proved.Caller }
+type Cutter struct{ function Function }
 
 // New returns a cutter.
-func New() *Cutter { return Over(wagtenib.ProofLine) }
+func New() *Cutter { return Over(wagtenib.PrecertificateEntry) }
 
 // Over returns a cutter over another function than the proved one, for tests.
-func Over(function proved.Function) *Cutter { return &Cutter{proved.NewCaller(function)} }
+func Over(function Function) *Cutter { return &Cutter{function} }
 
 // WithoutPoison returns the entry of the precertificate with this TBSCertificate: the same without the poison extension (RFC 6962,
-// section 3.2). The reply is compared with the request.
+// section 3.2). The entry is compared with the TBSCertificate.
 func (c *Cutter) WithoutPoison(tbs []byte) ([]byte, error) {
-	var reply struct {
-		TBSCertificate []byte `json:"tbs_certificate"`
+	entry, err := c.function(tbs)
+	var unfit *wagtenib.CertificateError
+	if errors.As(err, &unfit) && unfit.IsDER() {
+		return nil, fmt.Errorf("%w: %w", ErrUnread, err)
 	}
-	err := c.caller.CallInto(map[string]any{"precertificate": tbs}, &reply, func() error {
-		if !isCut(tbs, reply.TBSCertificate) {
-			return fmt.Errorf("%w: an entry of %d bytes isn't the precertificate's of %d without its poison", ErrReply, len(reply.TBSCertificate), len(tbs))
-		}
-		return nil
-	})
 	if err != nil {
-		return nil, err
+		return nil, fmt.Errorf("precert: %w", err)
 	}
-	return reply.TBSCertificate, nil
+	if !isCut(tbs, entry) {
+		return nil, fmt.Errorf("%w: one of %d bytes for a TBSCertificate of %d", ErrReply, len(entry), len(tbs))
+	}
+	return entry, nil
 }

@@ -3,13 +3,11 @@ package precert
 import (
 	"bytes"
 	"encoding/hex"
-	"encoding/json"
 	"errors"
 	"strings"
 	"testing"
 
-	"wagtenib/service/proved"
-	"wagtenib/service/trial"
+	"wagtenib/bindings/go/wagtenib"
 )
 
 // tbsWith is a TBSCertificate of empty fields with these extensions (RFC 5280, section 4.1).
@@ -37,13 +35,13 @@ func TestPrecertificates(t *testing.T) {
 			t.Errorf("%s: %x, %v", extensions, entry, err)
 		}
 	}
-	for extensions, want := range map[string]error{"": NoExtension, other: NoExtension, poison + other + poison: SecondExtension, number: BadPoison, other[:len(other)-2]: Unread} {
+	for extensions, want := range map[string]error{"": ErrNoExtension, other: ErrNoExtension, poison + other + poison: ErrSecondExtension, number: ErrBadPoison, other[:len(other)-2]: ErrUnread} {
 		if entry, err := c.WithoutPoison(tbsWith(t, extensions)); !errors.Is(err, want) {
 			t.Errorf("%s: %x, %v", extensions, entry, err)
 		}
 	}
 	_, err := c.WithoutPoison(append(tbsWith(t, poison), 0))
-	if !errors.Is(err, Unread) || !strings.Contains(err.Error(), "trailing in tbs of the certificate") {
+	if !errors.Is(err, ErrUnread) || !strings.Contains(err.Error(), "bytes follow the last element of DER (in tbsCertificate of the certificate)") {
 		t.Error(err)
 	}
 }
@@ -74,35 +72,29 @@ func TestWrongCuts(t *testing.T) {
 	for _, of := range []struct {
 		entry []byte
 		right bool
-	}{{right, true}, {another, false}} {
-		line, err := json.Marshal(map[string][]byte{"tbs_certificate": of.entry})
-		trial.Must(t, err)
-		if entry, err := replying(string(line)).WithoutPoison(tbs); of.right != (err == nil) || of.right != (entry != nil) || !of.right && !errors.Is(err, ErrReply) {
+	}{{right, true}, {another, false}, {nil, false}, {tbs[:1], false}} {
+		if entry, err := returning(of.entry, nil).WithoutPoison(tbs); of.right != (err == nil) || of.right != (entry != nil) || !of.right && !errors.Is(err, ErrReply) {
 			t.Errorf("%x: %x, %v", of.entry, entry, err)
 		}
 	}
 }
 
-// replying returns a cutter over a function that replies one line to every request.
-func replying(reply string) *Cutter {
-	return Over(func(*[]byte, []byte) ([]byte, error) { return []byte(reply + "\n"), nil })
+// returning returns a cutter over a function that returns this for every TBSCertificate.
+func returning(entry []byte, err error) *Cutter {
+	return Over(func([]byte) ([]byte, error) { return entry, err })
 }
 
-// TestWrongPrecertificates has a function reply what is no entry, or refuse.
-func TestWrongPrecertificates(t *testing.T) {
+// TestRefusalsAreFound: each error of the function is found by its name, and comes with no entry.
+func TestRefusalsAreFound(t *testing.T) {
+	t.Parallel()
 	tbs := tbsWith(t, "")
-	for _, reply := range []string{
-		"{}", "[]", `{"tbs_certificate":1}`, `{"tbs_certificate":""}`, `{"tbs_certificate":"' + long + '"}`, `{"document":"certificate"}`, `{"document":1,"refused":"unread"}`,
-		`{"refused":""}`,
+	unfit := func(code wagtenib.Code) error { return &wagtenib.CertificateError{Code: code, Field: 14} }
+	for _, of := range []struct{ err, want error }{
+		{unfit(wagtenib.ErrNoExtension), ErrNoExtension}, {unfit(wagtenib.ErrSecondExtension), ErrSecondExtension}, {unfit(wagtenib.ErrBadPoison), ErrBadPoison},
+		{unfit(wagtenib.ErrDERTruncated), ErrUnread}, {unfit(wagtenib.ErrDERTrailing), ErrUnread}, {wagtenib.ErrMemory, wagtenib.ErrMemory},
 	} {
-		reply = strings.ReplaceAll(reply, "' + long + '", strings.Repeat("AAAA", len(tbs)/3+1))
-		if entry, err := replying(reply).WithoutPoison(tbs); !errors.Is(err, ErrReply) {
-			t.Errorf("%s: %x, %v", reply, entry, err)
-		}
-	}
-	for reply, want := range map[string]proved.Refusal{`{"document":"certificate","refused":"no-extension"}`: NoExtension, `{"refused":"bad-poison"}`: BadPoison, `{"refused":"too-long"}`: TooLong} {
-		if entry, err := replying(reply).WithoutPoison(tbs); !errors.Is(err, want) {
-			t.Errorf("%s: %x, %v", reply, entry, err)
+		if entry, err := returning(tbs, of.err).WithoutPoison(tbs); !errors.Is(err, of.want) || !errors.Is(err, of.err) || entry != nil {
+			t.Errorf("%v: %x, %v", of.err, entry, err)
 		}
 	}
 }

@@ -20,6 +20,7 @@ import (
 	"testing"
 	"time"
 
+	"wagtenib/bindings/go/wagtenib"
 	"wagtenib/service/chains"
 	"wagtenib/service/log"
 	"wagtenib/service/precert"
@@ -161,7 +162,7 @@ func (f *fixture) verifies(signed, signature []byte) bool {
 // TestPrecertificatesWithoutMemory: if there is no memory to cut the poison out, a precertificate is for later, and certificates are taken.
 func TestPrecertificatesWithoutMemory(t *testing.T) {
 	f := newFixture(t, 10*time.Millisecond, nil)
-	dry := precert.Over(func(*[]byte, []byte) ([]byte, error) { return nil, proved.ErrMemory })
+	dry := precert.Over(func([]byte) ([]byte, error) { return nil, wagtenib.ErrMemory })
 	checker := chains.NewChecker(f.checker.Roots(), chains.Window{}, dry)
 	f.front = New(f.log, reader.New(f.log.Object, 4), checker, Options{Limits: DefaultLimits(), Lines: NewLines(f.lines)})
 	w := f.do("POST", "/ct/v1/add-pre-chain", standin.Submission(f.issue(true), f.authority.Root.Raw))

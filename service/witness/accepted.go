@@ -11,6 +11,8 @@ import (
 	"net/http"
 	"os"
 	"regexp"
+
+	"wagtenib/bindings/go/wagtenib"
 )
 
 // mostAccepted is how many bytes a monitor's state has: two heads and at most 128 hashes.
@@ -68,7 +70,7 @@ func readAccepted(path string) ([]byte, error) {
 }
 
 // unread says why a tree isn't cosigned that the log's monitor hasn't accepted: it may not have read so far, or it accepted another one, which is told.
-func (s *Server) unread(log *Log, next tree) (came answer, isUnread bool) {
+func (s *Server) unread(log *Log, next wagtenib.WitnessedTree) (came answer, isUnread bool) {
 	if log.Accepted == nil {
 		return came, false
 	}
@@ -76,10 +78,10 @@ func (s *Server) unread(log *Log, next tree) (came answer, isUnread bool) {
 	switch {
 	case err != nil:
 		return s.failed("monitor", log.Origin, err), true
-	case size == next.Size && bytes.Equal(root[:], next.Root):
+	case size == next.TreeSize && root == next.Root:
 		return came, false
-	case size == next.Size:
-		s.of.Tell("fork", "origin", log.Origin, "entries", size, "accepted", root[:], "asked", next.Root)
+	case size == next.TreeSize:
+		s.of.Tell("fork", "origin", log.Origin, "entries", size, "accepted", root[:], "asked", next.Root[:])
 	}
 	s.metrics.refused(log.Origin, "unread")
 	return plain(http.StatusServiceUnavailable, "unread\n"), true

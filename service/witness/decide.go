@@ -5,95 +5,112 @@ import (
 	"errors"
 	"fmt"
 	"net/http"
+	"strconv"
 
 	"golang.org/x/mod/sumdb/tlog"
+
+	"wagtenib/bindings/go/wagtenib"
 )
 
-// statuses has the status of each refusal (docs/WITNESS.md).
-var statuses = map[string]int{
-	"old-above": http.StatusBadRequest, "no-checkpoint": http.StatusBadRequest, "not-last": http.StatusConflict, "fork": http.StatusConflict,
-	"proof-not-empty": http.StatusUnprocessableEntity, "inconsistent": http.StatusUnprocessableEntity,
+// refusal is the name of a refusal, with which it is answered and counted, and its status (docs/WITNESS.md).
+type refusal struct {
+	name   string
+	status int
 }
 
-// asked is a request for a decision.
-type asked struct {
-	tree
-	Checkpoint string   `json:"checkpoint"`
-	Old        uint64   `json:"old"`
-	Proof      [][]byte `json:"proof"`
-	Time       uint64   `json:"time"`
+// refusals has each fault of the proved decision that is the client's.
+var refusals = map[wagtenib.Code]refusal{
+	wagtenib.ErrNoCheckpoint:  {"no-checkpoint", http.StatusBadRequest},
+	wagtenib.ErrOldAbove:      {"old-above", http.StatusBadRequest},
+	wagtenib.ErrNotLast:       {"not-last", http.StatusConflict},
+	wagtenib.ErrFork:          {"fork", http.StatusConflict},
+	wagtenib.ErrProofNotEmpty: {"proof-not-empty", http.StatusUnprocessableEntity},
+	wagtenib.ErrEmptyPath:     {"inconsistent", http.StatusUnprocessableEntity},
+	wagtenib.ErrPathTooLong:   {"inconsistent", http.StatusUnprocessableEntity},
+	wagtenib.ErrPathTooShort:  {"inconsistent", http.StatusUnprocessableEntity},
+	wagtenib.ErrFirstMismatch: {"inconsistent", http.StatusUnprocessableEntity},
+	wagtenib.ErrRootMismatch:  {"inconsistent", http.StatusUnprocessableEntity},
 }
 
-// reply is a decision: the next tree and the bytes to sign, or a refusal.
-type reply struct {
-	tree
-	Sign    []byte  `json:"sign"`
-	Refused string  `json:"refused"`
-	Fault   string  `json:"fault"`
-	Size    *uint64 `json:"size"`
+// faults has the names of the faults of a consistency proof (docs/MONITOR.md), which are answered with "inconsistent".
+var faults = map[wagtenib.Code]string{
+	wagtenib.ErrEmptyPath: "empty-path", wagtenib.ErrPathTooLong: "path-too-long", wagtenib.ErrPathTooShort: "path-too-short",
+	wagtenib.ErrFirstMismatch: "first-mismatch", wagtenib.ErrRootMismatch: "root-mismatch",
 }
 
-// ask has a request decided.
-func (s *Server) ask(last tree, r Request, now uint64) (said *reply, err error) {
-	err = s.decides.Call(asked{last, r.Text, r.Old, slices(r.Proof), now}, func(line []byte) (err error) {
-		said, err = readReply(line, last, r, now)
-		return err
-	})
+// decision returns the message to cosign for a request over a state, or an error that is a wagtenib.Code.
+type decision func(last state, r Request, now uint64) (message []byte, err error)
+
+// proved is the decision of the proved library.
+func proved(last state, r Request, now uint64) (message []byte, err error) {
+	if last.message == nil {
+		return wagtenib.WitnessFirst(last.origin, r.Text, r.Old, r.Proof, now)
+	}
+	return wagtenib.WitnessCosign(last.message, r.Text, r.Old, r.Proof, now)
+}
+
+// next returns the state after a request, or the refusal as an error that is a wagtenib.Code. The message of a decision is believed only if it is that of this
+// timestamp and of the checkpoint, and x/mod's tlog finds, too, that the proof leads to its tree. Otherwise the error is ErrDecision.
+func (s *Server) next(last state, r Request, now uint64) (next state, err error) {
+	message, err := s.decides(last, r, now)
 	if err != nil {
-		return nil, err
+		return state{}, err
 	}
-	return said, nil
-}
-
-func slices(hashes [][32]byte) [][]byte {
-	all := make([][]byte, len(hashes))
-	for i := range hashes {
-		all[i] = hashes[i][:]
-	}
-	return all
-}
-
-// readReply reads a reply to a request. A reply that lets a tree through is believed if the tree is the checkpoint's, the bytes are those under this
-// timestamp's cosignature of it, and x/mod's tlog finds that the proof leads to it, too.
-func readReply(line []byte, last tree, r Request, now uint64) (*reply, error) {
-	wrong := func(why string) (*reply, error) { return nil, fmt.Errorf("%w: %s: %.200q", ErrReply, why, line) }
-	said := &reply{}
-	if err := strictly(line, said); err != nil {
-		return wrong(err.Error())
-	}
-	if said.Refused != "" {
-		status := statuses[said.Refused]
-		if status == 0 || (status == http.StatusConflict) != (said.Size != nil) || said.Size != nil && *said.Size != last.Size || said.Sign != nil || said.Root != nil {
-			return wrong("no refusal")
-		}
-		return said, nil
+	wrong := func(why string) (state, error) {
+		return state{}, fmt.Errorf("%w: %s: %.200q", ErrDecision, why, message)
 	}
 	size, root, err := TreeOf(r.Text)
-	if err != nil || said.Size != nil || said.Fault != "" || said.tree.Size != size || !bytes.Equal(said.Root, root[:]) {
-		return wrong("another tree than the checkpoint's")
+	if err != nil || r.Origin() != last.origin {
+		return wrong("the request has no checkpoint of the log")
 	}
-	if !bytes.Equal(said.Sign, Message(now, r.Text)) {
+	if !bytes.Equal(message, Message(now, r.Text)) {
 		return wrong("other bytes than a cosignature's")
 	}
-	if err := leads(last, r, size, root); err != nil {
+	if err := leads(last.tree, r, size, root); err != nil {
 		return wrong(err.Error())
 	}
-	return said, nil
+	return state{origin: last.origin, message: message, tree: wagtenib.WitnessedTree{TreeSize: size, Time: now, Root: root}}, nil
 }
 
-// leads sees that a request leads from the last tree to its checkpoint's.
-func leads(last tree, r Request, size uint64, root [32]byte) error {
+// leads returns an error if a request does not lead from the last tree to its checkpoint's.
+func leads(last wagtenib.WitnessedTree, r Request, size uint64, root [32]byte) error {
 	switch {
-	case r.Old != last.Size || size < last.Size:
+	case r.Old != last.TreeSize || size < last.TreeSize:
 		return errors.New("the request isn't from the last tree")
-	case size == last.Size && !bytes.Equal(last.Root, root[:]):
+	case size == last.TreeSize && last.Root != root:
 		return errors.New("a fork")
-	case size == last.Size || last.Size == 0:
+	case size == last.TreeSize || last.TreeSize == 0:
 		return nil
 	}
 	proof := make(tlog.TreeProof, len(r.Proof))
 	for i := range r.Proof {
 		proof[i] = r.Proof[i]
 	}
-	return tlog.CheckTree(proof, int64(size), root, int64(last.Size), *(*[32]byte)(last.Root))
+	return tlog.CheckTree(proof, int64(size), root, int64(last.TreeSize), last.Root)
+}
+
+// refused answers an error of a decision.
+func (s *Server) refused(last state, err error) answer {
+	var code wagtenib.Code
+	if !errors.As(err, &code) {
+		return s.failed("decision", last.origin, err)
+	}
+	of, isOfClient := refusals[code]
+	switch {
+	case code == wagtenib.ErrState || code == wagtenib.ErrOtherOrigin:
+		return s.failed("state", last.origin, err)
+	case code == wagtenib.ErrTimeFalls:
+		return s.failed("clock", last.origin, fmt.Errorf("%w: %v", ErrClock, err))
+	case !isOfClient:
+		return s.failed("decision", last.origin, err)
+	}
+	s.metrics.refused(last.origin, of.name)
+	text := of.name
+	if fault := faults[code]; fault != "" {
+		text += " " + fault
+	}
+	if of.status == http.StatusConflict {
+		return answer{of.status, "text/x.tlog.size", strconv.FormatUint(last.tree.TreeSize, 10) + "\n"}
+	}
+	return plain(of.status, text+"\n")
 }

@@ -24,6 +24,7 @@ import (
 
 	"golang.org/x/mod/sumdb/note"
 
+	"wagtenib/bindings/go/wagtenib"
 	"wagtenib/service/stores"
 	"wagtenib/service/trial"
 )
@@ -114,8 +115,7 @@ func TestKept(t *testing.T) {
 		}
 		texts[state.text] = true
 		kept, err := readState(state.text, origin)
-		root := one.root(t, 3)
-		if err != nil || kept.Time != 1234567 || kept.Size != 3 || string(kept.Root) != string(root[:]) || len(kept.Salt) != 16 || string(kept.Salt) == string(make([]byte, 16)) {
+		if err != nil || kept.tree != (wagtenib.WitnessedTree{TreeSize: 3, Time: 1234567, Root: one.root(t, 3)}) || string(kept.message) != string(Message(1234567, checkpoint(origin, 3, one.root(t, 3)))) {
 			t.Errorf("%s: %v", state.text, err)
 		}
 	}
@@ -282,40 +282,21 @@ func TestOtherKeys(t *testing.T) {
 	}
 }
 
-// TestReplies: replies that say too much are none.
-func TestReplies(t *testing.T) {
-	by, one := headKey(t, origin), grown(t, "a", "b", "c", "d", "e")
-	text := checkpoint(origin, 5, one.root(t, 5))
-	root := one.root(t, 5)
-	sign := base64.StdEncoding.EncodeToString(Message(9, text))
-	r, err := ParseRequest(request(0, nil, by.sign(text)))
-	must(t, err)
-	last := tree{Root: emptyRoot[:]}
-	line := func(more string) []byte {
-		return []byte(fmt.Sprintf(`{"last_root":"%s","last_size":5,"sign":"%s"%s}`, base64.StdEncoding.EncodeToString(root[:]), sign, more))
+// TestLeads has the second look at a request, by x/mod's tlog, refuse what does not lead from the last tree to the checkpoint's.
+func TestLeads(t *testing.T) {
+	one := grown(t, "a", "b", "c", "d", "e")
+	of := func(n int64) wagtenib.WitnessedTree {
+		return wagtenib.WitnessedTree{TreeSize: uint64(n), Root: one.root(t, n)}
 	}
-	if said, err := readReply(line(""), last, r, 9); err != nil || said.tree.Size != 5 {
-		t.Error(err)
-	}
-	for _, wrong := range [][]byte{line(`,"fault":"path-too-long"`), line(`,"size":5`), line(`,"size":0`), []byte(`{"refused":"inconsistent","last_root":"AAAA"}`), []byte(`{"refused":"not-last"}`)} {
-		if _, err := readReply(wrong, last, r, 9); !errors.Is(err, ErrReply) {
-			t.Errorf("%s: %v", wrong, err)
-		}
-	}
-	if _, err := readReply(line(""), last, r, 8); !errors.Is(err, ErrReply) {
-		t.Errorf("another moment: %v", err)
-	}
-	older := one.root(t, 3)
 	for old, right := range map[uint64]bool{3: true, 2: false, 4: false} {
-		r.Old, r.Proof = old, one.proof(t, 3, 5)
-		if err := leads(tree{Root: older[:], Size: 3}, r, 5, root); (err == nil) != right {
+		if err := leads(of(3), Request{Old: old, Proof: one.proof(t, 3, 5)}, 5, one.root(t, 5)); (err == nil) != right {
 			t.Errorf("from %d: %v", old, err)
 		}
 	}
-	if err := leads(tree{Root: older[:], Size: 3}, Request{Old: 3}, 4, one.root(t, 4)); err == nil {
+	if err := leads(of(3), Request{Old: 3}, 4, one.root(t, 4)); err == nil {
 		t.Error("one more entry needs no proof")
 	}
-	if err := leads(tree{Root: root[:], Size: 5}, Request{Old: 5}, 4, one.root(t, 4)); err == nil {
+	if err := leads(of(5), Request{Old: 5}, 4, one.root(t, 4)); err == nil {
 		t.Error("a smaller tree follows")
 	}
 }

@@ -42,9 +42,9 @@ func newMetrics() *metrics {
 	return m
 }
 
-func (m *metrics) kept(origin string, of state) {
-	m.size.WithLabelValues(origin).Set(float64(of.tree.Size))
-	m.last.WithLabelValues(origin).Set(float64(of.Time))
+func (m *metrics) kept(of state) {
+	m.size.WithLabelValues(of.origin).Set(float64(of.tree.TreeSize))
+	m.last.WithLabelValues(of.origin).Set(float64(of.tree.Time))
 }
 
 func (m *metrics) cosigned(origin string) { m.given.WithLabelValues(origin).Inc() }

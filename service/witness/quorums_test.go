@@ -100,8 +100,9 @@ func (h *held) Close() error { return nil }
 
 // stands has a witness stand at a head of a log.
 func (h *held) stands(t testing.TB, of *leaves, size int64) {
-	root := of.root(t, size)
-	text, err := state{tree: tree{Root: root[:], Size: uint64(size)}, Origin: origin}.text()
+	last, err := readMessage(Message(1, checkpoint(origin, size, of.root(t, size))), origin)
+	must(t, err)
+	text, err := last.text()
 	must(t, err)
 	h.mu.Lock()
 	h.text = text
@@ -170,7 +171,7 @@ func (p *parties) starts(t *testing.T, q Quorums) (began int) {
 func (s *server) startsAgain() {
 	s.witness.mu.Lock()
 	defer s.witness.mu.Unlock()
-	s.witness.seen = map[string]tree{}
+	s.witness.seen = map[string]state{}
 }
 
 // begins counts how often an old head is begun with, over all that may answer. Those who know better stand at the newest head, and the others at the old one.

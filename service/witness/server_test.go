@@ -9,7 +9,6 @@ import (
 	"crypto/rand"
 	"encoding/base64"
 	"encoding/binary"
-	"encoding/json"
 	"errors"
 	"fmt"
 	"io"
@@ -26,7 +25,6 @@ import (
 	"golang.org/x/mod/sumdb/tlog"
 
 	"wagtenib/bindings/go/wagtenib"
-	"wagtenib/service/proved"
 	"wagtenib/service/signer"
 	"wagtenib/service/stores"
 	"wagtenib/service/trial"
@@ -433,43 +431,31 @@ func TestStatePutBack(t *testing.T) {
 	if len(told) != 2 || !strings.Contains(told[0], "it was put back") {
 		t.Errorf("it says %q", told)
 	}
-	// Of the newest size it must be the same tree.
-	var other map[string]any
-	must(t, json.Unmarshal([]byte(newer), &other))
-	root := fork.root(t, 4)
-	other["last_root"] = root[:]
-	forked, err := json.Marshal(other)
+	// Of the newest size it must be the same tree, and the state must not be one of a log that was never cosigned.
+	never, err := noState(origin).text()
 	must(t, err)
-	must(t, state.Swap(ctx, older, string(forked)))
+	must(t, state.Swap(ctx, older, never))
+	if w := posted(t, s, request(0, nil, signed(fork, 3))); w.Code != 503 {
+		t.Errorf("over the state of a log that was never cosigned: %d", w.Code)
+	}
+	last, err := readMessage(Message(s.now(), checkpoint(origin, 4, fork.root(t, 4))), origin)
+	must(t, err)
+	forked, err := last.text()
+	must(t, err)
+	must(t, state.Swap(ctx, never, forked))
 	if status := cosigns(4, 5, fork); status != 503 {
 		t.Errorf("over another tree of this size: %d", status)
 	}
-	must(t, state.Swap(ctx, string(forked), newer))
+	must(t, state.Swap(ctx, forked, newer))
 	if status := cosigns(4, 5, one); status != 200 {
 		t.Errorf("once the newer state is back: %d", status)
 	}
 }
 
-// saying decides the same of every request.
-func saying(reply string) proved.Function {
-	return func(*[]byte, []byte) ([]byte, error) { return []byte(reply + "\n"), nil }
-}
-
 // lying lets everything through, with the right bytes.
-func lying(_ *[]byte, request []byte) ([]byte, error) {
-	var of asked
-	if err := json.Unmarshal(request, &of); err != nil {
-		return nil, err
-	}
-	size, root, err := TreeOf(of.Checkpoint)
-	if err != nil {
-		return nil, err
-	}
-	line, err := json.Marshal(map[string]any{"last_root": root[:], "last_size": size, "sign": Message(of.Time, of.Checkpoint)})
-	return append(line, '\n'), err
-}
+func lying(_ state, r Request, now uint64) ([]byte, error) { return Message(now, r.Text), nil }
 
-// TestWrongDecisions: wrong code in the place of the proved one gets nothing signed that doesn't follow the last tree, and moves no state.
+// TestWrongDecisions has wrong code in the place of the proved one: it gets nothing signed that does not follow the last tree, and moves no state.
 func TestWrongDecisions(t *testing.T) {
 	by, key, folder := headKey(t, origin), newKey(t), t.TempDir()
 	one, other := grown(t, "a", "b", "c", "d", "e"), grown(t, "a", "b", "x", "y", "z")
@@ -481,61 +467,85 @@ func TestWrongDecisions(t *testing.T) {
 	before, err := stateIn(t, folder).Read(limited(t))
 	must(t, err)
 	grows := request(3, one.proof(t, 3, 5), signed(one, 5))
-	root := func(of *leaves, n int64) string {
-		h := of.root(t, n)
-		return base64.StdEncoding.EncodeToString(h[:])
-	}
 	const moment = 1 << 40
-	message := func(seconds uint64, text string) string {
-		return base64.StdEncoding.EncodeToString(Message(seconds, text))
-	}
 	text := checkpoint(origin, 5, one.root(t, 5))
-	through := func(of *leaves, size int, sign string) proved.Function {
-		line, err := json.Marshal(map[string]any{"last_root": root(of, 5), "last_size": size, "sign": sign})
-		must(t, err)
-		return saying(string(line))
+	says := func(message []byte, err error) decision {
+		return func(state, Request, uint64) ([]byte, error) { return message, err }
 	}
 	for name, test := range map[string]struct {
-		decide proved.Function
+		decide decision
 		body   []byte
+		tells  string
 	}{
-		"a fork of as many":              {lying, request(3, nil, signed(other, 3))},
-		"a fork of more":                 {lying, request(3, other.proof(t, 3, 5), signed(other, 5))},
-		"no proof":                       {lying, request(3, nil, signed(one, 5))},
-		"another size than the last":     {lying, request(2, one.proof(t, 2, 5), signed(one, 5))},
-		"an older one":                   {lying, request(3, nil, signed(one, 2))},
-		"bytes of another moment":        {through(one, 5, message(1, text)), grows},
-		"bytes of another text":          {through(one, 5, message(moment, checkpoint(origin, 5, other.root(t, 5)))), grows},
-		"a log's head in its bytes":      {through(one, 5, base64.StdEncoding.EncodeToString([]byte(text))), grows},
-		"another tree to keep":           {through(other, 5, message(moment, text)), grows},
-		"another size to keep":           {through(one, 3, message(moment, text)), grows},
-		"no JSON":                        {saying("yes"), grows},
-		"nothing in it":                  {saying("{}"), grows},
-		"an unknown key":                 {saying(`{"refused":"fork","size":3,"more":1}`), grows},
-		"two values":                     {saying(`{"refused":"inconsistent"} {}`), grows},
-		"an unknown refusal":             {saying(`{"refused":"never"}`), grows},
-		"bad-line":                       {saying(`{"refused":"bad-line"}`), grows},
-		"a refusal with bytes":           {saying(`{"refused":"inconsistent","sign":"AAAA"}`), grows},
-		"a refusal with another size":    {saying(`{"refused":"not-last","size":4}`), grows},
-		"a refusal without the size":     {saying(`{"refused":"not-last"}`), grows},
-		"a refusal with a size too many": {saying(`{"refused":"inconsistent","size":3}`), grows},
-		"no memory":                      {func(*[]byte, []byte) ([]byte, error) { return nil, wagtenib.ErrMemory }, grows},
+		"a fork of as many":          {lying, request(3, nil, signed(other, 3)), "decision"},
+		"a fork of more":             {lying, request(3, other.proof(t, 3, 5), signed(other, 5)), "decision"},
+		"no proof":                   {lying, request(3, nil, signed(one, 5)), "decision"},
+		"another size than the last": {lying, request(2, one.proof(t, 2, 5), signed(one, 5)), "decision"},
+		"an older one":               {lying, request(3, nil, signed(one, 2)), "decision"},
+		"bytes of another time":      {says(Message(1, text), nil), grows, "decision"},
+		"bytes of another text":      {says(Message(moment, checkpoint(origin, 5, other.root(t, 5))), nil), grows, "decision"},
+		"a log's head in its bytes":  {says([]byte(text), nil), grows, "decision"},
+		"no bytes":                   {says(nil, nil), grows, "decision"},
+		"an unknown code":            {says(nil, wagtenib.Code(1000)), grows, "decision"},
+		"the code of another call":   {says(nil, wagtenib.ErrLaterLeaf), grows, "decision"},
+		"no memory":                  {says(nil, wagtenib.ErrMemory), grows, "decision"},
+		"a bad state":                {says(nil, wagtenib.ErrState), grows, "state"},
+		"another log's state":        {says(nil, wagtenib.ErrOtherOrigin), grows, "state"},
+		"a time that falls":          {says(nil, wagtenib.ErrTimeFalls), grows, "clock"},
 	} {
 		s := witnessOf(t, folder, key, by)
-		s.decides = proved.NewCaller(test.decide)
+		s.decides = test.decide
 		s.now = func() uint64 { return moment }
 		var told []string
 		s.of.Tell = func(event string, words ...any) { told = append(told, event) }
 		w := posted(t, s, test.body)
-		if w.Code != 503 || strings.Contains(w.Body.String(), "—") || strings.Join(told, " ") != "decision" {
-			t.Errorf("%s: %d %s", name, w.Code, w.Body)
+		if w.Code != 503 || strings.Contains(w.Body.String(), "—") || strings.Join(told, " ") != test.tells {
+			t.Errorf("%s: %d %s %q", name, w.Code, w.Body, told)
 		}
 		if text, err := stateIn(t, folder).Read(limited(t)); err != nil || text != before {
 			t.Errorf("%s: the state moved: %s, %v", name, text, err)
 		}
 	}
 	if w := posted(t, right, grows); w.Code != 200 {
-		t.Errorf("behind all that: %d %s", w.Code, w.Body)
+		t.Errorf("after all that: %d %s", w.Code, w.Body)
+	}
+}
+
+// TestJSONState takes over a register of earlier builds: the log is cosigned from the tree and the time there on, and the next swap writes the new text.
+func TestJSONState(t *testing.T) {
+	by, one := headKey(t, origin), grown(t, "a", "b", "c", "d", "e")
+	of := func(n int64, root tlog.Hash, time uint64) string {
+		return fmt.Sprintf(`{"last_root":"%s","last_size":%d,"origin":"%s","salt":"AAECAwQFBgcICQoLDA0ODw==","time":%d}`, base64.StdEncoding.EncodeToString(root[:]), n, origin, time)
+	}
+	for name, test := range map[string]struct {
+		text   string
+		old    int64
+		status int
+	}{
+		"cosigned":           {of(3, one.root(t, 3), 1000), 3, 200},
+		"cosigned at 0":      {of(3, one.root(t, 3), 0), 3, 200},
+		"another tree":       {of(3, one.root(t, 2), 1000), 3, 422},
+		"later than now":     {of(3, one.root(t, 3), 3000), 3, 503},
+		"never cosigned":     {of(0, emptyRoot, 0), 0, 200},
+		"without a leaf":     {of(0, emptyRoot, 1000), 0, 200},
+		"no root of a tree":  {of(0, tlog.Hash{}, 0), 0, 200},
+		"asked from nothing": {of(3, one.root(t, 3), 1000), 0, 409},
+	} {
+		register := &held{}
+		must(t, register.Create(limited(t), test.text))
+		s := witnessOver(t, register, newKey(t), by)
+		s.now = func() uint64 { return 2000 }
+		var proof [][32]byte
+		if test.old > 0 {
+			proof = one.proof(t, test.old, 5)
+		}
+		w := posted(t, s, request(test.old, proof, by.sign(checkpoint(origin, 5, one.root(t, 5)))))
+		if w.Code != test.status || (register.text == test.text) != (test.status != 200) {
+			t.Errorf("%s: %d %s, and then %q", name, w.Code, w.Body, register.text)
+		}
+		if test.status == 200 && !strings.HasSuffix(register.text, "\n"+string(Message(2000, checkpoint(origin, 5, one.root(t, 5))))) {
+			t.Errorf("%s: %q", name, register.text)
+		}
 	}
 }
 
@@ -547,7 +557,13 @@ func TestStates(t *testing.T) {
 		"another log's":  `{"last_root":"47DEQpj8HBSa+/TImW+5JCeuQeRkm5NMpJWZG3hSuFU=","last_size":0,"origin":"other","salt":"","time":0}`,
 		"a short root":   `{"last_root":"47DE","last_size":0,"origin":"` + origin + `","salt":"","time":0}`,
 		"an unknown key": `{"last_root":"47DEQpj8HBSa+/TImW+5JCeuQeRkm5NMpJWZG3hSuFU=","last_size":0,"origin":"` + origin + `","salt":"","time":0,"x":1}`,
-		"no JSON":        "x",
+		"no form":        "x",
+		"an empty line":  "\n",
+		"no message":     stateForm + "\nAAECAwQFBgcICQoLDA0ODw==\n",
+		"half a message": stateForm + "\nAAECAwQFBgcICQoLDA0ODw==\ncosignature/v1\ntime 7\n" + origin + "\n0\n",
+		"a plain head":   stateForm + "\nAAECAwQFBgcICQoLDA0ODw==\n" + checkpoint(origin, 0, emptyRoot),
+		"another origin": stateForm + "\nAAECAwQFBgcICQoLDA0ODw==\n" + string(Message(7, checkpoint("other", 0, emptyRoot))),
+		"never, another": stateForm + "\nAAECAwQFBgcICQoLDA0ODw==\nnone yet\nother\n",
 		"two":            `{} {}`,
 	} {
 		s, err := New(Options{Name: "w.example", Key: newKey(t)})

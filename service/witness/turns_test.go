@@ -6,11 +6,15 @@ import (
 	"errors"
 	"fmt"
 	"net/http"
+	"reflect"
 	"strings"
 	"sync/atomic"
 	"testing"
 	"time"
 
+	"golang.org/x/mod/sumdb/tlog"
+
+	"wagtenib/bindings/go/wagtenib"
 	"wagtenib/service/stores"
 	"wagtenib/service/trial"
 )
@@ -138,8 +142,7 @@ func TestRequestHasAnEnd(t *testing.T) {
 // TestFromOneEntry: behind a tree of one entry, too, what lets a tree through has to lead to it.
 func TestFromOneEntry(t *testing.T) {
 	one, other := grown(t, "a", "b", "c"), grown(t, "x", "b", "c")
-	first := one.root(t, 1)
-	last := tree{Root: first[:], Size: 1}
+	last := wagtenib.WitnessedTree{Root: one.root(t, 1), TreeSize: 1}
 	if err := leads(last, Request{Old: 1, Proof: one.proof(t, 1, 3)}, 3, one.root(t, 3)); err != nil {
 		t.Error(err)
 	}
@@ -154,16 +157,20 @@ func TestFromOneEntry(t *testing.T) {
 	}
 }
 
-// TestStatesInOneText: a state is one value, and a name is one word without a plus sign, also where the key's bytes are that name's.
+// TestStatesInOneText: a state is one text, and a name is one word without a plus sign, also where the key's bytes are that name's.
 func TestStatesInOneText(t *testing.T) {
-	text, err := state{tree: tree{Root: emptyRoot[:]}, Origin: origin}.text()
+	last, err := readMessage(Message(7, checkpoint(origin, 5, tlog.Hash{9})), origin)
 	must(t, err)
-	if _, err := readState(text, origin); err != nil {
-		t.Error(err)
-	}
-	for _, wrong := range []string{text + text, text + " {}", text + "x"} {
-		if _, err := readState(wrong, origin); !errors.Is(err, ErrState) {
-			t.Errorf("%s: %v", wrong, err)
+	for _, of := range []state{noState(origin), last} {
+		text, err := of.text()
+		must(t, err)
+		if read, err := readState(text, origin); err != nil || !reflect.DeepEqual(read, of) {
+			t.Errorf("%q: %v, %v", text, read, err)
+		}
+		for _, wrong := range []string{text + text, text + "{}", text + "x", text + "\n", text[:len(text)-1], "x" + text, strings.Replace(text, "\n", "\r\n", 1), strings.Replace(text, origin, "other.example", 1)} {
+			if _, err := readState(wrong, origin); !errors.Is(err, ErrState) {
+				t.Errorf("%q: %v", wrong, err)
+			}
 		}
 	}
 	key := newKey(t).Public().(ed25519.PublicKey)

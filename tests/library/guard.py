@@ -30,7 +30,7 @@ from merkle import sha256  # noqa: E402
 CODES = dict(re.findall(r"WAGTENIB_(\w+) = (\d+)", (ROOT / "include" / "wagtenib.h").read_text()))
 # The refusals that have another name in the model than in the header.
 NAMES = {"moment-not-later": "TIMESTAMP_NOT_LATER", "moment-too-far": "TIMESTAMP_TOO_FAR"}
-# The faults that no call of the guard can return, of all codes: a consistency proof is read only between sizes that it can be for.
+# The faults that no call of the guard can return, of all codes below 48, after which those of other calls come: a consistency proof is read only between sizes that it can be for.
 NEVER = {"SIZES_OUT_OF_RANGE", "OUT_OF_MEMORY", "NO_ROOM", "BAD_ORIGIN", "NOT_A_REQUEST"}
 FILL, HOUR, MOST = b"\x5a", 3_600_000, (1 << 64) - 1
 SIZES = (0, 1, 2, 3, 4, 7, 8, 21, 40, 64)
@@ -191,7 +191,7 @@ def main():
     for line, due, got in wrong[:5]:
         print(f"tests/library/guard.py: the call `{line}` gave `{got}`, and is to give `{due}` (seed {asked.seed})")
     seen = collections.Counter(due.split()[0] for _, due in calls)
-    absent = [name for name, number in CODES.items() if name not in NEVER and not seen[number]]
+    absent = [name for name, number in CODES.items() if int(number) < 48 and name not in NEVER and not seen[number]]
     if absent:
         print(f"tests/library/guard.py: no call of the seed {asked.seed} comes to {', '.join(absent)} (try more --calls)")
     print(f"tests/library/guard.py: {len(calls)} calls of the guard were compared, {seen['0']} of which were let through; {len(wrong)} differ")

@@ -73,8 +73,7 @@ static void call(void) {
     length = UNTOUCHED;
     switch (mode[0]) {
     case 'n': code = wagtenib_node_line(request, request_length, reply, room, &length); break;
-    case 'p': code = wagtenib_proof_line(request, request_length, reply, room, &length); break;
-    default: code = wagtenib_witness_line(request, request_length, reply, room, &length);
+    default: code = wagtenib_proof_line(request, request_length, reply, room, &length);
     }
     expect(live == 0 && live_blocks == 0, "memory wasn't given back");
 }

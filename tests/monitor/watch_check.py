@@ -711,11 +711,12 @@ class Cosigner:
         self.asked.append(int(old.removeprefix("old ")))
         if path != "/add-checkpoint" or self.instead:
             return self.instead or (404, "")
-        line = {"checkpoint": text, "last_root": answers.text(self.last[1]), "last_size": self.last[0], "old": self.asked[-1], "proof": proof, "time": 1700000000}
-        reply = model.reply(json.dumps(line).encode())
-        if "refused" in reply:
-            return {"not-last": 409, "fork": 409, "old-above": 400}.get(reply["refused"], 422), f"{reply.get('size', reply['refused'])}\n"
-        self.last = (reply["last_size"], answers.base64.b64decode(reply["last_root"]))
+        last = model.Cosigned(text.partition("\n")[0], *self.last, 0)
+        name = model.refusal(last, text.encode(), self.asked[-1], [answers.base64.b64decode(one) for one in proof], 1700000000)
+        if name:
+            status = {"NOT_LAST": 409, "FORK": 409, "OLD_ABOVE": 400, "NO_CHECKPOINT": 400}.get(name, 422)
+            return status, f"{self.last[0] if status == 409 else name}\n"
+        self.last = model.tree_of(text.encode())[1:]
         return 200, self.line(text, 1700000000)
 
 

@@ -1,106 +1,80 @@
-#!/usr/bin/env python3
-"""Replies to the lines of ctwitness (docs/WITNESS.md) as the page says it: a second program beside ctwitness, plain, slow and proved nowhere.
-
-    model.py < lines > replies
-
-Each reply is handed on before the next line is read. Nothing is kept between lines. Nothing but
-hashlib is used for the tree; what JSON a line is comes from tests/json_lines.py, which shares no code with ctwitness either.
-"""
+"""Decides as a witness does (docs/WITNESS.md; C2SP tlog-witness, tlog-cosignature), as the page says it: an oracle for tests beside the proved calls of libwagtenib,
+plain and slow. It uses only hashlib for the tree, and shares no code with the calls."""
 import base64
-import io
-import os
+import binascii
+import collections
 import pathlib
 import re
 import sys
 
 sys.path.insert(0, str(pathlib.Path(__file__).resolve().parent.parent))
 
-from json_lines import is_hash, is_list_of, is_number, json_line, json_of, lines_of, text  # noqa: E402
-from merkle import fault_of_proof  # noqa: E402
+from merkle import fault_of_proof, sha256  # noqa: E402
 
-KEYS = {
-    "checkpoint": lambda value: isinstance(value, str),
-    "last_root": is_hash,
-    "last_size": is_number,
-    "old": is_number,
-    "proof": is_list_of(is_hash),
-    "time": is_number,
-}
+# The last cosignature of a log. The time is in seconds.
+Cosigned = collections.namedtuple("Cosigned", "origin size root time")
+NUMBER = re.compile("0|[1-9][0-9]*")
 
 
-def tree_of(checkpoint):
-    """The size and root that a checkpoint's text says, or None where it is no checkpoint's without extension lines."""
-    lines = checkpoint.split("\n")
-    if len(lines) != 4 or lines[3] or not lines[0] or not re.fullmatch("0|[1-9][0-9]*", lines[1]) or int(lines[1]) >= 1 << 64:
-        return None
-    return (int(lines[1]), base64.b64decode(lines[2])) if is_hash(lines[2]) else None
+def none_yet(origin):
+    """The last cosignature before the first one."""
+    return Cosigned(origin, 0, sha256(b""), 0)
 
 
-def refusal_of(last, old, tree, proof):
-    """Why the tree isn't cosigned behind the last one, as a value, or None."""
-    if tree[0] < old:
-        return {"refused": "old-above"}
-    if old != last[0]:
-        return {"refused": "not-last", "size": last[0]}
-    if tree[0] == last[0] and tree[1] != last[1]:
-        return {"refused": "fork", "size": last[0]}
-    if tree[0] == last[0] or last[0] == 0:
-        return {"refused": "proof-not-empty"} if proof else None
-    fault = fault_of_proof(last[0], tree[0], last[1], tree[1], proof)
-    return {"fault": fault, "refused": "inconsistent"} if fault else None
+def number_of(text):
+    """The number below 2^64 that a text is, or None."""
+    return int(text) if NUMBER.fullmatch(text) and int(text) < 1 << 64 else None
 
 
-def asked(line):
-    """What a line asks for, or None where it is no request."""
+def tree_of(text):
+    """The origin, the size and the root that the bytes of a checkpoint say, or None if they are no checkpoint without extension lines."""
     try:
-        value = json_of(line)
-    except ValueError:
+        lines = text.decode().split("\n")
+        root = base64.b64decode(lines[2], validate=True) if len(lines) == 4 else b""
+    except (UnicodeDecodeError, binascii.Error, ValueError):
         return None
-    is_asked = isinstance(value, dict) and all(key in value and is_right(value[key]) for key, is_right in KEYS.items())
-    return value if is_asked else None
+    if len(lines) != 4 or lines[3] or not lines[0] or number_of(lines[1]) is None or len(root) != 32 or base64.b64encode(root).decode() != lines[2]:
+        return None
+    return lines[0], int(lines[1]), root
 
 
-def reply(line):
-    """The reply to a line that isn't empty, as a value."""
-    value = asked(line)
-    if value is None:
-        return {"refused": "bad-line"}
-    tree = tree_of(value["checkpoint"])
+def message(time, text):
+    """The message that is cosigned of a checkpoint."""
+    return f"cosignature/v1\ntime {time}\n".encode() + text
+
+
+def cosigned_in(state):
+    """The cosignature whose message a state is, or None."""
+    found = re.fullmatch(rb"cosignature/v1\ntime ([0-9]+)\n(.*)", state, re.S)
+    tree = found and tree_of(found[2])
+    time = found and number_of(found[1].decode())
+    return Cosigned(*tree, time) if tree and time is not None else None
+
+
+def refusal(last, text, old, proof, time):
+    """The name of the code (include/wagtenib.h) for which a checkpoint is not cosigned after the last one, or None."""
+    tree = tree_of(text)
     if tree is None:
-        return {"refused": "no-checkpoint"}
-    last = (value["last_size"], base64.b64decode(value["last_root"]))
-    refused = refusal_of(last, value["old"], tree, [base64.b64decode(one) for one in value["proof"]])
-    if refused:
-        return refused
-    message = f"cosignature/v1\ntime {value['time']}\n{value['checkpoint']}"
-    return {"last_root": text(tree[1]), "last_size": tree[0], "sign": text(message.encode())}
+        return "NO_CHECKPOINT"
+    origin, size, root = tree
+    if origin != last.origin:
+        return "OTHER_ORIGIN"
+    if size < old:
+        return "OLD_ABOVE"
+    if old != last.size:
+        return "NOT_LAST"
+    if size == last.size and root != last.root:
+        return "FORK"
+    if size == last.size or last.size == 0:
+        if proof:
+            return "PROOF_NOT_EMPTY"
+    else:
+        fault = fault_of_proof(last.size, size, last.root, root, proof)
+        if fault:
+            return fault.upper().replace("-", "_")
+    return "TIME_FALLS" if time == 0 or time < last.time else None
 
 
-def replies(lines):
-    """The reply to each line, as bytes, before the next one is read."""
-    for line in lines:
-        if line:
-            yield json_line(reply(line)) + b"\n"
-
-
-def run(given):
-    """What is written for an input, and the exit status."""
-    written = [*replies(lines_of(io.BytesIO(given)))]
-    return b"".join(written), 4 if json_line({"refused": "bad-line"}) + b"\n" in written else 0
-
-
-def main():
-    bad = False
-    try:
-        for line in replies(lines_of(sys.stdin.buffer)):
-            bad = bad or b'"bad-line"' in line
-            sys.stdout.buffer.write(line)
-            sys.stdout.buffer.flush()
-    except OSError:
-        print("ctwitness: read or write", file=sys.stderr, flush=True)
-        os._exit(1)
-    sys.exit(4 if bad else 0)
-
-
-if __name__ == "__main__":
-    main()
+def is_seen_or_later(seen, found):
+    """Whether a cosignature is the one that was seen, or a later one of the same log."""
+    return found.origin == seen.origin and found.time >= seen.time and (found[1:3] == seen[1:3] or found.size > seen.size)

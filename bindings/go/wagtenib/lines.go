@@ -6,8 +6,6 @@ package wagtenib
 // #cgo noescape wagtenib_node_line
 // #cgo nocallback wagtenib_proof_line
 // #cgo noescape wagtenib_proof_line
-// #cgo nocallback wagtenib_witness_line
-// #cgo noescape wagtenib_witness_line
 // #include "wagtenib.h"
 import "C"
 
@@ -15,9 +13,8 @@ import "unsafe"
 
 // The longest requests, in bytes without a line end. A longer one is refused by its reply.
 const (
-	MaxNodeRequest    = 65_536
-	MaxProofRequest   = 67_108_864
-	MaxWitnessRequest = 1_048_576
+	MaxNodeRequest  = 65_536
+	MaxProofRequest = 67_108_864
 )
 
 // firstRoom is the number of bytes that memory has at least.
@@ -65,15 +62,5 @@ func NodeLine(memory *[]byte, request []byte) (reply []byte, err error) {
 func ProofLine(memory *[]byte, request []byte) (reply []byte, err error) {
 	return written(memory, func(reply *C.uint8_t, room C.size_t, length *C.uint64_t) C.uint32_t {
 		return C.wagtenib_proof_line(ofBytes(request), C.size_t(len(request)), reply, room, length)
-	})
-}
-
-// WitnessLine returns the reply of ctwitness to one request: whether a witness cosigns a checkpoint (C2SP tlog-witness; docs/WITNESS.md).
-// Request, reply and memory are as of NodeLine.
-//
-// The error is nil, ErrNotARequest (with the reply, which refuses the request) or ErrMemory.
-func WitnessLine(memory *[]byte, request []byte) (reply []byte, err error) {
-	return written(memory, func(reply *C.uint8_t, room C.size_t, length *C.uint64_t) C.uint32_t {
-		return C.wagtenib_witness_line(ofBytes(request), C.size_t(len(request)), reply, room, length)
 	})
 }

@@ -17,9 +17,8 @@ const origin = "log.example/2026"
 
 // programs are the functions over a line, each by the name of the program whose stored run it must repeat.
 var programs = map[string]func(memory *[]byte, request []byte) ([]byte, error){
-	"ctnode":    wagtenib.NodeLine,
-	"ctproof":   wagtenib.ProofLine,
-	"ctwitness": wagtenib.WitnessLine,
+	"ctnode":  wagtenib.NodeLine,
+	"ctproof": wagtenib.ProofLine,
 }
 
 // stored returns a file of a program's stored run.

@@ -9,7 +9,8 @@
 // A call keeps no state, does no input or output, and returns for every input, by proof. It can be made from any number of goroutines at
 // once. Nothing may write to its arguments meanwhile.
 //
-// A call runs on the stack of an operating system's thread. The values' functions take at most 16 KB of it, and those over lines 128 KB.
+// A call runs on the stack of an operating system's thread. The functions over values take at most 16 KB of it, and those of the witness and those
+// over lines 128 KB.
 // The threads of Go have 8 MB with glibc (ulimit -s).
 package wagtenib
 
@@ -28,45 +29,68 @@ const HashSize = 32
 // Hash holds the SHA-256 hash of a leaf or of a tree (RFC 6962, section 2.1).
 type Hash = [HashSize]byte
 
-// Code is an answer of the library (wagtenib.h) that reports a fault. It is the type of all errors of this package.
+// Code is an answer of the library (wagtenib.h) that reports a fault. It is the type of all errors of this package, except that a *CertificateError wraps it.
 type Code uint32
 
-// The faults of an audit path, of a consistency proof and of a leaf, the reasons for which a call has no reply, and those of the guard.
+// The faults of an audit path, of a consistency proof and of a leaf, the reasons for which a call has no reply, and those of the guard, of the step, of tiles, of certificates and of
+// the witness.
 const (
-	ErrIndexOutOfRange   Code = C.WAGTENIB_INDEX_OUT_OF_RANGE  // the index of the leaf isn't below the size of the tree
-	ErrPathTooLong       Code = C.WAGTENIB_PATH_TOO_LONG       // hashes are left after the last level of the tree
-	ErrPathTooShort      Code = C.WAGTENIB_PATH_TOO_SHORT      // the hashes end before the last level of the tree
-	ErrRootMismatch      Code = C.WAGTENIB_ROOT_MISMATCH       // the hashes lead to another root
-	ErrEmptyPath         Code = C.WAGTENIB_EMPTY_PATH          // the consistency proof has no hashes
-	ErrFirstMismatch     Code = C.WAGTENIB_FIRST_MISMATCH      // the consistency proof leads to another first root
-	ErrSizesOutOfRange   Code = C.WAGTENIB_SIZES_OUT_OF_RANGE  // not 0 < first < second
-	ErrMemory            Code = C.WAGTENIB_OUT_OF_MEMORY       // malloc refused memory
-	ErrOrigin            Code = C.WAGTENIB_BAD_ORIGIN          // the origin isn't UTF-8, or has a line end
-	ErrNotARequest       Code = C.WAGTENIB_NOT_A_REQUEST       // the line is no request; the reply says so too, and is returned
-	ErrTruncated         Code = C.WAGTENIB_TRUNCATED           // the leaf ends before a field is whole
-	ErrBadVersion        Code = C.WAGTENIB_BAD_VERSION         // the version isn't 0 (v1)
-	ErrBadLeafType       Code = C.WAGTENIB_BAD_LEAF_TYPE       // the leaf type isn't 0 (timestamped_entry)
-	ErrBadEntryType      Code = C.WAGTENIB_BAD_ENTRY_TYPE      // the entry type is neither 0 (x509_entry) nor 1 (precert_entry)
-	ErrEmptyVector       Code = C.WAGTENIB_EMPTY_VECTOR        // a certificate or TBSCertificate has no bytes
-	ErrTrailing          Code = C.WAGTENIB_TRAILING            // bytes follow the leaf
-	ErrSizeFalls         Code = C.WAGTENIB_SIZE_FALLS          // the head has fewer leaves than the last one
-	ErrTimestampNotLater Code = C.WAGTENIB_TIMESTAMP_NOT_LATER // the head differs from the last one, and its timestamp is not later
-	ErrFork              Code = C.WAGTENIB_FORK                // the head has the size of the last one, and another root
-	ErrTimestampTooFar   Code = C.WAGTENIB_TIMESTAMP_TOO_FAR   // the head's timestamp is too far beyond the last one's
-	ErrState             Code = C.WAGTENIB_BAD_STATE           // a state is not the TreeHeadSignature of a head
-	ErrStateRolledBack   Code = C.WAGTENIB_STATE_ROLLED_BACK   // the state's head is before that of a state that was seen
-	ErrLaterLeaf         Code = C.WAGTENIB_LATER_LEAF          // the leaf's timestamp is later than the last head's
-	ErrOtherIndex        Code = C.WAGTENIB_OTHER_INDEX         // the leaf has extensions, and they are not its index alone
-	ErrNotFirst          Code = C.WAGTENIB_NOT_FIRST           // the head is neither that of the empty tree nor the named one
-	ErrEdge              Code = C.WAGTENIB_EDGE                // the partial tiles aren't those of the state, or the edge is no list of contents
-	ErrEntries           Code = C.WAGTENIB_ENTRIES             // the partial data tile isn't that of the state
-	ErrClockBack         Code = C.WAGTENIB_CLOCK_BACK          // the timestamp of the step isn't later than the state's
-	ErrLogFull           Code = C.WAGTENIB_LOG_FULL            // the log would have more than 2^40 leaves
-	ErrDataTileTooLong   Code = C.WAGTENIB_DATA_TILE_TOO_LONG  // a data tile would have 2^32 bytes or more
-	ErrBundle            Code = C.WAGTENIB_BUNDLE              // the bundle isn't that of the state
-	ErrClaim             Code = C.WAGTENIB_CLAIM               // the path doesn't lead from the claimed entry to the state's root
-	ErrBatch             Code = C.WAGTENIB_BAD_BATCH           // the bytes are no list of submissions, or not one submission
-	ErrTooMany           Code = C.WAGTENIB_TOO_MANY            // the batch has more than 4,096 submissions
+	ErrIndexOutOfRange     Code = C.WAGTENIB_INDEX_OUT_OF_RANGE    // the index of the leaf isn't below the size of the tree
+	ErrPathTooLong         Code = C.WAGTENIB_PATH_TOO_LONG         // hashes are left after the last level of the tree
+	ErrPathTooShort        Code = C.WAGTENIB_PATH_TOO_SHORT        // the hashes end before the last level of the tree
+	ErrRootMismatch        Code = C.WAGTENIB_ROOT_MISMATCH         // the hashes lead to another root
+	ErrEmptyPath           Code = C.WAGTENIB_EMPTY_PATH            // the consistency proof has no hashes
+	ErrFirstMismatch       Code = C.WAGTENIB_FIRST_MISMATCH        // the consistency proof leads to another first root
+	ErrSizesOutOfRange     Code = C.WAGTENIB_SIZES_OUT_OF_RANGE    // not 0 < first < second
+	ErrMemory              Code = C.WAGTENIB_OUT_OF_MEMORY         // malloc refused memory
+	ErrOrigin              Code = C.WAGTENIB_BAD_ORIGIN            // the origin isn't UTF-8, or has a line end
+	ErrNotARequest         Code = C.WAGTENIB_NOT_A_REQUEST         // the line is no request; the reply says so too, and is returned
+	ErrTruncated           Code = C.WAGTENIB_TRUNCATED             // the leaf ends before a field is whole
+	ErrBadVersion          Code = C.WAGTENIB_BAD_VERSION           // the version isn't 0 (v1)
+	ErrBadLeafType         Code = C.WAGTENIB_BAD_LEAF_TYPE         // the leaf type isn't 0 (timestamped_entry)
+	ErrBadEntryType        Code = C.WAGTENIB_BAD_ENTRY_TYPE        // the entry type is neither 0 (x509_entry) nor 1 (precert_entry)
+	ErrEmptyVector         Code = C.WAGTENIB_EMPTY_VECTOR          // a certificate or TBSCertificate has no bytes
+	ErrTrailing            Code = C.WAGTENIB_TRAILING              // bytes follow the leaf
+	ErrSizeFalls           Code = C.WAGTENIB_SIZE_FALLS            // the head has fewer leaves than the last one
+	ErrTimestampNotLater   Code = C.WAGTENIB_TIMESTAMP_NOT_LATER   // the head differs from the last one, and its timestamp is not later
+	ErrFork                Code = C.WAGTENIB_FORK                  // the head has the size of the last one, and another root
+	ErrTimestampTooFar     Code = C.WAGTENIB_TIMESTAMP_TOO_FAR     // the head's timestamp is too far beyond the last one's
+	ErrState               Code = C.WAGTENIB_BAD_STATE             // a state is not the TreeHeadSignature of a head
+	ErrStateRolledBack     Code = C.WAGTENIB_STATE_ROLLED_BACK     // the state's head is before that of a state that was seen
+	ErrLaterLeaf           Code = C.WAGTENIB_LATER_LEAF            // the leaf's timestamp is later than the last head's
+	ErrOtherIndex          Code = C.WAGTENIB_OTHER_INDEX           // the leaf has extensions, and they are not its index alone
+	ErrNotFirst            Code = C.WAGTENIB_NOT_FIRST             // the head is neither that of the empty tree nor the named one
+	ErrEdge                Code = C.WAGTENIB_EDGE                  // the partial tiles aren't those of the state, or the edge is no list of contents
+	ErrEntries             Code = C.WAGTENIB_ENTRIES               // the partial data tile isn't that of the state
+	ErrClockBack           Code = C.WAGTENIB_CLOCK_BACK            // the timestamp of the step isn't later than the state's
+	ErrLogFull             Code = C.WAGTENIB_LOG_FULL              // the log would have more than 2^40 leaves
+	ErrDataTileTooLong     Code = C.WAGTENIB_DATA_TILE_TOO_LONG    // a data tile would have 2^32 bytes or more
+	ErrBundle              Code = C.WAGTENIB_BUNDLE                // the bundle isn't that of the state
+	ErrClaim               Code = C.WAGTENIB_CLAIM                 // the path doesn't lead from the claimed entry to the state's root
+	ErrBatch               Code = C.WAGTENIB_BAD_BATCH             // the bytes are no list of submissions, or not one submission
+	ErrTooMany             Code = C.WAGTENIB_TOO_MANY              // the batch has more than 4,096 submissions
+	ErrEmptyTree           Code = C.WAGTENIB_EMPTY_TREE            // a tree without leaves has no tiles
+	ErrTooManyTiles        Code = C.WAGTENIB_TOO_MANY_TILES        // more tiles are given than are needed
+	ErrMissingTile         Code = C.WAGTENIB_MISSING_TILE          // fewer tiles are given than are needed
+	ErrBadTile             Code = C.WAGTENIB_BAD_TILE              // a tile does not have 32 bytes for each of its hashes
+	ErrDERTruncated        Code = C.WAGTENIB_DER_TRUNCATED         // the bytes end before an element of DER is whole
+	ErrDERLongTag          Code = C.WAGTENIB_DER_LONG_TAG          // the tag of an element of DER has more than one byte
+	ErrDERIndefiniteLength Code = C.WAGTENIB_DER_INDEFINITE_LENGTH // the length of an element is indefinite, which DER does not allow
+	ErrDERLongLength       Code = C.WAGTENIB_DER_LONG_LENGTH       // the length of an element of DER has more than four bytes after the first
+	ErrDERPaddedLength     Code = C.WAGTENIB_DER_PADDED_LENGTH     // the length of an element has more bytes than it needs, which DER does not allow
+	ErrDEROtherTag         Code = C.WAGTENIB_DER_OTHER_TAG         // an element of DER has another tag than its field must have
+	ErrDERTrailing         Code = C.WAGTENIB_DER_TRAILING          // bytes follow the last element of DER
+	ErrNoExtension         Code = C.WAGTENIB_NO_EXTENSION          // the certificate does not have the extension
+	ErrSecondExtension     Code = C.WAGTENIB_SECOND_EXTENSION      // the certificate has the extension twice
+	ErrBadPoison           Code = C.WAGTENIB_BAD_POISON            // the poison is not critical, or its value is not NULL
+	ErrTBSTooLong          Code = C.WAGTENIB_TBS_TOO_LONG          // the TBSCertificate has 2^24 bytes or more
+	ErrExtensionsTooLong   Code = C.WAGTENIB_EXTENSIONS_TOO_LONG   // the extensions of a timestamp have 2^16 bytes or more
+	ErrNoCheckpoint        Code = C.WAGTENIB_NO_CHECKPOINT         // the text is not that of a checkpoint without extension lines
+	ErrOtherOrigin         Code = C.WAGTENIB_OTHER_ORIGIN          // the checkpoint is of another log than the state
+	ErrOldAbove            Code = C.WAGTENIB_OLD_ABOVE             // the old size is above the checkpoint's
+	ErrNotLast             Code = C.WAGTENIB_NOT_LAST              // the old size is not that of the tree that was cosigned last
+	ErrProofNotEmpty       Code = C.WAGTENIB_PROOF_NOT_EMPTY       // there is a proof, although both trees are the same or the last one has no leaves
+	ErrTimeFalls           Code = C.WAGTENIB_TIME_FALLS            // the time of a cosignature is 0, or earlier than the last one's
 )
 
 // The faults of a node's commands and of a lock's text, and what a node that starts must not continue from.
@@ -86,41 +110,62 @@ const (
 )
 
 var texts = map[Code]string{
-	ErrIndexOutOfRange:   "the index of the leaf is not below the size of the tree",
-	ErrPathTooLong:       "the proof has more hashes than the tree has levels for it",
-	ErrPathTooShort:      "the proof has fewer hashes than the tree has levels for it",
-	ErrRootMismatch:      "the proof leads to another root",
-	ErrEmptyPath:         "the consistency proof has no hashes",
-	ErrFirstMismatch:     "the consistency proof leads to another first root",
-	ErrSizesOutOfRange:   "the sizes of a consistency proof must be 0 < first < second",
-	ErrMemory:            "out of memory (malloc refused)",
-	ErrOrigin:            "the origin is not UTF-8, or has a line end",
-	ErrNotARequest:       "the line is no request (the reply names the reason)",
-	ErrTruncated:         "the leaf ends before a field is whole",
-	ErrBadVersion:        "the leaf's version is not 0 (v1)",
-	ErrBadLeafType:       "the leaf's type is not 0 (timestamped_entry)",
-	ErrBadEntryType:      "the leaf's entry type is neither 0 (x509_entry) nor 1 (precert_entry)",
-	ErrEmptyVector:       "the leaf's certificate or TBSCertificate has no bytes",
-	ErrTrailing:          "bytes follow the leaf",
-	ErrSizeFalls:         "the head has fewer leaves than the last one",
-	ErrTimestampNotLater: "the head differs from the last one, and its timestamp is not later",
-	ErrFork:              "the head has the size of the last one, and another root",
-	ErrTimestampTooFar:   "the head's timestamp is too far beyond the last one's",
-	ErrState:             "a state is not the TreeHeadSignature of a head (50 bytes)",
-	ErrStateRolledBack:   "the state's head is before that of a state that was seen",
-	ErrLaterLeaf:         "the leaf's timestamp is later than the last head's",
-	ErrOtherIndex:        "the leaf has extensions, and they are not its index alone",
-	ErrNotFirst:          "the head is neither that of the empty tree nor the named one",
-	ErrEdge:              "the partial tiles are not those of the state, or the edge is no list of contents",
-	ErrEntries:           "the partial data tile is not that of the state",
-	ErrClockBack:         "the timestamp of the step is not later than the state's",
-	ErrLogFull:           "the log would have more than 2^40 leaves",
-	ErrDataTileTooLong:   "a data tile would have 2^32 bytes or more",
-	ErrBundle:            "the bundle is not that of the state",
-	ErrClaim:             "the path does not lead from the claimed entry to the root of the state",
-	ErrBatch:             "the bytes are no list of submissions, or not one submission",
-	ErrTooMany:           "the batch has more than 4,096 submissions",
-
+	ErrIndexOutOfRange:     "the index of the leaf is not below the size of the tree",
+	ErrPathTooLong:         "the proof has more hashes than the tree has levels for it",
+	ErrPathTooShort:        "the proof has fewer hashes than the tree has levels for it",
+	ErrRootMismatch:        "the proof leads to another root",
+	ErrEmptyPath:           "the consistency proof has no hashes",
+	ErrFirstMismatch:       "the consistency proof leads to another first root",
+	ErrSizesOutOfRange:     "the sizes of a consistency proof must be 0 < first < second",
+	ErrMemory:              "out of memory (malloc refused)",
+	ErrOrigin:              "the origin is not UTF-8, or has a line end",
+	ErrNotARequest:         "the line is no request (the reply names the reason)",
+	ErrTruncated:           "the leaf ends before a field is whole",
+	ErrBadVersion:          "the leaf's version is not 0 (v1)",
+	ErrBadLeafType:         "the leaf's type is not 0 (timestamped_entry)",
+	ErrBadEntryType:        "the leaf's entry type is neither 0 (x509_entry) nor 1 (precert_entry)",
+	ErrEmptyVector:         "the leaf's certificate or TBSCertificate has no bytes",
+	ErrTrailing:            "bytes follow the leaf",
+	ErrSizeFalls:           "the head has fewer leaves than the last one",
+	ErrTimestampNotLater:   "the head differs from the last one, and its timestamp is not later",
+	ErrFork:                "the head has the size of the last one, and another root",
+	ErrTimestampTooFar:     "the head's timestamp is too far beyond the last one's",
+	ErrState:               "a state is not the TreeHeadSignature of a head (50 bytes)",
+	ErrStateRolledBack:     "the state's head is before that of a state that was seen",
+	ErrLaterLeaf:           "the leaf's timestamp is later than the last head's",
+	ErrOtherIndex:          "the leaf has extensions, and they are not its index alone",
+	ErrNotFirst:            "the head is neither that of the empty tree nor the named one",
+	ErrEdge:                "the partial tiles are not those of the state, or the edge is no list of contents",
+	ErrEntries:             "the partial data tile is not that of the state",
+	ErrClockBack:           "the timestamp of the step is not later than the state's",
+	ErrLogFull:             "the log would have more than 2^40 leaves",
+	ErrDataTileTooLong:     "a data tile would have 2^32 bytes or more",
+	ErrBundle:              "the bundle is not that of the state",
+	ErrClaim:               "the path does not lead from the claimed entry to the root of the state",
+	ErrBatch:               "the bytes are no list of submissions, or not one submission",
+	ErrTooMany:             "the batch has more than 4,096 submissions",
+	ErrEmptyTree:           "a tree without leaves has no tiles",
+	ErrTooManyTiles:        "more tiles are given than are needed",
+	ErrMissingTile:         "fewer tiles are given than are needed",
+	ErrBadTile:             "a tile does not have 32 bytes for each of its hashes",
+	ErrDERTruncated:        "the bytes end before an element of DER is whole",
+	ErrDERLongTag:          "the tag of an element of DER has more than one byte",
+	ErrDERIndefiniteLength: "the length of an element is indefinite, which DER does not allow",
+	ErrDERLongLength:       "the length of an element of DER has more than four bytes after the first",
+	ErrDERPaddedLength:     "the length of an element has more bytes than it needs, which DER does not allow",
+	ErrDEROtherTag:         "an element of DER has another tag than its field must have",
+	ErrDERTrailing:         "bytes follow the last element of DER",
+	ErrNoExtension:         "the certificate does not have the extension",
+	ErrSecondExtension:     "the certificate has the extension twice",
+	ErrBadPoison:           "the poison is not critical, or its value is not NULL",
+	ErrTBSTooLong:          "the TBSCertificate has 2^24 bytes or more",
+	ErrExtensionsTooLong:   "the extensions of a timestamp have 2^16 bytes or more",
+	ErrNoCheckpoint:        "the text is not that of a checkpoint without extension lines",
+	ErrOtherOrigin:         "the checkpoint is of another log than the state",
+	ErrOldAbove:            "the old size is above the checkpoint's",
+	ErrNotLast:             "the old size is not that of the tree that was cosigned last",
+	ErrProofNotEmpty:       "there is a proof, although both trees are the same or the last one has no leaves",
+	ErrTimeFalls:           "the time of a cosignature is 0, or earlier than that of the last one",
 	ErrCommand:            "no command of a node has this number",
 	ErrOutcome:            "no outcome of a command has this number",
 	ErrLockText:           "the bytes are no lock's text",

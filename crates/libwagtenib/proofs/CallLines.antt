@@ -4,15 +4,10 @@ use Rattle.line_calls.proofs.Calls.{calls_are_lines}
 use Rattle.ct_node_lines.specs.NodeSession.{ComesToCommand}
 use Rattle.ct_node_lines.specs.NodeWords.{node_line, is_no_node}
 use Rattle.ct_proof_lines.specs.ReaderSession.{ComesToReading, reading_text, is_bad_reading}
-use Rattle.ct_witness_lines.specs.Cosigned.{is_no_cosign_request}
-use Rattle.ct_witness_lines.specs.CosignSession.{LineComesTo, cosigning_text}
-use Rattle.libwagtenib.specs.CallLines.{NodeCallsAreLines, ProofCallsAreLines, WitnessCallsAreLines}
+use Rattle.libwagtenib.specs.CallLines.{NodeCallsAreLines, ProofCallsAreLines}
 
 pub nodes : NodeCallsAreLines
 nodes = calls_are_lines (by_value 65536 ComesToCommand) node_line is_no_node
 
 pub proofs : ProofCallsAreLines
 proofs = calls_are_lines (by_value 67108864 ComesToReading) reading_text is_bad_reading
-
-pub witnesses : WitnessCallsAreLines
-witnesses = calls_are_lines LineComesTo cosigning_text is_no_cosign_request

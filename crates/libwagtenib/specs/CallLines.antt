@@ -5,8 +5,6 @@ use Rattle.line_calls.specs.CallReplies.{CallsAreLines}
 use Rattle.ct_node_lines.specs.NodeSession.{ComesToCommand}
 use Rattle.ct_node_lines.specs.NodeWords.{node_line, is_no_node}
 use Rattle.ct_proof_lines.specs.ReaderSession.{ComesToReading, reading_text, is_bad_reading}
-use Rattle.ct_witness_lines.specs.Cosigned.{is_no_cosign_request}
-use Rattle.ct_witness_lines.specs.CosignSession.{LineComesTo, cosigning_text}
 
 -- what a call with a line of `ctnode` wrote is what a run gives that line
 abbrev pub NodeCallsAreLines : Type 0
@@ -15,7 +13,3 @@ NodeCallsAreLines = CallsAreLines (by_value 65536 ComesToCommand) node_line is_n
 -- the same of `ctproof`
 abbrev pub ProofCallsAreLines : Type 0
 ProofCallsAreLines = CallsAreLines (by_value 67108864 ComesToReading) reading_text is_bad_reading
-
--- the same of `ctwitness`
-abbrev pub WitnessCallsAreLines : Type 0
-WitnessCallsAreLines = CallsAreLines LineComesTo cosigning_text is_no_cosign_request

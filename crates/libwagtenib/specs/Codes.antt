@@ -11,6 +11,8 @@ use Rattle.ct_guard.specs.declared.refusal.ReceiptRefusal.TheVariants.{NoHead, N
 use Rattle.ct_verify.specs.declared.fault.ProofFault.{ProofFault}
 use Rattle.ct_verify.specs.declared.fault.ProofFault.TheVariants.{IndexOutOfRange, PathTooLong, PathTooShort, RootMismatch, EmptyPath, FirstMismatch}
 use Rattle.ct_verify.specs.declared.fault.ProofFault.TheVariants.{SizesOutOfRange}
+use Rattle.ct_witness.specs.declared.refusal.WitnessRefusal.{WitnessRefusal}
+use Rattle.ct_witness.specs.declared.refusal.WitnessRefusal.TheVariants.{OldAbove, NotLast, Fork as ForkedTree, ProofNotEmpty, Inconsistent as Unproved}
 use Rattle.libwagtenib.specs.declared.leaf.LeafInfo.{LeafInfo}
 
 -- the number by which a proof's fault is told in C; include/wagtenib.h has the same
@@ -51,6 +53,14 @@ receipt_code (NoLeaf f) = leaf_code f
 receipt_code (NotThere f) = proof_code f
 receipt_code LaterLeaf = 38
 receipt_code OtherIndex = 39
+
+-- the number by which the refusal of a tree by a witness is told in C; include/wagtenib.h has the same
+abbrev pub tree_code : WitnessRefusal → ℕ
+tree_code OldAbove = 98
+tree_code NotLast = 99
+tree_code ForkedTree = 34
+tree_code ProofNotEmpty = 100
+tree_code (Unproved f) = proof_code f
 
 -- how long an entry's certificate or TBSCertificate is (RFC 6962, section 3.1)
 abbrev pub certificate_length : SignedEntry → ℕ

@@ -5,12 +5,12 @@ use Rattle.ct_lock_text.specs.declared.reading.Said.{Said}
 use Rattle.ct_node.specs.declared.state.State.{State}
 use Rattle.libwagtenib.specs.declared.node.NodeState.{NodeState}
 use Rattle.libwagtenib.specs.Node.{c_of_state}
-use Rattle.libwagtenib.specs.Output.{IsWrittenIn}
+use Rattle.libwagtenib.specs.Output.{WritesOutput}
 
 -- 0: the lock's text is written. 9: the memory has no room for it. 8: an allocation was refused, and nothing has changed.
 abbrev pub WritesLockText : ℕ → List ℕ → List ℕ → ℕ → ℕ → List ℕ → List ℕ → ℕ → ℕ → Type 0
 WritesLockText code line node before salt memory next count_before count =
-    IsWrittenIn (next_text line node before salt) code memory next count ⊎ ((code ≡ 8) × (next ≡ memory) × (count ≡ count_before))
+    WritesOutput (next_text line node before salt) code memory next count ⊎ ((code ≡ 8) × (next ≡ memory) × (count ≡ count_before))
 
 -- 0: what the text says is written. 114: the bytes are no lock's text, and nothing has changed.
 abbrev pub ReadsLockText : ℕ → List ℕ → NodeState → NodeState → ℕ → ℕ → Type 0

@@ -1,8 +1,9 @@
--- What a call writes into the caller's memory, if the output's length is unknown to the caller.
-use Rattle.std.specs.Prelude.{◌≡◌, ◌<◌, ◌⊎◌, ◌++◌, ℕ, List, length, drop}
+-- What a call writes if only the call knows how long that is: the caller's memory for it, and its length.
+use Rattle.std.specs.Prelude.{◌≡◌, ◌⊎◌, ◌<◌, ◌++◌, ℕ, List, length, drop}
 
--- 0: the memory begins with the text, the rest of it is unchanged, and the length is the text's. 9: the text is longer than the memory, which is unchanged,
--- and the length is the text's.
-abbrev pub IsWrittenIn : List ℕ → ℕ → List ℕ → List ℕ → ℕ → Type 0
-IsWrittenIn text code before after count =
-    (count ≡ length text) × (((code ≡ 0) × (after ≡ text ++ drop (length text) before)) ⊎ ((code ≡ 9) × (length before < length text) × (after ≡ before)))
+-- 0: the memory begins with the elements, the rest of it is unchanged, and the count is theirs. 9: there are more elements than the memory has room for, which
+-- is unchanged, and the count is theirs.
+abbrev pub WritesOutput : {A : Type 0} → List A → ℕ → List A → List A → ℕ → Type 0
+WritesOutput elements code before after count =
+    (count ≡ length elements)
+    × (((code ≡ 0) × (after ≡ elements ++ drop (length elements) before)) ⊎ ((code ≡ 9) × (after ≡ before) × (length before < length elements)))

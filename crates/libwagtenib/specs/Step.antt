@@ -11,7 +11,7 @@ use Rattle.ct_step_calls.specs.StepWords.{StepReply}
 use Rattle.ct_step_calls.specs.declared.answer.Answer.{Answer}
 use Rattle.ct_step_calls.specs.declared.answer.StepRefusal.{StepRefusal}
 use Rattle.ct_step_calls.specs.declared.answer.StepRefusal.TheVariants.{BadBatch, BadState, TooMany, TooFar, Edge, Entries, ClockBack, Full, TooLong, Bundle, Claim as NoClaim}
-use Rattle.libwagtenib.specs.Output.{IsWrittenIn}
+use Rattle.libwagtenib.specs.Output.{WritesOutput}
 
 -- the number by which a refusal is told in C; include/wagtenib.h has the same
 abbrev pub step_code : StepRefusal → ℕ
@@ -30,7 +30,7 @@ step_code TooMany = 56
 -- a refusal is told by its number, and nothing is written; or the bytes of a reply are written, or have no room
 abbrev pub IsToldIn : Result (List ℕ) StepRefusal → ℕ → List ℕ → List ℕ → ℕ → ℕ → Type 0
 IsToldIn (Err refusal) code before after count_before count = (code ≡ step_code refusal) × (after ≡ before) × (count ≡ count_before)
-IsToldIn (Ok text) code before after count_before count = IsWrittenIn text code before after count
+IsToldIn (Ok text) code before after count_before count = WritesOutput text code before after count
 
 -- An answer is told, or that an allocation was refused (8), and then nothing has changed.
 abbrev pub IsAnswerTold : {F : Type 0} → Result Answer F → ℕ → List ℕ → List ℕ → ℕ → ℕ → Type 0

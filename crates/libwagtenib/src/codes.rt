@@ -2,19 +2,27 @@
 
 /// The call did what it is for.
 pub const OK: u32 = 0;
+/// The index of the leaf is not below the size of the tree.
+pub const INDEX_OUT_OF_RANGE: u32 = 1;
+/// Not 0 < first < second.
+pub const SIZES_OUT_OF_RANGE: u32 = 7;
+/// An allocation was refused. Nothing was written.
+pub const OUT_OF_MEMORY: u32 = 8;
+/// The caller's memory is too small for the output. Only the output's length was written.
+pub const NO_ROOM: u32 = 9;
 /// The origin isn't UTF-8, or has a line end. Nothing was written.
 pub const BAD_ORIGIN: u32 = 10;
 /// The head has fewer leaves than the last one.
 pub const SIZE_FALLS: u32 = 32;
 /// The head is another than the last one, and its timestamp is not later.
 pub const TIMESTAMP_NOT_LATER: u32 = 33;
-/// The head has the size of the last one, and another root.
+/// The head or the checkpoint has the size of the last one, and another root.
 pub const FORK: u32 = 34;
 /// The head's timestamp is too far beyond the last one's.
 pub const TIMESTAMP_TOO_FAR: u32 = 35;
-/// A state is no TreeHeadSignature.
+/// A state is not the bytes that were signed last: no TreeHeadSignature, or not the message of a cosignature.
 pub const BAD_STATE: u32 = 36;
-/// The state's head is before that of a state that was seen.
+/// The state is before one that was seen.
 pub const STATE_ROLLED_BACK: u32 = 37;
 /// The leaf's timestamp is later than the last head's.
 pub const LATER_LEAF: u32 = 38;
@@ -40,6 +48,50 @@ pub const CLAIM: u32 = 54;
 pub const BAD_BATCH: u32 = 55;
 /// The batch has more than 4,096 submissions.
 pub const TOO_MANY: u32 = 56;
+/// A tree without leaves has no tiles.
+pub const EMPTY_TREE: u32 = 64;
+/// More tiles were handed in than are needed.
+pub const TOO_MANY_TILES: u32 = 65;
+/// Fewer tiles were handed in than are needed.
+pub const MISSING_TILE: u32 = 66;
+/// A tile has not 32 bytes for each of its hashes.
+pub const BAD_TILE: u32 = 67;
+/// The bytes end before an element of DER is whole.
+pub const DER_TRUNCATED: u32 = 80;
+/// The tag of an element of DER has more than one byte.
+pub const DER_LONG_TAG: u32 = 81;
+/// The length of an element is indefinite, which DER does not allow.
+pub const DER_INDEFINITE_LENGTH: u32 = 82;
+/// The length of an element of DER has more than four bytes after the first.
+pub const DER_LONG_LENGTH: u32 = 83;
+/// The length of an element has more bytes than it needs, which DER does not allow.
+pub const DER_PADDED_LENGTH: u32 = 84;
+/// An element of DER has another tag than the field must have.
+pub const DER_OTHER_TAG: u32 = 85;
+/// Bytes follow the last element of DER.
+pub const DER_TRAILING: u32 = 86;
+/// The certificate does not have the extension.
+pub const NO_EXTENSION: u32 = 87;
+/// The certificate has the extension twice.
+pub const SECOND_EXTENSION: u32 = 88;
+/// The poison is not critical, or its value is not NULL.
+pub const BAD_POISON: u32 = 89;
+/// The TBSCertificate has 2^24 bytes or more.
+pub const TBS_TOO_LONG: u32 = 90;
+/// The extensions of a timestamp have 2^16 bytes or more.
+pub const EXTENSIONS_TOO_LONG: u32 = 91;
+/// The text is the checkpoint of no tree.
+pub const NO_CHECKPOINT: u32 = 96;
+/// The checkpoint is of another log than the state.
+pub const OTHER_ORIGIN: u32 = 97;
+/// The old size is above the checkpoint's.
+pub const OLD_ABOVE: u32 = 98;
+/// The old size is not that of the tree that was cosigned last.
+pub const NOT_LAST: u32 = 99;
+/// There is a proof, although both trees are the same or the last one has no leaves.
+pub const PROOF_NOT_EMPTY: u32 = 100;
+/// The time of a cosignature is 0, or earlier than that of the last one.
+pub const TIME_FALLS: u32 = 101;
 /// The number of a command is none.
 pub const BAD_COMMAND: u32 = 112;
 /// The number of an outcome is none.

@@ -7,7 +7,7 @@ ghost use Rattle.ct_lock_text.specs.LockText.{bundle_name};
 
 use crate::codes;
 use crate::node::{NodeState, of_state, state_of};
-use crate::output::write_out;
+use crate::output::write_output;
 use ct_lock_text::{said_in, state_of_name, text_of, write_name};
 use line_calls::codes::OUT_OF_MEMORY;
 use std::alloc::{AllocError, Global};
@@ -27,7 +27,7 @@ pub extern "C" fn wagtenib_lock_text(
     ensures { WritesLockText result line.now node.now previous_timestamp salt text.old text.new length.old length.new }
 {
     match text_of(alloc, line, node, previous_timestamp, salt) {
-        Ok(made) => write_out(&made, text, length),
+        Ok(made) => write_output(&made, text, length),
         Err(AllocError) => OUT_OF_MEMORY,
     }
 }

@@ -1,19 +1,31 @@
-//! Output whose length the caller doesn't know.
+//! Output of a length that only the call knows, which goes into the caller's memory.
 
-ghost use Rattle.libwagtenib.specs.Output.{IsWrittenIn};
+ghost use Rattle.libwagtenib.specs.Output.{WritesOutput};
 
-use crate::codes::OK;
-use line_calls::codes::NO_ROOM;
+use crate::codes;
 
-// Writes a text to the beginning of memory, if the memory has room for it. The length becomes the text's in both cases.
-pub(crate) fn write_out(text: &[u8], memory: &mut [u8], length: &mut u64) -> u32
-    ensures { IsWrittenIn text.now result memory.old memory.new length.new }
+// Writes bytes to the beginning of the memory, if it has room for them. The length becomes theirs in both cases.
+pub(crate) fn write_output(bytes: &[u8], memory: &mut [u8], length: &mut u64) -> u32
+    ensures { WritesOutput bytes.now result memory.old memory.new length.new }
 {
-    let n = text.len();
+    let n = bytes.len();
     *length = n as u64;
     if n > memory.len() {
-        return NO_ROOM;
+        return codes::NO_ROOM;
     }
-    memory[..n].copy_from_slice(text);
-    OK
+    memory[..n].copy_from_slice(bytes);
+    codes::OK
+}
+
+// Writes hashes to the beginning of the memory, if it has room for them. Their number is told in both cases.
+pub(crate) fn write_hashes(hashes: &[[u8; 32]], memory: &mut [[u8; 32]], count: &mut u64) -> u32
+    ensures { WritesOutput hashes.now result memory.old memory.new count.new }
+{
+    let n = hashes.len();
+    *count = n as u64;
+    if n > memory.len() {
+        return codes::NO_ROOM;
+    }
+    memory[..n].copy_from_slice(hashes);
+    codes::OK
 }

@@ -4,7 +4,7 @@ ghost use Rattle.std.specs.Prelude.{◌≡◌, MatchOption};
 ghost use Rattle.libwagtenib.specs.Step.{step_code, AnswersClaim, BeginsLog, IsAnswerTold, IsOrigin, MakesStep, NamesEdge, ResumesStep};
 
 use crate::codes;
-use crate::output::write_out;
+use crate::output::write_output;
 use ct_growth::Claim;
 use ct_step_calls::{Answer, StepRefusal};
 use line_calls::codes::OUT_OF_MEMORY;
@@ -34,7 +34,7 @@ fn answer_in(answer: Result<Answer, AllocError>, out: &mut [u8], length: &mut u6
     ensures { IsAnswerTold answer result out.old out.new length.old length.new }
 {
     match answer {
-        Ok(Answer::Text(text)) => write_out(&text, out, length),
+        Ok(Answer::Text(text)) => write_output(&text, out, length),
         Ok(Answer::Refused(refusal)) => number_of(refusal),
         Err(AllocError) => OUT_OF_MEMORY,
     }

@@ -1,4 +1,4 @@
-use Rattle.libwagtenib.proofs.CallLines.{nodes, proofs, witnesses}
+use Rattle.libwagtenib.proofs.CallLines.{nodes, proofs}
 use Rattle.libwagtenib.proofs.laws.calls_are_lines.Goals as goal
 
 pub returns-clause-node : goal.returns-clause-node
@@ -6,6 +6,3 @@ returns-clause-node c = nodes
 
 pub returns-clause-proof : goal.returns-clause-proof
 returns-clause-proof c = proofs
-
-pub returns-clause-witness : goal.returns-clause-witness
-returns-clause-witness c = witnesses

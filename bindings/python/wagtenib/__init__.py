@@ -1,0 +1,35 @@
+"""Proved functions for Certificate Transparency logs: those of libwagtenib, as values of Python.
+
+Each function says in include/wagtenib.h what it does. It returns a value, or raises Error, whose `name` is that of the fault there.
+"""
+
+from ._certificates import Promise, check_promise, precertificate_entry, promised_leaf
+from ._errors import CertificateError, Code, Error, Field
+from ._guard import TreeHead, guard_first_head, guard_head, guard_receipt, guard_state
+from ._library import Unavailable
+from ._tree import Leaf, decode_leaf, leaf_hash, push, root, subtrees_root, verify_consistency, verify_inclusion
+
+__all__ = [
+    "CertificateError",
+    "Code",
+    "Error",
+    "Field",
+    "Leaf",
+    "Promise",
+    "TreeHead",
+    "Unavailable",
+    "check_promise",
+    "decode_leaf",
+    "guard_first_head",
+    "guard_head",
+    "guard_receipt",
+    "guard_state",
+    "leaf_hash",
+    "precertificate_entry",
+    "promised_leaf",
+    "push",
+    "root",
+    "subtrees_root",
+    "verify_consistency",
+    "verify_inclusion",
+]

@@ -1,2 +1,0 @@
-pub mod NoFloat
-pub mod CosignHistory

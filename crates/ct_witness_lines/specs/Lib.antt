@@ -1,4 +1,0 @@
-pub mod CosignAsks
-pub mod Cosigned
-pub mod CosignSession
-pub mod CosignHistory

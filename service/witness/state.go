@@ -1,0 +1,163 @@
+package witness
+
+import (
+	"bytes"
+	"crypto/rand"
+	"crypto/sha256"
+	"encoding/base64"
+	"encoding/json"
+	"errors"
+	"fmt"
+	"io"
+	"strings"
+
+	"wagtenib/bindings/go/wagtenib"
+)
+
+// emptyRoot is SHA-256 of no bytes: the root of the tree without leaves.
+var emptyRoot = sha256.Sum256(nil)
+
+// The lines before the message in the text of a state, and the text in place of a message before the first cosignature.
+const (
+	stateForm = "witness state 2"
+	noneYet   = "none yet\n"
+	saltBytes = 16
+)
+
+// state holds what is kept of a log: the message that was cosigned last (docs/WITNESS.md), which is nil before the first cosignature. The tree is that of the
+// message, or the one without leaves.
+type state struct {
+	origin  string
+	message []byte
+	tree    wagtenib.WitnessedTree
+}
+
+// noState returns the state of a log that was never cosigned.
+func noState(origin string) state {
+	return state{origin: origin, tree: wagtenib.WitnessedTree{Root: emptyRoot}}
+}
+
+// text returns the text of a register: a line with the version, a line with a random number, and the message. The random number makes the texts of any two swaps
+// differ, so that a swap also fails if the same tree was cosigned in the same second meanwhile.
+func (s state) text() (string, error) {
+	salt := make([]byte, saltBytes)
+	if _, err := rand.Read(salt); err != nil {
+		return "", fmt.Errorf("witness: %w", err)
+	}
+	message := string(s.message)
+	if s.message == nil {
+		message = noneYet + s.origin + "\n"
+	}
+	return stateForm + "\n" + base64.StdEncoding.EncodeToString(salt) + "\n" + message, nil
+}
+
+// readState reads the text of a log's register. A text of any other form is refused, and never taken for the state of a log that was never cosigned.
+func readState(text, origin string) (state, error) {
+	wrong := func(why string) (state, error) {
+		return state{}, fmt.Errorf("%w %s: %s: %.80q", ErrState, origin, why, text)
+	}
+	if strings.HasPrefix(text, "{") {
+		last, err := readJSON(text, origin)
+		if err != nil {
+			return wrong(err.Error())
+		}
+		return last, nil
+	}
+	lines := strings.SplitN(text, "\n", 3)
+	if len(lines) != 3 || lines[0] != stateForm {
+		return wrong("it has another form")
+	}
+	if salt, err := base64.StdEncoding.DecodeString(lines[1]); err != nil || len(salt) != saltBytes || base64.StdEncoding.EncodeToString(salt) != lines[1] {
+		return wrong("it has no random number")
+	}
+	if lines[2] == noneYet+origin+"\n" {
+		return noState(origin), nil
+	}
+	last, err := readMessage([]byte(lines[2]), origin)
+	if err != nil {
+		return wrong(err.Error())
+	}
+	return last, nil
+}
+
+// readMessage reads the message of a cosignature of a log.
+func readMessage(message []byte, origin string) (state, error) {
+	tree, err := wagtenib.WitnessState(message, message)
+	if err != nil {
+		return state{}, err
+	}
+	if lines := strings.SplitN(string(message), "\n", 4); lines[2] != origin {
+		return state{}, fmt.Errorf("it is of the log %q", lines[2])
+	}
+	return state{origin: origin, message: message, tree: tree}, nil
+}
+
+// readJSON reads the text of a register of earlier builds, and returns the message that was cosigned then. The next swap replaces the text.
+func readJSON(text, origin string) (state, error) {
+	var of struct {
+		Root   []byte `json:"last_root"`
+		Size   uint64 `json:"last_size"`
+		Origin string `json:"origin"`
+		Salt   []byte `json:"salt"`
+		Time   uint64 `json:"time"`
+	}
+	if err := strictly([]byte(text), &of); err != nil {
+		return state{}, err
+	}
+	if of.Origin != origin || len(of.Root) != len(emptyRoot) {
+		return state{}, errors.New("it is of another log, or has no root")
+	}
+	if of.Time == 0 && of.Size == 0 && bytes.Equal(of.Root, emptyRoot[:]) {
+		return noState(origin), nil
+	}
+	return readMessage(Message(of.Time, fmt.Sprintf("%s\n%d\n%s\n", origin, of.Size, base64.StdEncoding.EncodeToString(of.Root))), origin)
+}
+
+// strictly reads one JSON value, whose keys are all known.
+func strictly(text []byte, into any) error {
+	read := json.NewDecoder(bytes.NewReader(text))
+	read.DisallowUnknownFields()
+	if err := read.Decode(into); err != nil {
+		return err
+	}
+	if _, err := read.Token(); err != io.EOF {
+		return errors.New("more than one value")
+	}
+	return nil
+}
+
+// newestSeen returns the newest state that this process saw of a log. Before the first it is that of a log that was never cosigned.
+func (s *Server) newestSeen(origin string) state {
+	s.mu.Lock()
+	defer s.mu.Unlock()
+	if of, ok := s.seen[origin]; ok {
+		return of
+	}
+	return noState(origin)
+}
+
+// see keeps a state if it is the newest of a log.
+func (s *Server) see(of state) {
+	s.mu.Lock()
+	defer s.mu.Unlock()
+	if before, ok := s.seen[of.origin]; !ok || isBehind(of, before) == nil {
+		s.seen[of.origin] = of
+	}
+}
+
+// isBehind returns an error if a state is older than one that was seen before the state was read, or has another tree of the same size: it was rolled back, and
+// cosigning from it would make a fork.
+func isBehind(last, before state) error {
+	if before.message == nil {
+		return nil
+	}
+	err := error(wagtenib.ErrStateRolledBack)
+	if last.message != nil {
+		_, err = wagtenib.WitnessState(before.message, last.message)
+	}
+	if err == nil {
+		return nil
+	}
+	return fmt.Errorf("%w %s: it was put back while this witness runs: it has %d leaves with the root %x, and had %d with %x (restore the newer state): %w", ErrState, last.origin,
+		last.tree.TreeSize, last.tree.Root, before.tree.TreeSize, before.tree.Root, err)
+}
