@@ -2,14 +2,8 @@
 use Rattle.std.specs.Prelude.{ℕ, List, Option}
 use Rattle.line_program.specs.ByLine.{by_value}
 use Rattle.line_calls.specs.CallReplies.{CallsAreLines}
-use Rattle.ct_node_lines.specs.NodeSession.{ComesToCommand}
-use Rattle.ct_node_lines.specs.NodeWords.{node_line, is_no_node}
 use Rattle.ct_proof_lines.specs.ReaderSession.{ComesToReading, reading_text, is_bad_reading}
 
--- what a call with a line of `ctnode` wrote is what a run gives that line
-abbrev pub NodeCallsAreLines : Type 0
-NodeCallsAreLines = CallsAreLines (by_value 65536 ComesToCommand) node_line is_no_node
-
--- the same of `ctproof`
+-- what a call with a line of `ctproof` wrote is what a run gives that line
 abbrev pub ProofCallsAreLines : Type 0
 ProofCallsAreLines = CallsAreLines (by_value 67108864 ComesToReading) reading_text is_bad_reading

@@ -1,4 +1,0 @@
-pub mod WrittenNodes
-pub mod LineLogs
-mod LineStarts
-pub mod Names
