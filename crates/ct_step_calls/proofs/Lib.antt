@@ -14,4 +14,4 @@ pub mod Pushed
 pub mod Contents
 pub mod Leaves
 pub mod Receipts
-pub mod Calls
+pub mod Answered

@@ -43,10 +43,11 @@ AnswersIn origin P code before after count_before count =
     ((reply : StepReply) × P reply × IsToldIn (reply_parts origin reply) code before after count_before count)
     ⊎ ((code ≡ 8) × (after ≡ before) × (count ≡ count_before))
 
--- the bytes are an origin: UTF-8, not empty, and without a line end
+-- whether the bytes are not empty, and have no line end
 abbrev pub is_one_line : List ℕ → Bool
 is_one_line bytes = not (length bytes == 0) && not (list_any (λ y. nat_eq y 10) bytes)
 
+-- the bytes are an origin: UTF-8, not empty, and without a line end
 abbrev pub IsOrigin : List ℕ → Type 0
 IsOrigin bytes = IsUtf8 bytes × (is_one_line bytes ≡ true)
 
