@@ -1,4 +1,4 @@
-.PHONY: help demo test check deps service service-test service-race service-engines service-faults service-soak service-clients cluster cluster-status cluster-stop link dist dist-programs install install-library install-ctlog install-ctmonitor install-ctproof install-ctnode fuzz load sweep wrong sources serve serve-witness tiles programs release reproduce bare container pages
+.PHONY: help demo test check deps service service-test service-race service-engines service-faults service-soak service-clients cluster cluster-status cluster-stop link dist dist-programs install install-library install-ctlog install-ctmonitor install-ctproof fuzz load sweep wrong sources serve serve-witness tiles programs release reproduce bare container pages
 
 SECONDS ?= 60
 RUNS ?= 20
@@ -10,7 +10,7 @@ FOLDER ?= ct-log
 WITNESS ?= ct-witness
 WITNESS_PORT ?= 8640
 
-PROGRAMS := ctlog ctmonitor ctproof ctnode
+PROGRAMS := ctlog ctmonitor ctproof
 LIBRARY = $(BUILT)/libwagtenib/out/link/libwagtenib
 VERSION = $(shell cat VERSION)
 # (a shell expands no ~ in quotes)
@@ -94,14 +94,14 @@ dist: ## makes the assembly of libwagtenib in dist/ from the proved crates, for 
 	@examples/build.py libwagtenib
 	@PYTHONDONTWRITEBYTECODE=1 checks/dist.py --write
 
-dist-programs: ## makes ctnode, ctproof and ctwitness of dist/ in dist/out/bin with gcc, without the kit
+dist-programs: ## makes ctproof of dist/ in dist/out/bin with gcc, without the kit
 	@dist/programs.sh dist/out
 
 # The scripts of examples/monitor that are installed beside ctmonitor: what follows ctmonitor- in their names there, and their files.
 WATCHING := audit=audit.py cosign=cosign.py cosignatures=cosignatures.sh from-end=from_end.py keep=keep.py log-list=log_list.py mail=mail.sh show=show.py signature=signature.sh watch=watch.sh
 
 # BUILT is the folder in which the crates' builds lie.
-install: $(PROGRAMS:%=install-%) install-library ## installs what is built, below PREFIX=/usr/local: ctlog, ctmonitor, ctproof, ctnode, with ctmonitor its scripts as ctmonitor-watch and so on, and libwagtenib
+install: $(PROGRAMS:%=install-%) install-library ## installs what is built, below PREFIX=/usr/local: ctlog, ctmonitor, ctproof, with ctmonitor its scripts as ctmonitor-watch and so on, and libwagtenib
 	@for program in $(PROGRAMS); do [ ! -e "$(BUILT)/$$program/out/$$program" ] || exit 0; done; \
 	[ -e "$(LIBRARY).a" ] || { echo "make install: nothing is built" >&2; exit 1; }
 

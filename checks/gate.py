@@ -3,7 +3,7 @@
 more, with the tests of the Go part in it, of which the file COUNT in the environment has how many passed and failed, and with what is run over the
 programs once `rt ci` has built them: all by words of their own (tests/command_lines.py), ctlog over sessions (tests/sessions.py), all while some growths
 of memory are refused (tests/sweep.py), and the parts of the demo (examples/demo.sh); dist/ is made again and compared (checks/dist.py), and its programs
-with the proved ones (tests/library/compare.py), its guard, step and witness with models (tests/library/guard.py, step.py, witness.py), the Rust crate with some of
+with the proved ones (tests/library/compare.py), its guard, step, witness and node with models (tests/library/guard.py, step.py, witness.py, node.py), the Rust crate with some of
 these (tests/library/rust.py), and the Python package with models (bindings/python/tests/compare.py). The status is that of `rt ci`, or 1 where one of these failed.
 
 `rt ci` tells of a crate when it is done, and not how many of its functions are proved so far; while it tells nothing, a line a minute says
@@ -52,6 +52,7 @@ OF_DIST = (
     "tests/library/guard.py",
     "tests/library/step.py",
     "tests/library/witness.py",
+    "tests/library/node.py",
     "tests/library/rust.py",
     "bindings/python/tests/compare.py",
 )
@@ -59,7 +60,7 @@ OF_DIST = (
 # How the programs are broken off: each so many-th growth of memory is refused (make sweep refuses every one).
 BROKEN_OFF = (
     ("sweep.py", "--step", "40"),
-    *(("sweep.py", "--stored", name, "--step", "40") for name in ("ctmonitor", "ctnode", "ctproof")),
+    *(("sweep.py", "--stored", name, "--step", "40") for name in ("ctmonitor", "ctproof")),
 )
 
 # How often it says that the gate is still at work, in seconds, while nothing else happens.

@@ -1,4 +1,4 @@
-/* The programs ctnode, ctproof and ctwitness over libwagtenib, for a machine without the Rattle kit: each by the name that this program is
+/* The program ctproof over libwagtenib, for a machine without the Rattle kit: each by the name that this program is
  * called by, or by its first argument.
  *
  * What is replied to a line is the library's, which is proved. What is here is plain C, and is tested: tests/library/compare.py compares it with the proved programs'
@@ -34,8 +34,6 @@ static struct buffer reply;
 static int status;
 
 static const struct program PROGRAMS[] = {
-    {"ctnode", "usage: ctnode < lines > replies\n\ndocs/NODE.md has the form of the lines." STATUSES("each line was a node's", "a line was none"),
-     65536, false, wagtenib_node_line},
     {"ctproof", "usage: ctproof < lines > replies\n\ndocs/TILES.md has the form of the lines." STATUSES("each line was a request", "a line was no request"),
      67108864, false, wagtenib_proof_line},
 };
@@ -161,7 +159,7 @@ int main(int count, char **arguments) {
         first = 2;
     }
     if (program == NULL) {
-        fputs("usage: programs ctnode|ctproof [OPTION ARGUMENT]..\n", stderr);
+        fputs("usage: programs ctproof [OPTION ARGUMENT]..\n", stderr);
         return 2;
     }
     take_arguments(count - first, arguments + first);

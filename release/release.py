@@ -25,9 +25,9 @@ import textwrap
 import time
 
 ROOT = pathlib.Path(__file__).resolve().parent.parent
-PROGRAMS = {"ctlog": "make demo", "ctmonitor": "make demo", **dict.fromkeys(("ctproof", "ctnode"), "make programs")}
+PROGRAMS = {"ctlog": "make demo", "ctmonitor": "make demo", "ctproof": "make programs"}
 # Those that no service asks, since it contains their code: the tarball has them, and no package.
-APART = ("ctnode")
+APART = ()
 # The services that contain the proved code of dist/.
 LINKED = ("ctserve", "ctwitness-serve")
 SERVICE = ("ctserve", "ctcheck", "ctread", "ctload", "ctwitness-serve")

@@ -27,7 +27,6 @@ PROGRAMS = {
     "ctlog": ("docs/LINES.md", None, ["--fronts", "1", "--ring", "4"], [*map(str.split, NO_LOG), ["lines"], [""], ["a" * 3000]]),
     "ctmonitor": ("docs/MONITOR.md", "01234", ["--name", "a.example"] * 2500, [["lines"], ["--name"], ["--name", "a", "--name"], ["--names", "a"], [""], ["a" * 3000]]),
     "ctproof": ("docs/TILES.md", "0124", [], OPTIONLESS),
-    "ctnode": ("docs/NODE.md", "0124", [], OPTIONLESS),
 }
 # What help is, of those whose help tells no exit statuses. Any text may stand for `...`.
 HELP = {

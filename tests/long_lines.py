@@ -1,7 +1,7 @@
 #!/usr/bin/env python3
 """Gives the built programs a line of 400 MB, and looks that they hold little of it: long_lines.py [NAME..]
 
-A log or a client that is mistrusted may never end its line. ctlog, ctmonitor, ctproof and ctnode, or those that are named, are
+A log or a client that is mistrusted may never end its line. ctlog, ctmonitor and ctproof, or those that are named, are
 given such a line and a good one behind it: the first is replied to with `bad-line`, the second as if it stood alone, and no program takes more than
 64 MB of memory, its own and this script's, but for ctproof, whose longest good line has 64 MB: twice that. Those that aren't built are
 named. The status is 1 where something isn't so.
@@ -25,7 +25,6 @@ STATE = f"growth {7:032x}{base64.b64decode(ROOT).hex()}{bytes(32).hex()}{base64.
 PROGRAMS = {
     "ctlog": (LOG, FROZEN, f"{BAD}\n{HEAD}\n", 0),
     "ctmonitor": ([], HEAD.encode(), f'{BAD}\n{{"tree_size":0,"verdict":"accepted"}}\n', 4),
-    "ctnode": ([], b'{"node":{"do":"read"},"told":{"came":"lost"}}', f'{REFUSED}\n{{"node":{{"do":"read"}}}}\n', 4),
     "ctproof": ([], b'{"needs_root":7}', f'{REFUSED}\n{{"names":["tile/0/000.p/7"]}}\n', 4),
 }
 

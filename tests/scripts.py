@@ -149,9 +149,8 @@ def make_install(folder, built):
 
 
 def try_models():
-    """tiles/step.py writes the stored output of ctproof over its words and input, and ends with its status; so does and node/ctnode.py for
-    ctnode."""
-    for script, program in (("tiles/step.py", "ctproof"), ("node/ctnode.py", "ctnode")):
+    """tiles/step.py writes the stored output of ctproof over its words and input, and ends with its status."""
+    for script, program in (("tiles/step.py", "ctproof"),):
         crate = HERE.parent / "crates" / program
         words = (crate / "args").read_text().split("\n")[:-1] if (crate / "args").exists() else []
         ran = run(script, *words, given=(crate / "stdin").read_bytes())
@@ -307,7 +306,7 @@ def try_release(folder):
         fail(f"release.py, with nothing built: status {ran.returncode}: {ran.stdout}{ran.stderr}")
     if (folder / "none").exists():
         fail("release.py makes something of nothing")
-    programs = {name: folder / "built" / name / "out" / name for name in ("ctlog", "ctmonitor", "ctproof", "ctnode")}
+    programs = {name: folder / "built" / name / "out" / name for name in ("ctlog", "ctmonitor", "ctproof")}
     programs.update({name: folder / "service" / name for name in ("ctserve", "ctcheck", "ctread", "ctload", "ctwitness-serve")})
     library = {f"libwagtenib.{end}": folder / "built" / "libwagtenib" / "out" / "link" / f"libwagtenib.{end}" for end in ("a", "so")}
     commit = subprocess.run(["git", "log", "-1", "--format=%H"], cwd=HERE, capture_output=True, text=True).stdout[:12]
@@ -316,7 +315,7 @@ def try_release(folder):
         path.parent.mkdir(parents=True, exist_ok=True)
         path.write_text(texts.get(name, f"made up: {name}"))
         path.chmod(0o755)
-    for name, other in (("ctnode", "ctnode 0.1.1"), ("ctcheck", f"ctcheck 0.1.0 (commit {commit[::-1]})")):
+    for name, other in (("ctproof", "ctproof 0.1.1"), ("ctcheck", f"ctcheck 0.1.0 (commit {commit[::-1]})")):
         programs[name].write_text(f"#!/bin/sh\necho '{other}'\n")
         ran = make("none")
         if ran.returncode != 1 or f"of another version than 0.1.0, or another commit than {commit}: {name} ({other})" not in ran.stderr or (folder / "none").exists():
@@ -586,11 +585,7 @@ def try_quotations():
 
 
 def try_nodes():
-    """node/explore.py: each history of the right machine is sound, and each wrong machine is found out by its clause. node/lines.py writes the stored
-    run of ctnode."""
-    for word, stored in (("asked", "stdin"), ("replied", "stdout")):
-        if run("node/lines.py", word).stdout != (HERE.parent / "crates" / "ctnode" / stored).read_bytes():
-            fail(f"node/lines.py writes another text than crates/ctnode/{stored}")
+    """node/explore.py: each history of the right machine is sound, and each wrong machine is found out by its clause."""
     ran = run("node/explore.py")
     if ran.returncode:
         fail(f"node/explore.py: {ran.stderr.decode()}")

@@ -18,7 +18,7 @@ import tempfile
 
 from sweep import CRATES, HERE, line
 
-PROGRAMS = ("ctlog", "ctmonitor", "ctproof", "ctnode")
+PROGRAMS = ("ctlog", "ctmonitor", "ctproof")
 
 
 def long_reply():

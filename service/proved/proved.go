@@ -12,7 +12,7 @@ import (
 	"wagtenib/bindings/go/wagtenib"
 )
 
-// Function is a function over a line, as wagtenib.NodeLine is one. Its reply is part of *memory, and ends with a line end.
+// Function is a function over a line, as wagtenib.ProofLine is one. Its reply is part of *memory, and ends with a line end.
 type Function func(memory *[]byte, request []byte) (reply []byte, err error)
 
 // ErrReply is the error of a reply that isn't one to its request. The functions are proved to give none, so it is a fault of this

@@ -72,7 +72,6 @@ static void call(void) {
     allocations = live = live_blocks = 0;
     length = UNTOUCHED;
     switch (mode[0]) {
-    case 'n': code = wagtenib_node_line(request, request_length, reply, room, &length); break;
     default: code = wagtenib_proof_line(request, request_length, reply, room, &length);
     }
     expect(live == 0 && live_blocks == 0, "memory wasn't given back");

@@ -1,17 +1,16 @@
 #!/usr/bin/env python3
 """Random histories of nodes that carry on one log: what crates/ct_node proves, written down once more as docs/NODE.md says it, and judged by running.
 
-    explore.py [--histories 60] [--seed 1] [--program crates/ctnode/out/ctnode]
+    explore.py [--histories 60] [--seed 1]
 
 A history is a world in which commands come late, twice or never, nodes are killed, told twice, or go on from what they were before, readings are old,
 tiles are swept where a wider one was put, and heads where a later one was. Of the right machine each history has to stay sound, who starts goes on from
 nothing that is behind a head, and at its end a node that starts has to publish the newest state; each wrong machine has to be found out by the clause that
-it breaks, and so has a store in which a place is missing, or which sweeps anything. With a program, the right machine is that program, asked by lines
-(lines.py). It prints a line for each machine, and ends with status 1 where one isn't as it should be.
+it breaks, and so has a store in which a place is missing, or which sweeps anything. It prints a line for each machine, and ends with status 1 where one isn't as
+it should be. tests/library/node.py runs the histories over the calls of the library.
 """
 import argparse
 import random
-import subprocess
 import sys
 import typing
 from collections import Counter
@@ -116,32 +115,6 @@ class Machine:
         if verb == "Heading":
             return self.headed(node[1])
         return READING if verb == "Answering" else node
-
-
-class Program(Machine):
-    """The machine that a program is, which answers a line with a line."""
-
-    def __init__(self, path):
-        self.process = subprocess.Popen([path], stdin=subprocess.PIPE, stdout=subprocess.PIPE, text=True)
-
-    def after(self, node, outcome):
-        from lines import asked, is_said, node_in
-
-        if not is_said(node, outcome):
-            return Machine.after(self, node, outcome)
-        self.process.stdin.write(f"{asked(node, outcome)}\n")
-        self.process.stdin.flush()
-        behind = node_in(self.process.stdout.readline())
-        if behind != Machine.after(self, node, outcome):
-            sys.exit(f"explore.py: behind {outcome} of {node} the program has {behind}")
-        return behind
-
-    def starts(self, register, listed):
-        from lines import begin_asked, goes_on
-
-        self.process.stdin.write(f"{begin_asked(register, listed)}\n")
-        self.process.stdin.flush()
-        return goes_on(self.process.stdout.readline())
 
 
 def wrong(**methods):
@@ -364,9 +337,8 @@ def main():
     parser = argparse.ArgumentParser()
     parser.add_argument("--histories", type=int, default=60)
     parser.add_argument("--seed", default="1")
-    parser.add_argument("--program")
     words = parser.parse_args()
-    machine = Program(words.program) if words.program else Machine()
+    machine = Machine()
     found, answered = histories(machine, words.seed, words.histories)
     print(f"the right machine: sound in {found.pop(None, 0)} of {words.histories} histories, of which {answered} answered somebody")
     missed = [f"the right machine breaks {clause}" for clause in found] + ["no history of the right machine answered anybody"] * (not answered)

@@ -2,28 +2,16 @@
 
 package wagtenib
 
-// #cgo nocallback wagtenib_node_line
-// #cgo noescape wagtenib_node_line
 // #cgo nocallback wagtenib_proof_line
 // #cgo noescape wagtenib_proof_line
 // #include "wagtenib.h"
 import "C"
 
-import "unsafe"
-
-// The longest requests, in bytes without a line end. A longer one is refused by its reply.
-const (
-	MaxNodeRequest  = 65_536
-	MaxProofRequest = 67_108_864
-)
+// MaxProofRequest is the longest request, in bytes without a line end. A longer one is refused by its reply.
+const MaxProofRequest = 67_108_864
 
 // firstRoom is the number of bytes that memory has at least.
 const firstRoom = 4096
-
-// ofText returns a pointer to the first byte of a text, which the library only reads.
-func ofText(text string) *C.uint8_t {
-	return ofBytes(unsafe.Slice(unsafe.StringData(text), len(text)))
-}
 
 // written makes a call that writes a reply into memory. If the reply has no room, it makes the memory large enough and calls once more.
 func written(memory *[]byte, call func(reply *C.uint8_t, room C.size_t, length *C.uint64_t) C.uint32_t) ([]byte, error) {
@@ -42,21 +30,11 @@ func written(memory *[]byte, call func(reply *C.uint8_t, room C.size_t, length *
 	return (*memory)[:length:length], result(code)
 }
 
-// NodeLine returns the reply of ctnode to one request, a node's next command (docs/NODE.md). The request is a line of JSON in UTF-8 without its line end,
-// and the reply ends with a line end.
+// ProofLine returns the reply of ctproof to one request: a root, a path, a consistency proof or an entry for a reader of a tiled log
+// (docs/TILES.md). The request is a line of JSON in UTF-8 without its line end, and the reply ends with a line end.
 //
 // The reply is part of *memory, which the call makes larger if the reply has no room, and is valid until *memory is used again. *memory may
 // be nil at first. It must not overlap the request.
-//
-// The error is nil, ErrNotARequest (with the reply, which refuses the request) or ErrMemory.
-func NodeLine(memory *[]byte, request []byte) (reply []byte, err error) {
-	return written(memory, func(reply *C.uint8_t, room C.size_t, length *C.uint64_t) C.uint32_t {
-		return C.wagtenib_node_line(ofBytes(request), C.size_t(len(request)), reply, room, length)
-	})
-}
-
-// ProofLine returns the reply of ctproof to one request: a root, a path, a consistency proof or an entry for a reader of a tiled log
-// (docs/TILES.md). Request, reply and memory are as of NodeLine.
 //
 // The error is nil, ErrNotARequest (with the reply, which refuses the request) or ErrMemory.
 func ProofLine(memory *[]byte, request []byte) (reply []byte, err error) {

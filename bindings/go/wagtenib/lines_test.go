@@ -12,12 +12,8 @@ import (
 	"wagtenib/bindings/go/wagtenib"
 )
 
-// origin is that of the programs' stored runs (crates/NAME/args).
-const origin = "log.example/2026"
-
 // programs are the functions over a line, each by the name of the program whose stored run it must repeat.
 var programs = map[string]func(memory *[]byte, request []byte) ([]byte, error){
-	"ctnode":  wagtenib.NodeLine,
 	"ctproof": wagtenib.ProofLine,
 }
 
@@ -79,12 +75,6 @@ func TestRepeatsStoredRunsAtOnce(t *testing.T) {
 		}
 	}
 	all.Wait()
-}
-
-func TestRefusesOriginsOfSeveralLines(t *testing.T) {
-	var memory []byte
-	for _, bad := range []string{"log\nexample", "log\xff"} {
-	}
 }
 
 func TestRefusesWhatIsNoRequest(t *testing.T) {

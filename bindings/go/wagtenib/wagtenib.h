@@ -3,7 +3,7 @@
  *
  * A hash is 32 bytes (SHA-256). A list of hashes is given by a pointer to its first byte and the number of hashes, which
  * stand one after the other. No call keeps a pointer or has any state, so every call may run in any thread at any time.
- * wagtenib_root, the functions over steps, certificates and tiles, those of the witness, and those whose names end in _line take memory (malloc), and give it back before they return. All other
+ * wagtenib_root, wagtenib_lock_text, the functions over steps, certificates and tiles, those of the witness, and those whose names end in _line take memory (malloc), and give it back before they return. All other
  * memory is the caller's. A length is a number of bytes.
  *
  * What the caller owes, and nothing checks: each pointer points to as many bytes as is said, readable, and writable where
@@ -411,9 +411,6 @@ uint32_t wagtenib_witness_state(const uint8_t *seen, size_t seen_length, const u
  * Measured, and not proved: a call has about twice the length of its request and reply as memory, and JSON that is made to be dear has up to 20 times the
  * length of the request, or 120 KB. A request of real data takes 26 KB of stack, and JSON that nests as deep as is allowed (127) takes 84 KB.
  */
-
-/* A node's next command: what `ctnode` replies to a line (docs/NODE.md). A request has at most 65,536 bytes. 0, 8, 9 or 11. */
-uint32_t wagtenib_node_line(const uint8_t *request, size_t request_length, uint8_t *reply, size_t room, uint64_t *length);
 
 /* A root, a path, a consistency proof or an entry for a reader: what `ctproof` replies to a line (docs/TILES.md). A request has at most 67,108,864 bytes.
  * 0, 8, 9 or 11. */

@@ -7,6 +7,7 @@ from ._certificates import Promise, check_promise, precertificate_entry, promise
 from ._errors import CertificateError, Code, Error, Field
 from ._guard import TreeHead, guard_first_head, guard_head, guard_receipt, guard_state
 from ._library import Unavailable
+from ._node import NodeCommand, NodeDoes, NodeFound, NodeOutcome, NodeState, NodeTold, batch_name, batch_state, lock_state, lock_text, node_next, node_start
 from ._tree import Leaf, decode_leaf, leaf_hash, push, root, subtrees_root, verify_consistency, verify_inclusion
 
 __all__ = [
@@ -15,9 +16,17 @@ __all__ = [
     "Error",
     "Field",
     "Leaf",
+    "NodeCommand",
+    "NodeDoes",
+    "NodeFound",
+    "NodeOutcome",
+    "NodeState",
+    "NodeTold",
     "Promise",
     "TreeHead",
     "Unavailable",
+    "batch_name",
+    "batch_state",
     "check_promise",
     "decode_leaf",
     "guard_first_head",
@@ -25,6 +34,10 @@ __all__ = [
     "guard_receipt",
     "guard_state",
     "leaf_hash",
+    "lock_state",
+    "lock_text",
+    "node_next",
+    "node_start",
     "precertificate_entry",
     "promised_leaf",
     "push",

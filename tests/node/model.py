@@ -1,0 +1,67 @@
+"""What docs/NODE.md says of a lock's text, of the names of staged batches and of a node that starts, written once more: an oracle for tests/library/node.py. What a node
+does next is the machine of explore.py."""
+import re
+
+from explore import State
+
+# A lock's text, whose second line may be anything. Digits are read in either case.
+TEXT = re.compile(rb"growth ([0-9a-fA-F]{16})([0-9a-fA-F]{16}).{256}\nnode .*\nsalt ([0-9a-fA-F]{16})([0-9a-fA-F]{16})\n", re.DOTALL)
+NAME = re.compile(rb"staging/([0-9a-fA-F]{16})([0-9a-fA-F]{16})([0-9a-fA-F]{16})")
+
+
+def said(text):
+    """The number of entries of a lock's text, and its state, or None."""
+    found = TEXT.fullmatch(text)
+    if not found:
+        return None
+    size, timestamp, before, salt = (int(digits, 16) for digits in found.groups())
+    return size, State(timestamp, before if before < timestamp else 0, salt)
+
+
+def state_of_name(name):
+    """The state whose staged batch has a name, or None."""
+    found = NAME.fullmatch(name)
+    return found and State(*(int(digits, 16) for digits in found.groups()))
+
+
+def name_of(state):
+    return f"staging/{state.moment:016x}{state.before:016x}{state.salt:016x}".encode()
+
+
+def next_text(line, node, before, salt):
+    return line + b"\nnode " + node + f"\nsalt {before:016x}{salt:016x}\n".encode()
+
+
+def reaches(head, other):
+    """Whether a head is another one, or may come after it."""
+    return head == other or head[0] >= other[0] and head[1] > other[1]
+
+
+def reaches_other(head, other):
+    """The same of a head with its root beside the lock's, or of none."""
+    return other is None or (other[1] if head == other[0] else reaches(head, other[0]))
+
+
+def beginning(text, found):
+    """The name of the code of a node that finds this when it starts. A head is a size, a timestamp and a root; a published and a listed one have no root."""
+    if text and not said(text):
+        return "BAD_LOCK_TEXT"
+    others = [one and (one[:2], text[39:103] == one[2].hex().encode()) for one in (found["seen"], found["signed"])]
+    seen, signed = others
+    published, listed = found["published"], found["listed"]
+    if not text:
+        nothing = not found["has_object"] and all(one is None for one in (seen, signed, published, listed))
+        return "CREATES_LOCK" if found["creates"] and nothing else "LOCK_GONE"
+    size, state = said(text)
+    head = (size, state.moment)
+    if not reaches_other(head, seen):
+        return "BEHIND_SEEN"
+    if found["guarded"] and not reaches_other(head, signed):
+        return "TWO_ROOTS" if head == signed[0] else "BEHIND_SIGNED"
+    if found["guarded"] and listed and not (signed and reaches(signed[0], listed)):
+        return "SIGNED_BEHIND_LISTED"
+    if listed and not reaches(head, listed):
+        return "BEHIND_LISTED"
+    if published and not reaches(head, published):
+        return "BEHIND_PUBLISHED"
+    return "OK"
