@@ -25,8 +25,11 @@ ANGLE = r"<(?:[^()=<>{};]|->|<(?:[^()=<>{};]|<[^()=<>{};]*>)*>)*"
 BEFORE = re.compile(rf"(?:\blet\b[^=]*|\b(?:const|static)\s+\w+:[^=]*|->[^{{;=]*|{ANGLE}|\btype\s[^;]*|[!=]= (?:\w+::)*)$")
 BEHIND = re.compile(r"^(?:\([^()]*\)|\{[^{}]*\})?\s*[)}]*\s*(?:if\b[^=]*)?(?:\|(?!\|)|=>)|^>")
 # The library for C and the calls below it, their number, and the one place that may name it without a pattern.
-# (A field of a certificate has the same number.)
-NUMBERED, NUMBER = ("libwagtenib", "line_calls"), re.compile(r"(?<!; )(?<!Place::Issuer => )\b8(?:_?[iu](?:\d+|size))?\b|\bOUT_OF_MEMORY\b")
+# (A field of a certificate, a command of a node and a flag of what it finds have the same number.)
+NUMBERED, NUMBER = (
+    ("libwagtenib", "line_calls"),
+    re.compile(r"(?<!; )(?<!Place::Issuer => )(?<!command_with\()(?<!found\.flags, )\b8(?:_?[iu](?:\d+|size))?\b(?! => Some\(Node::)|\bOUT_OF_MEMORY\b"),
+)
 CONSTANT = re.compile(r"\buse [^;]*;|\bpub const OUT_OF_MEMORY: u32 = 8;")
 # The one file that may ask for all places that there are.
 COUNT = "shared/src/count.rt"
