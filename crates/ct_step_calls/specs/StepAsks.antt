@@ -36,21 +36,10 @@ AsksStep batch edge now state most a =
     (entries : Option (List BatchEntry)) × (contents : Option (List (List ℕ))) × IsBatchText batch entries × IsContentsText edge contents
     × (a ≡ step_of_batch entries contents now state most)
 
--- the submission of a batch of one
-abbrev pub one_submission : List BatchEntry → Option Submitted
-one_submission [] = None
-one_submission (e ∷ []) = Some e.0
-one_submission (e ∷ f ∷ rest) = None
-
--- the receipt of a submission, if there is one
-abbrev pub claim_of_one : Option Submitted → Claim → List (List ℕ) → List ℕ → StepAsk
-claim_of_one None claim path state = for_no_batch
-claim_of_one (Some s) claim path state = for_claim claim path state s
-
--- the receipt of the one submission of a batch
+-- the receipt of the one submission that the bytes are
 abbrev pub claim_of_batch : Option (List BatchEntry) → Claim → List (List ℕ) → List ℕ → StepAsk
-claim_of_batch None claim path state = for_no_batch
-claim_of_batch (Some batch) claim path state = claim_of_one (one_submission batch) claim path state
+claim_of_batch (Some (e ∷ [])) claim path state = for_claim claim path state e.0
+claim_of_batch _ claim path state = for_no_batch
 
 -- the bytes of a submission, a place, a path and a state's text ask for this receipt
 abbrev pub AsksClaim : List ℕ → Claim → List (List ℕ) → List ℕ → StepAsk → Type 0

@@ -1,11 +1,11 @@
 //! The calls.
 
-ghost use Rattle.std.specs.Prelude.{◌≡◌, [], IfOk, Some, map, option_map};
+ghost use Rattle.std.specs.Prelude.{◌≡◌, [], IfOk, map, option_map};
 ghost use Rattle.ct_codec.specs.Submitted.{Submitted};
 ghost use Rattle.ct_step_calls.specs.StepAnswers.{IsReplyTo};
-ghost use Rattle.ct_step_calls.specs.StepAsks.{claim_of_batch, for_begin, for_needs, for_resume, one_submission};
+ghost use Rattle.ct_step_calls.specs.StepAsks.{for_begin, for_needs, for_resume};
 ghost use Rattle.ct_step_calls.specs.StepBytes.{entry_parts};
-ghost use Rattle.ct_step_calls.specs.StepCalls.{IsReplyToClaim, IsReplyToStep};
+ghost use Rattle.ct_step_calls.specs.StepCalls.{claim_of_one, one_submission, IsReplyToClaim, IsReplyToStep};
 ghost use Rattle.ct_step_calls.specs.StepReplies.{IsReplyText};
 
 use crate::answer::{Answer, StepRefusal};
@@ -94,7 +94,7 @@ fn claim_of(
     path: &[[u8; 32]],
     batch: &[Entry],
 ) -> Result<Answer, AllocError>
-    ensures { IfOk result (λ t. IsReplyText [] t (IsReplyTo (claim_of_batch (Some (map entry_parts batch.now)) claim path.now state.now))) }
+    ensures { IfOk result (λ t. IsReplyText [] t (IsReplyTo (claim_of_one (one_submission (map entry_parts batch.now)) claim path.now state.now))) }
 {
     match one_of(batch) {
         Some(submission) => claim_reply(alloc, claim, path, state, submission),

@@ -2,7 +2,7 @@ use Rattle.std.proofs.Common.{◌≡◌, [], Option, Some, None, map, refl, subs
 use Rattle.std.specs.Prelude.{IfOk}
 use Rattle.ct_codec.specs.Submitted.{Submitted}
 use Rattle.ct_step_calls.specs.StepAnswers.{IsReplyTo}
-use Rattle.ct_step_calls.specs.StepAsks.{claim_of_batch, claim_of_one, one_submission}
+use Rattle.ct_step_calls.specs.StepCalls.{claim_of_one, one_submission}
 use Rattle.ct_step_calls.specs.StepBytes.{entry_parts}
 use Rattle.ct_step_calls.specs.StepReplies.{IsReplyText}
 use Rattle.ct_step_calls.specs.StepWords.{refuses}
@@ -20,5 +20,5 @@ pub returns-in-None : goal.returns-in-None
 returns-in-None c =
     let none : None ≡ one_submission (map entry_parts c.args.batch.now) = rw c.in-None.is at c.one_of.ensures in
     by_reply c.refused_line.result [] (refuses BadBatch)
-    (IsReplyTo (claim_of_batch (Some (map entry_parts c.args.batch.now)) c.args.claim c.args.path.now c.args.state.now))
+    (IsReplyTo (claim_of_one (one_submission (map entry_parts c.args.batch.now)) c.args.claim c.args.path.now c.args.state.now))
     (subst (λ (o : Option Submitted). IsReplyTo (claim_of_one o c.args.claim c.args.path.now c.args.state.now) (refuses BadBatch)) none refl) c.refused_line.ensures
