@@ -177,22 +177,30 @@ fn is_seen_or_later(seen: &Last<'_>, found: &Last<'_>) -> bool
         && (is_same_tree(&found.tree, &seen.tree) || seen.tree.size < found.tree.size)
 }
 
-// The cosignatures whose messages two states are, the one that was seen first.
+// The cosignatures whose messages two states are.
+#[derive(Clone, Copy)]
+struct Both<'a> {
+    seen: Last<'a>,
+    found: Last<'a>,
+}
+
+// Reads the state that was seen, and the one that was found.
 fn read_both<'a>(
     alloc: Global,
     seen: &'a [u8],
     state: &'a [u8],
-) -> Result<Option<(Last<'a>, Last<'a>)>, AllocError>
+) -> Result<Option<Both<'a>>, AllocError>
     ensures { IfOk result (λ o. MatchOption o (IsNoMessage state.now ⊎ IsNoMessage seen.now)
-        (λ r. IsMessageOf (cosigned r.0.origin.now r.0.tree r.0.time) seen.now × IsMessageOf (cosigned r.1.origin.now r.1.tree r.1.time) state.now)) }
+        (λ b. IsMessageOf (cosigned b.seen.origin.now b.seen.tree b.seen.time) seen.now
+        × IsMessageOf (cosigned b.found.origin.now b.found.tree b.found.time) state.now)) }
 {
     let Some(found) = read_message(alloc, state)? else {
         return Ok(None);
     };
-    let Some(old) = read_message(alloc, seen)? else {
+    let Some(seen) = read_message(alloc, seen)? else {
         return Ok(None);
     };
-    Ok(Some((old, found)))
+    Ok(Some(Both { seen, found }))
 }
 
 // Writes the tree and the time of a cosignature, if it is the one that was seen or a later one.
@@ -224,7 +232,7 @@ pub extern "C" fn wagtenib_witness_state(
     ensures { ReadsWitnessState result seen.now state.now last.old last.new }
 {
     match read_both(alloc, seen, state) {
-        Ok(Some((old, found))) => write_later(&old, &found, last),
+        Ok(Some(both)) => write_later(&both.seen, &both.found, last),
         Ok(None) => codes::BAD_STATE,
         Err(AllocError) => OUT_OF_MEMORY,
     }
