@@ -4,6 +4,7 @@ ghost use Rattle.std.specs.Prelude.{◌≡◌, ◌⊎◌, ◌<◌, ◌≤◌, �
 ghost use Rattle.std.specs.Bool.{MatchBool};
 ghost use Rattle.sha2.specs.Sha256.{sha256};
 ghost use Rattle.ct_checkpoint.specs.Message.{cosignature_message as message_of};
+ghost use Rattle.ct_verify.specs.Laws.{AreHashes};
 ghost use Rattle.ct_witness.specs.declared.tree.Tree.{Tree};
 ghost use Rattle.libwagtenib.specs.Codes.{tree_code};
 ghost use Rattle.libwagtenib.specs.Witness.{cosigned, tree_of, IsCheckpointOf, IsMessageOf, IsNoMessage, MayCosign, MayNotCosign, CosignsAfter, CosignsFirst, Cosigns, IsSeenOrLater, Describes, ReadsWitnessState};
@@ -37,6 +38,11 @@ fn is_timely(time: u64, last: u64) -> bool
     time != 0 && last <= time
 }
 
+// A law, which does nothing: what the type says of the hashes of a proof.
+fn are_hashes(proof: &[[u8; 32]])
+    ensures { AreHashes proof.now }
+{}
+
 // Whether the tree of this checkpoint may be cosigned after the last one, or the number of the first reason why not.
 fn judge(
     last: &Last<'_>,
@@ -56,6 +62,7 @@ fn judge(
         size: checkpoint.size,
         root: checkpoint.root,
     };
+    are_hashes(proof);
     let mut witness = Witness { last: last.tree };
     match witness.pass(&Sha256Hash, old, &tree, proof) {
         Ok(()) => {
