@@ -1,4 +1,4 @@
--- The output of a call that alone knows its length: the memory of the caller, and the length.
+-- The output of a call, whose length only the call knows: the memory of the caller, and the length.
 use Rattle.std.specs.Prelude.{◌≡◌, ◌⊎◌, ◌<◌, ◌++◌, ℕ, List, length, drop}
 
 -- 0: the memory begins with the bytes, the rest of it is unchanged, and the length is theirs. 9: there are more bytes than the memory has, which is unchanged, and

@@ -12,7 +12,7 @@ use ct_checkpoint::{Checkpoint, CheckpointFault, cosignature_message, read_check
 use ct_witness::Tree;
 use std::alloc::{AllocError, Global};
 
-/// What a witness cosigned last of a log: the tree, and the time of the cosignature in seconds since 1970.
+/// The tree that a witness cosigned last of a log, and the time of the cosignature in seconds since 1970.
 #[repr(C)]
 #[derive(Clone, Copy)]
 pub struct WitnessedTree {

@@ -1,4 +1,4 @@
-//! What a witness cosigns (C2SP tlog-witness). Its state is the message that it cosigned last (C2SP tlog-cosignature), and belongs to the caller.
+//! Decides what a witness cosigns (C2SP tlog-witness). Its state is the message that it cosigned last (C2SP tlog-cosignature), and belongs to the caller.
 
 ghost use Rattle.std.specs.Prelude.{◌≡◌, ◌⊎◌, ◌<◌, ◌≤◌, ℕ, List, IfOk, MatchResult, MatchOption, string_bytes};
 ghost use Rattle.std.specs.Bool.{MatchBool};
