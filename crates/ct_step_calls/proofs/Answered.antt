@@ -1,12 +1,11 @@
 -- Calls that are answered.
-use Rattle.std.proofs.Common.{◌≡◌, ◌≢◌, ◌<◌, ◌≤◌, ℕ, List, [], ◌∷◌, length, Option, Some, None, refl, arith}
+use Rattle.std.proofs.Common.{◌≡◌, ◌<◌, ◌≤◌, ℕ, List, length, Option, Some, None, refl, arith}
 use Rattle.std.proofs.lemmas.Bool.{lt-ltb, le-ltb}
 use Rattle.std.specs.Prelude.{Result, Err, IfOk}
-use Rattle.ct_growth.specs.declared.claim.Claim.{Claim}
 use Rattle.ct_step_calls.specs.StepAnswers.{IsReplyTo}
-use Rattle.ct_step_calls.specs.StepAsks.{StepAsk, for_step, for_too_many, for_no_edge, for_no_batch, for_claim, step_of_batch, claim_of_batch}
+use Rattle.ct_step_calls.specs.StepAsks.{StepAsk, for_step, for_too_many, for_no_edge, for_no_batch, step_of_batch}
 use Rattle.ct_step_calls.specs.StepBytes.{IsBatchText, IsContentsText}
-use Rattle.ct_step_calls.specs.StepCalls.{IsReplyToStep, IsReplyToClaim}
+use Rattle.ct_step_calls.specs.StepCalls.{IsReplyToStep}
 use Rattle.ct_step_calls.specs.StepRepeats.{BatchEntry}
 use Rattle.ct_step_calls.specs.StepReplies.{IsReplyText, answer_parts}
 use Rattle.ct_step_calls.specs.StepWords.{StepReply, refuses}
@@ -43,27 +42,3 @@ module _ {F : Type 0} (r : Result Answer F) (origin batch edge : List ℕ) (now 
       let asked : for_step B C now state most ≡ step_of_batch (Some B) (Some C) now state most = rw (le-ltb 4096 (length B) few) refl in
       by_less r origin (IsReplyTo (for_step B C now state most)) (IsReplyToStep batch edge now state most)
       (λ reply to. (for_step B C now state most, (Some B, Some C, is, read, asked), to)) told
-
-not_one : (B : List BatchEntry) (claim : Claim) (path : List (List ℕ)) (state : List ℕ) → length B ≢ 1 → for_no_batch ≡ claim_of_batch (Some B) claim path state
-not_one [] claim path state other = refl
-not_one (e ∷ []) claim path state other = absurd (other refl)
-not_one (e ∷ f ∷ rest) claim path state other = refl
-
-module _ {F : Type 0} (r : Result Answer F) (submission : List ℕ) (claim : Claim) (path : List (List ℕ)) (state : List ℕ) where
-  -- the bytes are no batch
-  pub claims_none : IsBatchText submission None → IfOk r (λ t. answer_parts t ≡ Err BadBatch)
-      → IfOk r (λ t. IsReplyText [] t (IsReplyToClaim submission claim path state))
-  claims_none none told = by_reply r [] (refuses BadBatch) (IsReplyToClaim submission claim path state) (for_no_batch, (None, none, refl), refl) told
-
-  -- the batch has not one submission
-  pub claims_others : (B : List BatchEntry) → IsBatchText submission (Some B) → length B ≢ 1 → IfOk r (λ t. answer_parts t ≡ Err BadBatch)
-      → IfOk r (λ t. IsReplyText [] t (IsReplyToClaim submission claim path state))
-  claims_others B is other told =
-      by_reply r [] (refuses BadBatch) (IsReplyToClaim submission claim path state) (for_no_batch, (Some B, is, not_one B claim path state other), refl) told
-
-  -- a claim is answered
-  pub is_claim : (e : BatchEntry) → IsBatchText submission (Some (e ∷ [])) → IfOk r (λ t. IsReplyText [] t (IsReplyTo (for_claim claim path state e.0)))
-      → IfOk r (λ t. IsReplyText [] t (IsReplyToClaim submission claim path state))
-  is_claim e is told =
-      by_less r [] (IsReplyTo (for_claim claim path state e.0)) (IsReplyToClaim submission claim path state)
-      (λ reply to. (for_claim claim path state e.0, (Some (e ∷ []), is, refl), to)) told

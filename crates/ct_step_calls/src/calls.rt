@@ -1,15 +1,19 @@
 //! The calls.
 
-ghost use Rattle.std.specs.Prelude.{[], IfOk};
+ghost use Rattle.std.specs.Prelude.{◌≡◌, [], IfOk, map, option_map};
+ghost use Rattle.ct_codec.specs.Submitted.{Submitted};
 ghost use Rattle.ct_step_calls.specs.StepAnswers.{IsReplyTo};
 ghost use Rattle.ct_step_calls.specs.StepAsks.{for_begin, for_needs, for_resume};
-ghost use Rattle.ct_step_calls.specs.StepCalls.{IsReplyToClaim, IsReplyToStep};
+ghost use Rattle.ct_step_calls.specs.StepBytes.{entry_parts};
+ghost use Rattle.ct_step_calls.specs.StepCalls.{claim_of_one, one_submission, IsReplyToClaim, IsReplyToStep};
 ghost use Rattle.ct_step_calls.specs.StepReplies.{IsReplyText};
 
 use crate::answer::{Answer, StepRefusal};
+use crate::entry::Entry;
 use crate::reading::{batch_of, contents_of};
 use crate::replies::{begun_line, refused_line};
 use crate::stepping::{claim_reply, first_line, needs_reply, resume_reply, step_reply};
+use ct_codec::Submission;
 use ct_growth::Claim;
 use std::alloc::{AllocError, Global};
 
@@ -68,6 +72,36 @@ pub fn resume(
     resume_reply(alloc, origin, bundle, state)
 }
 
+// The submission of a batch of one.
+fn one_of(batch: &[Entry]) -> Option<&Submission>
+    ensures { option_map {U = Submitted} (λ s. s.now) result ≡ one_submission (map entry_parts batch.now) }
+{
+    let Some((entry, rest)) = batch.split_first() else {
+        return None;
+    };
+    if rest.is_empty() {
+        Some(&entry.submission)
+    } else {
+        None
+    }
+}
+
+// Replies to a place that is claimed for the one submission of a batch.
+fn claim_of(
+    alloc: Global,
+    state: &[u8],
+    claim: Claim,
+    path: &[[u8; 32]],
+    batch: &[Entry],
+) -> Result<Answer, AllocError>
+    ensures { IfOk result (λ t. IsReplyText [] t (IsReplyTo (claim_of_one (one_submission (map entry_parts batch.now)) claim path.now state.now))) }
+{
+    match one_of(batch) {
+        Some(submission) => claim_reply(alloc, claim, path, state, submission),
+        None => refused_line(StepRefusal::BadBatch),
+    }
+}
+
 /// What is signed in the receipt of a submission's entry, by the place that is claimed for it and an audit path to the root of a state.
 pub fn claim(
     alloc: Global,
@@ -78,11 +112,8 @@ pub fn claim(
 ) -> Result<Answer, AllocError>
     ensures { IfOk result (λ t. IsReplyText [] t (IsReplyToClaim submission.now claim path.now state.now)) }
 {
-    let Some(batch) = batch_of(alloc, submission)? else {
-        return refused_line(StepRefusal::BadBatch);
-    };
-    if batch.len() != 1 {
-        return refused_line(StepRefusal::BadBatch);
+    match batch_of(alloc, submission)? {
+        Some(batch) => claim_of(alloc, state, claim, path, &batch),
+        None => refused_line(StepRefusal::BadBatch),
     }
-    claim_reply(alloc, claim, path, state, &batch[0].submission)
 }

@@ -49,16 +49,16 @@ too_short bytes s n t h u e = omega (arith, s, is_long n t bytes e)
 
 pub no_text : (bytes rest : List ℕ) → rest ≡ drop 20 bytes → (IsUtf8 rest → ⊥) → (n : ℕ) (t : List ℕ) → n < 2 ^ 64 → IsUtf8 t
     → bytes ≡ cosignature_message n t → ⊥
-no_text bytes rest r no n t h u e = no (subst IsUtf8 (sym (r ∙ behind n t bytes e)) (behind_is_utf8 n t h u))
+no_text bytes rest r never n t h u e = never (subst IsUtf8 (sym (r ∙ behind n t bytes e)) (behind_is_utf8 n t h u))
 
 pub no_line : (bytes rest line : List ℕ) → rest ≡ drop 20 bytes → line ≡ rest → ((a b : List ℕ) → line ≡ a ++ (10 ∷ b) → ⊥) → (n : ℕ) (t : List ℕ)
     → n < 2 ^ 64 → IsUtf8 t → bytes ≡ cosignature_message n t → ⊥
-no_line bytes rest line r l no n t h u e = no (decimal n) t (l ∙ r ∙ behind n t bytes e)
+no_line bytes rest line r l never n t h u e = never (decimal n) t (l ∙ r ∙ behind n t bytes e)
 
 pub no_number : (bytes rest line number text : List ℕ) → rest ≡ drop 20 bytes → line ≡ rest → line ≡ number ++ (10 ∷ text) → IsWithinLine number
     → ((n : ℕ) → n < 2 ^ 64 → number ≡ decimal n → ⊥) → (n : ℕ) (t : List ℕ) → n < 2 ^ 64 → IsUtf8 t → bytes ≡ cosignature_message n t → ⊥
-no_number bytes rest line number text r l p w no n t h u e =
-    no n h (number_and_text n t number text line h (l ∙ r ∙ behind n t bytes e) p w).0
+no_number bytes rest line number text r l p w never n t h u e =
+    never n h (number_and_text n t number text line h (l ∙ r ∙ behind n t bytes e) p w).0
 
 pub both_parts : (bytes rest line number text : List ℕ) (time : ℕ) → rest ≡ drop 20 bytes → line ≡ rest → line ≡ number ++ (10 ∷ text) → IsWithinLine number
     → ((n : ℕ) → n < 2 ^ 64 → number ≡ decimal n → n ≡ time) → (n : ℕ) (t : List ℕ) → n < 2 ^ 64 → bytes ≡ cosignature_message n t → (n ≡ time) × (t ≡ text)

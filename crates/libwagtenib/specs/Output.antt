@@ -1,4 +1,4 @@
--- What a call writes if only the call knows how long that is: the caller's memory for it, and its length.
+-- The output of a call, whose length only the call knows: the memory of the caller, and the length.
 use Rattle.std.specs.Prelude.{◌≡◌, ◌⊎◌, ◌<◌, ◌++◌, ℕ, List, length, drop}
 
 -- 0: the memory begins with the elements, the rest of it is unchanged, and the count is theirs. 9: there are more elements than the memory has room for, which

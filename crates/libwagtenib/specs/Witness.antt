@@ -42,7 +42,7 @@ IsMessageOf c bytes = (text : List ℕ) × IsCheckpointOf c.origin c.tree text �
 abbrev pub IsNoMessage : List ℕ → Type 0
 IsNoMessage bytes = (c : Cosigned) → IsMessageOf c bytes → ⊥
 
--- what stands for the last cosignature before the first one: no tree, at the time 0
+-- the last cosignature before the first one: no tree, at the time 0
 abbrev pub none_yet : (List ℕ → List ℕ) → List ℕ → Cosigned
 none_yet H origin = record { origin = origin; tree = no_tree H; time = 0 }
 

@@ -12,7 +12,7 @@ use ct_checkpoint::{Checkpoint, CheckpointFault, cosignature_message, read_check
 use ct_witness::Tree;
 use std::alloc::{AllocError, Global};
 
-/// What a witness cosigned last of a log: the tree, and the time of the cosignature in seconds since 1970.
+/// The tree that a witness cosigned last of a log, and the time of the cosignature in seconds since 1970.
 #[repr(C)]
 #[derive(Clone, Copy)]
 pub struct WitnessedTree {
@@ -21,7 +21,7 @@ pub struct WitnessedTree {
     pub root: [u8; 32],
 }
 
-// What a witness cosigned last: the log's origin, its tree, and the time of the cosignature.
+// The last cosignature of a log: its origin, its tree, and the time.
 #[derive(Clone, Copy)]
 pub struct Last<'a> {
     pub origin: &'a [u8],
@@ -32,7 +32,7 @@ pub struct Last<'a> {
 // How many bytes stand before the time: "cosignature/v1", a line end, and "time ".
 const BEFORE_TIME: usize = 20;
 
-// The bytes from the time on, if there are so many. What stands before is not looked at.
+// The bytes from the time on, if there are so many. The bytes before are not looked at.
 fn bytes_from_time(bytes: &[u8]) -> Option<&[u8]>
     ensures { MatchOption result (length bytes.now < 20) (λ r. r.now ≡ drop 20 bytes.now) }
 {

@@ -1,4 +1,4 @@
-//! Output of a length that only the call knows, which goes into the caller's memory.
+//! Output, whose length only the call knows, goes into the memory of the caller.
 
 ghost use Rattle.libwagtenib.specs.Output.{WritesOutput};
 

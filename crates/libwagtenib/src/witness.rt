@@ -1,9 +1,10 @@
-//! What a witness cosigns (C2SP tlog-witness). Its state is the message that it cosigned last (C2SP tlog-cosignature), and belongs to the caller.
+//! Decides what a witness cosigns (C2SP tlog-witness). Its state is the message that it cosigned last (C2SP tlog-cosignature), and belongs to the caller.
 
 ghost use Rattle.std.specs.Prelude.{◌≡◌, ◌⊎◌, ◌<◌, ◌≤◌, ℕ, List, IfOk, MatchResult, MatchOption, string_bytes};
 ghost use Rattle.std.specs.Bool.{MatchBool};
 ghost use Rattle.sha2.specs.Sha256.{sha256};
 ghost use Rattle.ct_checkpoint.specs.Message.{cosignature_message as message_of};
+ghost use Rattle.ct_verify.specs.Laws.{AreHashes};
 ghost use Rattle.ct_witness.specs.declared.tree.Tree.{Tree};
 ghost use Rattle.libwagtenib.specs.Codes.{tree_code};
 ghost use Rattle.libwagtenib.specs.Witness.{cosigned, tree_of, IsCheckpointOf, IsMessageOf, IsNoMessage, MayCosign, MayNotCosign, CosignsAfter, CosignsFirst, Cosigns, IsSeenOrLater, Describes, ReadsWitnessState};
@@ -37,6 +38,11 @@ fn is_timely(time: u64, last: u64) -> bool
     time != 0 && last <= time
 }
 
+// A law, which does nothing: what the type says of the hashes of a proof.
+fn are_hashes(proof: &[[u8; 32]])
+    ensures { AreHashes proof.now }
+{}
+
 // Whether the tree of this checkpoint may be cosigned after the last one, or the number of the first reason why not.
 fn judge(
     last: &Last<'_>,
@@ -56,6 +62,7 @@ fn judge(
         size: checkpoint.size,
         root: checkpoint.root,
     };
+    are_hashes(proof);
     let mut witness = Witness { last: last.tree };
     match witness.pass(&Sha256Hash, old, &tree, proof) {
         Ok(()) => {
@@ -177,22 +184,30 @@ fn is_seen_or_later(seen: &Last<'_>, found: &Last<'_>) -> bool
         && (is_same_tree(&found.tree, &seen.tree) || seen.tree.size < found.tree.size)
 }
 
-// The cosignatures whose messages two states are, the one that was seen first.
+// The cosignatures whose messages two states are.
+#[derive(Clone, Copy)]
+struct Both<'a> {
+    seen: Last<'a>,
+    found: Last<'a>,
+}
+
+// Reads the state that was seen, and the one that was found.
 fn read_both<'a>(
     alloc: Global,
     seen: &'a [u8],
     state: &'a [u8],
-) -> Result<Option<(Last<'a>, Last<'a>)>, AllocError>
+) -> Result<Option<Both<'a>>, AllocError>
     ensures { IfOk result (λ o. MatchOption o (IsNoMessage state.now ⊎ IsNoMessage seen.now)
-        (λ r. IsMessageOf (cosigned r.0.origin.now r.0.tree r.0.time) seen.now × IsMessageOf (cosigned r.1.origin.now r.1.tree r.1.time) state.now)) }
+        (λ b. IsMessageOf (cosigned b.seen.origin.now b.seen.tree b.seen.time) seen.now
+        × IsMessageOf (cosigned b.found.origin.now b.found.tree b.found.time) state.now)) }
 {
     let Some(found) = read_message(alloc, state)? else {
         return Ok(None);
     };
-    let Some(old) = read_message(alloc, seen)? else {
+    let Some(seen) = read_message(alloc, seen)? else {
         return Ok(None);
     };
-    Ok(Some((old, found)))
+    Ok(Some(Both { seen, found }))
 }
 
 // Writes the tree and the time of a cosignature, if it is the one that was seen or a later one.
@@ -224,7 +239,7 @@ pub extern "C" fn wagtenib_witness_state(
     ensures { ReadsWitnessState result seen.now state.now last.old last.new }
 {
     match read_both(alloc, seen, state) {
-        Ok(Some((old, found))) => write_later(&old, &found, last),
+        Ok(Some(both)) => write_later(&both.seen, &both.found, last),
         Ok(None) => codes::BAD_STATE,
         Err(AllocError) => OUT_OF_MEMORY,
     }

@@ -6,7 +6,7 @@
 ghost use Rattle.libwagtenib.specs.WitnessLaws.{CallsAreCosignatures, KeptAreAWitness, KeptGoBack, KeptAreInOrder, NoTimeIs0};
 
 /// Each call that returned 0 wrote the message of one cosignature, whose time is not 0.
-#[tactic(auto, using(crate::proofs::WitnessLaws::calls_are_cosignatures, crate::proofs::WitnessLaws::no_time_is_0))]
+#[tactic(auto, using(crate::proofs::WitnessLaws::calls_are_cosignatures))]
 pub fn calls_are_cosignatures()
     ensures one { CallsAreCosignatures }
     ensures timed { NoTimeIs0 }
