@@ -21,11 +21,11 @@ pub(crate) fn write_output(bytes: &[u8], memory: &mut [u8], length: &mut u64) ->
 pub(crate) fn write_hashes(hashes: &[[u8; 32]], memory: &mut [[u8; 32]], count: &mut u64) -> u32
     ensures { WritesOutput hashes.now result memory.old memory.new count.new }
 {
-    let n = hashes.len();
-    *count = n as u64;
-    if n > memory.len() {
+    let number = hashes.len();
+    *count = number as u64;
+    if number > memory.len() {
         return codes::NO_ROOM;
     }
-    memory[..n].copy_from_slice(hashes);
+    memory[..number].copy_from_slice(hashes);
     codes::OK
 }
