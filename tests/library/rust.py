@@ -31,8 +31,8 @@ import merkle  # noqa: E402
 
 RUST = ROOT / "bindings" / "rust"
 HEADER = (ROOT / "include" / "wagtenib.h").read_text()
-# The codes of calls over lines of text alone, which the crate does not have.
-OF_LINES = {"BAD_ORIGIN", "NOT_A_REQUEST"}
+# The code of calls over lines of text alone, which the crate does not have.
+OF_LINES = {"NOT_A_REQUEST"}
 TYPES = {"uint8_t": "u8", "uint32_t": "u32", "uint64_t": "u64", "size_t": "usize", "bool": "bool"}
 
 SYS = """\
@@ -70,8 +70,9 @@ def argument(text):
 
 def field(text):
     """A field of a struct of C, as Rust declares it."""
-    kind, name, length = re.fullmatch(r"(\w+) (\w+)(?:\[(\d+)\])?", text.strip()).groups()
-    return f"    pub {name}: " + (f"[{TYPES[kind]}; {length}]" if length else TYPES[kind]) + ","
+    of, kind, name, length = re.fullmatch(r"(struct )?(\w+) (\w+)(?:\[(\d+)\])?", text.strip()).groups()
+    rust = kind if of else TYPES[kind]
+    return f"    pub {name}: " + (f"[{rust}; {length}]" if length else rust) + ","
 
 
 def sys_source():

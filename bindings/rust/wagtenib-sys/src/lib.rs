@@ -17,6 +17,7 @@ pub mod code {
     pub const SIZES_OUT_OF_RANGE: u32 = 7;
     pub const OUT_OF_MEMORY: u32 = 8;
     pub const NO_ROOM: u32 = 9;
+    pub const BAD_ORIGIN: u32 = 10;
     pub const TRUNCATED: u32 = 17;
     pub const BAD_VERSION: u32 = 18;
     pub const BAD_LEAF_TYPE: u32 = 19;
@@ -32,6 +33,49 @@ pub mod code {
     pub const LATER_LEAF: u32 = 38;
     pub const OTHER_INDEX: u32 = 39;
     pub const NOT_FIRST: u32 = 40;
+    pub const EDGE: u32 = 48;
+    pub const ENTRIES: u32 = 49;
+    pub const CLOCK_BACK: u32 = 50;
+    pub const LOG_FULL: u32 = 51;
+    pub const DATA_TILE_TOO_LONG: u32 = 52;
+    pub const BUNDLE: u32 = 53;
+    pub const CLAIM: u32 = 54;
+    pub const BAD_BATCH: u32 = 55;
+    pub const TOO_MANY: u32 = 56;
+    pub const EMPTY_TREE: u32 = 64;
+    pub const TOO_MANY_TILES: u32 = 65;
+    pub const MISSING_TILE: u32 = 66;
+    pub const BAD_TILE: u32 = 67;
+    pub const DER_TRUNCATED: u32 = 80;
+    pub const DER_LONG_TAG: u32 = 81;
+    pub const DER_INDEFINITE_LENGTH: u32 = 82;
+    pub const DER_LONG_LENGTH: u32 = 83;
+    pub const DER_PADDED_LENGTH: u32 = 84;
+    pub const DER_OTHER_TAG: u32 = 85;
+    pub const DER_TRAILING: u32 = 86;
+    pub const NO_EXTENSION: u32 = 87;
+    pub const SECOND_EXTENSION: u32 = 88;
+    pub const BAD_POISON: u32 = 89;
+    pub const TBS_TOO_LONG: u32 = 90;
+    pub const EXTENSIONS_TOO_LONG: u32 = 91;
+    pub const NO_CHECKPOINT: u32 = 96;
+    pub const OTHER_ORIGIN: u32 = 97;
+    pub const OLD_ABOVE: u32 = 98;
+    pub const NOT_LAST: u32 = 99;
+    pub const PROOF_NOT_EMPTY: u32 = 100;
+    pub const TIME_FALLS: u32 = 101;
+    pub const BAD_COMMAND: u32 = 112;
+    pub const BAD_OUTCOME: u32 = 113;
+    pub const BAD_LOCK_TEXT: u32 = 114;
+    pub const BAD_BATCH_NAME: u32 = 115;
+    pub const CREATES_LOCK: u32 = 116;
+    pub const LOCK_GONE: u32 = 117;
+    pub const BEHIND_SEEN: u32 = 118;
+    pub const BEHIND_SIGNED: u32 = 119;
+    pub const TWO_ROOTS: u32 = 120;
+    pub const SIGNED_BEHIND_LISTED: u32 = 121;
+    pub const BEHIND_LISTED: u32 = 122;
+    pub const BEHIND_PUBLISHED: u32 = 123;
 }
 
 #[repr(C)]
@@ -51,6 +95,51 @@ pub struct wagtenib_head {
     pub root: [u8; 32],
 }
 
+#[repr(C)]
+#[derive(Clone, Copy, Debug, Default)]
+pub struct wagtenib_node_state {
+    pub timestamp: u64,
+    pub previous_timestamp: u64,
+    pub salt: u64,
+}
+
+#[repr(C)]
+#[derive(Clone, Copy, Debug, Default)]
+pub struct wagtenib_node_command {
+    pub seen: wagtenib_node_state,
+    pub next: wagtenib_node_state,
+    pub objects: u64,
+    pub command: u32,
+}
+
+#[repr(C)]
+#[derive(Clone, Copy, Debug, Default)]
+pub struct wagtenib_node_outcome {
+    pub state: wagtenib_node_state,
+    pub objects: u64,
+    pub outcome: u32,
+}
+
+#[repr(C)]
+#[derive(Clone, Copy, Debug, Default)]
+pub struct wagtenib_node_found {
+    pub seen: wagtenib_head,
+    pub signed_head: wagtenib_head,
+    pub published_size: u64,
+    pub published_timestamp: u64,
+    pub listed_size: u64,
+    pub listed_timestamp: u64,
+    pub flags: u32,
+}
+
+#[repr(C)]
+#[derive(Clone, Copy, Debug, Default)]
+pub struct wagtenib_witnessed_tree {
+    pub tree_size: u64,
+    pub time: u64,
+    pub root: [u8; 32],
+}
+
 extern "C" {
     pub fn wagtenib_leaf_hash(leaf: *const u8, leaf_length: usize, out: *mut u8);
     pub fn wagtenib_verify_inclusion(leaf_hash: *const u8, leaf_index: u64, tree_size: u64, path: *const u8, path_length: usize, root: *const u8) -> u32;
@@ -63,4 +152,21 @@ extern "C" {
     pub fn wagtenib_guard_head(last: *const u8, last_length: usize, head: *const wagtenib_head, proof: *const u8, proof_length: usize, max_ahead: u64, signed_bytes: *mut u8) -> u32;
     pub fn wagtenib_guard_receipt(last: *const u8, last_length: usize, leaf: *const u8, leaf_length: usize, leaf_index: u64, path: *const u8, path_length: usize) -> u32;
     pub fn wagtenib_guard_state(seen: *const u8, seen_length: usize, state: *const u8, state_length: usize, head: *mut wagtenib_head) -> u32;
+    pub fn wagtenib_step_begin(timestamp: u64, out: *mut u8, room: usize, length: *mut u64) -> u32;
+    pub fn wagtenib_step_needs(state: *const u8, state_length: usize, out: *mut u8, room: usize, length: *mut u64) -> u32;
+    pub fn wagtenib_step(origin: *const u8, origin_length: usize, state: *const u8, state_length: usize, edge: *const u8, edge_length: usize, batch: *const u8, batch_length: usize, now: u64, max_ahead: u64, out: *mut u8, room: usize, length: *mut u64) -> u32;
+    pub fn wagtenib_step_claim(state: *const u8, state_length: usize, leaf_index: u64, timestamp: u64, path: *const u8, path_length: usize, submission: *const u8, submission_length: usize, out: *mut u8, room: usize, length: *mut u64) -> u32;
+    pub fn wagtenib_step_resume(origin: *const u8, origin_length: usize, state: *const u8, state_length: usize, bundle: *const u8, bundle_length: usize, out: *mut u8, room: usize, length: *mut u64) -> u32;
+    pub fn wagtenib_node_next(command: *const wagtenib_node_command, outcome: *const wagtenib_node_outcome, next: *mut wagtenib_node_command) -> u32;
+    pub fn wagtenib_node_start(lock: *const u8, lock_length: usize, found: *const wagtenib_node_found) -> u32;
+    pub fn wagtenib_lock_text(line: *const u8, line_length: usize, node: *const u8, node_length: usize, previous_timestamp: u64, salt: u64, text: *mut u8, room: usize, length: *mut u64) -> u32;
+    pub fn wagtenib_lock_state(text: *const u8, text_length: usize, state: *mut wagtenib_node_state, tree_size: *mut u64) -> u32;
+    pub fn wagtenib_batch_name(state: *const wagtenib_node_state, name: *mut u8);
+    pub fn wagtenib_batch_state(name: *const u8, name_length: usize, state: *mut wagtenib_node_state) -> u32;
+    pub fn wagtenib_precertificate_entry(tbs: *const u8, tbs_length: usize, entry: *mut u8, room: usize, length: *mut u64, field: *mut u32) -> u32;
+    pub fn wagtenib_promised_leaf(certificate: *const u8, certificate_length: usize, issuer: *const u8, issuer_length: usize, timestamp: u64, extensions: *const u8, extensions_length: usize, leaf: *mut u8, room: usize, length: *mut u64, field: *mut u32) -> u32;
+    pub fn wagtenib_check_promise(certificate: *const u8, certificate_length: usize, issuer: *const u8, issuer_length: usize, timestamp: u64, extensions: *const u8, extensions_length: usize, leaf_index: u64, tree_size: u64, path: *const u8, path_length: usize, root: *const u8, field: *mut u32) -> u32;
+    pub fn wagtenib_witness_first(origin: *const u8, origin_length: usize, checkpoint: *const u8, checkpoint_length: usize, old: u64, proof: *const u8, proof_length: usize, time: u64, out: *mut u8, room: usize, length: *mut u64) -> u32;
+    pub fn wagtenib_witness_cosign(state: *const u8, state_length: usize, checkpoint: *const u8, checkpoint_length: usize, old: u64, proof: *const u8, proof_length: usize, time: u64, out: *mut u8, room: usize, length: *mut u64) -> u32;
+    pub fn wagtenib_witness_state(seen: *const u8, seen_length: usize, state: *const u8, state_length: usize, last: *mut wagtenib_witnessed_tree) -> u32;
 }
