@@ -7,6 +7,7 @@ from ._certificates import Promise, check_promise, precertificate_entry, promise
 from ._errors import CertificateError, Code, Error, Field
 from ._guard import TreeHead, guard_first_head, guard_head, guard_receipt, guard_state
 from ._library import Unavailable
+from ._tiles import path_of_tiles, path_tiles, proof_of_tiles, proof_tiles, root_of_tiles, root_tiles
 from ._tree import Leaf, decode_leaf, leaf_hash, push, root, subtrees_root, verify_consistency, verify_inclusion
 
 __all__ = [
@@ -25,10 +26,16 @@ __all__ = [
     "guard_receipt",
     "guard_state",
     "leaf_hash",
+    "path_of_tiles",
+    "path_tiles",
     "precertificate_entry",
     "promised_leaf",
+    "proof_of_tiles",
+    "proof_tiles",
     "push",
     "root",
+    "root_of_tiles",
+    "root_tiles",
     "subtrees_root",
     "verify_consistency",
     "verify_inclusion",
