@@ -109,7 +109,8 @@ $(PROGRAMS:%=install-%): install-%:
 	@if [ -x "$(BUILT)/$*/out/$*" ]; then install -d "$(TO)/bin" && install -m 755 "$(BUILT)/$*/out/$*" "$(TO)/bin" && echo "$(PREFIX)/bin/$*"; \
 	else echo "$* isn't built: make demo builds ctlog and ctmonitor, and rt run in its folder any other"; fi
 	@if [ $* = ctmonitor ] && [ -x "$(BUILT)/$*/out/$*" ]; then for script in $(WATCHING); do \
-	  install -m 755 "examples/monitor/$${script#*=}" "$(TO)/bin/ctmonitor-$${script%=*}" && echo "$(PREFIX)/bin/ctmonitor-$${script%=*}" || exit 1; done; fi
+	  install -m 755 "examples/monitor/$${script#*=}" "$(TO)/bin/ctmonitor-$${script%=*}" && echo "$(PREFIX)/bin/ctmonitor-$${script%=*}" || exit 1; done; \
+	  install -d "$(TO)/share/wagtenib/python/wagtenib" && install -m 644 bindings/python/wagtenib/*.py "$(TO)/share/wagtenib/python/wagtenib"; fi
 
 install-library:
 	@if [ -f "$(LIBRARY).a" ]; then \

@@ -138,7 +138,7 @@ def collected(text):
 def numbers(text):
     """The places of the library's number for want of memory, where no pattern before it names it."""
     for found in NUMBER.finditer(CONSTANT.sub(lambda it: " " * len(it[0]), text)):
-        arm = re.search(r"([^\n]*)=>\s*$", text[: found.start()])
+        arm = re.search(r"([^\n]*)=>\s*(?:Err\()?$", text[: found.start()])
         if not (arm and NAMES.search(arm.group(1))):
             yield found.start()
 

@@ -52,7 +52,7 @@ PACKAGES = {
     ),
     "ctmonitor": (
         "monitor and auditor of Certificate Transparency logs, proved",
-        "ctmonitor judges what a log answers: heads, entries and proofs. ctmonitor-watch fetches it with curl, from logs of RFC 6962 and from tiled ones. ctmonitor-audit wants ctproof, of wagtenib.",
+        "ctmonitor judges what a log answers: heads, entries and proofs. ctmonitor-watch fetches it with curl, from logs of RFC 6962 and from tiled ones. ctmonitor-audit wants libwagtenib.so.0, of libwagtenib-dev.",
         "adduser, curl, python3",
         "logrotate, openssl",
     ),
@@ -147,6 +147,10 @@ class Release:
         """What an operator puts into place: Prometheus' settings, the rules of alarms, the dashboard, and what makes an image of a container."""
         return {path.name: path for path in (ROOT / "service" / name for name in ("prometheus.yml", "ctserve.rules.yml", "ctserve.dashboard.json", "ctserve.nginx.conf", "Containerfile"))}
 
+    def python(self):
+        """The modules of the Python package, which ctmonitor-audit imports, by their paths below a folder share."""
+        return {f"wagtenib/python/wagtenib/{path.name}": path for path in sorted((ROOT / "bindings" / "python" / "wagtenib").glob("*.py"))}
+
     def pkg_config(self, prefix):
         return (ROOT / "include" / "wagtenib.pc.in").read_text().replace("@PREFIX@", prefix).replace("@VERSION@", self.version)
 
@@ -168,6 +172,7 @@ class Release:
         found["include/wagtenib.h"] = ((ROOT / "include" / "wagtenib.h").read_bytes(), 0o644)
         found.update({f"lib/systemd/system/{unit}": ((ROOT / "service" / unit).read_bytes(), 0o644) for unit in UNITS})
         found.update({f"share/wagtenib/{name}": (path.read_bytes(), 0o644) for name, path in self.shared().items()})
+        found.update({f"share/{name}": (path.read_bytes(), 0o644) for name, path in self.python().items()})
         found.update({f"share/doc/wagtenib/{name}": (path.read_bytes(), 0o644) for name, path in self.documents().items()})
         found["PROVED"] = (self.proved(found).encode(), 0o644)
         found["SBOM.spdx.json"] = (sbom(self).encode(), 0o644)
@@ -181,6 +186,7 @@ class Release:
         if name == "ctmonitor":
             found["usr/bin/ctmonitor"] = (self.programs["ctmonitor"].read_bytes(), 0o755)
             found.update({f"usr/bin/{command}": (path.read_bytes(), 0o755) for command, path in self.watching().items()})
+            found.update({f"usr/share/{name}": (path.read_bytes(), 0o644) for name, path in self.python().items()})
             found.update({f"{doc}/{page}": (self.documents()[page].read_bytes(), 0o644) for page in ("MONITOR.md", "CERTSPOTTER.md")})
             found.update(installed_units("examples/monitor", WATCHING_UNITS))
             found["etc/logrotate.d/ctmonitor-watch"] = ((ROOT / "examples" / "monitor" / LOGROTATE).read_bytes(), 0o644)

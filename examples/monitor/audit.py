@@ -7,17 +7,17 @@ CERTIFICATE and ISSUER, the certificate of its issuer, are files in PEM or DER. 
 (C2SP static-ct-api) and not by the calls of RFC 6962, and KEY its public key, DER in base64; FILE has lines of both, as log_list.py prints them. HOURS
 is how long a log may take (its maximum merge delay, 24).
 
-Of each signed certificate timestamp in the certificate (RFC 6962, section 3.3) it has ctproof make the leaf that was promised, out of the
-certificate and its issuer's, and has openssl check the log's signatures under it and under the log's head. It fetches what says where the
-leaf stands: of a tiled log the index in the timestamp's extensions and the hash tiles, else get-proof-by-hash. Whether the leaf stands there
-ctproof says, which is proved: by its `yes` this very leaf stands in each list with the head's root, or two strings have one SHA-256. What
-fetches, this script, is proved nowhere.
+For each signed certificate timestamp in the certificate (RFC 6962, section 3.3) the proved library makes the leaf that was promised, from the
+certificate and its issuer's, and openssl checks the log's signatures under it and under the log's head. The script fetches what says where the
+leaf is: for a tiled log the index in the timestamp's extensions and the hash tiles, otherwise get-proof-by-hash. The library decides whether the
+leaf is there. This is proved: if it accepts, this very leaf is in each list with the head's root, or two strings have one SHA-256. The script
+itself, which fetches, is not proved. It needs the Python package wagtenib (bindings/python), and gcc if no library is installed.
 
 It prints a line for each timestamp, and ends with the gravest status:
 
     3   never: the log signed the timestamp, its head is of a moment past the delay, and the leaf isn't there; or another stands at its index; or
         a signature isn't the log's
-    1   a certificate can't be read or has no timestamps; ctproof, or openssl, fails or isn't installed
+    1   a certificate can't be read or has no timestamps; the library, or openssl, fails or isn't installed
     5   a log doesn't answer, or its answer is none
     7   another log: no log that is given has this key
     6   not yet: the leaf isn't there, and the log may take longer
@@ -29,6 +29,7 @@ import hashlib
 import http.client
 import json
 import os
+import pathlib
 import re
 import subprocess
 import sys
@@ -36,6 +37,11 @@ import tempfile
 import urllib.error
 import urllib.parse
 import urllib.request
+
+HERE = pathlib.Path(__file__).resolve().parent
+# (the package is in the repository, or installed beside this script, or where Python finds it)
+sys.path[:0] = [str(HERE.parent.parent / "bindings" / "python"), str(HERE.parent / "share" / "wagtenib" / "python")]
+import wagtenib  # noqa: E402
 
 LONGEST = 32 << 20
 GRAVEST = (3, 1, 5, 7, 6, 0)
@@ -93,36 +99,14 @@ class Fields:
 # The programs.
 
 
-def program(*words):
+def proved(call, *words):
+    """What a proved function returns. A fault is an error of a certificate, or of what a log answered."""
     try:
-        return subprocess.Popen(words, stdin=subprocess.PIPE, stdout=subprocess.PIPE)
-    except OSError as fault:
-        raise Unread(f"{words[0]} isn't to be had: {fault}") from fault
-
-
-class Proved:
-    """ctproof: a line of JSON for each request."""
-
-    def __init__(self):
-        self.process = program(*os.environ.get("CTPROOF", "ctproof").split())
-
-    def ask(self, **request):
-        try:
-            self.process.stdin.write(json.dumps(request).encode() + b"\n")
-            self.process.stdin.flush()
-            reply = self.process.stdout.readline()
-        except OSError as fault:
-            raise Unread(f"ctproof ended: {fault}") from fault
-        if not reply:
-            raise Unread("ctproof ended")
-        return json.loads(reply)
-
-    def told(self, key, **request):
-        """What a reply has under a key; a refusal is an error."""
-        reply = self.ask(**request)
-        if key not in reply:
-            raise Unread(" ".join(f"{name} {value}" for name, value in sorted(reply.items())))
-        return reply[key]
+        return call(*words)
+    except wagtenib.Unavailable as fault:
+        raise Unread(str(fault)) from fault
+    except wagtenib.Error as fault:
+        raise Unread(str(fault)) from fault
 
 
 def is_signed(key, message, signature):
@@ -252,7 +236,7 @@ class Calls:
             raise Never("its head isn't signed with its key")
         return head
 
-    def place(self, timestamp, leaf, head, proved):
+    def place(self, timestamp, leaf, head):
         """The index of a leaf and its audit path, or None where the log knows none."""
         try:
             found = self.call("get-proof-by-hash", hash=text(sha256(b"\0" + leaf)), tree_size=head.size)
@@ -263,7 +247,7 @@ class Calls:
         index = timestamp.index()
         if index is not None and found["leaf_index"] != index:
             raise Never(f"the leaf stands at {found['leaf_index']}, and {index} was promised")
-        return found["leaf_index"], found["audit_path"]
+        return found["leaf_index"], [from_base64(one) for one in found["audit_path"]]
 
 
 class Tiles:
@@ -297,46 +281,45 @@ class Tiles:
         full, width = name.split(".p/")
         return answer(self.address, full)[: 32 * int(width)]
 
-    def place(self, timestamp, leaf, head, proved):
+    def place(self, timestamp, leaf, head):
         index = timestamp.index()
         if index is None:
             raise Never("the timestamp names no index")
         if index >= head.size:
             return None
-        names = proved.told("names", needs_path=index, tree_size=head.size)
-        tiles = [text(self.tile(name)) for name in names]
-        return index, proved.told("audit_path", path=index, tree_size=head.size, tiles=tiles)
+        tiles = [self.tile(name) for name in proved(wagtenib.path_tiles, index, head.size)]
+        return index, proved(wagtenib.path_of_tiles, index, head.size, tiles)
 
 
 # The audit.
 
 
-def audited(timestamp, log, certificate, issuer, delay, proved):
-    """Where the leaf stands that a log promised."""
-    promise = {"issuer": text(issuer), "timestamp": timestamp.moment, "extensions": text(timestamp.extensions)}
-    leaf = from_base64(proved.told("leaf_input", leaf_of=text(certificate), **promise))
+def audited(timestamp, log, certificate, issuer, delay):
+    """Where the leaf is that a log promised."""
+    promise = wagtenib.Promise(certificate, issuer, timestamp.moment, timestamp.extensions)
+    leaf = proved(wagtenib.promised_leaf, promise)
     if not is_signed(log.key, leaf, timestamp.signature):
         raise Never("the timestamp isn't signed with the log's key over this certificate and issuer")
     head = log.head()
-    place = log.place(timestamp, leaf, head, proved)
+    place = log.place(timestamp, leaf, head)
     if place is None:
         late = head.moment > timestamp.moment + delay
         raise Never(f"the leaf isn't among {head.size}, past the delay") if late else NotYet(f"the leaf isn't among {head.size}")
     index, path = place
-    standing = {"leaf_index": index, "tree_size": head.size, "audit_path": path, "sha256_root_hash": text(head.root)}
-    reply = proved.ask(stands=text(certificate), **promise, **standing)
-    if reply != {"stands": True}:
-        raise Never(f"at {index} of {head.size} stands another leaf: {reply.get('fault', reply)}")
+    try:
+        wagtenib.check_promise(promise, index, head.size, path, head.root)
+    except wagtenib.Error as fault:
+        raise Never(f"at {index} of {head.size} stands another leaf: {fault}") from fault
     return f"it stands at {index} of {head.size}, under {text(head.root)}"
 
 
-def judged(timestamp, logs, certificate, issuer, delay, proved):
+def judged(timestamp, logs, certificate, issuer, delay):
     """The line of a timestamp, and its status."""
     log = logs.get(timestamp.log_id)
     if log is None:
         return f"{text(timestamp.log_id)}: another log: none that was given", 7
     try:
-        return f"{log.address}: {audited(timestamp, log, certificate, issuer, delay, proved)}", 0
+        return f"{log.address}: {audited(timestamp, log, certificate, issuer, delay)}", 0
     except Never as why:
         return f"{log.address}: NEVER: {why}", 3
     except NotYet as why:
@@ -395,8 +378,7 @@ def main():
         sys.exit(2)
     try:
         certificate, issuer = certificate_of(certificate), certificate_of(issuer)
-        found, proved = timestamps_in(certificate), Proved()
-        said = [judged(timestamp, logs, certificate, issuer, delay, proved) for timestamp in found]
+        said = [judged(timestamp, logs, certificate, issuer, delay) for timestamp in timestamps_in(certificate)]
     except Unread as fault:
         sys.exit(f"audit.py: {fault}")
     for line, _ in said:

@@ -7,7 +7,7 @@ import (
 	"strings"
 	"testing"
 
-	"wagtenib/service/proved"
+	"wagtenib/bindings/go/wagtenib"
 )
 
 // TestMade reads a tree of three leaves, whose nodes are computed by hand (RFC 6962, section 2.1).
@@ -45,7 +45,7 @@ func TestMade(t *testing.T) {
 		t.Errorf("%q were read", asked)
 	}
 	tile = tile[:95]
-	if _, err := c.path(ctx, 1, 3, tiles); !errors.Is(err, BadTile) {
+	if _, err := c.path(ctx, 1, 3, tiles); !errors.Is(err, ErrBadTile) {
 		t.Error(err)
 	}
 	broken := errors.New("the disk")
@@ -62,41 +62,52 @@ func TestMade(t *testing.T) {
 	}
 }
 
-// replying returns a reader over a function that gives these replies, one after the other.
-func replying(replies ...string) *Reader {
-	return Over(func(*[]byte, []byte) (reply []byte, err error) {
-		reply, replies = []byte(replies[0]+"\n"), replies[1:]
-		return reply, nil
+// returning returns a reader over functions that return these names and hashes.
+func returning(names []string, hashes [][32]byte, err error) *Reader {
+	two := func(uint64, uint64) ([]string, error) { return names, err }
+	of := func(uint64, uint64, [][]byte) ([][32]byte, error) { return hashes, err }
+	return Over(Functions{
+		RootTiles: func(uint64) ([]string, error) { return names, err }, PathTiles: two, ProofTiles: two,
+		RootOfTiles: func(uint64, [][]byte) ([32]byte, error) { return [32]byte{1}, err }, PathOfTiles: of, ProofOf: of,
 	}, nil, 1)
 }
 
-// TestWrongReadings has a function reply what isn't an answer.
+// times returns a list of so many of these.
+func times[T any](count int, what T) []T {
+	list := make([]T, count)
+	for i := range list {
+		list[i] = what
+	}
+	return list
+}
+
+// TestWrongReadings has functions return what can't be a result.
 func TestWrongReadings(t *testing.T) {
-	tiles := func(context.Context, string) ([]byte, error) { return make([]byte, 32), nil }
-	names := `{"names":["tile/0/000.p/1"]}`
-	for _, replies := range [][]string{
-		{"{}"}, {`{"names":[]}`}, {`{"names":["heads/1"]}`}, {`{"names":["tile/data/000.p/1"]}`}, {`{"names":[` + strings.Repeat(`"tile/0/000",`, 16) + `"tile/0/000"]}`},
-		{names, "[]"}, {names, `{"audit_path":["AA=="]}`}, {names, `{"audit_path":[1]}`},
-		{names, `{"audit_path":[` + strings.Repeat(`"AAAAAAAAAAAAAAAAAAAAAAAAAAAAAAAAAAAAAAAAAAA=",`, 65) + `"AAAAAAAAAAAAAAAAAAAAAAAAAAAAAAAAAAAAAAAAAAA="]}`},
-	} {
-		if path, err := replying(replies...).path(limited(t), 0, 2, tiles); !errors.Is(err, ErrReply) {
-			t.Errorf("%.60q: %x, %v", replies, path, err)
+	reads := func(context.Context, string) ([]byte, error) { return make([]byte, 32), nil }
+	for _, names := range [][]string{nil, {}, {"heads/1"}, {"tile/data/000.p/1"}, {""}, times(maxTiles+1, "tile/0/000")} {
+		r := returning(names, nil, nil)
+		if path, err := r.path(limited(t), 0, 2, reads); !errors.Is(err, ErrReply) || path != nil {
+			t.Errorf("%.60q: a path: %x, %v", names, path, err)
+		}
+		if proof, err := r.proof(limited(t), 1, 2, reads); !errors.Is(err, ErrReply) || proof != nil {
+			t.Errorf("%.60q: a proof: %x, %v", names, proof, err)
+		}
+		if root, err := r.root(limited(t), 2, reads); !errors.Is(err, ErrReply) || root != [32]byte{} {
+			t.Errorf("%.60q: a root: %x, %v", names, root, err)
 		}
 	}
-	for _, reply := range []string{`{"sha256_root_hash":"AA=="}`, "{}"} {
-		if root, err := replying(names, reply).root(limited(t), 2, tiles); !errors.Is(err, ErrReply) {
-			t.Errorf("%q: %x, %v", reply, root, err)
-		}
+	long := returning([]string{"tile/0/000.p/1"}, times(maxHashes+1, [32]byte{}), nil)
+	if path, err := long.path(limited(t), 0, 2, reads); !errors.Is(err, ErrReply) || path != nil {
+		t.Errorf("%d hashes, %v", len(path), err)
 	}
 }
 
 // TestBounds: as many tiles and hashes as a path may have are taken.
 func TestBounds(t *testing.T) {
-	hash, asked := `"AAAAAAAAAAAAAAAAAAAAAAAAAAAAAAAAAAAAAAAAAAA="`, 0
-	tiles := func(context.Context, string) ([]byte, error) { asked++; return make([]byte, 32), nil }
-	names := `{"names":["tile/0/000"` + strings.Repeat(`,"tile/0/000"`, mostTiles-1) + `]}`
-	paths := `{"audit_path":[` + hash + strings.Repeat(","+hash, mostHashes-1) + `]}`
-	if path, err := replying(names, paths).path(limited(t), 0, 2, tiles); err != nil || len(path) != mostHashes || asked != mostTiles {
+	asked := 0
+	reads := func(context.Context, string) ([]byte, error) { asked++; return make([]byte, 32), nil }
+	r := returning(times(maxTiles, "tile/0/000"), times(maxHashes, [32]byte{}), nil)
+	if path, err := r.path(limited(t), 0, 2, reads); err != nil || len(path) != maxHashes || asked != maxTiles {
 		t.Errorf("%d hashes of %d tiles, %v", len(path), asked, err)
 	}
 }
@@ -107,14 +118,14 @@ func TestRefusedReads(t *testing.T) {
 		t.Error("a tile is read")
 		return nil, nil
 	}
-	refusing := func() *Reader { return replying(`{"refused":"bad-line"}`) }
-	if path, err := refusing().path(limited(t), 0, 2, reads); !errors.Is(err, proved.BadLine) || path != nil {
+	r := returning([]string{"tile/0/000"}, times(1, [32]byte{}), wagtenib.ErrMemory)
+	if path, err := r.path(limited(t), 0, 2, reads); !errors.Is(err, wagtenib.ErrMemory) || path != nil {
 		t.Errorf("a path: %x, %v", path, err)
 	}
-	if proof, err := refusing().proof(limited(t), 1, 2, reads); !errors.Is(err, proved.BadLine) || proof != nil {
+	if proof, err := r.proof(limited(t), 1, 2, reads); !errors.Is(err, wagtenib.ErrMemory) || proof != nil {
 		t.Errorf("a proof: %x, %v", proof, err)
 	}
-	if root, err := refusing().root(limited(t), 2, reads); !errors.Is(err, proved.BadLine) || root != [32]byte{} {
+	if root, err := r.root(limited(t), 2, reads); !errors.Is(err, wagtenib.ErrMemory) || root != [32]byte{} {
 		t.Errorf("a root: %x, %v", root, err)
 	}
 }

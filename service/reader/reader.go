@@ -1,5 +1,4 @@
-// Package reader makes audit paths, consistency proofs and roots out of a log's tiles, by the proved function of ctproof in this process
-// (docs/TILES.md). If the tiles are wrong, so are these: a caller that has a root checks them, as the Check functions do.
+// Package reader makes audit paths, consistency proofs and roots out of a log's tiles, by proved functions in this process. If the tiles are wrong, so are these: a caller that has a root checks them, as the Check functions do.
 package reader
 
 import (
@@ -10,9 +9,6 @@ import (
 	"time"
 
 	"golang.org/x/mod/sumdb/tlog"
-
-	"wagtenib/bindings/go/wagtenib"
-	"wagtenib/service/proved"
 )
 
 // The errors of readings, beside those of reading the tiles, refusals and ErrReply. Each is found by errors.Is.
@@ -25,8 +21,8 @@ var (
 
 // Reader makes proofs for readers. Its methods may be called at once.
 type Reader struct {
-	caller *proved.Caller
-	object Objects
+	functions Functions
+	object    Objects
 	// places has a place for each thing that is being made.
 	places chan struct{}
 }
@@ -38,11 +34,11 @@ const mostReading = 20 * time.Second
 type Objects func(ctx context.Context, name string, most int64) ([]byte, error)
 
 // New takes what reads a published object, and how many things are made at once.
-func New(object Objects, most int) *Reader { return Over(wagtenib.ProofLine, object, most) }
+func New(object Objects, most int) *Reader { return Over(Proved(), object, most) }
 
-// Over returns a reader over another function than the proved one, for tests.
-func Over(function proved.Function, object Objects, most int) *Reader {
-	return &Reader{proved.NewCaller(function), object, make(chan struct{}, most)}
+// Over returns a reader over other functions than the proved ones, for tests.
+func Over(functions Functions, object Objects, most int) *Reader {
+	return &Reader{functions, object, make(chan struct{}, most)}
 }
 
 // made is what was asked for.

@@ -334,6 +334,29 @@ void wagtenib_batch_name(const struct wagtenib_node_state *state, uint8_t name[5
 /* Reads the name of a staged batch. 0: its state is written. 115: nothing is written. */
 uint32_t wagtenib_batch_state(const uint8_t *name, size_t name_length, struct wagtenib_node_state *state);
 
+/* Tiles of hashes (C2SP tlog-tiles). A reader asks for the names of the tiles that a root, an audit path or a consistency proof is made of, fetches these
+ * tiles, and hands them in, in the order of the names: `contents` has their bytes, one tile after the other, and `lengths` the length of each tile in bytes. A
+ * partial tile has as many hashes as its name says. If the tiles are those of a list of leaves, the result is the list's. Whatever they are, a reader checks
+ * the result with wagtenib_verify_inclusion or wagtenib_verify_consistency.
+ * 0: the result is written. 64, 1 or 7: no tree has it. 65 to 67: more tiles are handed in than are named; or the first wrong tile is missing, or does not have
+ * 32 bytes for each of its hashes. 9: the result has no room, and *length (or *count, of hashes) says how much it needs. 8: memory is refused. Nothing else is
+ * written unless the result is 0. 768 bytes serve for all names, and 65 hashes for all proofs. */
+
+/* The names of the tiles, the lowest level first, each ended by a line feed. 0, 8 or 9; and 64 of a root, 1 of a path, 7 of a proof. */
+uint32_t wagtenib_root_tiles(uint64_t tree_size, uint8_t *names, size_t room, uint64_t *length);
+uint32_t wagtenib_path_tiles(uint64_t leaf_index, uint64_t tree_size, uint8_t *names, size_t room, uint64_t *length);
+uint32_t wagtenib_proof_tiles(uint64_t first, uint64_t second, uint8_t *names, size_t room, uint64_t *length);
+
+/* The root of the first tree_size leaves (RFC 6962 section 2.1). 0, 8, or 64 to 67. */
+uint32_t wagtenib_root_of_tiles(uint64_t tree_size, const uint8_t *contents, size_t contents_length, const uint64_t *lengths, size_t tiles, uint8_t root[32]);
+
+/* The audit path of a leaf (section 2.1.1), and the consistency proof from the first leaves to second (section 2.1.2). 0, 8, 9, 65 to 67; 1 of a path, 7 of a
+ * proof. */
+uint32_t wagtenib_path_of_tiles(uint64_t leaf_index, uint64_t tree_size, const uint8_t *contents, size_t contents_length, const uint64_t *lengths, size_t tiles,
+                                uint8_t *path, size_t room, uint64_t *count);
+uint32_t wagtenib_proof_of_tiles(uint64_t first, uint64_t second, const uint8_t *contents, size_t contents_length, const uint64_t *lengths, size_t tiles,
+                                 uint8_t *proof, size_t room, uint64_t *count);
+
 /* Certificates (RFC 6962 sections 3.1 to 3.4), in DER. Output of a length that only the call knows goes into `entry` or `leaf`, which has room for that many
  * bytes, and *length gets its length. 9: it has no room, *length says how much it needs, and nothing else is written. 80 to 90: a certificate gives nothing.
  * This is the first reason that reading meets, and *field says where: the fields of a certificate (RFC 5280 section 4.1) have the numbers 1 certificate, 2

@@ -8,6 +8,7 @@ from ._errors import CertificateError, Code, Error, Field
 from ._guard import TreeHead, guard_first_head, guard_head, guard_receipt, guard_state
 from ._library import Unavailable
 from ._node import NodeCommand, NodeDoes, NodeFound, NodeOutcome, NodeState, NodeTold, batch_name, batch_state, lock_state, lock_text, node_next, node_start
+from ._tiles import path_of_tiles, path_tiles, proof_of_tiles, proof_tiles, root_of_tiles, root_tiles
 from ._tree import Leaf, decode_leaf, leaf_hash, push, root, subtrees_root, verify_consistency, verify_inclusion
 
 __all__ = [
@@ -38,10 +39,16 @@ __all__ = [
     "lock_text",
     "node_next",
     "node_start",
+    "path_of_tiles",
+    "path_tiles",
     "precertificate_entry",
     "promised_leaf",
+    "proof_of_tiles",
+    "proof_tiles",
     "push",
     "root",
+    "root_of_tiles",
+    "root_tiles",
     "subtrees_root",
     "verify_consistency",
     "verify_inclusion",

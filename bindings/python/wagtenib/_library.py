@@ -14,6 +14,7 @@ import tempfile
 PROCESSORS = {"x86_64": "amd64", "aarch64": "arm64"}
 _NUMBER, _SIZE, _BYTES, _CODE = ctypes.c_uint64, ctypes.c_size_t, ctypes.c_char_p, ctypes.c_uint32
 _OUT, _LENGTH, _FIELD = ctypes.c_void_p, ctypes.POINTER(ctypes.c_uint64), ctypes.POINTER(ctypes.c_uint32)
+_NUMBERS = _LENGTH
 # An argument of the header that is a pointer and a length, and output of a length that only the call knows.
 _LIST, _OUTPUT = (_BYTES, _SIZE), (_OUT, _SIZE, _LENGTH)
 
@@ -36,6 +37,12 @@ FUNCTIONS = {
     "wagtenib_lock_state": (_CODE, (*_LIST, _OUT, _LENGTH)),
     "wagtenib_batch_name": (None, (_OUT, _OUT)),
     "wagtenib_batch_state": (_CODE, (*_LIST, _OUT)),
+    "wagtenib_root_tiles": (_CODE, (_NUMBER, *_OUTPUT)),
+    "wagtenib_path_tiles": (_CODE, (_NUMBER, _NUMBER, *_OUTPUT)),
+    "wagtenib_proof_tiles": (_CODE, (_NUMBER, _NUMBER, *_OUTPUT)),
+    "wagtenib_root_of_tiles": (_CODE, (_NUMBER, *_LIST, _NUMBERS, _SIZE, _OUT)),
+    "wagtenib_path_of_tiles": (_CODE, (_NUMBER, _NUMBER, *_LIST, _NUMBERS, _SIZE, *_OUTPUT)),
+    "wagtenib_proof_of_tiles": (_CODE, (_NUMBER, _NUMBER, *_LIST, _NUMBERS, _SIZE, *_OUTPUT)),
     "wagtenib_precertificate_entry": (_CODE, (*_LIST, *_OUTPUT, _FIELD)),
     "wagtenib_promised_leaf": (_CODE, (*_LIST, *_LIST, _NUMBER, *_LIST, *_OUTPUT, _FIELD)),
     "wagtenib_check_promise": (_CODE, (*_LIST, *_LIST, _NUMBER, *_LIST, _NUMBER, _NUMBER, *_LIST, _BYTES, _FIELD)),
