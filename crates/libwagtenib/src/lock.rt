@@ -9,7 +9,7 @@ use crate::codes;
 use crate::node::{NodeState, of_state, state_of};
 use crate::output::write_output;
 use ct_lock_text::{said_in, state_of_name, text_of, write_name};
-use line_calls::codes::OUT_OF_MEMORY;
+use crate::codes::OUT_OF_MEMORY;
 use std::alloc::{AllocError, Global};
 
 /// Writes the lock's text of a step's state line, which the node sets in place of a state with the timestamp `previous_timestamp`, into `text`, and its length into

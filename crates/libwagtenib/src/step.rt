@@ -7,7 +7,7 @@ use crate::codes;
 use crate::output::write_output;
 use ct_growth::Claim;
 use ct_step_calls::{Answer, StepRefusal};
-use line_calls::codes::OUT_OF_MEMORY;
+use crate::codes::OUT_OF_MEMORY;
 use std::alloc::{AllocError, Global};
 
 // The number of a refusal.

@@ -15,7 +15,7 @@ use crate::{codes, proofs};
 use ct_checkpoint::{Checkpoint, cosignature_message};
 use ct_tree::{NodeHash, Sha256Hash, is_same_digest};
 use ct_witness::{Tree, Witness, WitnessRefusal};
-use line_calls::codes::OUT_OF_MEMORY;
+use crate::codes::OUT_OF_MEMORY;
 use std::alloc::{AllocError, Global};
 
 // The number of the refusal of a tree.

@@ -1,4 +1,0 @@
-pub mod NoFloat
-pub mod HashTiles
-pub mod Tells
-pub mod Promised

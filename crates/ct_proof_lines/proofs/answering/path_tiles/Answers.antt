@@ -1,7 +1,0 @@
-use Rattle.ct_tile_reader.specs.Needed.{path_tiles}
-use Rattle.ct_proof_lines.proofs.HashTiles.{all_named, path_named}
-use Rattle.ct_proof_lines.proofs.answering.path_tiles.Goals as goal
-
-pub returns-clause-named : goal.returns-clause-named
-returns-clause-named c =
-    all_named c.tiles_for_path.result (path_tiles c.args.index c.args.size) (path_named c.args.index c.args.size c.requires c.ranges.size.fits) c.tiles_for_path.ensures

@@ -1,7 +1,0 @@
-use Rattle.ct_tile_reader.specs.Needed.{root_tiles}
-use Rattle.ct_proof_lines.proofs.HashTiles.{all_named, root_named}
-use Rattle.ct_proof_lines.proofs.answering.root_tiles.Goals as goal
-
-pub returns-clause-named : goal.returns-clause-named
-returns-clause-named c =
-    all_named c.tiles_for_root.result (root_tiles c.args.size) (root_named c.args.size c.requires c.ranges.size.fits) c.tiles_for_root.ensures

@@ -1,5 +1,0 @@
-pub mod ReaderAsks
-pub mod ReaderWords
-pub mod ReaderAnswers
-pub mod ReaderSession
-pub mod PromiseWords
