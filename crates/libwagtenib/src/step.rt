@@ -4,10 +4,10 @@ ghost use Rattle.std.specs.Prelude.{◌≡◌, MatchOption};
 ghost use Rattle.libwagtenib.specs.Step.{step_code, AnswersClaim, BeginsLog, IsAnswerTold, IsOrigin, MakesStep, NamesEdge, ResumesStep};
 
 use crate::codes;
+use crate::codes::OUT_OF_MEMORY;
 use crate::output::write_output;
 use ct_growth::Claim;
 use ct_step_calls::{Answer, StepRefusal};
-use crate::codes::OUT_OF_MEMORY;
 use std::alloc::{AllocError, Global};
 
 // The number of a refusal.

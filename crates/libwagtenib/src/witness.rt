@@ -9,13 +9,13 @@ ghost use Rattle.ct_witness.specs.declared.tree.Tree.{Tree};
 ghost use Rattle.libwagtenib.specs.Codes.{tree_code};
 ghost use Rattle.libwagtenib.specs.Witness.{cosigned, tree_of, IsCheckpointOf, IsMessageOf, IsNoMessage, MayCosign, MayNotCosign, CosignsAfter, CosignsFirst, Cosigns, IsSeenOrLater, Describes, ReadsWitnessState};
 
+use crate::codes::OUT_OF_MEMORY;
 use crate::message::{Last, WitnessedTree, checkpoint_of, read_message};
 use crate::output::write_output;
 use crate::{codes, proofs};
 use ct_checkpoint::{Checkpoint, cosignature_message};
 use ct_tree::{NodeHash, Sha256Hash, is_same_digest};
 use ct_witness::{Tree, Witness, WitnessRefusal};
-use crate::codes::OUT_OF_MEMORY;
 use std::alloc::{AllocError, Global};
 
 // The number of the refusal of a tree.
