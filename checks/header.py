@@ -1,7 +1,7 @@
 #!/usr/bin/env python3
 """The header of the library for C says what the library's functions are: which there are, their arguments in order and their types, the fields
 of its struct in order, and the number of each fault and code. No contract sees these, since clauses name arguments and fields. The script makes what the
-header has to say from the sources of `libwagtenib` and from the codes of `line_calls`, prints each line that differs, and ends with status 1 where there is one."""
+header has to say from the sources of `libwagtenib`, prints each line that differs, and ends with status 1 where there is one."""
 import re
 import sys
 
@@ -106,7 +106,7 @@ def header_lines(text):
 
 
 def main():
-    text = "\n".join(without_clauses(blanked(path.read_text())) for path in sorted(path for crate in ("libwagtenib", "line_calls") for path in (CRATES / crate / "src").rglob("*.rt")))
+    text = "\n".join(without_clauses(blanked(path.read_text())) for path in sorted(path for crate in ("libwagtenib",) for path in (CRATES / crate / "src").rglob("*.rt")))
     made = set(declared_functions(text)) | set(declared_structs(text)) | set(declared_numbers(text))
     said = set(header_lines(HEADER.read_text()))
     for line in sorted(made - said):

@@ -24,10 +24,10 @@ KEPT = re.compile(r"\b(?:forget|leak|ManuallyDrop)\b")
 ANGLE = r"<(?:[^()=<>{};]|->|<(?:[^()=<>{};]|<[^()=<>{};]*>)*>)*"
 BEFORE = re.compile(rf"(?:\blet\b[^=]*|\b(?:const|static)\s+\w+:[^=]*|->[^{{;=]*|{ANGLE}|\btype\s[^;]*|[!=]= (?:\w+::)*)$")
 BEHIND = re.compile(r"^(?:\([^()]*\)|\{[^{}]*\})?\s*[)}]*\s*(?:if\b[^=]*)?(?:\|(?!\|)|=>)|^>")
-# The library for C and the calls below it, their number, and the one place that may name it without a pattern.
+# The library for C, its number, and the one place that may name it without a pattern.
 # (A field of a certificate, a command of a node and a flag of what it finds have the same number.)
 NUMBERED, NUMBER = (
-    ("libwagtenib", "line_calls"),
+    ("libwagtenib",),
     re.compile(r"(?<!; )(?<!Place::Issuer => )(?<!command_with\()(?<!found\.flags, )\b8(?:_?[iu](?:\d+|size))?\b(?! => Some\(Node::)|\bOUT_OF_MEMORY\b"),
 )
 CONSTANT = re.compile(r"\buse [^;]*;|\bpub const OUT_OF_MEMORY: u32 = 8;")
@@ -252,7 +252,7 @@ Err(AllocError) => 8,
 DecodeFault::Memory => 8,
 Err(AllocError) => OUT_OF_MEMORY,
 pub const OUT_OF_MEMORY: u32 = 8;
-use line_calls::codes::OUT_OF_MEMORY;
+use crate::codes::OUT_OF_MEMORY;
 let eight = [0u8; 8];
 fn f<const N: usize>(alloc: Global, all: [u8; N]) -> Answer { let one = vec![in alloc; root(h, leaves)]?; }"""
 

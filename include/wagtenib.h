@@ -1,15 +1,15 @@
-/* wagtenib: the proved checks of a Certificate Transparency log's proofs (RFC 6962, RFC 9162), and the proved decisions of what its key may sign, of what a
- * witness cosigns, and of its programs over lines.
+/* wagtenib: the proved checks of a Certificate Transparency log's proofs (RFC 6962, RFC 9162), and the proved decisions of a log, of its key, of a node, of a
+ * witness and of readers.
  *
  * A hash is 32 bytes (SHA-256). A list of hashes is given by a pointer to its first byte and the number of hashes, which
  * stand one after the other. No call keeps a pointer or has any state, so every call may run in any thread at any time.
- * wagtenib_root, wagtenib_lock_text, the functions over steps, certificates and tiles, those of the witness, and those whose names end in _line take memory (malloc), and give it back before they return. All other
- * memory is the caller's. A length is a number of bytes.
+ * wagtenib_root, wagtenib_lock_text, and the functions over steps, certificates and tiles and those of the witness take memory (malloc), and give it back before
+ * they return. All other memory is the caller's. A length is a number of bytes.
  *
  * What the caller owes, and nothing checks: each pointer points to as many bytes as is said, readable, and writable where
  * the pointer isn't const, which no other thread writes during the call (nor reads, where they are writable); what is
- * written overlaps no other argument; a length in bytes is below 2^63. The stack has 16 KB left, or 128 KB for the functions of the step and of the witness, and
- * those whose names end in _line. No pointer is NULL: for a length of 0 any other pointer serves. Beyond that every number and every byte is allowed.
+ * written overlaps no other argument; a length in bytes is below 2^63. The stack has 16 KB left, or 128 KB for the functions of the step and of the witness.
+ * No pointer is NULL: for a length of 0 any other pointer serves. Beyond that every number and every byte is allowed.
  */
 #ifndef WAGTENIB_H
 #define WAGTENIB_H
@@ -35,7 +35,6 @@ enum {
     WAGTENIB_OUT_OF_MEMORY = 8,      /* malloc refused; nothing is written */
     WAGTENIB_NO_ROOM = 9,            /* the caller's memory is too small for the result; wagtenib_push writes nothing then, and the others only how long it is */
     WAGTENIB_BAD_ORIGIN = 10,        /* the origin isn't UTF-8, or has a line end; nothing is written */
-    WAGTENIB_NOT_A_REQUEST = 11,     /* the reply is written, and refuses the request, or a line of several, as none */
     WAGTENIB_TRUNCATED = 17,         /* the leaf ends before a field is whole */
     WAGTENIB_BAD_VERSION = 18,       /* the version isn't 0 (v1) */
     WAGTENIB_BAD_LEAF_TYPE = 19,     /* the leaf type isn't 0 (timestamped_entry) */
@@ -417,27 +416,6 @@ uint32_t wagtenib_witness_cosign(const uint8_t *state, size_t state_length, cons
  * tree is the same or has more leaves. 36: one of both is not the message of a cosignature. 37: the state was rolled back, or is of another log. 8: malloc
  * refused. Nothing is written unless the result is 0. To read a state without another, pass it twice. */
 uint32_t wagtenib_witness_state(const uint8_t *seen, size_t seen_length, const uint8_t *state, size_t state_length, struct wagtenib_witnessed_tree *last);
-
-/* The decisions of the programs over lines, as calls. A call writes, byte for byte, what the program of that name writes on its standard output for that
- * line. The replies are lines of JSON, and each ends with a line end.
- *
- *   request, request_length  one line of the program's input, without its line end, in UTF-8. Any bytes are allowed: what is no request is refused by the
- *                            reply. An empty request is refused too, although a program passes over an empty line.
- *   origin, origin_length    the origin of the log, as of the option --origin, in UTF-8; a length of 0 is a program without that option.
- *   reply, room              the caller's memory for the reply, and its length. Bytes after the reply are unchanged.
- *   length                   gets the length of the reply, also if it has no room.
- *
- * 0 (WAGTENIB_OK): the reply is written. 11 (WAGTENIB_NOT_A_REQUEST): it is written too, and refuses the request as none, which is the program's exit status
- * 4. 9 (WAGTENIB_NO_ROOM): *length says how much room the reply needs, and nothing else is written; the call has done all its work, so give a
- * second call at least that much. 8 (WAGTENIB_OUT_OF_MEMORY) and 10 (WAGTENIB_BAD_ORIGIN): neither reply nor *length is written.
- *
- * Measured, and not proved: a call has about twice the length of its request and reply as memory, and JSON that is made to be dear has up to 20 times the
- * length of the request, or 120 KB. A request of real data takes 26 KB of stack, and JSON that nests as deep as is allowed (127) takes 84 KB.
- */
-
-/* A root, a path, a consistency proof or an entry for a reader: what `ctproof` replies to a line (docs/TILES.md). A request has at most 67,108,864 bytes.
- * 0, 8, 9 or 11. */
-uint32_t wagtenib_proof_line(const uint8_t *request, size_t request_length, uint8_t *reply, size_t room, uint64_t *length);
 
 #ifdef __cplusplus
 }

@@ -13,7 +13,7 @@ exported = {line.split()[-1] for line in open(sys.argv[1], encoding="utf-8") if 
 exported = {name for name in exported if not name.startswith("rattle_")}
 answers = {name.replace("_", "").lower(): int(number) for name, number in re.findall(r"WAGTENIB_(\w+) = (\d+)", header)}
 promised = {name.lower(): int(number) for name, number in re.findall(r"^(?:proof_code|leaf_code) (?!Memory)(\w+) = (\d+)$", codes, re.M)}
-for crate in ("line_calls", "libwagtenib"):
+for crate in ("libwagtenib",):
     constants = open(os.path.join(here, f"../../crates/{crate}/src/codes.rt"), encoding="utf-8").read()
     promised |= {name.replace("_", "").lower(): int(number) for name, number in re.findall(r"^pub const (\w+): u32 = (\d+);$", constants, re.M)}
 

@@ -24,7 +24,6 @@ import (
 	"wagtenib/service/check"
 	"wagtenib/service/datatile"
 	"wagtenib/service/log"
-	"wagtenib/service/proved"
 	"wagtenib/service/signer"
 	"wagtenib/service/step"
 	"wagtenib/service/stores"
@@ -580,14 +579,14 @@ func TestRepeatsThatArentClaimed(t *testing.T) {
 	functions := step.Proved()
 	functions.Claim = func(state string, index, timestamp uint64, path []wagtenib.Hash, submission []byte) ([]byte, error) {
 		if calls++; calls > 1 {
-			return nil, proved.ErrMemory
+			return nil, wagtenib.ErrMemory
 		}
 		return wagtenib.StepClaim(state, index, timestamp, path, submission)
 	}
 	node.config.Step = step.Over(origin, functions)
 	batch := []*waiting{waitsAt(ctx, t, node, got.numberAt(t, 1)), waitsAt(ctx, t, node, 50), waitsAt(ctx, t, node, got.numberAt(t, 3))}
 	left, err := node.answerRepeats(ctx, s.newestKnown(), batch)
-	wants(t, err, proved.ErrMemory)
+	wants(t, err, wagtenib.ErrMemory)
 	if len(left) != len(batch) {
 		t.Errorf("of %d %d are left", len(batch), len(left))
 	}

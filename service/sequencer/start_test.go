@@ -10,8 +10,8 @@ import (
 	"syscall"
 	"testing"
 
+	"wagtenib/bindings/go/wagtenib"
 	"wagtenib/service/decider"
-	"wagtenib/service/proved"
 	"wagtenib/service/signer"
 	"wagtenib/service/step"
 	"wagtenib/service/stores"
@@ -170,7 +170,7 @@ type unmade struct{ stores.Register }
 func (unmade) Create(context.Context, string) error { return errUnwell }
 
 // dry is a function over lines for which there is no memory.
-func dry(*[]byte, []byte) ([]byte, error) { return nil, proved.ErrMemory }
+func dry(*[]byte, []byte) ([]byte, error) { return nil, wagtenib.ErrMemory }
 
 // TestStartOverWhatMoves: where another node goes on between two readings, all is read again; and what can't be read is said.
 func TestStartOverWhatMoves(t *testing.T) {

@@ -9,14 +9,13 @@ import (
 	"fmt"
 
 	"wagtenib/bindings/go/wagtenib"
-	"wagtenib/service/proved"
 )
 
 // MostAhead is how many milliseconds a step's timestamp is beyond its line's at most, unless a caller has a reason for more: an hour.
 const MostAhead = 3_600_000
 
 // ErrReply is the error of a reply that isn't one to the request.
-var ErrReply = proved.ErrReply
+var ErrReply = errors.New("step: not a reply to the request")
 
 // Refusal is the reason for which a request was refused. Nothing has changed then.
 type Refusal wagtenib.Code

@@ -8,7 +8,6 @@ import (
 	"testing"
 
 	"wagtenib/bindings/go/wagtenib"
-	"wagtenib/service/proved"
 	"wagtenib/service/trial"
 )
 
@@ -88,7 +87,7 @@ func TestOutOfMemory(t *testing.T) {
 		return nil, wagtenib.ErrMemory
 	}
 	c := Over(origin, of)
-	if stepped, err := c.Step(lineOf(1, 2), nil, nil, 3, 4); !errors.Is(err, proved.ErrMemory) || stepped != nil {
+	if stepped, err := c.Step(lineOf(1, 2), nil, nil, 3, 4); !errors.Is(err, wagtenib.ErrMemory) || stepped != nil {
 		t.Errorf("%+v, %v", stepped, err)
 	}
 }

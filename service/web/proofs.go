@@ -9,8 +9,8 @@ import (
 	"net/http"
 	"net/url"
 
+	"wagtenib/bindings/go/wagtenib"
 	"wagtenib/service/log"
-	"wagtenib/service/proved"
 	"wagtenib/service/reader"
 	"wagtenib/service/stores"
 )
@@ -170,7 +170,7 @@ func faultOf(err error) error {
 	switch {
 	case err == nil, errors.As(err, &known), errors.Is(err, context.DeadlineExceeded), errors.Is(err, context.Canceled), errors.Is(err, log.ErrStore), errors.Is(err, log.ErrBusy):
 		return err
-	case errors.Is(err, reader.ErrBusy), errors.Is(err, proved.ErrMemory):
+	case errors.Is(err, reader.ErrBusy), errors.Is(err, wagtenib.ErrMemory):
 		return fmt.Errorf("%w: %v", log.ErrBusy, err)
 	}
 	return fmt.Errorf("%w: %v", log.ErrStore, err)

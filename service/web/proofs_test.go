@@ -15,8 +15,8 @@ import (
 	"testing"
 	"time"
 
+	"wagtenib/bindings/go/wagtenib"
 	"wagtenib/service/log"
-	"wagtenib/service/proved"
 	"wagtenib/service/reader"
 	"wagtenib/service/stores"
 	"wagtenib/service/trial"
@@ -217,7 +217,7 @@ func TestProofsThatAreRefused(t *testing.T) {
 	}
 	f.front.reader = reader.New(f.log.Object, 0)
 	each("no place", 503, "busy")
-	dry := func(*[]byte, []byte) ([]byte, error) { return nil, proved.ErrMemory }
+	dry := func(*[]byte, []byte) ([]byte, error) { return nil, wagtenib.ErrMemory }
 	f.front.reader = reader.Over(dry, f.log.Object, 1)
 	each("no memory", 503, "busy")
 	f.log.Break(errors.New("the disk"))

@@ -9,9 +9,9 @@ import (
 	"strconv"
 	"strings"
 
+	"wagtenib/bindings/go/wagtenib"
 	"wagtenib/service/chains"
 	"wagtenib/service/log"
-	"wagtenib/service/proved"
 	"wagtenib/service/stores"
 )
 
@@ -41,7 +41,7 @@ func refusalOf(err error) refusal {
 	}
 	r := refusal{status: http.StatusServiceUnavailable, why: err}
 	switch {
-	case errors.Is(err, log.ErrBusy), errors.Is(err, proved.ErrMemory):
+	case errors.Is(err, log.ErrBusy), errors.Is(err, wagtenib.ErrMemory):
 		r.name, r.after = "busy", 1
 	case errors.Is(err, log.ErrTooLarge):
 		r.status, r.name = http.StatusBadRequest, "entry-too-large"

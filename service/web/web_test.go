@@ -24,7 +24,6 @@ import (
 	"wagtenib/service/chains"
 	"wagtenib/service/log"
 	"wagtenib/service/precert"
-	"wagtenib/service/proved"
 	"wagtenib/service/reader"
 	"wagtenib/service/stores"
 	"wagtenib/service/trial"
@@ -311,8 +310,8 @@ func TestErrorsOfTheLog(t *testing.T) {
 		{log.ErrClock, 503, "clock", "10"},
 		{log.ErrStore, 503, "store", "5"},
 		{fmt.Errorf("deep inside: %w", log.ErrStore), 503, "store", "5"},
-		{fmt.Errorf("deep inside: %w", proved.ErrMemory), 503, "busy", "1"},
-		{fmt.Errorf("deep inside: %w", proved.ErrReply), 500, "internal", ""},
+		{fmt.Errorf("deep inside: %w", wagtenib.ErrMemory), 503, "busy", "1"},
+		{fmt.Errorf("deep inside: %w", step.ErrReply), 500, "internal", ""},
 		{context.DeadlineExceeded, 503, "late", "5"},
 		{errors.New("secret of the machine"), 500, "internal", ""},
 	} {

@@ -31,7 +31,7 @@ CODES = dict(re.findall(r"WAGTENIB_(\w+) = (\d+)", (ROOT / "include" / "wagtenib
 # The refusals that have another name in the model than in the header.
 NAMES = {"moment-not-later": "TIMESTAMP_NOT_LATER", "moment-too-far": "TIMESTAMP_TOO_FAR"}
 # The faults that no call of the guard can return, of all codes below 48, after which those of other calls come: a consistency proof is read only between sizes that it can be for.
-NEVER = {"SIZES_OUT_OF_RANGE", "OUT_OF_MEMORY", "NO_ROOM", "BAD_ORIGIN", "NOT_A_REQUEST"}
+NEVER = {"SIZES_OUT_OF_RANGE", "OUT_OF_MEMORY", "NO_ROOM", "BAD_ORIGIN"}
 FILL, HOUR, MOST = b"\x5a", 3_600_000, (1 << 64) - 1
 SIZES = (0, 1, 2, 3, 4, 7, 8, 21, 40, 64)
 

@@ -31,8 +31,6 @@ import merkle  # noqa: E402
 
 RUST = ROOT / "bindings" / "rust"
 HEADER = (ROOT / "include" / "wagtenib.h").read_text()
-# The code of calls over lines of text alone, which the crate does not have.
-OF_LINES = {"NOT_A_REQUEST"}
 TYPES = {"uint8_t": "u8", "uint32_t": "u32", "uint64_t": "u64", "size_t": "usize", "bool": "bool"}
 
 SYS = """\
@@ -55,8 +53,8 @@ extern "C" {{
 
 
 def codes():
-    """The header's constants and their numbers, but for those that only calls over lines return."""
-    return {name: int(number) for name, number in re.findall(r"\bWAGTENIB_(\w+) = (\d+)", HEADER) if name not in OF_LINES}
+    """The header's constants and their numbers."""
+    return {name: int(number) for name, number in re.findall(r"\bWAGTENIB_(\w+) = (\d+)", HEADER)}
 
 
 def argument(text):
@@ -85,7 +83,6 @@ def sys_source():
     functions = [
         f"    pub fn {name}({', '.join(map(argument, arguments.split(',')))}){' -> u32' if result == 'uint32_t' else ''};"
         for result, name, arguments in re.findall(r"\b(uint32_t|void) (wagtenib_\w+)\(([^)]*)\);", bare)
-        if not re.search(r"_lines?$", name)
     ]
     constants = "\n".join(f"    pub const {name}: u32 = {number};" for name, number in codes().items())
     return SYS.format(constants=constants, structs=structs, functions="\n".join(functions))

@@ -19,13 +19,3 @@ func ExampleVerifyInclusion() {
 	// <nil>
 	// wagtenib: the proof leads to another root
 }
-
-// A reader asks which tiles have the root of a tree of 300 leaves.
-func ExampleProofLine() {
-	var memory []byte
-	reply, err := wagtenib.ProofLine(&memory, []byte(`{"needs_root":300}`))
-	fmt.Printf("%s%v\n", reply, err)
-	// Output:
-	// {"names":["tile/0/001.p/44","tile/1/000.p/1"]}
-	// <nil>
-}

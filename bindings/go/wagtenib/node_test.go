@@ -115,7 +115,9 @@ func TestNodeStart(t *testing.T) {
 	head := func(size, timestamp uint64, root wagtenib.Hash) *wagtenib.TreeHead {
 		return &wagtenib.TreeHead{TreeSize: size, Timestamp: timestamp, Root: root}
 	}
-	at := func(size, timestamp uint64) *wagtenib.HeadSize { return &wagtenib.HeadSize{TreeSize: size, Timestamp: timestamp} }
+	at := func(size, timestamp uint64) *wagtenib.HeadSize {
+		return &wagtenib.HeadSize{TreeSize: size, Timestamp: timestamp}
+	}
 	type found = wagtenib.NodeFound
 	for _, of := range []struct {
 		lock  []byte

@@ -9,9 +9,7 @@
 // A call keeps no state, does no input or output, and returns for every input, by proof. It can be made from any number of goroutines at
 // once. Nothing may write to its arguments meanwhile.
 //
-// A call runs on the stack of an operating system's thread. The functions over values take at most 16 KB of it, and those of the witness and those
-// over lines 128 KB.
-// The threads of Go have 8 MB with glibc (ulimit -s).
+// A call runs on the stack of an operating system's thread. It takes at most 16 KB of it, or 128 KB if it is one of the step or of the witness. The threads of Go have 8 MB with glibc (ulimit -s).
 package wagtenib
 
 // #cgo CFLAGS: -std=c11 -O2
@@ -44,7 +42,6 @@ const (
 	ErrSizesOutOfRange     Code = C.WAGTENIB_SIZES_OUT_OF_RANGE    // not 0 < first < second
 	ErrMemory              Code = C.WAGTENIB_OUT_OF_MEMORY         // malloc refused memory
 	ErrOrigin              Code = C.WAGTENIB_BAD_ORIGIN            // the origin isn't UTF-8, or has a line end
-	ErrNotARequest         Code = C.WAGTENIB_NOT_A_REQUEST         // the line is no request; the reply says so too, and is returned
 	ErrTruncated           Code = C.WAGTENIB_TRUNCATED             // the leaf ends before a field is whole
 	ErrBadVersion          Code = C.WAGTENIB_BAD_VERSION           // the version isn't 0 (v1)
 	ErrBadLeafType         Code = C.WAGTENIB_BAD_LEAF_TYPE         // the leaf type isn't 0 (timestamped_entry)
@@ -119,7 +116,6 @@ var texts = map[Code]string{
 	ErrSizesOutOfRange:     "the sizes of a consistency proof must be 0 < first < second",
 	ErrMemory:              "out of memory (malloc refused)",
 	ErrOrigin:              "the origin is not UTF-8, or has a line end",
-	ErrNotARequest:         "the line is no request (the reply names the reason)",
 	ErrTruncated:           "the leaf ends before a field is whole",
 	ErrBadVersion:          "the leaf's version is not 0 (v1)",
 	ErrBadLeafType:         "the leaf's type is not 0 (timestamped_entry)",

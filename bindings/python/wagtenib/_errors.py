@@ -18,7 +18,6 @@ class Code(enum.IntEnum):
     OUT_OF_MEMORY = 8
     NO_ROOM = 9
     BAD_ORIGIN = 10
-    NOT_A_REQUEST = 11
     TRUNCATED = 17
     BAD_VERSION = 18
     BAD_LEAF_TYPE = 19

@@ -163,6 +163,12 @@ extern "C" {
     pub fn wagtenib_lock_state(text: *const u8, text_length: usize, state: *mut wagtenib_node_state, tree_size: *mut u64) -> u32;
     pub fn wagtenib_batch_name(state: *const wagtenib_node_state, name: *mut u8);
     pub fn wagtenib_batch_state(name: *const u8, name_length: usize, state: *mut wagtenib_node_state) -> u32;
+    pub fn wagtenib_root_tiles(tree_size: u64, names: *mut u8, room: usize, length: *mut u64) -> u32;
+    pub fn wagtenib_path_tiles(leaf_index: u64, tree_size: u64, names: *mut u8, room: usize, length: *mut u64) -> u32;
+    pub fn wagtenib_proof_tiles(first: u64, second: u64, names: *mut u8, room: usize, length: *mut u64) -> u32;
+    pub fn wagtenib_root_of_tiles(tree_size: u64, contents: *const u8, contents_length: usize, lengths: *const u64, tiles: usize, root: *mut u8) -> u32;
+    pub fn wagtenib_path_of_tiles(leaf_index: u64, tree_size: u64, contents: *const u8, contents_length: usize, lengths: *const u64, tiles: usize, path: *mut u8, room: usize, count: *mut u64) -> u32;
+    pub fn wagtenib_proof_of_tiles(first: u64, second: u64, contents: *const u8, contents_length: usize, lengths: *const u64, tiles: usize, proof: *mut u8, room: usize, count: *mut u64) -> u32;
     pub fn wagtenib_precertificate_entry(tbs: *const u8, tbs_length: usize, entry: *mut u8, room: usize, length: *mut u64, field: *mut u32) -> u32;
     pub fn wagtenib_promised_leaf(certificate: *const u8, certificate_length: usize, issuer: *const u8, issuer_length: usize, timestamp: u64, extensions: *const u8, extensions_length: usize, leaf: *mut u8, room: usize, length: *mut u64, field: *mut u32) -> u32;
     pub fn wagtenib_check_promise(certificate: *const u8, certificate_length: usize, issuer: *const u8, issuer_length: usize, timestamp: u64, extensions: *const u8, extensions_length: usize, leaf_index: u64, tree_size: u64, path: *const u8, path_length: usize, root: *const u8, field: *mut u32) -> u32;
