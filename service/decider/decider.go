@@ -33,7 +33,7 @@ const (
 
 // names are the commands' by their numbers.
 var names = map[wagtenib.NodeCommandKind]string{
-	wagtenib.ReadLock: Read, wagtenib.LookForHead: Look, wagtenib.MakeStep: Step, wagtenib.StageBatch: Stage, wagtenib.SwapLock: Swap,
+	wagtenib.ReadLock: Read, wagtenib.LookForHead: Look, wagtenib.TakeStep: Step, wagtenib.StageBatch: Stage, wagtenib.SwapLock: Swap,
 	wagtenib.PutObjects: Put, wagtenib.AddToIndex: Place, wagtenib.PublishHead: Head, wagtenib.AnswerAll: Answer, wagtenib.DeleteBatch: Delete,
 }
 
@@ -235,7 +235,7 @@ func (d *Decider) Next(command *Command, told Told) (*Command, error) {
 		return nil, fmt.Errorf("%w: no command has the number %d", ErrReply, node.Kind)
 	}
 	switch node.Kind {
-	case wagtenib.LookForHead, wagtenib.MakeStep, wagtenib.StageBatch, wagtenib.SwapLock, wagtenib.DeleteBatch:
+	case wagtenib.LookForHead, wagtenib.TakeStep, wagtenib.StageBatch, wagtenib.SwapLock, wagtenib.DeleteBatch:
 		next.Seen, err = ofState(node.Seen, seen, came)
 	}
 	if err != nil {

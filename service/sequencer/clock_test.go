@@ -454,7 +454,6 @@ func TestMomentTooFar(t *testing.T) {
 		must(t, s.End(ctx))
 	}
 	config := p.config(t)
-	ahead := regexp.MustCompile(`"most_ahead":[0-9]*`)
 	functions := step.Proved()
 	functions.Step = func(origin, state string, edge, batch []byte, now, _ uint64) (*wagtenib.Step, error) {
 		return wagtenib.MakeStep(origin, state, edge, batch, now, 0)

@@ -40,7 +40,7 @@ func TestLyingDecider(t *testing.T) {
 		told string
 	}{
 		"another text is looked at":         {wagtenib.LookForHead, seen, another},
-		"a step from another text":          {wagtenib.MakeStep, seen, another},
+		"a step from another text":          {wagtenib.TakeStep, seen, another},
 		"no stage after a step":             {wagtenib.StageBatch, func(c *wagtenib.NodeCommand) { c.Kind = wagtenib.SwapLock }, "swap behind a step"},
 		"a staged batch of another text":    {wagtenib.StageBatch, made, another},
 		"a swap from another text":          {wagtenib.SwapLock, seen, another},

@@ -217,7 +217,9 @@ func TestProofsThatAreRefused(t *testing.T) {
 	}
 	f.front.reader = reader.New(f.log.Object, 0)
 	each("no place", 503, "busy")
-	dry := func(*[]byte, []byte) ([]byte, error) { return nil, wagtenib.ErrMemory }
+	dry := reader.Proved()
+	dry.PathOfTiles = func(uint64, uint64, [][]byte) ([][32]byte, error) { return nil, wagtenib.ErrMemory }
+	dry.ProofOf = dry.PathOfTiles
 	f.front.reader = reader.Over(dry, f.log.Object, 1)
 	each("no memory", 503, "busy")
 	f.log.Break(errors.New("the disk"))

@@ -41,7 +41,7 @@ type NodeCommandKind uint32
 const (
 	ReadLock    NodeCommandKind = 0 // read the lock
 	LookForHead NodeCommandKind = 1 // look whether the head of Seen is published, and if it is not, read its staged batch
-	MakeStep    NodeCommandKind = 2 // make a step from Seen, or name a staged batch that may be deleted
+	TakeStep    NodeCommandKind = 2 // make a step from Seen, or name a staged batch that may be deleted
 	StageBatch  NodeCommandKind = 3 // put the staged batch of Next, which was made from Seen
 	SwapLock    NodeCommandKind = 4 // swap the lock from the text of Seen to that of Next
 	DeleteBatch NodeCommandKind = 5 // delete the staged batch of Next

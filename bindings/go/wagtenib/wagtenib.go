@@ -213,3 +213,8 @@ func ofHashes(hashes []Hash) *C.uint8_t {
 	}
 	return (*C.uint8_t)(unsafe.Pointer(unsafe.SliceData(hashes)))
 }
+
+// ofText returns a pointer to the first byte of a text, which the library only reads.
+func ofText(text string) *C.uint8_t {
+	return ofBytes(unsafe.Slice(unsafe.StringData(text), len(text)))
+}
