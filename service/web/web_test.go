@@ -311,7 +311,7 @@ func TestErrorsOfTheLog(t *testing.T) {
 		{log.ErrStore, 503, "store", "5"},
 		{fmt.Errorf("deep inside: %w", log.ErrStore), 503, "store", "5"},
 		{fmt.Errorf("deep inside: %w", wagtenib.ErrMemory), 503, "busy", "1"},
-		{fmt.Errorf("deep inside: %w", step.ErrReply), 500, "internal", ""},
+		{fmt.Errorf("deep inside: %w", reader.ErrReply), 500, "internal", ""},
 		{context.DeadlineExceeded, 503, "late", "5"},
 		{errors.New("secret of the machine"), 500, "internal", ""},
 	} {
