@@ -270,6 +270,7 @@ def try_install(folder):
     due.update({f"lib/libwagtenib.{end}": due["lib/libwagtenib.so.0.1.0"] for end in ("so.0", "so")})
     due.update({f"bin/ctmonitor-{name}": (EXAMPLES / "monitor" / f"{name}.sh").read_text() for name in ("cosignatures", "mail", "signature", "watch")})
     due.update({f"bin/ctmonitor-{name}": (EXAMPLES / "monitor" / f"{name.replace('-', '_')}.py").read_text() for name in ("audit", "cosign", "from-end", "keep", "log-list", "show")})
+    due.update({f"share/wagtenib/python/wagtenib/{path.name}": path.read_text() for path in (HERE.parent / "bindings" / "python" / "wagtenib").glob("*.py")})
     due["include/wagtenib.h"] = (HERE.parent / "include" / "wagtenib.h").read_text()
     due["lib/pkgconfig/wagtenib.pc"] = (HERE.parent / "include" / "wagtenib.pc.in").read_text().replace("@PREFIX@", "/opt/log").replace("@VERSION@", "0.1.0")
     to = folder / "to" / "opt" / "log"
