@@ -1,4 +1,4 @@
-"""What a log promised of a certificate (RFC 6962, sections 3.1 to 3.4), by hashlib alone: the model of the calls of libwagtenib over certificates.
+"""The promise of a log about a certificate (RFC 6962, sections 3.1 to 3.4), by hashlib: the model of the calls of libwagtenib over certificates.
 
 entry_of gives the TBSCertificate of a precertificate without the poison, and leaf_of the leaf that a timestamp within a certificate stands for. Each raises
 Unfit if a certificate gives nothing, with the reason: no-extension, second-extension, bad-poison, too-long, or a fault of DER with its field. The document is

@@ -1,4 +1,4 @@
-"""Audit paths, consistency proofs and roots out of a log's tiles, by hashlib alone: the model of the calls of libwagtenib over tiles.
+"""Audit paths, consistency proofs and roots out of a log's tiles, by hashlib: the model of the calls of libwagtenib over tiles.
 
 path_tiles, proof_tiles and root_tiles give the tiles that each is made of in the tree of so many leaves (C2SP tlog-tiles), in the order of ct_tile_reader's
 tiles_for_path, tiles_for_proof and tiles_for_root. A Tree of their contents, in that order, gives PATH, PROOF and MTH (RFC 6962, section 2.1). The first tile

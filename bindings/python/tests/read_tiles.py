@@ -18,7 +18,7 @@ MOST = (1 << 64) - 1
 
 
 class Kind(typing.NamedTuple):
-    """What is read: the package's two functions, the model's two, which numbers can be together, and how others are refused."""
+    """A kind of reading: the package's two functions, the model's two, which numbers can be together, and how others are refused."""
 
     names: typing.Callable
     made: typing.Callable
@@ -102,7 +102,7 @@ class Comparison:
                 self.read(log, PROOF, (index, size), refused)
 
     def recursion(self, log, size):
-        """What is due in a tree of so few leaves is what the recursion over its leaves gives."""
+        """Log gives the same paths and proofs as the recursion over the leaves."""
         leaves = [number.to_bytes(4, "big") for number in range(size)]
         for index in range(size):
             self.same(f"the path due of {index} in {size}", log.path(index, 0, size), path(index, leaves))
@@ -120,7 +120,7 @@ class Comparison:
 
 
 def due_of(kind, numbers, contents):
-    """What the model makes of contents, or the name of the fault."""
+    """The model's result for contents, or the name of the fault."""
     if not kind.fits(*numbers):
         return kind.fault
     tiles = kind.tiles(*numbers)
