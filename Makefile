@@ -1,4 +1,4 @@
-.PHONY: help demo test check deps service service-test service-race service-engines service-faults service-soak service-clients cluster cluster-status cluster-stop link dist dist-programs install install-library install-ctlog install-ctmonitor install-ctproof fuzz load sweep wrong sources serve serve-witness tiles programs release reproduce bare container pages
+.PHONY: help demo test check deps service service-test service-race service-engines service-faults service-soak service-clients cluster cluster-status cluster-stop link dist install install-library install-ctlog install-ctmonitor fuzz load sweep wrong sources serve serve-witness tiles programs release reproduce bare container pages
 
 SECONDS ?= 60
 RUNS ?= 20
@@ -10,7 +10,7 @@ FOLDER ?= ct-log
 WITNESS ?= ct-witness
 WITNESS_PORT ?= 8640
 
-PROGRAMS := ctlog ctmonitor ctproof
+PROGRAMS := ctlog ctmonitor
 LIBRARY = $(BUILT)/libwagtenib/out/link/libwagtenib
 VERSION = $(shell cat VERSION)
 # (a shell expands no ~ in quotes)
@@ -94,20 +94,17 @@ dist: ## makes the assembly of libwagtenib in dist/ from the proved crates, for 
 	@examples/build.py libwagtenib
 	@PYTHONDONTWRITEBYTECODE=1 checks/dist.py --write
 
-dist-programs: ## makes ctproof of dist/ in dist/out/bin with gcc, without the kit
-	@dist/programs.sh dist/out
-
 # The scripts of examples/monitor that are installed beside ctmonitor: what follows ctmonitor- in their names there, and their files.
 WATCHING := audit=audit.py cosign=cosign.py cosignatures=cosignatures.sh from-end=from_end.py keep=keep.py log-list=log_list.py mail=mail.sh show=show.py signature=signature.sh watch=watch.sh
 
 # BUILT is the folder in which the crates' builds lie.
-install: $(PROGRAMS:%=install-%) install-library ## installs what is built, below PREFIX=/usr/local: ctlog, ctmonitor, ctproof, with ctmonitor its scripts as ctmonitor-watch and so on, and libwagtenib
+install: $(PROGRAMS:%=install-%) install-library ## installs what is built, below PREFIX=/usr/local: ctlog, ctmonitor, with ctmonitor its scripts as ctmonitor-watch and so on, and libwagtenib
 	@for program in $(PROGRAMS); do [ ! -e "$(BUILT)/$$program/out/$$program" ] || exit 0; done; \
 	[ -e "$(LIBRARY).a" ] || { echo "make install: nothing is built" >&2; exit 1; }
 
 $(PROGRAMS:%=install-%): install-%:
 	@if [ -x "$(BUILT)/$*/out/$*" ]; then install -d "$(TO)/bin" && install -m 755 "$(BUILT)/$*/out/$*" "$(TO)/bin" && echo "$(PREFIX)/bin/$*"; \
-	else echo "$* isn't built: make demo builds ctlog and ctmonitor, and rt run in its folder any other"; fi
+	else echo "$* isn't built: make demo builds it"; fi
 	@if [ $* = ctmonitor ] && [ -x "$(BUILT)/$*/out/$*" ]; then for script in $(WATCHING); do \
 	  install -m 755 "examples/monitor/$${script#*=}" "$(TO)/bin/ctmonitor-$${script%=*}" && echo "$(PREFIX)/bin/ctmonitor-$${script%=*}" || exit 1; done; \
 	  install -d "$(TO)/share/wagtenib/python/wagtenib" && install -m 644 bindings/python/wagtenib/*.py "$(TO)/share/wagtenib/python/wagtenib"; fi
@@ -124,7 +121,7 @@ install-library:
 	  echo "$(PREFIX)/lib/libwagtenib.so.$(VERSION), libwagtenib.a, wagtenib.h and wagtenib.pc"; \
 	else echo "libwagtenib isn't built: make link builds it"; fi
 
-programs: ## proves and builds all programs and libwagtenib, and builds the service: what a release is made of
+programs: ## proves and builds ctlog, ctmonitor and libwagtenib, and builds the service: what a release is made of
 	@checks/needs.sh programs
 	@checks/needs.sh service
 	@examples/build.py $(PROGRAMS) libwagtenib
@@ -135,7 +132,7 @@ programs: ## proves and builds all programs and libwagtenib, and builds the serv
 release: ## puts what is built into release/out: a tarball, Debian packages, SHA256SUMS and what they are made of
 	@PYTHONDONTWRITEBYTECODE=1 release/release.py --built "$(BUILT)"
 
-# As root, with mmdebstrap. A program of the crates that isn't built is compiled from dist/, or a program in Python stands in for it.
+# As root, with mmdebstrap. A program in Python stands in for ctlog or ctmonitor if it isn't built.
 bare: ## makes a release's packages, installs them on a bare Debian, and runs the lines of docs/OPERATING.md there as they stand
 	@checks/needs.sh service
 	@PYTHONDONTWRITEBYTECODE=1 tests/bare/bare.py --built "$(BUILT)"

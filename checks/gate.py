@@ -2,8 +2,8 @@
 """Runs `rt ci`, the merge gate, and prints each of its lines behind the time so far. Its last line, 'N passed, M failed', is printed once
 more, with the tests of the Go part in it, of which the file COUNT in the environment has how many passed and failed, and with what is run over the
 programs once `rt ci` has built them: all by words of their own (tests/command_lines.py), ctlog over sessions (tests/sessions.py), all while some growths
-of memory are refused (tests/sweep.py), and the parts of the demo (examples/demo.sh); dist/ is made again and compared (checks/dist.py), and its programs
-with the proved ones (tests/library/compare.py), its guard, step, witness and node with models (tests/library/guard.py, step.py, witness.py, node.py), the Rust crate with some of
+of memory are refused (tests/sweep.py), and the parts of the demo (examples/demo.sh); dist/ is made again and compared (checks/dist.py),
+its guard, step, witness and node with models (tests/library/guard.py, step.py, witness.py, node.py), the Rust crate with some of
 these (tests/library/rust.py), and the Python package with models (bindings/python/tests/compare.py). The status is that of `rt ci`, or 1 where one of these failed.
 
 `rt ci` tells of a crate when it is done, and not how many of its functions are proved so far; while it tells nothing, a line a minute says
@@ -48,7 +48,6 @@ DEMO = ("path", "monitor", "log", "watched", "tiles", "followed")
 # What compares dist/ with what is proved.
 OF_DIST = (
     "checks/dist.py",
-    "tests/library/compare.py",
     "tests/library/guard.py",
     "tests/library/step.py",
     "tests/library/witness.py",
@@ -60,7 +59,7 @@ OF_DIST = (
 # How the programs are broken off: each so many-th growth of memory is refused (make sweep refuses every one).
 BROKEN_OFF = (
     ("sweep.py", "--step", "40"),
-    *(("sweep.py", "--stored", name, "--step", "40") for name in ("ctmonitor", "ctproof")),
+    ("sweep.py", "--stored", "ctmonitor", "--step", "40"),
 )
 
 # How often it says that the gate is still at work, in seconds, while nothing else happens.

@@ -25,9 +25,7 @@ import textwrap
 import time
 
 ROOT = pathlib.Path(__file__).resolve().parent.parent
-PROGRAMS = {"ctlog": "make demo", "ctmonitor": "make demo", "ctproof": "make programs"}
-# Those that no service asks, since it contains their code: the tarball has them, and no package.
-APART = ()
+PROGRAMS = {"ctlog": "make demo", "ctmonitor": "make demo"}
 # The services that contain the proved code of dist/.
 LINKED = ("ctserve", "ctwitness-serve")
 SERVICE = ("ctserve", "ctcheck", "ctread", "ctload", "ctwitness-serve")
@@ -46,7 +44,7 @@ PAGES = ("OPERATING", "MONITOR", "GUARD", "GROWTH", "TILES", "LINES", "PROMISES"
 PACKAGES = {
     "wagtenib": (
         "Certificate Transparency log with proved steps, guard and proofs",
-        "ctserve serves a log over HTTP (RFC 6962, C2SP static-ct-api), and ctwitness-serve is a witness. Proved code in them decides what is appended, what is signed and what is cosigned; the rest of them, and what judges, reads and loads a log, is not proved. ctproof checks the promises of certificates, and ctlog is a log in memory: these are proved.",
+        "ctserve serves a log over HTTP (RFC 6962, C2SP static-ct-api), and ctwitness-serve is a witness. Proved code in them decides what is appended, what is signed and what is cosigned; the rest of them, and what judges, reads and loads a log, is not proved. ctlog, a log in memory, is proved.",
         "adduser, libsqlite3-0, procps",
         "ca-certificates, nginx | httpd, openssl",
     ),
@@ -196,7 +194,7 @@ class Release:
             found["usr/include/wagtenib.h"] = ((ROOT / "include" / "wagtenib.h").read_bytes(), 0o644)
             found[f"{doc}/LINKING.md"] = (self.documents()["LINKING.md"].read_bytes(), 0o644)
         else:
-            found.update({f"usr/bin/{command}": (path.read_bytes(), 0o755) for command, path in self.programs.items() if command not in ("ctmonitor", *APART)})
+            found.update({f"usr/bin/{command}": (path.read_bytes(), 0o755) for command, path in self.programs.items() if command != "ctmonitor"})
             found.update(installed_units("service", UNITS))
             found.update({f"usr/share/wagtenib/{file}": (path.read_bytes(), 0o644) for file, path in self.shared().items()})
             found.update({f"{doc}/{page}": (path.read_bytes(), 0o644) for page, path in self.documents().items() if page != "LICENSE"})
@@ -223,7 +221,7 @@ class Release:
 
     def libc(self, name):
         """The newest version of libc that one of the package's programs asks for, by what objdump reads."""
-        paths = {"ctmonitor": [self.programs["ctmonitor"]], "libwagtenib-dev": [self.linked.with_suffix(".so")]}.get(name) or [path for it, path in self.programs.items() if it not in ("ctmonitor", *APART)]
+        paths = {"ctmonitor": [self.programs["ctmonitor"]], "libwagtenib-dev": [self.linked.with_suffix(".so")]}.get(name) or [path for it, path in self.programs.items() if it != "ctmonitor"]
         asked = [tuple(map(int, it.split("."))) for path in paths for it in re.findall(r"GLIBC_([0-9.]+)\)", run("objdump", "-T", path).stdout)]
         return ".".join(map(str, max(asked, default=(2, 34))))
 

@@ -126,7 +126,7 @@ def try_programs(repository):
     shown = len(gate.DEMO) + len(gate.BROKEN_OFF) + len(gate.OF_DIST)
     compared = [repository.folder / script for script in gate.OF_DIST]
     for path in compared:
-        path.parent.mkdir(exist_ok=True)
+        path.parent.mkdir(parents=True, exist_ok=True)
         path.write_text("")
     good, bad, none = ("print('one: 9 sessions as due')", "print('one: 6 sessions as due, 3 not')\nsys.exit(1)", "sys.exit('no session')")
     for end, sessions, swept, part, rt, due, last in (
@@ -136,7 +136,7 @@ def try_programs(repository):
         ("", f"{good}\n{bad}", "none", "none", "echo 3 passed, 0 failed", 1, f"{20 + shown} passed, 3 failed"),
         ("", none, "none", "none", "echo 3 passed, 0 failed", 1, f"{5 + shown} passed, 1 failed"),
         ("", f"{good}\n{none}", "none", "none", "echo 3 passed, 0 failed", 1, f"{14 + shown} passed, 1 failed"),
-        ("", good, "ctproof", "none", "echo 3 passed, 0 failed", 1, f"{13 + shown} passed, 1 failed"),
+        ("", good, "ctmonitor", "none", "echo 3 passed, 0 failed", 1, f"{13 + shown} passed, 1 failed"),
         ("", good, "none", "log", "echo 3 passed, 0 failed", 1, f"{13 + shown} passed, 1 failed"),
         ("sys.exit(1)", bad, "none", "tiles", "echo 3 passed, 0 failed", 1, f"{10 + shown} passed, 5 failed"),
         ("", good, "none", "none", "echo 2 passed, 1 failed; exit 1", 1, "2 passed, 1 failed"),
@@ -158,6 +158,7 @@ def try_programs(repository):
         path.write_text("")
     compared[0].unlink()
     shutil.rmtree(words.parent)
+    shutil.rmtree(repository.folder / "bindings")
     demo.unlink()
 
 

@@ -21,18 +21,16 @@ UNREADABLE = b"\xff"
 LIMIT = 60
 # Of each program: its page, its exit statuses, words that its options take (5,000, so that one which stops before these is seen), and words that
 # ask for nothing that there is.
-OPTIONLESS = [["lines"], ["--origin", "log.example"], ["-"], [""], ["--Help"]]
 NO_LOG = ["--fronts 17 --ring 4", "--fronts 0 --ring 4", "--fronts 1 --ring 0", "--fronts 1 --ring 4097", "--fronts 1 --ring 4 --close-at 9007199254740992", "--fronts 1"]
 PROGRAMS = {
     "ctlog": ("docs/LINES.md", None, ["--fronts", "1", "--ring", "4"], [*map(str.split, NO_LOG), ["lines"], [""], ["a" * 3000]]),
     "ctmonitor": ("docs/MONITOR.md", "01234", ["--name", "a.example"] * 2500, [["lines"], ["--name"], ["--name", "a", "--name"], ["--names", "a"], [""], ["a" * 3000]]),
-    "ctproof": ("docs/TILES.md", "0124", [], OPTIONLESS),
 }
 # What help is, of those whose help tells no exit statuses. Any text may stand for `...`.
 HELP = {
     "ctlog": "Usage: ctlog [OPTIONS] --fronts <N> --ring <K>\n...The input is read whole before the log opens.\n",
 }
-# What is told of words that ask for nothing that there is, where that isn't help. There a word that isn't UTF-8 is such a word; elsewhere it can't be read.
+# What is told of words that ask for nothing that there is. A word that isn't UTF-8 is such a word.
 REFUSED = "error: ...\n\nRequests come on standard input, a line of JSON each.\n"
 TOLD = {"ctlog": REFUSED, "ctmonitor": "error: ..."}
 NOT_UTF_8 = "error: an argument isn't UTF-8\n..."
@@ -68,14 +66,6 @@ def due_text(what, text, wanted):
         due(what, text, wanted)
 
 
-def due_told(name, what, told, usage):
-    """What a program tells of words that ask for nothing that there is: help, or a text of its own."""
-    if name in TOLD:
-        due_text(what, told, TOLD[name])
-    else:
-        due(what, told, usage)
-
-
 def judge_help(name, page, statuses, text):
     """Whether help says how the program is called, where its page is, and what its exit statuses are."""
     lines = text.decode().splitlines()
@@ -96,21 +86,18 @@ def judge_words(name, program, lines):
     for words in (["-h"], [*options, "--help", "lines"], [*options, "-h", ""]):
         due(" ".join(words), ran(program, words, lines), (0, usage, b"", 0))
         runs += 1
-    for words in (["--version"], [*options, "--version", "--help"], *([["-V"]] if name in TOLD else [])):
+    for words in (["--version"], [*options, "--version", "--help"], ["-V"]):
         due(" ".join(words), ran(program, words, lines), (0, f"{name} {VERSION}\n".encode(), b"", 0))
         runs += 1
     for words in refused:
         status, written, told, read = ran(program, words, lines)
         due(repr(words)[:80], (status, written, read), (2, b"", 0))
-        due_told(name, f"{words!r:.80} told", told, usage)
+        due_text(f"{words!r:.80} told", told, TOLD[name])
         runs += 1
     for words in ([UNREADABLE], [*options, UNREADABLE], ["--help", UNREADABLE]):
         status, written, told, read = ran(program, words, lines)
-        if name in TOLD:
-            due("a word that isn't UTF-8", (status, written, read), (2, b"", 0))
-            due_text("a word that isn't UTF-8 told", told, NOT_UTF_8)
-        else:
-            due("a word that isn't UTF-8", (status, written, told, read), (1, b"", f"{name}: read\n".encode(), 0))
+        due("a word that isn't UTF-8", (status, written, read), (2, b"", 0))
+        due_text("a word that isn't UTF-8 told", told, NOT_UTF_8)
         runs += 1
     return runs
 

@@ -1,31 +1,25 @@
 #!/usr/bin/env python3
 """Gives the built programs a line of 400 MB, and looks that they hold little of it: long_lines.py [NAME..]
 
-A log or a client that is mistrusted may never end its line. ctlog, ctmonitor and ctproof, or those that are named, are
-given such a line and a good one behind it: the first is replied to with `bad-line`, the second as if it stood alone, and no program takes more than
-64 MB of memory, its own and this script's, but for ctproof, whose longest good line has 64 MB: twice that. Those that aren't built are
-named. The status is 1 where something isn't so.
+A log or a client that is mistrusted may never end its line. ctlog and ctmonitor, or those that are named, are given such
+a line and a good one behind it: the first is replied to with `bad-line`, the second as if it stood alone, and no program takes more than
+64 MB of memory, its own and this script's. Those that aren't built are named. The status is 1 if something isn't so.
 """
-import base64
 import os
 import subprocess
 import sys
 
 from sweep import CRATES
 
-PIECE, PIECES, MOST = b" " * (1 << 20), 400, {"ctproof": 128 << 10}
+PIECE, PIECES, MOST = b" " * (1 << 20), 400, 64 << 10
 LOG, FROZEN = ["--fronts", "1", "--ring", "4", "--close-at", "7"], b'{"who":"frozen","op":"get-sth"}'
 ROOT = "47DEQpj8HBSa+/TImW+5JCeuQeRkm5NMpJWZG3hSuFU="
 HEAD = f'{{"sha256_root_hash":"{ROOT}","timestamp":7,"tree_size":0}}'
 BAD = '{"error":"bad-line"}'
-REFUSED = '{"refused":"bad-line"}'
-# A log's first state at the moment 7 (docs/GROWTH.md).
-STATE = f"growth {7:032x}{base64.b64decode(ROOT).hex()}{bytes(32).hex()}{base64.b64decode(ROOT).hex()}{bytes(32).hex()}"
 # The words, the good line, how an output begins, and the status.
 PROGRAMS = {
     "ctlog": (LOG, FROZEN, f"{BAD}\n{HEAD}\n", 0),
     "ctmonitor": ([], HEAD.encode(), f'{BAD}\n{{"tree_size":0,"verdict":"accepted"}}\n', 4),
-    "ctproof": ([], b'{"needs_root":7}', f'{REFUSED}\n{{"names":["tile/0/000.p/7"]}}\n', 4),
 }
 
 
@@ -53,7 +47,7 @@ def main():
         output, status, taken = written(program, words, good)
         if not output.startswith(wanted) or status != due:
             sys.exit(f"long_lines.py: {name} ends with status {status} and writes {output[:400]}")
-        if taken > MOST.get(name, 64 << 10):
+        if taken > MOST:
             sys.exit(f"long_lines.py: {name} took {taken >> 10} MB for a line of {PIECES} MB")
         print(f"{name}: {taken >> 10} MB for a line of {PIECES} MB")
 

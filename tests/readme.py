@@ -10,6 +10,7 @@ A command of another page stands in ELSEWHERE, and a target of the Makefile that
 script, in that copy; bare/bare.py, on a bare Debian with the packages of a release; or pages.py, in a fresh clone with the kit.
 One that doesn't is a fault, and so is one that stands there and on no page.
 """
+import contextlib
 import json
 import os
 import pathlib
@@ -119,7 +120,9 @@ class Page:
 
     def end(self):
         if self.log:
-            os.killpg(self.log.pid, signal.SIGTERM)
+            # (if the log has ended already, what failed must be told, and not this)
+            with contextlib.suppress(ProcessLookupError):
+                os.killpg(self.log.pid, signal.SIGTERM)
             self.log.communicate()
 
 

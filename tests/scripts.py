@@ -148,27 +148,16 @@ def make_install(folder, built):
     return subprocess.run(["make", "--silent", "install", *words], cwd=HERE.parent, env=environment, capture_output=True, text=True)
 
 
-def try_models():
-    """tiles/step.py writes the stored output of ctproof over its words and input, and ends with its status."""
-    for script, program in (("tiles/step.py", "ctproof"),):
-        crate = HERE.parent / "crates" / program
-        words = (crate / "args").read_text().split("\n")[:-1] if (crate / "args").exists() else []
-        ran = run(script, *words, given=(crate / "stdin").read_bytes())
-        if ran.stdout != (crate / "stdout").read_bytes() or ran.returncode != int((crate / "status").read_text()):
-            fail(f"{script} writes another output than crates/{program}/stdout, with status {ran.returncode}: {ran.stderr.decode()}")
-
-
 def try_tiles():
     """tiles/growth.py, with tiles/expected.py behind it, writes the stored output of print_steps, and tiles/hostile.py the values of
-    line_tests; tiles/step.py answers two random histories, and a reader of tiles, as the leaves have it."""
+    line_tests; tiles/step.py answers two random histories as the leaves have it."""
     stored = (("growth", "print_steps/stdout"), ("hostile", "line_tests/src/hostile.rt"))
     for script, file in stored:
         if run(f"tiles/{script}.py").stdout != (HERE.parent / "crates" / file).read_bytes():
             fail(f"tiles/{script}.py writes another text than crates/{file}")
-    for script, words in (("histories", ("--histories", 2)), ("readings", ("--sizes", 20, "--requests", 10))):
-        ran = run(f"tiles/{script}.py", *words)
-        if ran.returncode:
-            fail(f"tiles/{script}.py: {ran.stderr.decode()}")
+    ran = run("tiles/histories.py", "--histories", 2)
+    if ran.returncode:
+        fail(f"tiles/histories.py: {ran.stderr.decode()}")
 
 
 def installed(folder):
@@ -268,6 +257,8 @@ def try_install(folder):
     ran = make_install(folder / "alone", folder / "alone")
     if ran.returncode or not (folder / "alone" / "to" / "opt" / "log" / "bin" / "ctmonitor-watch").exists():
         fail(f"make install, with ctmonitor alone: status {ran.returncode}: {ran.stderr}")
+    if "ctlog isn't built" not in ran.stdout or "libwagtenib isn't built" not in ran.stdout or "ctmonitor isn't built" in ran.stdout:
+        fail(f"make install, with ctmonitor alone, says {ran.stdout}")
     sources = {"bin/ctlog": "ctlog/out/ctlog", "bin/ctmonitor": "ctmonitor/out/ctmonitor"}
     sources.update({f"lib/libwagtenib.{name}": f"libwagtenib/out/link/libwagtenib.{end}" for name, end in (("a", "a"), ("so.0.1.0", "so"))})
     for path in sources.values():
@@ -279,10 +270,11 @@ def try_install(folder):
     due.update({f"lib/libwagtenib.{end}": due["lib/libwagtenib.so.0.1.0"] for end in ("so.0", "so")})
     due.update({f"bin/ctmonitor-{name}": (EXAMPLES / "monitor" / f"{name}.sh").read_text() for name in ("cosignatures", "mail", "signature", "watch")})
     due.update({f"bin/ctmonitor-{name}": (EXAMPLES / "monitor" / f"{name.replace('-', '_')}.py").read_text() for name in ("audit", "cosign", "from-end", "keep", "log-list", "show")})
+    due.update({f"share/wagtenib/python/wagtenib/{path.name}": path.read_text() for path in (HERE.parent / "bindings" / "python" / "wagtenib").glob("*.py")})
     due["include/wagtenib.h"] = (HERE.parent / "include" / "wagtenib.h").read_text()
     due["lib/pkgconfig/wagtenib.pc"] = (HERE.parent / "include" / "wagtenib.pc.in").read_text().replace("@PREFIX@", "/opt/log").replace("@VERSION@", "0.1.0")
     to = folder / "to" / "opt" / "log"
-    if ran.returncode or "ctproof isn't built" not in ran.stdout or "ctlog isn't built" in ran.stdout:
+    if ran.returncode or "isn't built" in ran.stdout:
         fail(f"make install: status {ran.returncode}: {ran.stdout}{ran.stderr}")
     if installed(to) != due or installed(folder / "to") != {f"opt/log/{path}": text for path, text in due.items()}:
         fail(f"make install: it installed {sorted(installed(folder / 'to'))}, or another text")
@@ -302,11 +294,11 @@ def try_release(folder):
         return subprocess.run(words, capture_output=True, text=True)
 
     ran = make("none", "nothing", "nothing")
-    if ran.returncode != 1 or not all(name in ran.stderr for name in ("ctlog (make demo)", "ctproof (make programs)", "ctserve (make service)", "libwagtenib.so (make link)")):
+    if ran.returncode != 1 or not all(name in ran.stderr for name in ("ctlog (make demo)", "ctmonitor (make demo)", "ctserve (make service)", "libwagtenib.so (make link)")):
         fail(f"release.py, with nothing built: status {ran.returncode}: {ran.stdout}{ran.stderr}")
     if (folder / "none").exists():
         fail("release.py makes something of nothing")
-    programs = {name: folder / "built" / name / "out" / name for name in ("ctlog", "ctmonitor", "ctproof")}
+    programs = {name: folder / "built" / name / "out" / name for name in ("ctlog", "ctmonitor")}
     programs.update({name: folder / "service" / name for name in ("ctserve", "ctcheck", "ctread", "ctload", "ctwitness-serve")})
     library = {f"libwagtenib.{end}": folder / "built" / "libwagtenib" / "out" / "link" / f"libwagtenib.{end}" for end in ("a", "so")}
     commit = subprocess.run(["git", "log", "-1", "--format=%H"], cwd=HERE, capture_output=True, text=True).stdout[:12]
@@ -315,7 +307,7 @@ def try_release(folder):
         path.parent.mkdir(parents=True, exist_ok=True)
         path.write_text(texts.get(name, f"made up: {name}"))
         path.chmod(0o755)
-    for name, other in (("ctproof", "ctproof 0.1.1"), ("ctcheck", f"ctcheck 0.1.0 (commit {commit[::-1]})")):
+    for name, other in (("ctlog", "ctlog 0.1.1"), ("ctcheck", f"ctcheck 0.1.0 (commit {commit[::-1]})")):
         programs[name].write_text(f"#!/bin/sh\necho '{other}'\n")
         ran = make("none")
         if ran.returncode != 1 or f"of another version than 0.1.0, or another commit than {commit}: {name} ({other})" not in ran.stderr or (folder / "none").exists():
@@ -339,7 +331,7 @@ def try_release(folder):
         if subprocess.run(words).returncode:
             fail(f"release.py: {name} can't be unpacked")
     places = {"wagtenib-0.1.0-x86_64.tar.gz": ("wagtenib-0.1.0/bin", tuple(programs)),
-              "wagtenib_0.1.0_amd64.deb": ("usr/bin", ("ctserve", "ctwitness-serve", "ctcheck", "ctread", "ctload", "ctproof", "ctlog")), "ctmonitor_0.1.0_amd64.deb": ("usr/bin", ("ctmonitor",))}
+              "wagtenib_0.1.0_amd64.deb": ("usr/bin", ("ctserve", "ctwitness-serve", "ctcheck", "ctread", "ctload", "ctlog")), "ctmonitor_0.1.0_amd64.deb": ("usr/bin", ("ctmonitor",))}
     for name, (below, held) in places.items():
         for program in held:
             path = out / name / below / program
@@ -362,7 +354,7 @@ def try_release(folder):
             fail(f"release.py: PROVED of {name} names {sorted(named)}")
     bill = json.loads((folder / "first" / "SBOM.spdx.json").read_text())
     named = {package["name"] for package in bill["packages"]}
-    if bill["spdxVersion"] != "SPDX-2.3" or not {"ctserve", "ctproof", "sha2", "std"} <= named or len({it["SPDXID"] for it in bill["packages"]}) != len(bill["packages"]):
+    if bill["spdxVersion"] != "SPDX-2.3" or not {"ctserve", "ctlog", "sha2", "std"} <= named or len({it["SPDXID"] for it in bill["packages"]}) != len(bill["packages"]):
         fail(f"release.py: the SBOM names {sorted(named)}")
     has_go = not subprocess.run([HERE.parent / "deps" / "fetch.sh"], env={**os.environ, "SETUP": "no"}, capture_output=True).returncode
     if has_go and (not {"go", "golang.org/x/mod", "github.com/lib/pq"} <= named or "github.com/google/certificate-transparency-go" in named):
@@ -616,7 +608,6 @@ def main():
     quotations = try_quotations()
     try_waits()
     try_first_session()
-    try_models()
     try_tiles()
     try_nodes()
     for name, words in INPUTS.items():

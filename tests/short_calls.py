@@ -18,7 +18,7 @@ import tempfile
 
 from sweep import CRATES, HERE, line
 
-PROGRAMS = ("ctlog", "ctmonitor", "ctproof")
+PROGRAMS = ("ctlog", "ctmonitor")
 
 
 def long_reply():

@@ -16,7 +16,7 @@ Each run has to end by itself within a minute, and in one of these ways:
   tests/check.py, which recomputes tickets, settlement, entries, heads, proofs and receipts from what the replies say was done. (A line that then waits in
   vain is told `late`.)
 
---step refuses each N-th of them, and else every one. --stored takes a program that answers line by line (ctmonitor, ctproof) over the run that is stored in crates/NAME. With ample memory its
+--step refuses each N-th of them, and else every one. --stored takes a program that answers line by line, as ctmonitor, over the run that is stored in crates/NAME. With ample memory its
 output and status have to be the stored ones; with a growth refused, too, or the status 1, with `NAME: memory` or a beginning of that line, and whole replies.
 Before that an output that is full has to end it with status 1 and `NAME: write`, and an input that is a folder with `NAME: read`.
 

@@ -5,8 +5,8 @@ tests/readme.py leaves to it: the log is watched, and has a witness.
 
     bare.py [--built FOLDER] [--keep]
 
-As root, with mmdebstrap (Debian's package of that name). The release is made here, out of what is built (crates/NAME/out, service/out). A program of the
-crates that isn't built is compiled from dist/; for ctlog and ctmonitor, which dist/ doesn't have, one in Python stands in, and that is said. The release that the page upgrades to is this one with another VERSION.
+As root, with mmdebstrap (Debian's package of that name). The release is made here, out of what is built (crates/NAME/out, service/out). If ctlog or
+ctmonitor isn't built, a program in Python stands in for it, and that is said. The release that the page upgrades to is this one with another VERSION.
 
 Debian's packages come from its mirror; all else goes on in a network of its own, which has loopback alone: there the log list that the monitor's page reads
 is served at its address by this machine's nginx, and has the log. No systemd runs there: tests/bare/systemctl does
@@ -46,7 +46,7 @@ LOG, SITE = "http://127.0.0.1:8618", f"https://{HOST}"
 # How long one line, or a wait, may take, in seconds.
 WITHIN = 900
 MADE = "# Ctrl-C once it says serving"
-# The programs in Python that stand in where one isn't built that dist/ doesn't have either.
+# The programs in Python that stand in for one that isn't built.
 MODELS = {"ctlog": "expected.py", "ctmonitor": "../examples/monitor/stand_in.py"}
 NEW_NETWORK = 0x40000000
 
@@ -76,18 +76,13 @@ class Releases:
 
     def __init__(self, work, built):
         self.work, self.built, self.lacking = work, work / "built", []
-        subprocess.run([ROOT / "dist" / "programs.sh", work / "compiled"], check=True)
         for name in PROGRAMS:
             to = self.built / name / "out" / name
             to.parent.mkdir(parents=True)
             if (built / name / "out" / name).exists():
                 shutil.copy(built / name / "out" / name, to)
-            elif (work / "compiled" / "bin" / name).exists():
-                shutil.copy(work / "compiled" / "bin" / name, to)
             else:
                 self.lacking.append(name)
-                if name not in MODELS:
-                    fail(f"{name} isn't built, and no program of tests/ stands in for it")
                 to.write_text(f'#!/bin/sh\nexec python3 /opt/tests/{MODELS[name]} "$@"\n')
             to.chmod(0o755)
         linked = self.built / "libwagtenib" / "out" / "link"

@@ -1,15 +1,8 @@
-"""What a log promised of a certificate (RFC 6962, sections 3.1 to 3.4), by hashlib alone: the lines of ctproof about certificates, which
-step.py answers beside those of a reader of tiles (docs/TILES.md).
+"""The promise of a log about a certificate (RFC 6962, sections 3.1 to 3.4), by hashlib: the model of the calls of libwagtenib over certificates.
 
-    {"precertificate":TBS}                               {"tbs_certificate":BYTES}    the TBSCertificate without the poison
-    {"leaf_of":CERTIFICATE,"issuer":CERTIFICATE,         {"leaf_input":BYTES}         the leaf that a timestamp within the certificate
-     "timestamp":MOMENT,"extensions":BYTES}                                            stands for
-    the same with "stands" in place of "leaf_of",        {"stands":true}              that this leaf stands there
-     "leaf_index", "tree_size", "audit_path",
-     "sha256_root_hash"
-
-Refused: {"document":"certificate","refused":"no-extension"} or second-extension; a fault of DER with its field; bad-poison; too-long; and
-{"fault":NAME,"refused":"not-there"}. The document is the certificate (or precertificate) or its issuer's.
+entry_of gives the TBSCertificate of a precertificate without the poison, and leaf_of the leaf that a timestamp within a certificate stands for. Each raises
+Unfit if a certificate gives nothing, with the reason: no-extension, second-extension, bad-poison, too-long, or a fault of DER with its field. The document is
+the certificate (or precertificate) or its issuer's.
 """
 import hashlib
 

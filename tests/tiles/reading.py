@@ -1,20 +1,9 @@
-"""Audit paths, consistency proofs and roots out of a log's tiles, by hashlib alone: the lines of a reader, which step.py answers beside those of
-a step (docs/TILES.md).
+"""Audit paths, consistency proofs and roots out of a log's tiles, by hashlib: the model of the calls of libwagtenib over tiles.
 
-Each thing that is read has two requests. The first asks for the names of the tiles that it is made of, each in the tree of so many leaves
-(C2SP tlog-tiles), in the order of ct_tile_reader's tiles_for_path, tiles_for_proof and tiles_for_root; the second hands over their contents in
-that order, and gets what was asked for. Bytes are in base64, and a number is below 2^64:
-
-    {"needs_path":INDEX,"tree_size":SIZE}           {"names":[NAME,..]}
-    {"path":INDEX,"tiles":[BYTES,..],"tree_size":SIZE}    {"audit_path":[HASH,..]}            PATH(INDEX, D[SIZE]), RFC 6962, section 2.1.1
-    {"needs_proof":FIRST,"tree_size":SIZE}          {"names":[NAME,..]}
-    {"proof":FIRST,"tiles":[BYTES,..],"tree_size":SIZE}   {"consistency":[HASH,..]}           PROOF(FIRST, D[SIZE]), section 2.1.2
-    {"needs_root":SIZE}                             {"names":[NAME,..]}
-    {"root":SIZE,"tiles":[BYTES,..]}                {"sha256_root_hash":HASH}                 MTH(D[SIZE]), section 2.1
-
-Refused, and by these names: bad-line where INDEX isn't below SIZE, FIRST isn't above 0 and below SIZE, SIZE is 0, or there are more contents
-than tiles; else the first tile that has none is {"refused":"missing-tile","tile":NAME}, and one whose bytes aren't 32 for each of its hashes
-{"refused":"bad-tile","tile":NAME}. Whether the tiles are a log's nobody looks at: who asks checks the answer against roots that it has.
+path_tiles, proof_tiles and root_tiles give the tiles that each is made of in the tree of so many leaves (C2SP tlog-tiles), in the order of ct_tile_reader's
+tiles_for_path, tiles_for_proof and tiles_for_root. A Tree of their contents, in that order, gives PATH, PROOF and MTH (RFC 6962, section 2.1). The first tile
+that has no contents is a missing-tile, and one whose bytes aren't 32 for each of its hashes is a bad-tile. The caller must check the answer against roots
+that it has: nothing here decides whether the tiles are a log's.
 """
 from expected import name
 from merkle import Ranges, node_hash, split

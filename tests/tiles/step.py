@@ -5,7 +5,7 @@ slow and proved nowhere.
     step.py [--origin TEXT] < lines > replies
 
 A request is told apart by its keys: begin (a moment); needs (a state's line); batch, edge, now and state, most_ahead beside them or not; bundle and
-resume (a state's line); claim, path, state and submission; and those of a reader of the log, which reading.py and promises.py list. Each reply is handed on before the next line is read, and nothing is
+resume (a state's line); and claim, path, state and submission. Each reply is handed on before the next line is read, and nothing is
 kept between lines. TEXT is the log's origin in checkpoints (C2SP tlog-checkpoint).
 
 It ends with status 0; 1 where memory was refused, or reading or writing failed; 2 for its command line; 4 where a line was no request.
@@ -22,9 +22,7 @@ sys.path.append(str(pathlib.Path(__file__).resolve().parent.parent))
 from expected import digest, mth, name  # noqa: E402
 from json_lines import is_bytes, is_hash, is_list_of, is_number, json_line, json_of, lines_of, text  # noqa: E402
 from leaves import Submission, signed_bytes, tile_leaf, vector  # noqa: E402
-from merkle import fault_of_path, includes  # noqa: E402
-from promises import Unfit, entry_of as entry_of_precertificate, leaf_of as leaf_of_promise  # noqa: E402
-from reading import BadTile, Tree, path_tiles, proof_tiles, root_tiles  # noqa: E402
+from merkle import includes  # noqa: E402
 from states import State, state_of, written  # noqa: E402
 
 LONGEST = 1 << 26
@@ -288,75 +286,6 @@ def claim(place, path, line, submission, origin):
     return {"receipt": {"leaf_index": index, "sign": text(signed), "timestamp": moment}}
 
 
-def names_of(tiles):
-    return {"names": [name(*tile) for tile in tiles]}
-
-
-def right(is_so):
-    """Refuses a line whose numbers can't be together."""
-    if not is_so:
-        raise Refused("bad-line")
-
-
-def tree_of(size, tiles, contents):
-    """The tree of so many leaves, of which these tiles are handed over."""
-    right(len(contents) <= len(tiles))
-    return Tree(size, tiles, list(map(base64.b64decode, contents)))
-
-
-def needs_path(index, size, origin):
-    right(index < size)
-    return names_of(path_tiles(index, size))
-
-
-def path(index, contents, size, origin):
-    right(index < size)
-    return {"audit_path": list(map(text, tree_of(size, path_tiles(index, size), contents).path(index, 0, size)))}
-
-
-def needs_proof(first, size, origin):
-    right(0 < first < size)
-    return names_of(proof_tiles(first, size))
-
-
-def proof(first, contents, size, origin):
-    right(0 < first < size)
-    return {"consistency": list(map(text, tree_of(size, proof_tiles(first, size), contents).proof(first, 0, size)))}
-
-
-def needs_root(size, origin):
-    right(size > 0)
-    return names_of(root_tiles(size))
-
-
-def root(size, contents, origin):
-    right(size > 0)
-    return {"sha256_root_hash": text(tree_of(size, root_tiles(size), contents).root(0, size))}
-
-
-def promised(certificate, issuer, moment, extensions):
-    right(len(base64.b64decode(extensions)) < 1 << 16)
-    return leaf_of_promise(base64.b64decode(certificate), base64.b64decode(issuer), moment, base64.b64decode(extensions))
-
-
-def stands(certificate, issuer, moment, extensions, index, size, path, root, origin):
-    """Whether the leaf that a timestamp within a certificate stands for stands in a tree."""
-    leaf = promised(certificate, issuer, moment, extensions)
-    fault = fault_of_path(leaf, index, size, list(map(base64.b64decode, path)), base64.b64decode(root))
-    return {"fault": fault, "refused": "not-there"} if fault else {"stands": True}
-
-
-def leaf_of(certificate, issuer, moment, extensions, origin):
-    return {"leaf_input": text(promised(certificate, issuer, moment, extensions))}
-
-
-def precertificate(tbs, origin):
-    return {"tbs_certificate": text(entry_of_precertificate(base64.b64decode(tbs)))}
-
-
-PROMISE = {"issuer": is_bytes, "timestamp": is_number, "extensions": is_bytes}
-STANDING = {"leaf_index": is_number, "tree_size": is_number, "audit_path": is_list_of(is_hash), "sha256_root_hash": is_hash}
-
 # What each request does, and what has to stand under its keys.
 REQUESTS = (
     (begin, {"begin": is_number}),
@@ -364,15 +293,6 @@ REQUESTS = (
     (step, {"batch": is_list_of(is_submission), "edge": is_list_of(is_bytes), "now": is_number, "state": is_text, "most_ahead": is_number}),
     (resume, {"bundle": is_bytes, "resume": is_text}),
     (claim, {"claim": is_claim, "path": is_list_of(is_hash), "state": is_text, "submission": is_entry}),
-    (needs_path, {"needs_path": is_number, "tree_size": is_number}),
-    (path, {"path": is_number, "tiles": is_list_of(is_bytes), "tree_size": is_number}),
-    (needs_proof, {"needs_proof": is_number, "tree_size": is_number}),
-    (proof, {"proof": is_number, "tiles": is_list_of(is_bytes), "tree_size": is_number}),
-    (needs_root, {"needs_root": is_number}),
-    (root, {"root": is_number, "tiles": is_list_of(is_bytes)}),
-    (stands, {"stands": is_bytes, **PROMISE, **STANDING}),
-    (leaf_of, {"leaf_of": is_bytes, **PROMISE}),
-    (precertificate, {"precertificate": is_bytes}),
 )
 
 
@@ -386,10 +306,6 @@ def reply_to(line, origin):
                 return answer(*(value[key] for key in keys), origin)
     except Refused as refused:
         return {"refused": str(refused)}
-    except Unfit as unfit:
-        return unfit.args[0]
-    except BadTile as bad:
-        return dict(zip(("refused", "tile"), bad.args))
     except ValueError:
         pass
     return {"refused": "bad-line"}
