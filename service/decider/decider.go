@@ -250,8 +250,10 @@ func (d *Decider) Next(command *Command, told Told) (*Command, error) {
 	if err != nil {
 		return nil, err
 	}
-	next.Objects, err = next.objects(command, told)
-	return next, err
+	if next.Objects, err = next.objects(command, told); err != nil {
+		return nil, err
+	}
+	return next, nil
 }
 
 // ofState returns the text of a state, which must be one of these.

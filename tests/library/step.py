@@ -14,8 +14,8 @@ import sys
 import tempfile
 
 TILES = pathlib.Path(__file__).resolve().parent.parent / "tiles"
-sys.path.append(str(TILES))
-# (the folder above is on the path only now)
+# In place of this folder, since a module there has this one's name.
+sys.path[0] = str(TILES)
 from calls import library_of  # noqa: E402
 
 
