@@ -45,12 +45,11 @@ func TestPageSaysBounds(t *testing.T) {
 		"sixteen at once, and 32 MiB of them are kept":                                                              mostBeside == 16 && mostKeptBytes == 32<<20,
 		"A round waits for these tiles for a quarter of a second, or for 20 ms if new entries wait too":             mostRepeating == 250*time.Millisecond && mostBefore == 20*time.Millisecond,
 		"If the register cannot be read, or does not answer for two seconds":                                        mostUnread == 2*time.Second,
-		"- an entry above 128 KiB.": MostEntry == 128<<10,
-		"An entry has at most 128 KiB because a request for a step must be able to hold 255 of them": MostEntry == 128<<10 && tileWidth-1 == 255,
-		"Waiting clients get an error after five seconds":                                            config.Patience == 5*time.Second,
-		"a first step more than a day after the newest head":                                         mostStood == 24*time.Hour,
-		"after the register could not be read, or was not read for a minute":                         mostUnvouched == time.Minute,
-		"reading all old tiles again within a week (`read-all-within`)":                              config.ReadAllWithin == week,
+		"- an entry above 128 KiB.":                                          MostEntry == 128<<10,
+		"Waiting clients get an error after five seconds":                    config.Patience == 5*time.Second,
+		"a first step more than a day after the newest head":                 mostStood == 24*time.Hour,
+		"after the register could not be read, or was not read for a minute": mostUnvouched == time.Minute,
+		"reading all old tiles again within a week (`read-all-within`)":      config.ReadAllWithin == week,
 		// (a week's turns of one tile each, and of the most)
 		"one data tile a second is enough for 1.5 x 10^8 entries, and 16 (the maximum) for 2.5 x 10^9": config.TendEvery == time.Second && mostReadAgain == 16 &&
 			week/time.Second*tileWidth/1e7 == 15 && week/time.Second*tileWidth*mostReadAgain/1e8 == 24,
@@ -62,7 +61,7 @@ func TestPageSaysBounds(t *testing.T) {
 	// (half of what is written are partial tiles, and these stand for as long again as they have to)
 	partials := float64(config.MostWritten) / 2 * 2 * config.SweepTilesAfter.Seconds()
 	trial.Says(t, trial.Page(t, "../README.md"), map[string]bool{
-		"An entry has at most 128 KiB because a step holds 255 of them, in the partial data tile, beside 12 MiB of new ones": MostEntry == 128<<10 && MostBatchBytes == 12<<20,
+		"An entry has at most 128 KiB because a step holds 255 of them, in the partial data tile, beside 12 MiB of new ones": MostEntry == 128<<10 && tileWidth-1 == 255 && MostBatchBytes == 12<<20,
 		"So a data tile has at most 34 MB. Answers hold at most 15 of these at once, and two for one address": math.Round(float64(tile)/1e6) == 34 && tile < stores.MostObject &&
 			answers/tile == 15 && ofOne/tile == 2,
 		"which stay for five to ten minutes until they are deleted: up to 5 GB": config.SweepTilesAfter == 5*time.Minute && partials >= 5e9 && partials < 5.1e9,
