@@ -10,7 +10,6 @@ import (
 	"syscall"
 	"testing"
 
-	"wagtenib/bindings/go/wagtenib"
 	"wagtenib/service/decider"
 	"wagtenib/service/signer"
 	"wagtenib/service/step"
@@ -168,9 +167,6 @@ func TestNotCreated(t *testing.T) {
 type unmade struct{ stores.Register }
 
 func (unmade) Create(context.Context, string) error { return errUnwell }
-
-// dry is a function over lines for which there is no memory.
-func dry(*[]byte, []byte) ([]byte, error) { return nil, wagtenib.ErrMemory }
 
 // TestStartOverWhatMoves: where another node goes on between two readings, all is read again; and what can't be read is said.
 func TestStartOverWhatMoves(t *testing.T) {
