@@ -4,7 +4,7 @@ more, with the tests of the Go part in it, of which the file COUNT in the enviro
 programs once `rt ci` has built them: all by words of their own (tests/command_lines.py), ctlog over sessions (tests/sessions.py), all while some growths
 of memory are refused (tests/sweep.py), and the parts of the demo (examples/demo.sh); dist/ is made again and compared (checks/dist.py),
 its guard, step, witness and node with models (tests/library/guard.py, step.py, witness.py, node.py), the Rust crate with some of
-these (tests/library/rust.py), and the Python package with models (bindings/python/tests/compare.py). The status is that of `rt ci`, or 1 where one of these failed.
+these (tests/library/rust.py), and called without memory (tests/library/refusals.py), and the Python package with models (bindings/python/tests/compare.py). The status is that of `rt ci`, or 1 where one of these failed.
 
 `rt ci` tells of a crate when it is done, and not how many of its functions are proved so far; while it tells nothing, a line a minute says
 how long it has been at work. Behind it a line says how many processor minutes it took.
@@ -52,6 +52,7 @@ OF_DIST = (
     "tests/library/step.py",
     "tests/library/witness.py",
     "tests/library/node.py",
+    "tests/library/refusals.py",
     "tests/library/rust.py",
     "bindings/python/tests/compare.py",
 )

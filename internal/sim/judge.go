@@ -27,7 +27,7 @@ type judge struct {
 	roots      [][32]byte
 	tree       *compact.Range
 	identities map[[32]byte]int
-	// newest is the newest head that was put, and tiles the first content of each tile.
+	// newest is the newest head that was put, and tiles the last content that was put of each tile.
 	newest signer.Head
 	tiles  map[string][]byte
 	counts [kinds]int
@@ -75,12 +75,11 @@ func (j *judge) breaks(rule, what string, of ...any) {
 func (j *judge) put(name string, content []byte) {
 	switch {
 	case strings.HasPrefix(name, "tile/"):
-		if first, ok := j.tiles[name]; ok && !bytes.Equal(first, content) && !j.w.excuses.tiles {
+		if before, ok := j.tiles[name]; ok && !bytes.Equal(before, content) && !j.w.excuses.tiles {
 			j.breaks("a tile has one content", "%s gets a second content", name)
 		}
-		if _, ok := j.tiles[name]; !ok {
-			j.tiles[name] = content
-		}
+		// After a rollback, the tile of another tree may get this name.
+		j.tiles[name] = content
 	case strings.HasPrefix(name, "heads/"):
 		j.putHead(name, string(content))
 	case !strings.HasPrefix(name, "staging/"):
@@ -201,11 +200,11 @@ func (j *judge) tile(prefix string, n, width uint64, name string) ([]byte, bool)
 	if width < 256 {
 		tile += fmt.Sprintf(".p/%d", width)
 	}
-	first, put := j.tiles[tile]
+	last, put := j.tiles[tile]
 	stored, isThere := j.w.stores.objects[tile]
 	switch {
 	case j.w.excuses.missing && put:
-		return first, true
+		return last, true
 	case !isThere:
 		j.breaks("a head's tree is in the store", "%s: %s is missing", name, tile)
 		return nil, false
@@ -297,7 +296,7 @@ func (j *judge) deletes(name string) {
 		}
 		return
 	}
-	if first, ok := j.tiles[name]; !ok || bytes.Equal(first, j.w.stores.objects[name]) {
+	if last, ok := j.tiles[name]; !ok || bytes.Equal(last, j.w.stores.objects[name]) {
 		if !j.w.excuses.missing {
 			j.breaks("published objects stay", "%s is deleted", name)
 		}

@@ -10,6 +10,7 @@ once. Without gcc for this processor it says so.
 import argparse
 import collections
 import ctypes
+import os
 import pathlib
 import platform
 import random
@@ -56,10 +57,12 @@ class Witness:
     """The calls of the library."""
 
     def __init__(self, folder):
-        code = subprocess.run([ROOT / "dist" / "processor.sh"], capture_output=True, text=True, check=True).stdout.strip()
-        made = pathlib.Path(folder) / "libwagtenib.so"
-        subprocess.run(["gcc", "-shared", "-fPIC", "-O2", ROOT / "dist" / "memory.c", code, "-o", made], check=True)
-        self.library = ctypes.CDLL(str(made))
+        made = os.environ.get("WAGTENIB_LIBRARY")
+        if not made:
+            code = subprocess.run([ROOT / "dist" / "processor.sh"], capture_output=True, text=True, check=True).stdout.strip()
+            made = f"{folder}/libwagtenib.so"
+            subprocess.run(["gcc", "-shared", "-fPIC", "-O2", ROOT / "dist" / "memory.c", code, "-o", made], check=True)
+        self.library = ctypes.CDLL(made)
 
     def cosign(self, is_first, state, text, old, hashes, time, room):
         """The code, the memory after the call, and the length."""

@@ -1,0 +1,95 @@
+#!/usr/bin/env python3
+"""Refuses memory to each function of libwagtenib, as gcc makes it of dist/, and compares what it takes with include/wagtenib.h.
+
+    refusals.py
+
+refusals.c wraps the functions while other comparisons run over them. Each call is made again with one growth of memory refused, and must return
+OUT_OF_MEMORY then. After every call all memory must be given back, and no call may use more stack than the header says. Each function must be called, and each
+that takes memory must have been refused some. Without gcc for this processor it says so.
+"""
+import os
+import pathlib
+import platform
+import re
+import shutil
+import subprocess
+import sys
+import tempfile
+
+HERE = pathlib.Path(__file__).resolve().parent
+ROOT = HERE.parent.parent
+HEADER = (ROOT / "include" / "wagtenib.h").read_text()
+# What the header says of stack, in bytes: of each function, and of those of the step and of the witness.
+LEAST_STACK, MORE_STACK = 16 << 10, 128 << 10
+
+
+def library_in(folder):
+    """The library whose functions refusals.c wraps."""
+    code = pathlib.Path(subprocess.run([ROOT / "dist" / "processor.sh"], capture_output=True, text=True, check=True).stdout.strip()).read_text()
+    names = sorted(set(re.findall(r"\.globl\s+(wagtenib_\w+)", code)))
+    (folder / "real.s").write_text(re.sub(rf"\b({'|'.join(names)})\b", r"real_\1", code))
+    (folder / "functions.h").write_text("".join(f"FUNCTION({name})\n" for name in names))
+    made = folder / "libwagtenib.so"
+    subprocess.run(["gcc", "-shared", "-fPIC", "-O2", "-Wall", f"-I{folder}", HERE / "refusals.c", folder / "real.s", "-o", made], check=True)
+    return made
+
+
+def runs(library):
+    """The comparisons that call the functions."""
+    tiles = ROOT / "tests" / "tiles"
+    yield [tiles / "histories.py", "--histories", "4", sys.executable, tiles / "calls.py", library]
+    yield [HERE / "witness.py", "--calls", "1000"]
+    yield [HERE / "node.py", "--calls", "4000", "--histories", "6"]
+    yield [ROOT / "bindings" / "python" / "tests" / "compare.py", "--calls", "150"]
+
+
+def faults(told):
+    """What is not as it must be."""
+    names = set(re.findall(r"^\w+ (wagtenib_\w+)\(", HEADER, re.M))
+    stacks = re.search(r"The stack has (\d+) KB left, or (\d+) KB for the functions of the step and of the witness", HEADER)
+    if not stacks or (int(stacks[1]) << 10, int(stacks[2]) << 10) != (LEAST_STACK, MORE_STACK):
+        yield "the header has another sentence about the stack"
+    for name in sorted(names - set(told)):
+        yield f"{name} is not called"
+    for name, (calls, refused, wrong, kept, stack, memory) in sorted(told.items()):
+        if not calls:
+            yield f"{name} is not called"
+        if memory and not refused:
+            yield f"{name} takes memory, and none was refused"
+        if wrong:
+            yield f"{name}: {wrong} of {refused} calls without memory do not return OUT_OF_MEMORY"
+        if kept:
+            yield f"{name}: {kept} calls did not give back all memory"
+        if stack > (MORE_STACK if re.match("wagtenib_(step|witness)", name) else LEAST_STACK):
+            yield f"{name}: {stack} bytes of stack"
+
+
+def main():
+    if not shutil.which("gcc") or platform.machine() not in ("x86_64", "aarch64"):
+        print("tests/library/refusals.py: nothing was compared, for want of gcc for a processor of dist/")
+        return 0
+    with tempfile.TemporaryDirectory(prefix="wagtenib-refusals-") as folder:
+        folder = pathlib.Path(folder)
+        library, report = library_in(folder), folder / "report"
+        surroundings = {**os.environ, "WAGTENIB_LIBRARY": str(library), "REFUSALS": str(report), "PYTHONDONTWRITEBYTECODE": "1"}
+        for run in runs(library):
+            ran = subprocess.run([sys.executable, *run], env=surroundings, stdout=subprocess.PIPE, stderr=subprocess.STDOUT, text=True)
+            if ran.returncode:
+                print(f"tests/library/refusals.py: {run[0].name} fails:\n{ran.stdout}")
+                return 1
+        told = {}
+        for line in report.read_text().splitlines():
+            name, *numbers = line.split()
+            numbers, before = list(map(int, numbers)), told.get(name, [0] * 6)
+            told[name] = [*(a + b for a, b in zip(numbers[:4], before)), *map(max, numbers[4:], before[4:])]
+    found = list(faults(told))
+    for fault in found:
+        print(f"tests/library/refusals.py: {fault}")
+    deepest = max(told, key=lambda name: told[name][4])
+    print(f"tests/library/refusals.py: {sum(counts[0] for counts in told.values())} calls of {len(told)} functions, {sum(counts[1] for counts in told.values())} without memory; "
+          f"{deepest} uses most stack, {told[deepest][4]} bytes")
+    return 1 if found else 0
+
+
+if __name__ == "__main__":
+    sys.exit(main())
