@@ -1,4 +1,4 @@
-.PHONY: help demo test check deps service service-test service-race service-engines service-faults service-soak service-clients cluster cluster-status cluster-stop link dist install install-library install-ctlog install-ctmonitor fuzz load sweep wrong sources serve serve-witness tiles programs release reproduce bare container pages
+.PHONY: help demo test check deps service service-test service-race service-engines service-soak service-clients cluster cluster-status cluster-stop link dist install install-library install-ctlog fuzz load sweep wrong sources serve serve-witness programs release reproduce bare container pages
 
 SECONDS ?= 60
 RUNS ?= 20
@@ -10,7 +10,7 @@ FOLDER ?= ct-log
 WITNESS ?= ct-witness
 WITNESS_PORT ?= 8640
 
-PROGRAMS := ctlog ctmonitor
+PROGRAMS := ctlog
 LIBRARY = $(BUILT)/libwagtenib/out/link/libwagtenib
 VERSION = $(shell cat VERSION)
 # (a shell expands no ~ in quotes)
@@ -19,7 +19,7 @@ TO = $(DESTDIR)$(PREFIX:~/%=$(HOME)/%)
 help: ## says what each target does
 	@sed -n 's/^\([a-z-]*\):.*## /make \1	/p' Makefile | expand -t 24
 
-demo: ## proves ctlog and ctmonitor, and shows something of each layer as soon as it is proved
+demo: ## proves ctlog, and shows what it and the library do as soon as each is proved
 	@checks/needs.sh demo
 	@examples/demo.sh
 
@@ -47,7 +47,7 @@ serve: ## serves a log over HTTP at PORT=8618 out of the folder FOLDER=ct-log, b
 serve-witness: ## serves a witness at WITNESS_PORT=8640 out of WITNESS=ct-witness, of the log of make serve in FOLDER=ct-log, by ctwitness-serve, which it builds likewise
 	@service/serve-witness.sh "$(WITNESS:~/%=$(HOME)/%)" "$(WITNESS_PORT)" "$(FOLDER:~/%=$(HOME)/%)"
 
-service: ## builds service/out/ctserve, the service in Go (docs/OPERATING.md), ctwitness-serve, and ctcheck, ctload and ctread
+service: ## builds service/out/ctserve, the service in Go (docs/OPERATING.md), ctwitness-serve, ctwatch, and ctcheck, ctload and ctread
 	@checks/needs.sh service
 	@service/build.sh build
 
@@ -60,17 +60,12 @@ service-engines: ## the same with engines on loopback: those of etcd, PostgreSQL
 service-race: ## the same as service-test, built to tell of data races (go test -race)
 	@service/test.sh race
 
-# RUNS=3 KILLS=100 MEMBERS=20 GATEWAYS=10 PAUSES=10 in the environment say how many.
-service-faults: ## kills and stops nodes, members of etcd and radosgw below a log, a quarter of an hour a run, and judges the log from its bucket
-	@checks/needs.sh service-test
-	@service/faults.sh
-
 # As root. HOURS=2 or MINUTES=30, SEED=NUMBER for the choices of another run.
 service-soak: ## runs two logs for HOURS=2 while nodes, programs, engines, disks and clients go wrong at random, and judges them every twelve minutes and at the end
 	@checks/needs.sh service
 	@PYTHONDONTWRITEBYTECODE=1 service/soak.py $(if $(MINUTES),--minutes $(MINUTES),--hours $(or $(HOURS),2)) $(if $(SEED),--seed $(SEED))
 
-service-clients: ## has certspotter, Google's client library, x/mod's tlog and ctmonitor use a log of ctserve over HTTP, each where it is installed
+service-clients: ## has certspotter, Google's client library, x/mod's tlog and ctwatch use a log of ctserve over HTTP, those of them that are installed
 	@checks/needs.sh service
 	@service/clients.sh
 
@@ -94,20 +89,14 @@ dist: ## makes the assembly of libwagtenib in dist/ from the proved crates, for 
 	@examples/build.py libwagtenib
 	@PYTHONDONTWRITEBYTECODE=1 checks/dist.py --write
 
-# The scripts of examples/monitor that are installed beside ctmonitor: what follows ctmonitor- in their names there, and their files.
-WATCHING := audit=audit.py cosign=cosign.py cosignatures=cosignatures.sh from-end=from_end.py keep=keep.py log-list=log_list.py mail=mail.sh show=show.py signature=signature.sh watch=watch.sh
-
 # BUILT is the folder in which the crates' builds lie.
-install: $(PROGRAMS:%=install-%) install-library ## installs what is built, below PREFIX=/usr/local: ctlog, ctmonitor, with ctmonitor its scripts as ctmonitor-watch and so on, and libwagtenib
+install: $(PROGRAMS:%=install-%) install-library ## installs what is built, below PREFIX=/usr/local: ctlog and libwagtenib
 	@for program in $(PROGRAMS); do [ ! -e "$(BUILT)/$$program/out/$$program" ] || exit 0; done; \
 	[ -e "$(LIBRARY).a" ] || { echo "make install: nothing is built" >&2; exit 1; }
 
 $(PROGRAMS:%=install-%): install-%:
 	@if [ -x "$(BUILT)/$*/out/$*" ]; then install -d "$(TO)/bin" && install -m 755 "$(BUILT)/$*/out/$*" "$(TO)/bin" && echo "$(PREFIX)/bin/$*"; \
 	else echo "$* isn't built: make demo builds it"; fi
-	@if [ $* = ctmonitor ] && [ -x "$(BUILT)/$*/out/$*" ]; then for script in $(WATCHING); do \
-	  install -m 755 "examples/monitor/$${script#*=}" "$(TO)/bin/ctmonitor-$${script%=*}" && echo "$(PREFIX)/bin/ctmonitor-$${script%=*}" || exit 1; done; \
-	  install -d "$(TO)/share/wagtenib/python/wagtenib" && install -m 644 bindings/python/wagtenib/*.py "$(TO)/share/wagtenib/python/wagtenib"; fi
 
 install-library:
 	@if [ -f "$(LIBRARY).a" ]; then \
@@ -121,7 +110,7 @@ install-library:
 	  echo "$(PREFIX)/lib/libwagtenib.so.$(VERSION), libwagtenib.a, wagtenib.h and wagtenib.pc"; \
 	else echo "libwagtenib isn't built: make link builds it"; fi
 
-programs: ## proves and builds ctlog, ctmonitor and libwagtenib, and builds the service: what a release is made of
+programs: ## proves and builds ctlog and libwagtenib, and builds the service: what a release is made of
 	@checks/needs.sh programs
 	@checks/needs.sh service
 	@examples/build.py $(PROGRAMS) libwagtenib
@@ -132,7 +121,7 @@ programs: ## proves and builds ctlog, ctmonitor and libwagtenib, and builds the 
 release: ## puts what is built into release/out: a tarball, Debian packages, SHA256SUMS and what they are made of
 	@PYTHONDONTWRITEBYTECODE=1 release/release.py --built "$(BUILT)"
 
-# As root, with mmdebstrap. A program in Python stands in for ctlog or ctmonitor if it isn't built.
+# As root, with mmdebstrap. A program in Python replaces ctlog if ctlog is not built.
 bare: ## makes a release's packages, installs them on a bare Debian, and runs the lines of docs/OPERATING.md there as they stand
 	@checks/needs.sh service
 	@PYTHONDONTWRITEBYTECODE=1 tests/bare/bare.py --built "$(BUILT)"
@@ -183,6 +172,3 @@ sources: ## looks through the sources, the documents and the scripts of examples
 	@docs/check.sh
 	@PYTHONDONTWRITEBYTECODE=1 python3 tests/scripts.py
 
-# After `rt run` in crates/print_steps, which builds it.
-tiles: ## has golang.org/x/mod/sumdb/tlog read the tiles of logs of eight sizes and check their proofs; without Go, hashlib compares the lines
-	@tests/tiles/check.sh

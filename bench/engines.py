@@ -59,7 +59,7 @@ class Node:
             text = answer.read().decode()
         found = {}
         for of, what, labels, value in SUMMARY.findall(text):
-            name = " ".join(sorted(re.findall(r'"([^"]*)"', labels), key=lambda word: word not in ("objects", "register", "places")))
+            name = " ".join(sorted(re.findall(r'"([^"]*)"', labels), key=lambda word: word not in ("objects", "lock", "index")))
             found.setdefault((of, name), {})[what] = float(value)
         return {of: (both["count"], both["sum"]) for of, both in found.items()}
 

@@ -234,7 +234,7 @@ def measure(folder, fabricate, words, entries):
         cells["memory, MB"] = f"{memory(log.process.pid) / 1e6:.0f}"
         cells["disk, GB"] = f"{disk_used(log.stored() / 'objects') / 1e9:.2f} + {(log.stored() / 'places').stat().st_size / 1e9:.2f}"
         log.end()
-        log.settings.write_text(log.settings.read_text() + "read-again-every 100ms\nread-all-within 1m\n")
+        log.settings.write_text(log.settings.read_text() + "scrub-interval 100ms\nscrub-period 1m\n")
         log.start()
         a_second, each = read_again(log)
         # (of each 256 entries the data tile, with the hash tiles above it)

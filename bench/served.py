@@ -110,7 +110,7 @@ class Log:
             (folder / "log.pem").write_text(run("openssl", "ec", "-in", folder / "log.key", "-pubout"))
             run("openssl", "req", "-x509", "-key", folder / "root.key", "-subj", "/CN=a root", "-days", 30, "-out", self.roots)
         words = {"origin": ORIGIN, "listen": f"127.0.0.1:{self.port}", "operator-listen": f"127.0.0.1:{self.operator}", "signing-key": folder / "log.key",
-                 "roots": self.roots, "folder": folder / "log", "most-connections-by-address": 5000, **settings}  # fmt: skip
+                 "roots": self.roots, "folder": folder / "log", "max-connections-per-address": 5000, **settings}  # fmt: skip
         self.settings = folder / "bench.conf"
         self.settings.write_text("".join(f"{name.replace('_', '-')} {value}\n" for name, value in words.items()))
         self.url, self.said = f"http://127.0.0.1:{self.port}", folder / "ctserve.log"

@@ -5,7 +5,7 @@
 
 Each setup has a log of its own, over a folder, and its witnesses, by ctwitness-serve over files; all are made before the first turn and run to the end, so that
 the turns differ by nothing else. Some of the witnesses answer 100 ms late, or don't answer at all, or answer with no cosignature (`liar`); a head is
-published with as many as publish-with has by default, one more than the half. It prints of each setup the median of its turns: timestamps a second, and the median and the 99th
+published with as many as publish-quorum has by default, one more than the half. It prints of each setup the median of its turns: timestamps a second, and the median and the 99th
 percentile of the time from a submission to its timestamp. make service builds what it runs.
 """
 import argparse
@@ -29,7 +29,7 @@ HERE = pathlib.Path(__file__).resolve().parent
 SERVICE = HERE.parent / "service"
 ORIGIN = "bench.example/log"
 LATE = 0.1
-# The setups: how many witnesses answer, answer late, are silent and lie, and witness-faults.
+# The setups: how many witnesses answer, answer late, are silent and lie, and faulty-witnesses.
 SETUPS = {
     "none": (0, 0, 0, 0, 0),
     "3": (3, 0, 0, 0, 0),
@@ -112,12 +112,12 @@ class Setup:
         words = {
             "origin": ORIGIN, "listen": f"127.0.0.1:{self.port}", "operator-listen": f"127.0.0.1:{operator}", "signing-key": folder / "log.key", "roots": folder / "roots.pem",
             "folder": folder / "log", "interval": interval,
-            "most-connections-by-address": 500,
+            "max-connections-per-address": 500,
         }  # fmt: skip
         kinds = [lambda url: url] * answering + [late] * late_ones + [silent] * silent_ones + [liar] * liars
         if kinds:
             words["witnesses"] = " ".join(self.witness(number, kind) for number, kind in enumerate(kinds))
-            words["witness-faults"] = faults
+            words["faulty-witnesses"] = faults
         (folder / "conf").write_text("".join(f"{name} {value}\n" for name, value in words.items()))
         self.start("log", "ctserve", "--config", folder / "conf", "--create")
 

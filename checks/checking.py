@@ -1,91 +1,38 @@
 #!/usr/bin/env python3
-"""docs/CHECKING.md, the page of an hour for whoever checks the proof: its claims, made from the sources.
+"""The pages below docs/checking/, one for each claim of the README, for a reader who checks the proof. They are made from the sources.
 
     checking.py [--write]
 
-Between the lines MADE and END of the page stand the claims of CLAIMS: of each its sentence, its premises, the public contract as it stands in
-the source, and the text of all definitions that the contract reaches by its imports, leaves first, each once on the page. Between COUNTED and END
-stand how many lines there are of what. The rest of the page is written by hand. The script prints where the page is another than it makes, of the
-counts where one is more than a fifth off; then it ends with status 1. With --write it writes these. checks/definitions.py runs it too.
+A page has the claim, its premises, the public contracts as they are in the source, and the text of all definitions that these reach by their imports, leaves
+first (claims.py). Between COUNTED and END of docs/CHECKING.md is a table of how many lines there are of what; the rest of that page is written by hand. The script prints
+each page that differs from the one that it makes, and each count that is more than a fifth off, and then ends with status 1. With --write it writes them.
+checks/definitions.py runs it too.
 """
 import functools
 import re
 import sys
 import typing
 
+from claims import CLAIMS
 from source import CRATES, ROOT, closing, crates, is_for_tests
 from specs import START, body_below, cases
 
 PAGE = ROOT / "docs" / "CHECKING.md"
+PAGES = ROOT / "docs" / "checking"
 MADE = "<!-- Made by checks/checking.py --write: the claims. -->"
 COUNTED = "<!-- Made by checks/checking.py --write: the lines. -->"
 END = "<!-- Made until here. -->"
 
-
-class Claim(typing.NamedTuple):
-    """`contracts` are pairs of a file below crates/ and a function in it, each with the names of its clauses that count, or with none for all."""
-
-    title: str
-    sentence: str
-    premises: str
-    contracts: list
-
-
-CLAIMS = [
-    Claim(
-        "A tree head that is published",
-        "It has the number of all entries so far, MTH of their leaves, and the moment that was handed in; and nothing else changes.",
-        "none.",
-        [("ct_house/src/sequencer.rt", "publish", ["head"])],
-    ),
-    Claim(
-        "A proof that is served",
-        "The reply to a query is the defined one: an audit path is PATH, a consistency proof PROOF, of a published tree.",
-        "none; a `Published` is lawful by its type.",
-        [("ct_core/src/answers.rt", "answer", ["answer"])],
-    ),
-    Claim(
-        "The final log",
-        "However threads interleave, the log at its end is the first occurrences of a merge, in each front's order, of just what was accepted before the shutdown.",
-        "each front's last holder was retired into `finish`, and the caller tested that the house is shut, settled and covered.",
-        [("ct_house/src/sequencer.rt", "finish", [])],
-    ),
-    Claim(
-        "The auditor",
-        "An audit path is accepted exactly where it rebuilds the head's root; and held against the list of leaves, it shows the leaf there, or two strings with one hash are handed out.",
-        "for `explain`, that the list is the head's.",
-        [("ct_monitor/src/auditor.rt", "check", []), ("ct_monitor/src/auditor.rt", "explain", [])],
-    ),
-    Claim(
-        "The monitor",
-        "A head is taken only where its size and root are those of all leaves, and refused only for a defined reason; and all heads that a watcher accepted, in however many runs, are of beginnings of one list.",
-        "for the second, that each run begins with the state that the one before left.",
-        [("ct_monitor/src/keeping.rt", "Monitor::observe", []), ("ct_monitor/src/laws.rt", "accepted_heads", [])],
-    ),
-    Claim(
-        "The guard",
-        "Take the heads that were signed over one register, by any number of processes, which may be killed anywhere. If the newest of them is that of a list of leaves, each of them that has leaves is that of a beginning of this list, and the leaf of each signed receipt is in it at its index. If each of them is that of some list, the earlier one's list begins the later one's. Otherwise two strings with one hash are given.",
-        "a head is signed only after the register took its state in place of the one that the call was made over, and nothing else is signed.",
-        [
-            ("ct_guard/src/guard.rt", "pass_head", []),
-            ("libwagtenib/src/guard_laws.rt", "signed_by_calls_go_back", []),
-            ("libwagtenib/src/guard_laws.rt", "signed_by_calls_agree", []),
-            ("libwagtenib/src/guard_laws.rt", "receipts_stand_in_the_newest", []),
-        ],
-    ),
-    Claim(
-        "Many sequencers over one register, and repeats",
-        "Whoever makes the next step, and wherever they stop, all that the taken steps wrote and promised is of one list of leaves; and behind what was known that list has at most one leaf to an identity.",
-        "the register swaps its state from just the one that the step saw, and the answers stand in its order. For repeats: what a look-up missed wasn't there, and the identities of a taken step were stored before the next one looked.",
-        [("ct_growth/src/laws.rt", "sequencers", []), ("ct_growth/src/laws.rt", "one_entry_an_identity", [])],
-    ),
-    Claim(
-        "Witnesses",
-        "Of two trees that enough of n witnesses cosigned, the smaller one's list begins the larger one's, or two strings with one hash are given.",
-        "at most f of the witnesses are faulty, j cosigned the one tree and k the other, and n + f < j + k; the larger tree is that of a list.",
-        [("ct_witness/src/laws.rt", "cosigned", ["back"]), ("ct_witness/src/laws.rt", "quorums", ["agree"])],
-    ),
-]
+# A recursion with a bound, which no reader must follow: the laws that are its equations.
+BY_EQUATIONS = {
+    "mth_within": "mth_of_leaves",
+    "mth_small": "mth_of_leaves",
+    "path_within": "path",
+    "subproof_within": "subproof",
+    "subproof_whole": "subproof",
+    "path_length_within": "path",
+    "subproof_length_within": "subproof",
+}
 
 
 class Text(typing.NamedTuple):
@@ -208,7 +155,7 @@ def contract(file, function, clauses):
     begin = 0
     if owner:
         begin = re.search(rf"^impl\b[^{{;]*\b{owner}\b[^{{;]*\{{\n(?=.*?\bfn {name}\b)", text, re.M | re.S).start()
-    head = re.search(rf"^ *pub (?:const )?fn {name}\b", text[begin:], re.M)
+    head = re.search(rf"^ *pub (?:const |extern \"C\" )?fn {name}\b", text[begin:], re.M)
     at = begin + head.start()
     first = text.index("(", at)
     place, parts, kept = closing(text, first), [], []
@@ -258,32 +205,39 @@ def definitions(texts):
     return block("", "\n".join(lines))
 
 
-def claims():
-    seen, lines = set(), []
-    for number, claim in enumerate(CLAIMS, 1):
-        found = [contract(*each) for each in claim.contracts]
-        texts = reached([key for _, keys in found for key in keys], seen)
-        size = sum(one.text.count("\n") + 1 for one in texts)
-        lines += [f"### {number}. {claim.title}", "", claim.sentence, "", f"*Premises*: {claim.premises}", ""]
-        for (file, _, _), (shown, _) in zip(claim.contracts, found):
-            lines += [f"`crates/{file}`:", "", *block("rust", shown)]
-        if texts:
-            lines += [f"It rests on these {len(texts)} definitions ({size} lines){', beside those above' if number > 1 else ''}:", "", *definitions(texts)]
-        else:
-            lines += ["It rests on nothing that doesn't stand above.", ""]
-    return "\n".join(lines)
+def listed(names):
+    return ", ".join(f"`{name}`" for name in names)
+
+
+def page(claim):
+    """The page of a claim: the claim, its premises, its contracts with what they say, and all definitions that these reach, leaves first."""
+    found = [contract(each.file, each.function, each.clauses) for each in claim.contracts]
+    texts = reached([key for _, keys in found for key in keys], set())
+    shown = [one for one in texts if one.key[2] not in BY_EQUATIONS]
+    size = sum(one.text.count("\n") + 1 for one in shown)
+    lines = [f"# {claim.title}", "", MADE, "", claim.sentence, "", "[CHECKING.md](../CHECKING.md#how-to-read-a-contract) says how to read a contract.", "", "## Premises", ""]
+    lines += [*(f"{number}. {premise}" for number, premise in enumerate(claim.premises, 1)), "", "## Contracts", ""]
+    for each, (head, _) in zip(claim.contracts, found):
+        lines += [f"{each.words} `crates/{each.file}`:", "", *block("rust", head)]
+    lines += ["## Definitions", "", f"The contracts rest on these {len(shown)} definitions ({size} lines). Each one comes after those that it names.", ""]
+    left_out = [one.key[2] for one in texts if one.key[2] in BY_EQUATIONS]
+    if left_out:
+        laws = dict.fromkeys(BY_EQUATIONS[name] for name in left_out)
+        where = "above" if claim.page == "verifiers" else "on the page [verifiers.md](verifiers.md)"
+        lines += [f"No reader must follow the recursions with a bound, {listed(left_out)}, so they are left out. The contracts {listed(laws)} {where} are their equations.", ""]
+    return "\n".join([*lines, *definitions(shown), END, ""])
 
 
 # What is counted: its name, and the files, by their beginnings and ends.
 COUNTS = [
-    ("Specification: `specs/`, which has to be believed", lambda path: path.startswith("crates/") and "/specs/" in path),
+    ("Specifications: `specs/`, which a reader must believe", lambda path: path.startswith("crates/") and "/specs/" in path),
     ("Code with its contracts: `src/`", lambda path: re.match(r"crates/(?!\w+_tests/)\w+/src/(?!.*tests\.rt)", path)),
-    ("Proofs: `proofs/`, which the prover checks and nobody need read", lambda path: path.startswith("crates/") and "/proofs/" in path),
+    ("Proofs: `proofs/`, which the prover checks and nobody must read", lambda path: path.startswith("crates/") and "/proofs/" in path),
     ("Tests in Rattle", lambda path: path.startswith("crates/") and path.endswith(".rt") and ("_tests/" in path or path.endswith("tests.rt"))),
-    ("Wrong bodies, that the prover refuses", lambda path: path.endswith(".edit")),
-    ("Go that serves, which isn't proved", lambda path: path.startswith("service/") and path.endswith(".go") and not path.endswith("_test.go")),
+    ("Wrong bodies, which the prover refuses", lambda path: path.endswith(".edit")),
+    ("Go that serves, which is not proved", lambda path: path.endswith(".go") and not path.endswith("_test.go")),
     ("Go that tests it", lambda path: path.endswith("_test.go")),
-    ("Python and shell, which isn't proved: examples, tests, checks, measurements", lambda path: path.endswith((".py", ".sh"))),
+    ("Python and shell, which are not proved: examples, tests, checks, measurements", lambda path: path.endswith((".py", ".sh"))),
 ]
 
 
@@ -291,7 +245,7 @@ def counts():
     from documents import files
 
     sizes = {str(path): sum(1 for line in (ROOT / path).open(errors="replace") if line.strip()) for path in files() if path.suffix in (".rt", ".antt", ".go", ".py", ".sh", ".edit")}
-    lines = ["| Lines that aren't empty | |", "|---|---|"]
+    lines = ["| Lines that are not empty | |", "|---|---|"]
     return "\n".join([*lines, *(f"| {what} | {sum(size for path, size in sizes.items() if has(path)):,} |" for what, has in COUNTS)])
 
 
@@ -311,30 +265,42 @@ def near(stands, belongs):
     return [what for what, _ in rows[0]] == [what for what, _ in rows[1]] and all(abs(a - b) * 5 <= b for a, b in zip(*numbers))
 
 
-def first_difference(stands, belongs):
+def first_difference(page, stands, belongs):
     ours, theirs = stands.splitlines(), belongs.splitlines()
     for at in range(max(len(ours), len(theirs))):
         pair = [lines[at] if at < len(lines) else "nothing" for lines in (ours, theirs)]
         if pair[0] != pair[1]:
-            return f"docs/CHECKING.md: {pair[0]}\n  is made as: {pair[1]}\n  (checks/checking.py --write writes the page)"
-    return None
+            return f"{page.relative_to(ROOT)}: {pair[0]}\n  is made as: {pair[1]}\n  (checks/checking.py --write writes the page)"
+    return f"{page.relative_to(ROOT)} has other empty lines than are made"
+
+
+def check_pages(write):
+    """What is wrong with the pages of the claims. With `write` they are written, and what is left of others is deleted."""
+    made = {PAGES / f"{claim.page}.md": page(claim) for claim in CLAIMS}
+    found = [f"{path.relative_to(ROOT)} is the page of no claim" for path in sorted(PAGES.glob("*")) if path not in made]
+    if write:
+        PAGES.mkdir(exist_ok=True)
+        for path, text in made.items():
+            path.write_text(text)
+        return found
+    stand = {path: path.read_text() if path.exists() else "" for path in made}
+    return found + [first_difference(path, stand[path], text) for path, text in made.items() if stand[path] != text]
+
+
+def check_counts(write):
+    """What is wrong with the table of lines in CHECKING.md. With `write` it is written."""
+    before, stands, after = between(PAGE.read_text(), COUNTED)
+    belongs = f"\n{counts().rstrip()}\n\n"
+    if stands == belongs or near(stands, belongs):
+        return []
+    if not write:
+        return [first_difference(PAGE, stands, belongs)]
+    PAGE.write_text(before + belongs + after)
+    return []
 
 
 def check(write):
-    """What is wrong with the page; with `write` it is written anew."""
-    page, found = PAGE.read_text(), []
-    for begin, made, same in ((MADE, claims(), None), (COUNTED, counts(), near)):
-        before, stands, behind = between(page, begin)
-        belongs = f"\n{made.rstrip()}\n\n"
-        if stands == belongs or (same and same(stands, belongs)):
-            continue
-        if write:
-            page = before + belongs + behind
-        else:
-            found.append(first_difference(stands, belongs) or "docs/CHECKING.md has other empty lines than are made")
-    if write:
-        PAGE.write_text(page)
-    return found
+    return check_pages(write) + check_counts(write)
 
 
 def main():

@@ -175,13 +175,25 @@ WRONG_IN += ["make nothing is", "make neither is", "not in Makefile", "on more t
 STATED = re.compile(r'^const VERSION: &str = "(?:\w+ )?([^ "\\]+)(?:\\n)?";$', re.M)
 
 
+# How the library states its version, as a number: in its header, and in the source of wagtenib_version, whose contract says that number too.
+NUMBERED = {"include/wagtenib.h": r"^#define WAGTENIB_VERSION (\d+)$", "crates/libwagtenib/src/version.rt": r"^pub const VERSION: u32 = ([\d_]+);$"}
+
+
+def three_numbers(number):
+    """The three numbers of a version that the library states."""
+    return f"{number // 1_000_000}.{number // 1_000 % 1_000}.{number % 1_000}"
+
+
 def version_faults():
-    """Where a program, or the newest entry of CHANGELOG.md, says another version than VERSION."""
+    """Where a program, the library, or the newest entry of CHANGELOG.md, says another version than VERSION."""
     version = (ROOT / "VERSION").read_text().strip()
     said = {path: found for path in ROOT.glob("crates/*/src/**/*.rt") for found in STATED.findall(path.read_text())}
     if not said:
         return ["no crate states the version of its program"]
     said[ROOT / "CHANGELOG.md"] = next(iter(re.findall(r"^## (\S+)$", (ROOT / "CHANGELOG.md").read_text(), re.M)), "none")
+    for path, pattern in NUMBERED.items():
+        found = re.findall(pattern, (ROOT / path).read_text(), re.M)
+        said[ROOT / path] = " and ".join(three_numbers(int(number.replace("_", ""))) for number in found) or "none"
     return [f"VERSION is {version}, and {path.relative_to(ROOT)} says {found}" for path, found in said.items() if found != version]
 
 

@@ -3,8 +3,9 @@
 more, with the tests of the Go part in it, of which the file COUNT in the environment has how many passed and failed, and with what is run over the
 programs once `rt ci` has built them: all by words of their own (tests/command_lines.py), ctlog over sessions (tests/sessions.py), all while some growths
 of memory are refused (tests/sweep.py), and the parts of the demo (examples/demo.sh); dist/ is made again and compared (checks/dist.py),
-its guard, step, witness and node with models (tests/library/guard.py, step.py, witness.py, node.py), the Rust crate with some of
-these (tests/library/rust.py), and called without memory (tests/library/refusals.py), and the Python package with models (bindings/python/tests/compare.py). The status is that of `rt ci`, or 1 where one of these failed.
+its guard, step, witness, node, names, data tiles and texts with models (tests/library/guard.py, step.py, witness.py, node.py, names.py, data_tiles.py, texts.py), the Rust crate with some of
+these (tests/library/rust.py), and called without memory (tests/library/refusals.py), with NULL and in many threads (tests/library/replays.py), and the Python package
+with models (bindings/python/tests/compare.py); the Go, Python and Rust packages are run for arm64 (tests/library/arm64.py). The status is that of `rt ci`, or 1 where one of these failed.
 
 `rt ci` tells of a crate when it is done, and not how many of its functions are proved so far; while it tells nothing, a line a minute says
 how long it has been at work. Behind it a line says how many processor minutes it took.
@@ -37,30 +38,36 @@ EACH, IN_TURN = "tried: by each gate", "tried: by every ninth gate"
 
 # What it says of what it doesn't try.
 SKIPPED = """It leaves out {} others (make wrong CRATE=..), the service under the race detector, over engines, with kills and with other programs (make
-service-race, service-engines, service-faults, service-clients), and what runs longer (make fuzz, load, sweep, link, tiles)."""
+service-race, service-engines, service-clients), and what runs longer (make fuzz, load, sweep, link)."""
 
 # About the most memory that a proof was seen to take, in bytes.
 MEMORY = 4_000_000_000
 
 # The parts of the demo.
-DEMO = ("path", "monitor", "log", "watched", "tiles", "followed")
+DEMO = ("path", "log")
 
-# What compares dist/ with what is proved.
+# What runs over what was proved: comparisons of dist/ with it, and a crate that the prover must refuse.
 OF_DIST = (
     "checks/dist.py",
     "tests/library/guard.py",
     "tests/library/step.py",
     "tests/library/witness.py",
+    "tests/library/monitor.py",
     "tests/library/node.py",
+    "tests/library/names.py",
+    "tests/library/data_tiles.py",
+    "tests/library/texts.py",
     "tests/library/refusals.py",
+    "tests/library/replays.py",
     "tests/library/rust.py",
     "bindings/python/tests/compare.py",
+    "tests/library/arm64.py",
+    "tests/linear.py",
 )
 
 # How the programs are broken off: each so many-th growth of memory is refused (make sweep refuses every one).
 BROKEN_OFF = (
     ("sweep.py", "--step", "40"),
-    ("sweep.py", "--stored", "ctmonitor", "--step", "40"),
 )
 
 # How often it says that the gate is still at work, in seconds, while nothing else happens.
@@ -228,7 +235,8 @@ def run_programs():
         passed, failed = passed + (not broken.returncode), failed + (broken.returncode != 0)
     for script in OF_DIST:
         compared = subprocess.run([sys.executable, ROOT / script], **how)
-        print(compared.stdout if compared.returncode else f"{script}: as due", flush=True)
+        left_out = "".join(f"{line}\n" for line in compared.stdout.splitlines() if " left out" in line)
+        print(compared.stdout if compared.returncode else f"{left_out}{script}: as due", flush=True)
         passed, failed = passed + (not compared.returncode), failed + (compared.returncode != 0)
     for part in DEMO:
         shown = subprocess.run([ROOT / "examples" / "demo.sh", part], **how)

@@ -12,10 +12,12 @@ HEADER = ROOT / "include" / "wagtenib.h"
 TYPES = {
     "u32": "uint32_t {}",
     "u64": "uint64_t {}",
+    "u8": "uint8_t {}",
     "usize": "size_t {}",
     "&[u8; 32]": "const uint8_t {}[32]",
     "&mut [u8; 32]": "uint8_t {}[32]",
     "&mut [u8; 50]": "uint8_t {}[50]",
+    "&mut [u8; 4]": "uint8_t {}[4]",
     "[u8; 32]": "uint8_t {}[32]",
     "&[u8]": "const uint8_t *{}, size_t *",
     "&[[u8; 32]]": "const uint8_t *{}, size_t *",
@@ -39,12 +41,18 @@ TYPES = {
     "&NodeOutcome": "const struct wagtenib_node_outcome *{}",
     "&NodeFound": "const struct wagtenib_node_found *{}",
     "&mut WitnessedTree": "struct wagtenib_witnessed_tree *{}",
+    "&mut CheckpointInfo": "struct wagtenib_checkpoint *{}",
+    "&mut MonitorVerdict": "struct wagtenib_monitor_verdict *{}",
+    "&mut EntryReport": "struct wagtenib_entry_report *{}",
     "Global": None,
 }
 ALIASES = {
     "LeafInfo": "wagtenib_leaf_info",
     "TreeHead": "wagtenib_head",
     "WitnessedTree": "wagtenib_witnessed_tree",
+    "CheckpointInfo": "wagtenib_checkpoint",
+    "MonitorVerdict": "wagtenib_monitor_verdict",
+    "EntryReport": "wagtenib_entry_report",
     "NodeState": "wagtenib_node_state",
     "NodeCommand": "wagtenib_node_command",
     "NodeOutcome": "wagtenib_node_outcome",
@@ -63,7 +71,7 @@ def prototype(name, arguments, result):
     """How C declares a function of the library."""
     said = [(TYPES[kind], word) for word, kind in (re.split(r"\s*:\s*", part, 1) for part in parts(arguments))]
     declared = ", ".join(kind.format(word) for kind, word in said if kind)
-    return f"{'uint32_t' if result == 'u32' else 'void'} {name}({declared})"
+    return f"{'uint32_t' if result == 'u32' else 'void'} {name}({declared or 'void'})"
 
 
 def declared_functions(text):

@@ -88,7 +88,7 @@ logic="logic ${kit##*logic }"
 processors=$(python3 -c 'import os; print(len(os.sched_getaffinity(0)))')
 [ "$processors" = 1 ] && on="one processor" || on="$processors processors"
 case $what in
-  demo) first="ctlog, ctmonitor, print_steps and the crates below them. Where nothing was proved before, that" ;;
+  demo) first="ctlog and the crates below it. Where nothing was proved before, that" ;;
   link | dist) first="the library and the crates below it. Where nothing was proved before, that" ;;
   test) first="everything, from nothing. That" ;;
   *) exit 0 ;;

@@ -46,7 +46,7 @@ WAITS = {
     "ct_parties/src/operator_work.rt": {"ENOUGH": "16"},
     "ct_parties/src/waiting.rt": {
         **{"GLANCES_FOR_HEADS": "0", "MILLISECONDS_FOR_HEADS": "4", "GLANCES_FOR_FRONT": "64", "MILLISECONDS_FOR_FRONT": "1"},
-        **{"TURNS_ASLEEP": "16_384"},
+        **{"LOOKS": "16_384"},
     },
 }
 # How often each file tells each of these faults, and where.
@@ -71,7 +71,7 @@ TOLD = {
     "ct_script/src/script.rt": {"Write": (2, "a reply of the closed log couldn't be written whole, or the output handed on")},
     "ct_script/src/threads.rt": {"Threads": (1, "a front's thread didn't start")},
     "ct_data_tiles/src/entries.rt": {"Unwritten": (1, "of a leaf's bytes that weren't made, a conversion of its own")},
-    "line_program/src/replying.rt": {"Read": (1, "behind the last turn over the lines")},
+    "ct_data_tile_calls/src/entries.rt": {"Unwritten": (1, "of a leaf's bytes that were not made, a conversion of its own")},
     "ct_versions/src/shelf.rt": {"NotAppended": (2, "`append` handed it back")},
     "ct_versions/src/viewer.rt": {"Closed": (3, "nothing is shown, or what is shown is behind what was learnt")},
 }

@@ -42,8 +42,6 @@ LONG = 0.7
 TOGETHER = 80_000
 # How much nicer the proofs of crates on no such chain are.
 NICER = 15
-# What a program is run with once it is put together, where that isn't `-- --help`: print_steps takes numbers alone.
-WORDS = {"print_steps": []}
 
 
 class Crates:
@@ -128,7 +126,7 @@ class Proof:
 
     def words(self, is_program):
         jobs = ["--jobs", str(self.jobs)] if self.jobs else []
-        return ["rt", "run", *jobs, *WORDS.get(self.name, ["--", "--help"])] if is_program else ["rt", "lib", *jobs]
+        return ["rt", "run", *jobs, "--", "--help"] if is_program else ["rt", "lib", *jobs]
 
     def run(self, is_program):
         """Runs rt to its end."""

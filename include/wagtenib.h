@@ -3,13 +3,29 @@
  *
  * A hash is 32 bytes (SHA-256). A list of hashes is given by a pointer to its first byte and the number of hashes, which
  * stand one after the other. No call keeps a pointer or has any state, so every call may run in any thread at any time.
- * wagtenib_root, wagtenib_lock_text, and the functions over steps, certificates and tiles and those of the witness take memory (malloc), and give it back before
- * they return. All other memory is the caller's. A length is a number of bytes.
+ * wagtenib_root, wagtenib_lock_text, and the functions over steps, certificates, tiles and texts and those of the witness and of the monitor take memory (malloc), and
+ * give it back before they return. All other memory is the caller's. A length is a number of bytes.
  *
  * What the caller owes, and nothing checks: each pointer points to as many bytes as is said, readable, and writable where
  * the pointer isn't const, which no other thread writes during the call (nor reads, where they are writable); what is
- * written overlaps no other argument; a length in bytes is below 2^63. The stack has 16 KB left, or 128 KB for the functions of the step and of the witness.
- * No pointer is NULL: for a length of 0 any other pointer serves. Beyond that every number and every byte is allowed.
+ * written overlaps no other argument; a length in bytes is below 2^63. The stack has 16 KB left.
+ * A pointer with a length may be NULL if the length is 0. This is tested for each such pointer of each function (tests/library/replays.py), and not proved. No other
+ * pointer is NULL. Beyond that every number and every byte is allowed.
+ *
+ * The memory that a call takes at most, for each byte of its arguments and beyond these. This is measured (tests/library/refusals.py), and not proved. The functions that
+ * are not named here take none.
+ *
+ *   wagtenib_root                            0 bytes and 4 KB
+ *   wagtenib_lock_text                       2 bytes and 1 KB
+ *   wagtenib_step                            8 bytes and 2 MB
+ *   wagtenib_step_*                          3 bytes and 1 KB
+ *   wagtenib_*_tiles                         2 bytes and 1 KB
+ *   wagtenib_data_tile_leaves                10 bytes and 1 KB
+ *   wagtenib_precertificate_entry, wagtenib_promised_leaf, wagtenib_check_promise   3 bytes and 1 KB
+ *   wagtenib_witness_*                       1 byte and 1 KB
+ *   wagtenib_certificate_names, wagtenib_watched_names   8 bytes and 1 KB
+ *   wagtenib_checkpoint_text, wagtenib_read_checkpoint, wagtenib_cosignature_message   2 bytes and 1 KB
+ *   wagtenib_monitor_*                       8 bytes and 16 KB
  */
 #ifndef WAGTENIB_H
 #define WAGTENIB_H
@@ -21,6 +37,10 @@
 #ifdef __cplusplus
 extern "C" {
 #endif
+
+/* The version of this header: 1,000,000 times the first number, 1,000 times the second, and the third. wagtenib_version returns that of the library. */
+#define WAGTENIB_VERSION 1000
+uint32_t wagtenib_version(void);
 
 /* The answers. */
 enum {
@@ -34,7 +54,7 @@ enum {
     WAGTENIB_SIZES_OUT_OF_RANGE = 7, /* not 0 < first < second */
     WAGTENIB_OUT_OF_MEMORY = 8,      /* malloc refused; nothing is written */
     WAGTENIB_NO_ROOM = 9,            /* the caller's memory is too small for the result; wagtenib_push writes nothing then, and the others only how long it is */
-    WAGTENIB_BAD_ORIGIN = 10,        /* the origin isn't UTF-8, or has a line end; nothing is written */
+    WAGTENIB_BAD_ORIGIN = 10,        /* the origin is empty, isn't UTF-8, or has a line end; nothing is written */
     WAGTENIB_TRUNCATED = 17,         /* the leaf ends before a field is whole */
     WAGTENIB_BAD_VERSION = 18,       /* the version isn't 0 (v1) */
     WAGTENIB_BAD_LEAF_TYPE = 19,     /* the leaf type isn't 0 (timestamped_entry) */
@@ -45,7 +65,7 @@ enum {
     WAGTENIB_TIMESTAMP_NOT_LATER = 33, /* the head differs from the last one, and its timestamp is not later */
     WAGTENIB_FORK = 34,              /* the head or the checkpoint has the size of the last one, and another root */
     WAGTENIB_TIMESTAMP_TOO_FAR = 35, /* the head's timestamp is more than max_ahead beyond the last one's */
-    WAGTENIB_BAD_STATE = 36,         /* a state is not the bytes that were signed last: the guard's TreeHeadSignature, the witness's message */
+    WAGTENIB_BAD_STATE = 36,         /* a state is not the bytes that were signed last (the guard's TreeHeadSignature, the witness's message), or no monitor's state */
     WAGTENIB_STATE_ROLLED_BACK = 37, /* the state is before one that was seen */
     WAGTENIB_LATER_LEAF = 38,        /* the leaf's timestamp is later than the last head's */
     WAGTENIB_OTHER_INDEX = 39,       /* the leaf has extensions, and they are not only its index */
@@ -92,7 +112,27 @@ enum {
     WAGTENIB_TWO_ROOTS = 120,        /* another head with the lock's size and timestamp was signed */
     WAGTENIB_SIGNED_BEHIND_LISTED = 121, /* the store lists a head that is later than the last one that was signed */
     WAGTENIB_BEHIND_LISTED = 122,    /* the store lists a head that is later than the lock's */
-    WAGTENIB_BEHIND_PUBLISHED = 123  /* a head is published that is later than the lock's */
+    WAGTENIB_BEHIND_PUBLISHED = 123, /* a head is published that is later than the lock's */
+    WAGTENIB_PARTIAL_FINGERPRINT = 139, /* the length of an entry's fingerprints is no multiple of 32 */
+    WAGTENIB_OTHER_COUNT = 140,      /* there are not as many subtrees as a tree of the head's size has */
+    WAGTENIB_OTHER_LENGTHS = 141,    /* the lengths of the entries do not add up to leaves_length */
+    WAGTENIB_BAD_WATCHED = 144,      /* the bytes are no list of watched names */
+    WAGTENIB_NOT_UTF8 = 145          /* the text is not UTF-8 */
+};
+
+/* The verdicts of a monitor (struct wagtenib_monitor_verdict). No call returns them. */
+enum {
+    WAGTENIB_ACCEPTED = 128,         /* the waiting head is that of all leaves that were read, and is accepted */
+    WAGTENIB_PENDING = 129,          /* the waiting head has more leaves than were read */
+    WAGTENIB_AGAIN = 130,            /* the size and the root of a known head again */
+    WAGTENIB_STALE = 131,            /* fewer leaves than a known head has, and an earlier timestamp: nothing against the log */
+    WAGTENIB_SHRUNK = 132,           /* fewer leaves than a known head has, and not an earlier timestamp */
+    WAGTENIB_FORKED = 133,           /* the size of a known head, and another root */
+    WAGTENIB_HEAD_NOT_LATER = 134,   /* more leaves than a known head has, and not a later timestamp */
+    WAGTENIB_OTHER_ROOT = 135,       /* the waiting head has another root than the leaves that were read; both are let go */
+    WAGTENIB_GAP = 136,              /* the entries begin elsewhere, or no head waits, or there are no two heads for a proof */
+    WAGTENIB_CONSISTENT = 137,       /* the proof leads from the accepted head to the waiting one */
+    WAGTENIB_INCONSISTENT = 138      /* the proof does not lead there */
 };
 
 /* out = SHA-256(00 || leaf), the hash of a leaf (RFC 6962 section 2.1). */
@@ -356,12 +396,30 @@ uint32_t wagtenib_path_of_tiles(uint64_t leaf_index, uint64_t tree_size, const u
 uint32_t wagtenib_proof_of_tiles(uint64_t first, uint64_t second, const uint8_t *contents, size_t contents_length, const uint64_t *lengths, size_t tiles,
                                  uint8_t *proof, size_t room, uint64_t *count);
 
+/* Data tiles (C2SP static-ct-api, "Log Entries"). In the presentation language of RFC 5246 (section 4), with Vector as above, the entries of a tile in order:
+ *
+ *   struct {
+ *       Vector leaf;                           MerkleTreeLeaf (RFC 6962 section 3.4), the bytes that are hashed. wagtenib_decode_leaf reads it
+ *       uint64 submitted_start;                the first byte in the tile of what was submitted: the certificate (entry type 0) or the precertificate (1)
+ *       uint64 submitted_length;               bytes
+ *       uint64 issuers_start;                  the first byte in the tile of the SHA-256 fingerprints of the issuers, which have 32 bytes each
+ *       uint64 issuers_length;                 bytes
+ *   } TileEntry;
+ *
+ *   TileEntry entries[];                       40 bytes for each entry and all bytes of the tile are always room enough */
+
+/* Reads a data tile. 0 exactly if the bytes are leaves of data tiles (TileLeaf), one after the other, to their end; their entries are in `entries`. The number of
+ * entries is not limited, and may be 0: the caller must compare it with the one in the tile's name. The extensions of an entry, which must name its index in the
+ * log, are not looked at. 9: *length says how much room the entries need, and nothing else is written. 17, 20, 21 or 139: an entry is none, *faulty_index gets its
+ * index in the tile, and the code says its first fault. 8: malloc refused. Nothing else is written with any code except 0. */
+uint32_t wagtenib_data_tile_leaves(const uint8_t *tile, size_t tile_length, uint8_t *entries, size_t room, uint64_t *length, uint64_t *faulty_index);
+
 /* Certificates (RFC 6962 sections 3.1 to 3.4), in DER. Output of a length that only the call knows goes into `entry` or `leaf`, which has room for that many
  * bytes, and *length gets its length. 9: it has no room, *length says how much it needs, and nothing else is written. 80 to 90: a certificate gives nothing.
  * This is the first reason that reading meets, and *field says where: the fields of a certificate (RFC 5280 section 4.1) have the numbers 1 certificate, 2
  * tbsCertificate, 3 signatureAlgorithm, 4 signatureValue, 5 version, 6 serialNumber, 7 signature, 8 issuer, 9 validity, 10 subject, 11
  * subjectPublicKeyInfo, 12 issuerUniqueID, 13 subjectUniqueID and 14 extensions, and 16 is added for the certificate of the issuer. *field is written with no
- * other code. 8: memory is refused. Nothing else is written with 8, 80 to 91. A call takes about as much memory as its arguments have bytes, three times. */
+ * other code. 8: memory is refused. Nothing else is written with 8, 80 to 91. */
 
 /* The entry of the precertificate with this TBSCertificate: the same without the poison extension (section 3.2). All other bytes stay as they are, except the
  * lengths around them. If a precertificate signing certificate issued it, the caller must replace the issuer and its key identifier first. 0, 8, 9, or 80
@@ -379,6 +437,74 @@ uint32_t wagtenib_promised_leaf(const uint8_t *certificate, size_t certificate_l
 uint32_t wagtenib_check_promise(const uint8_t *certificate, size_t certificate_length, const uint8_t *issuer, size_t issuer_length, uint64_t timestamp,
                                 const uint8_t *extensions, size_t extensions_length, uint64_t leaf_index, uint64_t tree_size, const uint8_t *path,
                                 size_t path_length, const uint8_t root[32], uint32_t *field);
+
+/* The names of a certificate (RFC 5280 section 4), in DER. `entry_type` is that of struct wagtenib_leaf_info: 0, and the bytes are a certificate; or 1, and they are
+ * the TBSCertificate of a precertificate. The names are the common names of the subject, and after them the dNSName, rfc822Name,
+ * uniformResourceIdentifier and iPAddress of subjectAltName, in order. In the presentation language of RFC 5246 (section 4), with Vector as above:
+ *
+ *   enum { common_name(1), bmp_common_name(2), universal_common_name(3), dns_name(4), mail_address(5), uri(6), ip_address(7), (255) } Kind;
+ *
+ *   struct {
+ *       Kind kind;
+ *       Vector bytes;                          as they are in the certificate: a character of bmp_common_name has 2 bytes, and one of universal_common_name 4
+ *   } Name;
+ *
+ *   Name names[];
+ *
+ *   Vector watched[];                          the watched names. One that begins with a dot is watched with all names below it
+ *
+ *   struct {
+ *       uint64 position;                       of the watched name in the list, counted from 0
+ *       enum { alt_name(1), common_name(2), (255) } where;   common_name: no name of subjectAltName is the watched one
+ *   } Found;
+ *
+ *   Found found[];
+ *
+ * Output, *length, *field and memory are as of the certificates above. 80 to 86: reading gives no names. The field 15 is subjectAltName. Otherwise as follows. */
+
+/* The names. 0, 8, 9, 20, or 80 to 86. */
+uint32_t wagtenib_certificate_names(uint32_t entry_type, const uint8_t *certificate, size_t certificate_length, uint8_t *names, size_t room, uint64_t *length,
+                                    uint32_t *field);
+
+/* Which of the watched names the certificate has, in the order of the list. A watched name is found by its labels (RFC 9525 section 6.3), without regard to the
+ * case of ASCII letters and to one dot at its end: it is a name of the certificate, or a wildcard there stands for it. A mail address and a URI are compared by
+ * their host, and an IP address by its text (RFC 5952). 0, 8, 9, or the first reason in this order: 20, 144, 80 to 86. */
+uint32_t wagtenib_watched_names(uint32_t entry_type, const uint8_t *certificate, size_t certificate_length, const uint8_t *watched, size_t watched_length,
+                                uint8_t *found, size_t room, uint64_t *length, uint32_t *field);
+
+/* Texts and bytes that are signed, and the numbers by which keys are named. A reader needs them to check the signatures of logs and witnesses. No function here
+ * checks a signature, and none decides what may be signed. */
+
+/* The content of a checkpoint's text. Its origin is the first origin_length bytes of the text. */
+struct wagtenib_checkpoint {
+    uint64_t tree_size;     /* leaves */
+    uint64_t origin_length; /* bytes */
+    uint8_t root[32];
+};
+
+/* Writes the text of a checkpoint without signatures and extension lines (C2SP tlog-checkpoint). 0: it is in `text`. 9: *length says how much room it needs, and
+ * nothing else is written. 8, or 10: nothing is written. */
+uint32_t wagtenib_checkpoint_text(const uint8_t *origin, size_t origin_length, uint64_t tree_size, const uint8_t root[32], uint8_t *text, size_t room,
+                                  uint64_t *length);
+
+/* Reads the text of a checkpoint, with its last line end and without the empty line and the signatures after it. 0 exactly if it is one without extension lines,
+ * and its content is in *checkpoint. 96 or 8: nothing is written. */
+uint32_t wagtenib_read_checkpoint(const uint8_t *text, size_t text_length, struct wagtenib_checkpoint *checkpoint);
+
+/* Writes the TreeHeadSignature of a head: the bytes under the log's signature (RFC 6962 section 3.5), also in a checkpoint (C2SP static-ct-api, "Checkpoints"). */
+void wagtenib_tree_head_signature(const struct wagtenib_head *head, uint8_t signed_bytes[50]);
+
+/* Writes the bytes under a cosignature of this time, in seconds since 1970, over the text of a note (C2SP tlog-cosignature, "cosignature/v1"). The text may be any
+ * in UTF-8, with extension lines too. 0: they are in `message`. 9: *length says how much room they need, and nothing else is written. 8, or 145: nothing is
+ * written. 41 bytes more than the text has are always enough. A witness calls wagtenib_witness_cosign instead, which decides whether it may sign them. */
+uint32_t wagtenib_cosignature_message(uint64_t time, const uint8_t *text, size_t text_length, uint8_t *message, size_t room, uint64_t *length);
+
+/* key_id = the first 4 bytes of SHA-256(name || 0A || algorithm || public key), by which a signature of a note names its key (C2SP signed-note). The algorithm 1 is
+ * Ed25519 and 4 is cosignature/v1, and the key has 32 bytes. For the algorithm 5, RFC6962NoteSignature, the LogID is in place of the key. */
+void wagtenib_note_key_id(const uint8_t *name, size_t name_length, uint8_t algorithm, const uint8_t *public_key, size_t public_key_length, uint8_t key_id[4]);
+
+/* log_id = SHA-256 of the log's public key, a SubjectPublicKeyInfo in DER (RFC 6962 section 3.2). */
+void wagtenib_log_id(const uint8_t *public_key, size_t public_key_length, uint8_t log_id[32]);
 
 /* What a witness cosigned last of a log. */
 struct wagtenib_witnessed_tree {
@@ -416,6 +542,74 @@ uint32_t wagtenib_witness_cosign(const uint8_t *state, size_t state_length, cons
  * tree is the same or has more leaves. 36: one of both is not the message of a cosignature. 37: the state was rolled back, or is of another log. 8: malloc
  * refused. Nothing is written unless the result is 0. To read a state without another, pass it twice. */
 uint32_t wagtenib_witness_state(const uint8_t *seen, size_t seen_length, const uint8_t *state, size_t state_length, struct wagtenib_witnessed_tree *last);
+
+/* The monitor judges what a log hands out: tree heads, entries and consistency proofs. Its state is bytes, which belong to the caller, and each call over a state
+ * writes the next one. The state has the accepted head, the newer head that waits for its entries, and the roots of the perfect subtrees of the accepted leaves and
+ * of all leaves that were read. No leaf is kept. To watch a log:
+ *
+ *   1. check the signature of a tree head, and hand the head to wagtenib_monitor_head with the state (that of wagtenib_monitor_begin at first, or that of
+ *      wagtenib_monitor_start to read a log from its end);
+ *   2. while the verdict is 129, hand the entries from the index leaves_read on to wagtenib_monitor_entries;
+ *   3. after each call that returns 0, keep the *length bytes of `out` as the state, and only then act on the verdict.
+ *
+ * A call that never came back counts for nothing: the old state still stands. Every head that gets the verdict 128 is that of a beginning of one list of leaves,
+ * those that the log handed out and that are accepted after the last call. The verdicts 132, 133, 134, 135 and 138 speak against the log.
+ *
+ * A state is read only if its parts fit one another and its hash is right. Everything else is refused as 36. A state that a call wrote is never refused. An empty
+ * state is never taken for the first one. The calls take memory (malloc), and give it back before they return. 4,259 bytes have room for every state. */
+
+/* What a call says. A number that the verdict does not name is 0. */
+struct wagtenib_monitor_verdict {
+    uint64_t leaves_accepted;    /* leaves of the accepted head */
+    uint64_t leaves_read;        /* leaves that were read: the index of the next one that is wanted */
+    uint64_t leaves_wanted;      /* leaves of the waiting head, or leaves_read if no head waits */
+    struct wagtenib_head known;  /* 133 and 134: the known head */
+    uint8_t root[32];            /* 135: the root of the leaves that were read */
+    uint32_t verdict;            /* 128 to 138 */
+    uint32_t fault;              /* 138: the fault of the proof, as of wagtenib_verify_consistency */
+};
+
+/* What is reported of the entries that were read. They are indexes in the log. */
+struct wagtenib_entry_report {
+    uint64_t later_index;        /* the first entry whose timestamp is later than that of the head that waited for it (RFC 6962 section 3.5) */
+    uint64_t later_timestamp;    /* its timestamp in milliseconds; 0 if there is none */
+    uint64_t faulty_index;       /* the first entry that is no leaf */
+    uint32_t fault;              /* its fault, 17 to 22 as of wagtenib_decode_leaf; 0 if each entry is a leaf */
+};
+
+/* The state of a monitor that was handed nothing. 0: `out` begins with it, it has *length bytes, and the rest of `out` is unchanged. 9: *length says how much
+ * room it needs, and nothing else is written. 8: nothing is written. */
+uint32_t wagtenib_monitor_begin(uint8_t *out, size_t room, uint64_t *length);
+
+/* The state of a monitor that is told to trust this head: it counts as accepted, and reading goes on from the leaf with the index tree_size. The caller must have
+ * checked the head's signature. `subtrees` are the roots of the perfect subtrees of the head's leaves, largest first, as wagtenib_push keeps them. They are in the
+ * audit path of the last leaf: if tree_size ends with k zeros in binary, the leaf hash and the first k hashes give the smallest subtree, and the others of the path
+ * are the larger ones, from the smallest up.
+ * If the trusted head is that of a list of leaves, each head with the verdict 128 after it is that of a beginning of one list, which begins with these leaves
+ * (assuming no SHA-256 collision). Nothing is said of these leaves themselves: no one has read them, and a head that no leaves have is not found out.
+ * 140: there are not as many subtrees as a tree of tree_size leaves has (the ones of that number in binary). 4: they lead to another root. Otherwise as
+ * wagtenib_monitor_begin, and nothing is written with 140 and 4. */
+uint32_t wagtenib_monitor_start(const struct wagtenib_head *head, const uint8_t *subtrees, size_t count, uint8_t *out, size_t room, uint64_t *length);
+
+/* The verdict on a tree head. It is compared with the accepted head and the waiting one: 130 to 134. If it is larger and later than both, it waits from then on
+ * (unless another head waits already), and is compared with the leaves that were read: 128, 129 or 135. 0: the verdict is in `verdict`, and `out` begins with the
+ * next state, which has *length bytes; the rest of `out` is unchanged. 9: that state has *length bytes, and `out` has no room for them; nothing else is written.
+ * 36: `state` is no state, or none that answers of a log can have led to. 8: malloc refused. Nothing is written with 36 and 8. */
+uint32_t wagtenib_monitor_head(const uint8_t *state, size_t state_length, const struct wagtenib_head *head, struct wagtenib_monitor_verdict *verdict, uint8_t *out,
+                               size_t room, uint64_t *length);
+
+/* The verdict on the leaves from the index `start` on. `leaves` has the bytes of all of them (MerkleTreeLeaf, RFC 6962 section 3.4), one after the other, and
+ * `lengths` the length of each. 141: the lengths do not add up to leaves_length, and nothing is written. The verdict is 136 if no head waits, or `start` is not
+ * leaves_read. Otherwise as many are read as the waiting head wants, whether they are leaves or not, and that head is compared with all that were read: 128, 129 or
+ * 135. `report` is written with the verdict. Otherwise as wagtenib_monitor_head. */
+uint32_t wagtenib_monitor_entries(const uint8_t *state, size_t state_length, uint64_t start, const uint8_t *leaves, size_t leaves_length, const uint64_t *lengths,
+                                  size_t count, struct wagtenib_monitor_verdict *verdict, struct wagtenib_entry_report *report, uint8_t *out, size_t room,
+                                  uint64_t *length);
+
+/* The verdict on a consistency proof from the accepted head to the waiting one: 137 or 138, or 136 if there are no two such heads. The state stays the same.
+ * Otherwise as wagtenib_monitor_head. */
+uint32_t wagtenib_monitor_proof(const uint8_t *state, size_t state_length, const uint8_t *path, size_t path_length, struct wagtenib_monitor_verdict *verdict,
+                                uint8_t *out, size_t room, uint64_t *length);
 
 #ifdef __cplusplus
 }

@@ -25,20 +25,18 @@ import textwrap
 import time
 
 ROOT = pathlib.Path(__file__).resolve().parent.parent
-PROGRAMS = {"ctlog": "make demo", "ctmonitor": "make demo"}
+PROGRAMS = {"ctlog": "make demo"}
 # The services that contain the proved code of dist/.
-LINKED = ("ctserve", "ctwitness-serve")
-SERVICE = ("ctserve", "ctcheck", "ctread", "ctload", "ctwitness-serve")
+LINKED = ("ctserve", "ctwatch", "ctwitness-serve")
+SERVICE = ("ctserve", "ctcheck", "ctread", "ctload", "ctwitness-serve", "ctwatch")
 UNITS = ("ctserve@.service", "ctwitness-serve@.service")
-# Those of ctmonitor's package, and the file by which what it keeps is turned over.
-WATCHING_UNITS = ("ctmonitor-watch.service", "ctmonitor-watch.timer")
-LOGROTATE = "ctmonitor-watch.logrotate"
+WATCH_UNITS = ("ctwatch.service",)
 MACHINE, DEBIAN = "x86_64", "amd64"
 LIBRARY = "lib/x86_64-linux-gnu"
 HOMEPAGE = "https://wagtenib.example/"
 
 # What users and operators read, beside the README.
-PAGES = ("OPERATING", "MONITOR", "GUARD", "GROWTH", "TILES", "LINES", "PROMISES", "WITNESS")
+PAGES = ("OPERATING", "AUDIT", "GUARD", "GROWTH", "TILES", "LINES", "PROMISES", "WATCH", "WITNESS")
 
 # Each package: what it is, what it needs beside libc6, and what it recommends.
 PACKAGES = {
@@ -48,11 +46,11 @@ PACKAGES = {
         "adduser, libsqlite3-0, procps",
         "ca-certificates, nginx | httpd, openssl",
     ),
-    "ctmonitor": (
-        "monitor and auditor of Certificate Transparency logs, proved",
-        "ctmonitor judges what a log answers: heads, entries and proofs. ctmonitor-watch fetches it with curl, from logs of RFC 6962 and from tiled ones. ctmonitor-audit wants libwagtenib.so.0, of libwagtenib-dev.",
-        "adduser, curl, python3",
-        "logrotate, openssl",
+    "ctwatch": (
+        "alerts to certificates for your names in Certificate Transparency logs",
+        "ctwatch follows the logs of a log list, and alerts by mail, webhook or command to each certificate for the names of its owner. Proved code in it decides which names a certificate has, and whether a log kept its promises; the rest of it is not proved.",
+        "adduser, ca-certificates, libsqlite3-0",
+        "default-mta | mail-transport-agent",
     ),
     "libwagtenib-dev": (
         "proved checks of Certificate Transparency proofs, for C",
@@ -72,7 +70,10 @@ OVERRIDES = {
         "hardening-no-pie": "the programs in Go are linked at fixed addresses, as Go does where nothing else is said",
         "maintainer-script-calls-systemctl": "logs and witnesses are instances of templates, which deb-systemd-invoke doesn't start anew by a pattern",
     },
-    "ctmonitor": {"unstripped-binary-or-object": UNSTRIPPED, "no-manual-page": NO_PAGES},
+    "ctwatch": {
+        "unstripped-binary-or-object": UNSTRIPPED, "no-manual-page": NO_PAGES,
+        "hardening-no-pie": "programs in Go are linked at fixed addresses, as Go does where nothing else is said",
+    },
     "libwagtenib-dev": {"unstripped-binary-or-object": UNSTRIPPED},
 }
 
@@ -130,24 +131,12 @@ class Release:
         """Pages by their names."""
         found = {name: ROOT / name for name in ("README.md", "CHANGELOG.md", "LICENSE")}
         found.update({f"{page}.md": ROOT / "docs" / f"{page}.md" for page in PAGES if (ROOT / "docs" / f"{page}.md").exists()})
-        pages = {"service.md": "service/README.md", "INCIDENTS.md": "service/INCIDENTS.md", "LINKING.md": "examples/link/README.md", "CERTSPOTTER.md": "examples/monitor/CERTSPOTTER.md"}
+        pages = {"service.md": "service/README.md", "INCIDENTS.md": "service/INCIDENTS.md", "LINKING.md": "examples/link/README.md"}
         return {**found, **{name: ROOT / path for name, path in pages.items()}}
-
-    def watching(self):
-        """The scripts beside ctmonitor by their installed names, which Makefile's WATCHING has too."""
-        files = {
-            "audit": "audit.py", "cosign": "cosign.py", "cosignatures": "cosignatures.sh", "from-end": "from_end.py", "keep": "keep.py", "log-list": "log_list.py", "mail": "mail.sh",
-            "show": "show.py", "signature": "signature.sh", "watch": "watch.sh",
-        }  # fmt: skip
-        return {f"ctmonitor-{name}": ROOT / "examples" / "monitor" / file for name, file in files.items()}
 
     def shared(self):
         """What an operator puts into place: Prometheus' settings, the rules of alarms, the dashboard, and what makes an image of a container."""
         return {path.name: path for path in (ROOT / "service" / name for name in ("prometheus.yml", "ctserve.rules.yml", "ctserve.dashboard.json", "ctserve.nginx.conf", "Containerfile"))}
-
-    def python(self):
-        """The modules of the Python package, which ctmonitor-audit imports, by their paths below a folder share."""
-        return {f"wagtenib/python/wagtenib/{path.name}": path for path in sorted((ROOT / "bindings" / "python" / "wagtenib").glob("*.py"))}
 
     def pkg_config(self, prefix):
         return (ROOT / "include" / "wagtenib.pc.in").read_text().replace("@PREFIX@", prefix).replace("@VERSION@", self.version)
@@ -164,13 +153,12 @@ class Release:
 
     def tree(self):
         """The tarball's files by their paths."""
-        found = {f"bin/{name}": (path.read_bytes(), 0o755) for name, path in {**self.programs, **self.watching()}.items()}
+        found = {f"bin/{name}": (path.read_bytes(), 0o755) for name, path in self.programs.items()}
         found.update(self.library_files("lib"))
         found["lib/pkgconfig/wagtenib.pc"] = (self.pkg_config("/usr/local").encode(), 0o644)
         found["include/wagtenib.h"] = ((ROOT / "include" / "wagtenib.h").read_bytes(), 0o644)
-        found.update({f"lib/systemd/system/{unit}": ((ROOT / "service" / unit).read_bytes(), 0o644) for unit in UNITS})
+        found.update({f"lib/systemd/system/{unit}": ((ROOT / "service" / unit).read_bytes(), 0o644) for unit in UNITS + WATCH_UNITS})
         found.update({f"share/wagtenib/{name}": (path.read_bytes(), 0o644) for name, path in self.shared().items()})
-        found.update({f"share/{name}": (path.read_bytes(), 0o644) for name, path in self.python().items()})
         found.update({f"share/doc/wagtenib/{name}": (path.read_bytes(), 0o644) for name, path in self.documents().items()})
         found["PROVED"] = (self.proved(found).encode(), 0o644)
         found["SBOM.spdx.json"] = (sbom(self).encode(), 0o644)
@@ -181,20 +169,18 @@ class Release:
         """A Debian package's files by their paths."""
         doc = f"usr/share/doc/{name}"
         found = {f"{doc}/copyright": (copyright_text().encode(), 0o644), f"{doc}/changelog.gz": (packed(self.changelog(name).encode(), self.moment), 0o644)}
-        if name == "ctmonitor":
-            found["usr/bin/ctmonitor"] = (self.programs["ctmonitor"].read_bytes(), 0o755)
-            found.update({f"usr/bin/{command}": (path.read_bytes(), 0o755) for command, path in self.watching().items()})
-            found.update({f"usr/share/{name}": (path.read_bytes(), 0o644) for name, path in self.python().items()})
-            found.update({f"{doc}/{page}": (self.documents()[page].read_bytes(), 0o644) for page in ("MONITOR.md", "CERTSPOTTER.md")})
-            found.update(installed_units("examples/monitor", WATCHING_UNITS))
-            found["etc/logrotate.d/ctmonitor-watch"] = ((ROOT / "examples" / "monitor" / LOGROTATE).read_bytes(), 0o644)
+        if name == "ctwatch":
+            found["usr/bin/ctwatch"] = (self.programs["ctwatch"].read_bytes(), 0o755)
+            found[f"{doc}/WATCH.md"] = (self.documents()["WATCH.md"].read_bytes(), 0o644)
+            found.update(installed_units("service", WATCH_UNITS))
+            found["etc/ctwatch.conf"] = ((ROOT / "service" / "ctwatch.conf").read_bytes(), 0o644)
         elif name == "libwagtenib-dev":
             found.update(self.library_files(f"usr/{LIBRARY}"))
             found[f"usr/{LIBRARY}/pkgconfig/wagtenib.pc"] = (self.pkg_config("/usr").replace("${prefix}/lib", f"${{prefix}}/{LIBRARY}").encode(), 0o644)
             found["usr/include/wagtenib.h"] = ((ROOT / "include" / "wagtenib.h").read_bytes(), 0o644)
             found[f"{doc}/LINKING.md"] = (self.documents()["LINKING.md"].read_bytes(), 0o644)
         else:
-            found.update({f"usr/bin/{command}": (path.read_bytes(), 0o755) for command, path in self.programs.items() if command != "ctmonitor"})
+            found.update({f"usr/bin/{command}": (path.read_bytes(), 0o755) for command, path in self.programs.items() if command != "ctwatch"})
             found.update(installed_units("service", UNITS))
             found.update({f"usr/share/wagtenib/{file}": (path.read_bytes(), 0o644) for file, path in self.shared().items()})
             found.update({f"{doc}/{page}": (path.read_bytes(), 0o644) for page, path in self.documents().items() if page != "LICENSE"})
@@ -221,7 +207,8 @@ class Release:
 
     def libc(self, name):
         """The newest version of libc that one of the package's programs asks for, by what objdump reads."""
-        paths = {"ctmonitor": [self.programs["ctmonitor"]], "libwagtenib-dev": [self.linked.with_suffix(".so")]}.get(name) or [path for it, path in self.programs.items() if it != "ctmonitor"]
+        alone = {"ctwatch": [self.programs["ctwatch"]]}
+        paths = {**alone, "libwagtenib-dev": [self.linked.with_suffix(".so")]}.get(name) or [path for it, path in self.programs.items() if it not in alone]
         asked = [tuple(map(int, it.split("."))) for path in paths for it in re.findall(r"GLIBC_([0-9.]+)\)", run("objdump", "-T", path).stdout)]
         return ".".join(map(str, max(asked, default=(2, 34))))
 
@@ -301,17 +288,18 @@ fi
 """
 
 
-WATCHING_POSTINST = """#!/bin/sh
+WATCH_POSTINST = """#!/bin/sh
 set -e
 if [ "$1" = configure ]; then
-  adduser --quiet --system --group --no-create-home --home /var/lib/ctmonitor-watch ctmonitor-watch
+  adduser --quiet --system --group --no-create-home --home /var/lib/ctwatch ctwatch
   if [ -d /run/systemd/system ]; then
     systemctl --system daemon-reload >/dev/null || true
+    systemctl try-restart ctwatch.service >/dev/null || true
   fi
 fi
 """
 
-SCRIPTS = {"wagtenib": {"postinst": POSTINST, "postrm": POSTRM}, "ctmonitor": {"postinst": WATCHING_POSTINST, "postrm": POSTRM}}
+SCRIPTS = {"wagtenib": {"postinst": POSTINST, "postrm": POSTRM}, "ctwatch": {"postinst": WATCH_POSTINST, "postrm": POSTRM}}
 
 
 def write_tree(files, folder):

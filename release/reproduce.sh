@@ -29,7 +29,7 @@ copy() {
   git -C "$1" reset -q
 }
 
-programs="ctlog ctmonitor"
+programs="ctlog"
 crates=$*
 if [ $# -eq 0 ]; then
   for name in $programs libwagtenib; do

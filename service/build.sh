@@ -10,6 +10,7 @@ what=${1:-test}
 shift || true
 export GO111MODULE=on GOTOOLCHAIN=local GOWORK=off CGO_ENABLED=1
 programs=(ctserve ctcheck ctload ctread ctwitness-serve)
+main_packages=("${programs[@]/#/./}" ../cmd/ctwatch)
 # The tests stop nodes and signers between what they do, for which no program is built (phases_hooked.go).
 tags=
 case $what in test | vet) tags=phases ;; esac
@@ -24,15 +25,13 @@ case $what in
     if [ -n "$package" ]; then
       go test -count=1 "$@" "./$package"
     else
-      go test -count=1 "$@" ./... ../bindings/... ../internal/...
-      # (with orders that no log may have, for which nothing else is built)
-      go test -count=1 -tags=$tags,wrong_order -run WrongOrder "$@" ./sequencer
+      go test -count=1 "$@" ./... ../bindings/... ../cmd/... ../internal/...
     fi
     ;;
   vet)
     cd ..
     # (each line is a file in Go)
-    unformatted=$(find bench bindings deps internal release service tests -name '*.go' -exec gofmt -l {} +)
+    unformatted=$(find bench bindings cmd deps internal release service tests -name '*.go' -exec gofmt -l {} +)
     [ -z "$unformatted" ] || { echo "gofmt would change $unformatted" >&2; exit 1; }
     go vet ./...
     # (staticcheck has this name in Debian)
@@ -51,11 +50,11 @@ case $what in
     commit=$(git rev-parse --short=12 HEAD 2>/dev/null) || commit=
     [ -z "$commit" ] || git diff --quiet HEAD -- . ../VERSION ../go.mod || commit+=+
     of=wagtenib/service/version
-    go build -o out -ldflags "-X $of.number=$(cat ../VERSION) -X $of.commit=$commit" "${programs[@]/#/./}"
+    go build -o out -ldflags "-X $of.number=$(cat ../VERSION) -X $of.commit=$commit" "${main_packages[@]}"
     ;;
   modules)
     # the modules that are linked into the programs, with their versions
-    go list -deps -f '{{with .Module}}{{if not .Main}}{{.Path}} {{with .Replace}}{{.Version}}{{else}}{{.Version}}{{end}}{{end}}{{end}}' "${programs[@]/#/./}" | sort -u
+    go list -deps -f '{{with .Module}}{{if not .Main}}{{.Path}} {{with .Replace}}{{.Version}}{{else}}{{.Version}}{{end}}{{end}}{{end}}' "${main_packages[@]}" | sort -u
     ;;
   fuzz)
     for target in FuzzFinalIssuer FuzzChain FuzzRoots; do
@@ -65,6 +64,12 @@ case $what in
       go test ./web -run '^$' -fuzz "^$target\$" -fuzztime "${1:-60}s" -fuzzminimizetime 1s -parallel "${PROCESSORS:-2}"
     done
     go test ./datatile -run '^$' -fuzz '^FuzzRead$' -fuzztime "${1:-60}s" -fuzzminimizetime 1s -parallel "${PROCESSORS:-2}"
+    go test ../internal/finding -run '^$' -fuzz '^FuzzSearch$' -fuzztime "${1:-60}s" -fuzzminimizetime 1s -parallel "${PROCESSORS:-2}"
+    go test ../internal/alert -run '^$' -fuzz '^FuzzSafe$' -fuzztime "${1:-60}s" -fuzzminimizetime 1s -parallel "${PROCESSORS:-2}"
+    # (each decoder of libwagtenib)
+    for target in $(sed -n 's/^func \(Fuzz[A-Za-z]*\)(.*/\1/p' ../bindings/go/wagtenib/fuzz_*_test.go); do
+      go test ../bindings/go/wagtenib -run '^$' -fuzz "^$target\$" -fuzztime "${1:-60}s" -fuzzminimizetime 1s -parallel "${PROCESSORS:-2}"
+    done
     ;;
   *)
     echo "build.sh test [PACKAGE [WORD..]] | fuzz [SECONDS] | vet | build | modules" >&2

@@ -1,10 +1,9 @@
 #!/usr/bin/env bash
 # Has clients of others use a log of ctserve over HTTP: certspotter follows it by RFC 6962's calls to verified heads of 30 and, from there,
 # of 50 entries; tests/clients/client.go submits five more by Google's client library, and checks what is answered; and meanwhile ctread
-# follows its tiles, which golang.org/x/mod/sumdb/tlog reads, to the last leaf and head. ctmonitor (where it isn't built, its stand-in) watches it by
-# its tiles and by its calls, at 30 entries and at the end, and openssl checks the signatures of the checkpoints that are kept. Which certificates
-# certspotter and watch.sh tell an owner of is compared with examples/monitor/CERTSPOTTER.md, over a log of tests/names/table.py's. At the end ctcheck
-# judges the log from its folder. It wants certspotter, openssl and curl; it
+# follows its tiles, which golang.org/x/mod/sumdb/tlog reads, to the last leaf and head. ctwatch watches it by its tiles and by the API of RFC 6962, at 30
+# entries and at the end. Which certificates certspotter and ctwatch report to an owner is compared (tests/names/beside.py). At the end ctcheck judges the
+# log from its folder. It wants certspotter, openssl and curl; it
 # says what it leaves out.
 set -eu
 here=$(cd "$(dirname "$0")" && pwd)
@@ -63,19 +62,16 @@ make_certificate() {
 
 . "$here/../tests/clients/certspotter.sh"
 
-# Has ctmonitor watch the log's head of $1 entries, for the name of the precertificate and of entry 7.
-mkdir "$work/bin"
-monitor="$here/../crates/ctmonitor/out/ctmonitor" which=ctmonitor
-[ -x "$monitor" ] || { monitor="python3 $here/../examples/monitor/stand_in.py" && which="ctmonitor's stand-in"; }
-printf '#!/bin/sh\nexec %s "$@"\n' "$monitor" >"$work/bin/ctmonitor" && chmod +x "$work/bin/ctmonitor"
+# Has ctwatch read the log to its head of $1 entries, for the name of the precertificate and of entry 7, by both interfaces.
 watch() {
   for kind in tiled+ ""; do
-    ended=0
-    LOG=$kind$base PATH=$work/bin:$PATH "$here/../examples/monitor/watch.sh" --folder "$work/watched${kind#tiled}" --name cryptography.io --name host-7.example >"$work/watch.told" || ended=$?
-    # (8: a name was found)
-    [ $ended = 0 ] || [ $ended = 8 ] || fail "watch.sh ended with status $ended: $(cat "$work/watch.told")"
-    grep -q ": accepted $1 leaves\$" "$work/watch.told" || fail "watch.sh accepted another head than that of $1 leaves: $(cat "$work/watch.told")"
+    ended=0 store="$work/watched${kind%+}"
+    "$here/out/ctwatch" run --once --from-start --listen= --unread none --folder "$store" --name cryptography.io --name host-7.example.org \
+      --accepted-folder "$store/accepted" --log "$kind${base%/} $work/log.pem${kind:+ $origin}" >>"$work/watch.told" 2>&1 || ended=$?
+    # (8: a certificate was found)
+    [ $ended = 0 ] || [ $ended = 8 ] || fail "ctwatch ended with status $ended"
   done
+  [ "$(sed -n 2p "$work/watchedtiled/accepted/"*)" = "$1" ] || fail "ctwatch accepted another head than that of $1 leaves"
 }
 
 submit 1 29
@@ -96,7 +92,7 @@ END
   submit 31 50
   follow 50
   told
-  "$here/../tests/names/table.py" --certspotter || fail "certspotter or watch.sh tells of others than their table has"
+  "$here/../tests/names/beside.py" || fail "certspotter and ctwatch report others than their table has"
 else
   echo "certspotter isn't installed, and wasn't tried."
   submit 31 50
@@ -119,12 +115,10 @@ heads=$(grep -c 'consistent, and all leaves are there$' "$work/ctread.told")
 grep -q "^$size entries were read, and all was right$" "$work/ctread.told" || fail "ctread hasn't read $size entries"
 echo "x/mod's tlog read $heads heads, each consistent with the one before, and all $size leaves."
 watch "$size"
-for verdicts in "$work"/watched*/*/verdicts; do
-  found=$(grep -oE '"(name|type)":"[a-z0-9.-]*"' "$verdicts" | sort | tr -d '\n')
-  [ "$found" = '"name":"cryptography.io""name":"host-7.example""type":"precert""type":"x509"' ] || fail "watch.sh tells of other names: $(cat "$verdicts")"
+for kind in tiled ""; do
+  found=$(for name in cryptography.io host-7.example.org; do "$here/out/ctwatch" query "$name" --json --folder "$work/watched$kind"; done | wc -l)
+  [ "$found" = 2 ] || fail "ctwatch finds $found certificates, and not 2"
 done
-signed=$("$here/../examples/monitor/signature.sh" "$(grep -v - "$work/log.pem" | tr -d '\n')" <"$(echo "$work"/watched+/*/heads)") || fail "a checkpoint isn't signed: $signed"
-[ "$(grep -c ': signed at [0-9]*$' <<<"$signed")" = 2 ] || fail "other checkpoints are kept than two: $signed"
-echo "watch.sh and $which watched it by its tiles and by its calls, at 30 and $size entries; openssl finds both checkpoints signed."
+echo "ctwatch watched it by its tiles and by the API of RFC 6962, at 30 and $size entries."
 kill "${running%% *}" && wait "${running%% *}" || fail "ctserve didn't end well"
 "$here/out/ctcheck" "$work/log/objects" "$work/log.pem"

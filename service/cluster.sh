@@ -66,20 +66,23 @@ witnesses() { numbers witness; }
 
 node_conf() {
   local i=$1 port=$2
+  "$here/node-certificate.sh" "$folder" "node-$i" 127.0.0.1
   cat >"$folder/node-$i.conf" <<END_OF_CONF
 origin           $origin
 listen           127.0.0.1:$((port + i))
 operator-listen  127.0.0.1:$((port + 10 + i))
 nodes-listen     127.0.0.1:$((port + 20 + i))
-nodes-address    http://127.0.0.1:$((port + 20 + i))/
-nodes-secret     $folder/secret
-signer-at        $folder/signer
+nodes-address    https://127.0.0.1:$((port + 20 + i))
+nodes-certificate  $folder/node-$i.pem
+nodes-key        $folder/node-$i.key
+nodes-ca         $folder/nodes-ca.pem
+signer-socket    $folder/signer
 roots            $folder/roots.pem
-register         $register
-places           $places
+lock             $register
+index            $places
 store            $bucket
 latest-head      $folder/node-$i.latest-head
-most-connections-by-address  500
+max-connections-per-address  500
 ${words:+witnesses        $words}
 END_OF_CONF
   chmod 600 "$folder/node-$i.conf"
@@ -110,7 +113,7 @@ last_of() { cat "$folder/witness-$1"/*/text | sed -n '3s/^none yet$/0 none/p;6{h
 judge() {
   local i head size root at=0 due=$(($(wc -l <"$folder/witnesses") / 2 + 1)) last status=0
   head=$folder/checkpoint
-  "$here/../examples/monitor/cosignatures.sh" "$folder/witnesses" "$due" <"$head" || status=1
+  "$here/cosignatures.sh" "$folder/witnesses" "$due" <"$head" || status=1
   size=$(sed -n 2p "$head") root=$(sed -n 3p "$head")
   for i in $(witnesses); do
     last=$(last_of "$i")
@@ -140,7 +143,7 @@ start() {
   # (a first start that failed is made again)
   [ -e "$folder/made" ] || create=--create
   if [ ! -e "$folder/log.key" ]; then
-    (umask 077 && openssl ecparam -name prime256v1 -genkey -noout -out "$folder/log.key" && openssl rand -hex 32 >"$folder/secret")
+    (umask 077 && openssl ecparam -name prime256v1 -genkey -noout -out "$folder/log.key")
     openssl ec -in "$folder/log.key" -pubout -out "$folder/log.pem" 2>/dev/null
     who=${STORES_S3#http://} nothing=$(sha256sum </dev/null | cut -d ' ' -f 1)
     curl -sS --fail -X PUT --user "${who%@*}" --aws-sigv4 aws:amz:us-east-1:s3 -H "x-amz-content-sha256: $nothing" "http://${who#*@}/log"

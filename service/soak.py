@@ -442,8 +442,6 @@ class Soak:
         run("openssl", "ecparam", "-name", "prime256v1", "-genkey", "-noout", "-out", work / "log.key")
         os.chmod(work / "log.key", 0o600)
         run("openssl", "ec", "-in", work / "log.key", "-pubout", "-out", work / "log.pem")
-        (work / "secret").write_text(random.SystemRandom().getrandbits(256).to_bytes(32, "big").hex())
-        os.chmod(work / "secret", 0o600)
         self.loader, self.reader = Process("loader", work / "loader.log"), Process("reader", work / "reader.log")
         self.lock, self.starting = threading.Lock(), threading.Lock()
         # A lane's lock is had while it makes a fault, and by who judges.
@@ -469,8 +467,14 @@ class Soak:
 
     # Nodes.
 
+    def peers(self, i):
+        """Returns the settings of a node among others."""
+        own = {"nodes-listen": f"127.0.0.1:{self.near[i]}", "nodes-address": f"https://127.0.0.1:{self.near[i]}", "nodes-ca": self.work / "nodes-ca.pem"}
+        return own | {"nodes-certificate": self.work / f"node-{i}.pem", "nodes-key": self.work / f"node-{i}.key"}
+
     def add_nodes(self, count):
         for i in range(count):
+            run(HERE / "node-certificate.sh", self.work, f"node-{i}", "127.0.0.1")
             self.nodes.append(Process(f"node-{i}", self.work / f"node-{i}.log"))
             self.ports.append(free_port())
             self.operators.append(free_port())
@@ -486,8 +490,8 @@ class Soak:
 
     def started(self, i, *words):
         settings = {"origin": ORIGIN, "listen": f"127.0.0.1:{self.ports[i]}", "operator-listen": f"127.0.0.1:{self.operators[i]}", "signing-key": self.work / "log.key",
-                    "roots": self.roots, "interval": "500ms", "refresh": "30s", "sweep-after": "20s", "sweep-tiles-after": "10s", "read-all-within": "1m",
-                    "most-connections-by-address": 100, "submission-within": "20s", **self.settings(i)}  # fmt: skip
+                    "roots": self.roots, "interval": "500ms", "refresh-interval": "30s", "delete-heads-after": "20s", "delete-tiles-after": "10s", "scrub-period": "1m",
+                    "max-connections-per-address": 100, "submission-timeout": "20s", **self.settings(i)}  # fmt: skip
         conf = self.work / f"node-{i}.conf"
         conf.write_text("".join(f"{name} {value}\n" for name, value in settings.items()))
         os.chmod(conf, 0o600)
@@ -1034,7 +1038,7 @@ class Soak:
         except (OSError, http.client.HTTPException):
             return
         process = self.nodes[i].process.pid
-        for name, value in re.findall(r"^ctserve_((?:refusals|lost_swaps|mended_objects|swept_\w+|scrubbed_tiles|signer_starts|handed_over|helped|repeats|connections_refused|tend_failures)_total(?:\{.*\})?) (\S+)$", text.decode(), re.M):
+        for name, value in re.findall(r"^ctserve_((?:refusals|lost_swaps|repaired_objects|deleted_\w+|scrubbed_tiles|signer_starts|forwarded_submissions|resumed_steps|duplicates|connections_refused|janitor_failures)_total(?:\{.*\})?) (\S+)$", text.decode(), re.M):
             before = self.seen_figures.get((i, process, name), 0.0)
             self.figures[name] += int(float(value) - before)
             self.seen_figures[i, process, name] = float(value)
@@ -1168,7 +1172,7 @@ class Soak:
         except Waited:
             self.fail(f"left behind at rest: {len(state['left'])}: {state['left'][:20]}; damaged tiles: {state['damaged']}")
         lost = [self.figure(i, "ctserve_lost_swaps_total") for i in range(len(self.nodes))]
-        mended = [self.figure(i, "ctserve_mended_objects_total") for i in range(len(self.nodes))]
+        mended = [self.figure(i, "ctserve_repaired_objects_total") for i in range(len(self.nodes))]
         for node in self.nodes:
             node.held = 1
         # (a node that is stopped in its end is no end in order; all is well here)
@@ -1411,10 +1415,10 @@ class Engines(Soak):
                               "--advertise-client-urls", f"{here}:2379", "--listen-peer-urls", f"{here}:2380", "--initial-advertise-peer-urls", f"{here}:2380")  # fmt: skip
 
     def settings(self, i):
-        # (two nodes hand over to each other; the third one knows nobody, and so swaps against them)
-        peers = {"nodes-listen": f"127.0.0.1:{self.near[i]}", "nodes-address": f"http://127.0.0.1:{self.near[i]}/", "nodes-secret": self.work / "secret"} if i < 2 else {}
-        return {"register": f"{self.etcd}/log", "guard-state": f"{self.etcd}/guard", "places": self.postgres, "store": f"s3://log:secret@127.0.0.1:{self.proxies[i].server_port}/log?tls=no",
-                "latest-head": self.work / f"node-{i}.latest-head", "read-again-every": "1s", **peers}  # fmt: skip
+        # (two nodes forward to each other; the third one knows nobody, and so swaps against them)
+        peers = self.peers(i) if i < 2 else {}
+        return {"lock": f"{self.etcd}/log", "guard-state": f"{self.etcd}/guard", "index": self.postgres, "store": f"s3://log:secret@127.0.0.1:{self.proxies[i].server_port}/log?tls=no",
+                "latest-head": self.work / f"node-{i}.latest-head", "scrub-interval": "1s", **peers}  # fmt: skip
 
     def leader(self):
         for i, address in enumerate(self.addresses):
@@ -1529,9 +1533,9 @@ class Folder(Soak):
         super().make()
 
     def settings(self, i):
-        return {"store": f"folder:{self.disk}/objects", "register": f"file:{self.disk}/register", "places": f"sqlite:{self.rest}/places", "guard-state": f"file:{self.rest}/guard",
-                "latest-head": self.rest / f"node-{i}.latest-head", "read-again-every": "300ms",
-                "nodes-listen": f"127.0.0.1:{self.near[i]}", "nodes-address": f"http://127.0.0.1:{self.near[i]}/", "nodes-secret": self.work / "secret"}  # fmt: skip
+        return {"store": f"folder:{self.disk}/objects", "lock": f"file:{self.disk}/register", "index": f"sqlite:{self.rest}/places", "guard-state": f"file:{self.rest}/guard",
+                "latest-head": self.rest / f"node-{i}.latest-head", "scrub-interval": "300ms",
+                **self.peers(i)}  # fmt: skip
 
     def full(self, folder):
         def make(chance):

@@ -136,9 +136,9 @@ def try_programs(repository):
         ("", f"{good}\n{bad}", "none", "none", "echo 3 passed, 0 failed", 1, f"{20 + shown} passed, 3 failed"),
         ("", none, "none", "none", "echo 3 passed, 0 failed", 1, f"{5 + shown} passed, 1 failed"),
         ("", f"{good}\n{none}", "none", "none", "echo 3 passed, 0 failed", 1, f"{14 + shown} passed, 1 failed"),
-        ("", good, "ctmonitor", "none", "echo 3 passed, 0 failed", 1, f"{13 + shown} passed, 1 failed"),
+        ("", good, "--step", "none", "echo 3 passed, 0 failed", 1, f"{13 + shown} passed, 1 failed"),
         ("", good, "none", "log", "echo 3 passed, 0 failed", 1, f"{13 + shown} passed, 1 failed"),
-        ("sys.exit(1)", bad, "none", "tiles", "echo 3 passed, 0 failed", 1, f"{10 + shown} passed, 5 failed"),
+        ("sys.exit(1)", bad, "none", "log", "echo 3 passed, 0 failed", 1, f"{10 + shown} passed, 5 failed"),
         ("", good, "none", "none", "echo 2 passed, 1 failed; exit 1", 1, "2 passed, 1 failed"),
     ):
         words.write_text(f"import sys\nprint('one: 7 command lines as due')\nprint('two: 8 command lines as due')\nprint('three: other')\n{end}\n")

@@ -99,7 +99,8 @@ def main():
         top = pathlib.Path(folder)
         service, log = top / "service", top / "log"
         (service / "out").mkdir(parents=True)
-        shutil.copy(SERVICE / "cluster.sh", service)
+        for script in ("cluster.sh", "cosignatures.sh", "node-certificate.sh"):
+            shutil.copy(SERVICE / script, service)
         written(service / "build.sh", "#!/bin/sh\n")
         written(service / "engines.sh", ENGINES)
         written(service / "out" / "ctserve", CTSERVE)

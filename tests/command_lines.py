@@ -24,7 +24,6 @@ LIMIT = 60
 NO_LOG = ["--fronts 17 --ring 4", "--fronts 0 --ring 4", "--fronts 1 --ring 0", "--fronts 1 --ring 4097", "--fronts 1 --ring 4 --close-at 9007199254740992", "--fronts 1"]
 PROGRAMS = {
     "ctlog": ("docs/LINES.md", None, ["--fronts", "1", "--ring", "4"], [*map(str.split, NO_LOG), ["lines"], [""], ["a" * 3000]]),
-    "ctmonitor": ("docs/MONITOR.md", "01234", ["--name", "a.example"] * 2500, [["lines"], ["--name"], ["--name", "a", "--name"], ["--names", "a"], [""], ["a" * 3000]]),
 }
 # What help is, of those whose help tells no exit statuses. Any text may stand for `...`.
 HELP = {
@@ -32,10 +31,8 @@ HELP = {
 }
 # What is told of words that ask for nothing that there is. A word that isn't UTF-8 is such a word.
 REFUSED = "error: ...\n\nRequests come on standard input, a line of JSON each.\n"
-TOLD = {"ctlog": REFUSED, "ctmonitor": "error: ..."}
+TOLD = {"ctlog": REFUSED}
 NOT_UTF_8 = "error: an argument isn't UTF-8\n..."
-# What a stored run tells.
-FAULTS = {"ctlog": b"ctlog: clock-back\n"}
 
 
 class Other(Exception):
@@ -107,7 +104,7 @@ def judge_streams(name, program, lines):
     own = CRATES / name
     words = (own / "args").read_text().splitlines() if (own / "args").exists() else []
     status = int((own / "status").read_text()) if (own / "status").exists() else 0
-    due("its stored run", ran(program, words, lines), (status, (own / "stdout").read_bytes(), FAULTS.get(name, b""), len(lines.read_bytes())))
+    due("its stored run", ran(program, words, lines), (status, (own / "stdout").read_bytes(), b"", len(lines.read_bytes())))
     with tempfile.TemporaryDirectory() as folder:
         source = os.open(folder, os.O_RDONLY)
         try:

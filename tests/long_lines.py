@@ -1,9 +1,8 @@
 #!/usr/bin/env python3
-"""Gives the built programs a line of 400 MB, and looks that they hold little of it: long_lines.py [NAME..]
+"""Gives ctlog a line of 400 MB, and checks that it keeps little of it in memory: long_lines.py
 
-A log or a client that is mistrusted may never end its line. ctlog and ctmonitor, or those that are named, are given such
-a line and a good one behind it: the first is replied to with `bad-line`, the second as if it stood alone, and no program takes more than
-64 MB of memory, its own and this script's. Those that aren't built are named. The status is 1 if something isn't so.
+A client may never end its line. ctlog gets such a line, and a good one after it. It must reply `bad-line` to the first, and to the second as if it were alone. It must take
+at most 64 MB of memory, this script's included. The status is 1 if something else happens, or if ctlog is not built.
 """
 import os
 import subprocess
@@ -14,13 +13,8 @@ from sweep import CRATES
 PIECE, PIECES, MOST = b" " * (1 << 20), 400, 64 << 10
 LOG, FROZEN = ["--fronts", "1", "--ring", "4", "--close-at", "7"], b'{"who":"frozen","op":"get-sth"}'
 ROOT = "47DEQpj8HBSa+/TImW+5JCeuQeRkm5NMpJWZG3hSuFU="
-HEAD = f'{{"sha256_root_hash":"{ROOT}","timestamp":7,"tree_size":0}}'
-BAD = '{"error":"bad-line"}'
-# The words, the good line, how an output begins, and the status.
-PROGRAMS = {
-    "ctlog": (LOG, FROZEN, f"{BAD}\n{HEAD}\n", 0),
-    "ctmonitor": ([], HEAD.encode(), f'{BAD}\n{{"tree_size":0,"verdict":"accepted"}}\n', 4),
-}
+# The beginning of the output.
+REPLIES = f'{{"error":"bad-line"}}\n{{"sha256_root_hash":"{ROOT}","timestamp":7,"tree_size":0}}\n'
 
 
 def written(program, words, good):
@@ -37,19 +31,15 @@ def written(program, words, good):
 
 
 def main():
-    names = sys.argv[1:] or list(PROGRAMS)
-    for name in names:
-        program = CRATES / name / "out" / name
-        if not program.exists():
-            print(f"{name} isn't built, and wasn't tried")
-            continue
-        words, good, wanted, due = PROGRAMS[name]
-        output, status, taken = written(program, words, good)
-        if not output.startswith(wanted) or status != due:
-            sys.exit(f"long_lines.py: {name} ends with status {status} and writes {output[:400]}")
-        if taken > MOST:
-            sys.exit(f"long_lines.py: {name} took {taken >> 10} MB for a line of {PIECES} MB")
-        print(f"{name}: {taken >> 10} MB for a line of {PIECES} MB")
+    program = CRATES / "ctlog" / "out" / "ctlog"
+    if not program.exists():
+        sys.exit("long_lines.py: ctlog is not built: run make demo")
+    output, status, taken = written(program, LOG, FROZEN)
+    if not output.startswith(REPLIES) or status:
+        sys.exit(f"long_lines.py: ctlog ends with status {status} and writes {output[:400]}")
+    if taken > MOST:
+        sys.exit(f"long_lines.py: ctlog took {taken >> 10} MB for a line of {PIECES} MB")
+    print(f"ctlog: {taken >> 10} MB for a line of {PIECES} MB")
 
 
 if __name__ == "__main__":

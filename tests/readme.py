@@ -66,7 +66,7 @@ def free_port():
 def path_without_kit():
     """The PATH without the folders that have the kit's command, or a program of this repository."""
     folders = os.environ["PATH"].split(":")
-    return ":".join(folder for folder in folders if not any(os.path.exists(f"{folder}/{name}") for name in ("rt", "ctmonitor")))
+    return ":".join(folder for folder in folders if not any(os.path.exists(f"{folder}/{name}") for name in ("rt", "ctwatch")))
 
 
 class Page:
@@ -131,20 +131,19 @@ HERE, BARE, PAGES, LONG, GATE = "readme.py", "make bare", "make pages", "pages.p
 ELSEWHERE = {
     "docs/LINES.md": {"crates/ctlog/out/ctlog": HERE},
     "docs/OPERATING.md": {"": BARE},
-    "docs/MONITOR.md": {"apt-get": BARE, "LOG=tiled+": BARE, "ctmonitor-watch --logs https://": BARE, "ctmonitor-log-list https://": BARE, "ctmonitor-audit": BARE, "cat > /etc/ctmonitor-watch.conf": BARE, "systemctl": BARE, "mkdir -p ct-watch": BARE},
-    "docs/TILES.md": {"(cd crates/print_steps && rt run)": PAGES, "make tiles": PAGES},
+    "docs/WATCH.md": {"make serve": HERE, "curl -s -d @ct-log/chain.json": HERE, "ctwatch run --once": HERE},
     "examples/README.md": {"examples/pem_lines.py": HERE, "examples/bad_lines.py": HERE},
     "examples/link/README.md": {"make link": PAGES, "make install": PAGES, "ldconfig": PAGES, "cc program.c": PAGES},
     "release/README.md": {"make programs release": PAGES, "cd release/out && sha256sum": PAGES, "apt-get install": BARE},
     "service/README.md": {"make deps": PAGES, "make service-engines": PAGES, "make service-test": GATE, "make service": HERE, "openssl genpkey": BARE, "cp 2027h1.pem": BARE, "cat > /etc/ctwitness/a.conf": BARE,
-                          "runuser -u ctwitness": BARE, "systemctl": BARE, "LOG=tiled+https://2027h1.log.example ctmonitor-watch --cosign": BARE},
+                          "runuser -u ctwitness": BARE, "systemctl": BARE, "ctwatch cosign": BARE},
 }
 # What the pages name in their text, README.md's tables too.
 TARGETS = {
     "make test": GATE, "make test TURN=0": GATE, "make sources": GATE, "make service-test": GATE, "make bare": "itself", "make container": "itself", "make pages": "itself",
-    **dict.fromkeys(("make check", "make wrong CRATE=ct_guard", "make service-race", "make service-faults", "make service-soak", "make load", "make sweep", "make fuzz SECONDS=180", "make dist"), LONG),
+    **dict.fromkeys(("make check", "make wrong CRATE=ct_guard", "make service-race", "make service-soak", "make load", "make sweep", "make fuzz SECONDS=180", "make dist"), LONG),
     **dict.fromkeys(("make deps", "make serve", "make demo", "make install", "make release", "make programs", "make link", "make service", "make service-clients",
-                     "make service-engines", "make serve-witness", "make cluster", "make fuzz", "make reproduce", "make demo install"), PAGES),
+                     "make service-engines", "make serve-witness", "make cluster", "make fuzz", "make reproduce"), PAGES),
 }
 
 
@@ -175,7 +174,7 @@ def elsewhere():
 def bare_commands():
     """Those that bare.py runs, in the order of the pages below."""
     found = elsewhere()
-    pages_in_order = ("docs/OPERATING.md", "docs/MONITOR.md", "service/README.md")
+    pages_in_order = ("docs/OPERATING.md", "service/README.md")
     return [command for name in pages_in_order for command in found[ROOT / name] if run_by(ROOT / name, command) == BARE]
 
 
@@ -200,19 +199,19 @@ def pem_lines(page):
 
 SIGNED = r'\{"sct_version":0,.*"signature":"[A-Za-z0-9+/=]+"\}\s*'
 CHECKPOINT = "ct-log.example\n1\n[A-Za-z0-9+/=]{44}\n\n\u2014 ct-log.example [A-Za-z0-9+/=]+\n"
-FOUND = r".*: accepted 1 leaves\n.*: FOUND www\.example\.org: entry 0, a certificate, .*\n"
+ALERT = r"FOUND (?:www\.)?example\.org: www\.example\.org \(1 name\); issued by .*; certificate 0 of 127\.0\.0\.1:[0-9]+; .*\n"
 # The commands by how they begin: what has to run before them, and what they are to do.
 KNOWN = [
     ("make serve", lambda page, command: page.serve(command)),
     ("curl -s -d @ct-log/chain.json", lambda page, command: page.run(command, 0, SIGNED)),
     ("curl -s 127.0.0.1:8618/checkpoint", lambda page, command: page.run(command, 0, CHECKPOINT)),
-    ("LOG=tiled+", lambda page, command: page.run(command, 8, FOUND)),
+    ("service/out/ctwatch run", lambda page, command: page.run(command, 8, ALERT)),
 ]
 
 
 def main():
     missing = subprocess.run([ROOT / "checks" / "needs.sh", "service-for-serve"], stderr=subprocess.PIPE, text=True, env={**os.environ, "SETUP": "no"}).stderr.splitlines()
-    missing += [f"it lacks {tool}" for tool in ("curl", "flock") if not shutil.which(tool)]
+    missing += ["it lacks curl"] if not shutil.which("curl") else []
     given, others = commands(), elsewhere()
     unknown = [command for command in given if not any(command.startswith(beginning) for beginning, _ in KNOWN)]
     if unknown or len(given) < len(KNOWN):
@@ -230,6 +229,11 @@ def main():
             if not missing:
                 # (README's make serve built it, in this copy)
                 page.run("make service", 0, "")
+                watching = commands(ROOT / "docs" / "WATCH.md")
+                page.run(next(command for command in watching if command.startswith("curl")), 0, SIGNED)
+                # (in a folder of its own: the store of README.md's ctwatch has the alert already)
+                watches = next(command for command in watching if command.startswith("ctwatch run"))
+                page.run("PATH=service/out:$PATH; " + watches.replace("ctwatch run", "ctwatch run --folder another-store"), 8, ALERT)
                 pem_lines(page)
         finally:
             page.end()

@@ -1,7 +1,7 @@
 #!/usr/bin/env python3
 """Tries the scripts of examples/ and of this folder: bad_lines.py, pem_lines.py, expected.py, check.py and those of tiles/ on
 stored input, sessions.py on its sessions, on damaged ones and on a program that stands in for ctlog, tiles/step.py and node/explore.py on random histories, those of checks/ on a made-up repository, README.md's commands, release.py on
-made-up builds, monitor/watch.sh on logs of its own, and service/cluster.sh over programs in the place of its own.
+made-up builds, and service/cluster.sh over programs in the place of its own.
 
 It prints one line where all is as expected; else it says what isn't, and ends with status 1.
 """
@@ -149,12 +149,9 @@ def make_install(folder, built):
 
 
 def try_tiles():
-    """tiles/growth.py, with tiles/expected.py behind it, writes the stored output of print_steps, and tiles/hostile.py the values of
-    line_tests; tiles/step.py answers two random histories as the leaves have it."""
-    stored = (("growth", "print_steps/stdout"), ("hostile", "line_tests/src/hostile.rt"))
-    for script, file in stored:
-        if run(f"tiles/{script}.py").stdout != (HERE.parent / "crates" / file).read_bytes():
-            fail(f"tiles/{script}.py writes another text than crates/{file}")
+    """tiles/hostile.py writes the values of tile_tests, and tiles/step.py answers two random histories as the leaves require."""
+    if run("tiles/hostile.py").stdout != (HERE.parent / "crates" / "tile_tests" / "src" / "hostile.rt").read_bytes():
+        fail("tiles/hostile.py writes another text than crates/tile_tests/src/hostile.rt")
     ran = run("tiles/histories.py", "--histories", 2)
     if ran.returncode:
         fail(f"tiles/histories.py: {ran.stderr.decode()}")
@@ -250,16 +247,16 @@ def try_install(folder):
     ran = make_install(folder, folder / "nothing")
     if not ran.returncode or installed(folder):
         fail(f"make install, with nothing built: status {ran.returncode}, {installed(folder)}")
-    alone = folder / "alone" / "ctmonitor" / "out"
+    alone = folder / "alone" / "ctlog" / "out"
     alone.mkdir(parents=True)
-    (alone / "ctmonitor").write_text("made up")
-    (alone / "ctmonitor").chmod(0o755)
+    (alone / "ctlog").write_text("made up")
+    (alone / "ctlog").chmod(0o755)
     ran = make_install(folder / "alone", folder / "alone")
-    if ran.returncode or not (folder / "alone" / "to" / "opt" / "log" / "bin" / "ctmonitor-watch").exists():
-        fail(f"make install, with ctmonitor alone: status {ran.returncode}: {ran.stderr}")
-    if "ctlog isn't built" not in ran.stdout or "libwagtenib isn't built" not in ran.stdout or "ctmonitor isn't built" in ran.stdout:
-        fail(f"make install, with ctmonitor alone, says {ran.stdout}")
-    sources = {"bin/ctlog": "ctlog/out/ctlog", "bin/ctmonitor": "ctmonitor/out/ctmonitor"}
+    if ran.returncode or not (folder / "alone" / "to" / "opt" / "log" / "bin" / "ctlog").exists():
+        fail(f"make install, with only ctlog built: status {ran.returncode}: {ran.stderr}")
+    if "libwagtenib isn't built" not in ran.stdout or "ctlog isn't built" in ran.stdout:
+        fail(f"make install, with only ctlog built, says {ran.stdout}")
+    sources = {"bin/ctlog": "ctlog/out/ctlog"}
     sources.update({f"lib/libwagtenib.{name}": f"libwagtenib/out/link/libwagtenib.{end}" for name, end in (("a", "a"), ("so.0.1.0", "so"))})
     for path in sources.values():
         (folder / "built" / path).parent.mkdir(parents=True, exist_ok=True)
@@ -268,9 +265,6 @@ def try_install(folder):
     ran = make_install(folder, folder / "built")
     due = {path: f"made up: {source}" for path, source in sources.items()}
     due.update({f"lib/libwagtenib.{end}": due["lib/libwagtenib.so.0.1.0"] for end in ("so.0", "so")})
-    due.update({f"bin/ctmonitor-{name}": (EXAMPLES / "monitor" / f"{name}.sh").read_text() for name in ("cosignatures", "mail", "signature", "watch")})
-    due.update({f"bin/ctmonitor-{name}": (EXAMPLES / "monitor" / f"{name.replace('-', '_')}.py").read_text() for name in ("audit", "cosign", "from-end", "keep", "log-list", "show")})
-    due.update({f"share/wagtenib/python/wagtenib/{path.name}": path.read_text() for path in (HERE.parent / "bindings" / "python" / "wagtenib").glob("*.py")})
     due["include/wagtenib.h"] = (HERE.parent / "include" / "wagtenib.h").read_text()
     due["lib/pkgconfig/wagtenib.pc"] = (HERE.parent / "include" / "wagtenib.pc.in").read_text().replace("@PREFIX@", "/opt/log").replace("@VERSION@", "0.1.0")
     to = folder / "to" / "opt" / "log"
@@ -294,12 +288,12 @@ def try_release(folder):
         return subprocess.run(words, capture_output=True, text=True)
 
     ran = make("none", "nothing", "nothing")
-    if ran.returncode != 1 or not all(name in ran.stderr for name in ("ctlog (make demo)", "ctmonitor (make demo)", "ctserve (make service)", "libwagtenib.so (make link)")):
+    if ran.returncode != 1 or not all(name in ran.stderr for name in ("ctlog (make demo)", "ctserve (make service)", "libwagtenib.so (make link)")):
         fail(f"release.py, with nothing built: status {ran.returncode}: {ran.stdout}{ran.stderr}")
     if (folder / "none").exists():
         fail("release.py makes something of nothing")
-    programs = {name: folder / "built" / name / "out" / name for name in ("ctlog", "ctmonitor")}
-    programs.update({name: folder / "service" / name for name in ("ctserve", "ctcheck", "ctread", "ctload", "ctwitness-serve")})
+    programs = {name: folder / "built" / name / "out" / name for name in ("ctlog",)}
+    programs.update({name: folder / "service" / name for name in ("ctserve", "ctcheck", "ctread", "ctload", "ctwitness-serve", "ctwatch")})
     library = {f"libwagtenib.{end}": folder / "built" / "libwagtenib" / "out" / "link" / f"libwagtenib.{end}" for end in ("a", "so")}
     commit = subprocess.run(["git", "log", "-1", "--format=%H"], cwd=HERE, capture_output=True, text=True).stdout[:12]
     texts = {name: f"#!/bin/sh\necho '{name} 0.1.0{f' (commit {commit})' if path.parent.name == 'service' else ''}'\n" for name, path in programs.items()}
@@ -316,7 +310,7 @@ def try_release(folder):
     ran = make("first")
     again = make("a-second-folder")
     names = sorted(path.name for path in (folder / "first").iterdir())
-    due = ["SBOM.spdx.json", "SHA256SUMS", "ctmonitor_0.1.0_amd64.deb", "libwagtenib-dev_0.1.0_amd64.deb", "wagtenib-0.1.0-x86_64.tar.gz", "wagtenib_0.1.0_amd64.deb"]
+    due = ["SBOM.spdx.json", "SHA256SUMS", "ctwatch_0.1.0_amd64.deb", "libwagtenib-dev_0.1.0_amd64.deb", "wagtenib-0.1.0-x86_64.tar.gz", "wagtenib_0.1.0_amd64.deb"]
     if ran.returncode or again.returncode or names != due:
         fail(f"release.py: status {ran.returncode}, {names}: {ran.stdout}{ran.stderr}{again.stderr}")
     for name in names:
@@ -331,7 +325,8 @@ def try_release(folder):
         if subprocess.run(words).returncode:
             fail(f"release.py: {name} can't be unpacked")
     places = {"wagtenib-0.1.0-x86_64.tar.gz": ("wagtenib-0.1.0/bin", tuple(programs)),
-              "wagtenib_0.1.0_amd64.deb": ("usr/bin", ("ctserve", "ctwitness-serve", "ctcheck", "ctread", "ctload", "ctlog")), "ctmonitor_0.1.0_amd64.deb": ("usr/bin", ("ctmonitor",))}
+              "wagtenib_0.1.0_amd64.deb": ("usr/bin", ("ctserve", "ctwitness-serve", "ctcheck", "ctread", "ctload", "ctlog")),
+              "ctwatch_0.1.0_amd64.deb": ("usr/bin", ("ctwatch",))}
     for name, (below, held) in places.items():
         for program in held:
             path = out / name / below / program
@@ -343,7 +338,7 @@ def try_release(folder):
     unit = (out / "wagtenib_0.1.0_amd64.deb" / "lib" / "systemd" / "system" / "ctserve@.service").read_text()
     if "ExecStart=/usr/bin/ctserve " not in unit:
         fail("release.py: the package's unit starts another ctserve than its own")
-    if subprocess.run(["sha256sum", "--check", "--quiet", "SHA256SUMS"], cwd=out / names[4] / "wagtenib-0.1.0").returncode:
+    if subprocess.run(["sha256sum", "--check", "--quiet", "SHA256SUMS"], cwd=out / "wagtenib-0.1.0-x86_64.tar.gz" / "wagtenib-0.1.0").returncode:
         fail("release.py: SHA256SUMS in the tarball isn't that of its files")
     for name, (below, held) in {**places, "libwagtenib-dev_0.1.0_amd64.deb": ("usr/lib/x86_64-linux-gnu", ("libwagtenib.a", "libwagtenib.so.0.1.0"))}.items():
         top, proved = (out / name / "wagtenib-0.1.0", "PROVED") if name.endswith(".gz") else (out / name, f"usr/share/{name.split('_')[0]}/PROVED")
@@ -621,11 +616,6 @@ def main():
     if page.returncode:
         fail(page.stderr.decode())
     sys.stdout.write(page.stdout.decode())
-    for script in ("watch_check.py", "show_check.py", "audit_check.py"):
-        watched = run(f"monitor/{script}")
-        if watched.returncode:
-            fail(f"monitor/{script}: {watched.stderr.decode()}")
-        sys.stdout.write(watched.stdout.decode())
     started = run("cluster.py")
     if started.returncode:
         fail(started.stderr.decode())

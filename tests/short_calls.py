@@ -18,7 +18,7 @@ import tempfile
 
 from sweep import CRATES, HERE, line
 
-PROGRAMS = ("ctlog", "ctmonitor")
+PROGRAMS = ("ctlog",)
 
 
 def long_reply():

@@ -1,7 +1,7 @@
 #!/usr/bin/env python3
 """Refuses each growth of ctlog in turn, and judges what it then does.
 
-    sweep.py [--stored NAME] [PROGRAM] [--from N] [--most N] [--step N]
+    sweep.py [PROGRAM] [--from N] [--most N] [--step N]
 
 The script of lines has two fronts and three shifts: A, B, A on front 0 and A on front 1, each kind of question and two publications; B and C on
 front 0, which settle as the second shift ends; then a question of each front, a shutdown, and the closed log's answers with an audit. It is run once with ample memory, and then with the first growth refused, the second, and so on, until a run makes
@@ -16,9 +16,7 @@ Each run has to end by itself within a minute, and in one of these ways:
   tests/check.py, which recomputes tickets, settlement, entries, heads, proofs and receipts from what the replies say was done. (A line that then waits in
   vain is told `late`.)
 
---step refuses each N-th of them, and else every one. --stored takes a program that answers line by line, as ctmonitor, over the run that is stored in crates/NAME. With ample memory its
-output and status have to be the stored ones; with a growth refused, too, or the status 1, with `NAME: memory` or a beginning of that line, and whole replies.
-Before that an output that is full has to end it with status 1 and `NAME: write`, and an input that is a folder with `NAME: read`.
+--step refuses each N-th of them, and otherwise every one.
 
 Never a signal, an abort, a hang, or another wrong reply. The counts are printed, and the status is 1 at the first run that isn't as asked, and where no
 growth was refused.
@@ -160,51 +158,15 @@ class Sweep:
         return f"status 0, {self.parties[at]['op']} of {who} is told memory"
 
 
-class StoredSweep(Sweep):
-    """A program that answers line by line, over its stored run."""
-
-    def __init__(self, name, program, folder):
-        self.NAME, self.own = name, CRATES / name
-        super().__init__(program, folder)
-
-    def asked(self):
-        words = self.own / "args"
-        return words.read_text().splitlines() if words.exists() else [], (self.own / "stdin").read_bytes()
-
-    def judge_ample(self, status, said):
-        self.status = int((self.own / "status").read_text())
-        if (status, self.ample, said) != (self.status, (self.own / "stdout").read_text(), ""):
-            sys.exit(f"sweep.py: with ample memory the output isn't the stored one, or the status {status} isn't: {said}")
-        for fault, source, sink in (("write", self.input, "/dev/full"), ("read", self.folder, os.devnull)):
-            given, taken = os.open(source, os.O_RDONLY), os.open(sink, os.O_WRONLY)
-            ended = subprocess.run([self.program, *self.words], stdin=given, stdout=taken, stderr=subprocess.PIPE, timeout=LONGEST_RUN)
-            os.close(given)
-            os.close(taken)
-            if (ended.returncode, ended.stderr.decode()) != (1, f"{self.NAME}: {fault}\n"):
-                sys.exit(f"sweep.py: where it can't {fault} the status is {ended.returncode}: {ended.stderr.decode()}")
-
-    def judge(self, refused):
-        status, output, said, growths = self.run(refused)
-        if status == 1:
-            claim(f"{self.NAME}: memory\n".startswith(said), f"standard error is {said!r}")
-            self.claim_beginning(output)
-            claim(not output or output.endswith("\n"), "a reply is cut off")
-            return f"status 1, {said.strip() or 'without its line'}, {'no' if not output else 'some'} output", growths
-        claim((status, output, said) == (self.status, self.ample, ""), f"the status is {status}: {said}")
-        return f"status {status}, all as with ample memory", growths
-
-
 def main():
     parser = argparse.ArgumentParser()
     parser.add_argument("program", nargs="?")
-    parser.add_argument("--stored", metavar="NAME")
     parser.add_argument("--from", type=int, default=1, dest="first")
     parser.add_argument("--most", type=int, default=1_000_000)
     parser.add_argument("--step", type=int, default=1)
     options = parser.parse_args()
     with tempfile.TemporaryDirectory() as folder:
-        place = pathlib.Path(folder)
-        sweep = StoredSweep(options.stored, options.program, place) if options.stored else Sweep(options.program, place)
+        sweep = Sweep(options.program, pathlib.Path(folder))
         print(f"with ample memory {sweep.growths} growths and {len(sweep.ample.splitlines())} replies", flush=True)
         refused = options.first
         while refused < options.first + options.most:

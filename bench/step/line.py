@@ -9,7 +9,7 @@ import sys
 TESTS = pathlib.Path(__file__).resolve().parent.parent.parent / "tests"
 sys.path += [str(TESTS / "tiles"), str(TESTS)]
 
-from expected import digest  # noqa: E402
+from trees import digest  # noqa: E402
 from leaves import Submission  # noqa: E402
 from states import State, written  # noqa: E402
 from step import LEVELS, edge_root, stepped  # noqa: E402

@@ -16,7 +16,11 @@ type limited struct {
 
 func limit(config Config) Stores {
 	l := &limited{config.Machine.Clock, config.Pace.Call, config.Stores}
-	return Stores{Objects: limitedObjects{l}, Lock: limitedLock{l}, Index: limitedIndex{l}}
+	all := Stores{Objects: limitedObjects{l}, Lock: limitedLock{l}, Index: limitedIndex{l, config.Stores.Index}}
+	if config.Stores.Leaves != nil {
+		all.Leaves = limitedIndex{l, config.Stores.Leaves}
+	}
+	return all
 }
 
 // within calls a function with the time limit.
@@ -75,18 +79,21 @@ func (l limitedLock) Raise(ctx context.Context, published stores.Published) erro
 	return done(ctx, l.limited, func(ctx context.Context) error { return l.of.Lock.Raise(ctx, published) })
 }
 
-type limitedIndex struct{ *limited }
+type limitedIndex struct {
+	*limited
+	index Index
+}
 
 func (i limitedIndex) Find(ctx context.Context, identities []stores.Identity) (map[stores.Identity]stores.Place, error) {
 	return within(ctx, i.limited, func(ctx context.Context) (map[stores.Identity]stores.Place, error) {
-		return i.of.Index.Find(ctx, identities)
+		return i.index.Find(ctx, identities)
 	})
 }
 
 func (i limitedIndex) Add(ctx context.Context, placed []stores.Placed) error {
-	return done(ctx, i.limited, func(ctx context.Context) error { return i.of.Index.Add(ctx, placed) })
+	return done(ctx, i.limited, func(ctx context.Context) error { return i.index.Add(ctx, placed) })
 }
 
 func (i limitedIndex) Replace(ctx context.Context, placed []stores.Placed) error {
-	return done(ctx, i.limited, func(ctx context.Context) error { return i.of.Index.Replace(ctx, placed) })
+	return done(ctx, i.limited, func(ctx context.Context) error { return i.index.Replace(ctx, placed) })
 }

@@ -1,5 +1,5 @@
-// Package node is one node of a log: a plain loop in one coroutine, over small interfaces, with the proved decisions in between. It exists beside
-// service/sequencer and serves nothing yet.
+// Package node is one node of a log: a plain loop in one coroutine, over small interfaces, with the proved decisions in between. Package
+// serve serves a log out of it.
 //
 // A step goes in this order, which keeps a log one list of entries, whichever node dies at whichever call. The proved decider says the order (docs/NODE.md); the
 // loop carries it out.
@@ -9,7 +9,7 @@
 //  3. The step's output is staged under a name of its own.
 //  4. The lock is swapped from the newest state to the step's. This is the one decision.
 //  5. The objects are put under their public names, the places are added, and the machine's memory keeps the state.
-//  6. The head is signed and put, and the lock says that it is published.
+//  6. The head is signed, cosigned by enough witnesses if the log has any, and put. Then the lock says that it is published.
 //  7. The timestamps are signed, and the waiting submissions are answered.
 //
 // Any node may do again what comes after 4, from the staged batch, with the same outcome.
@@ -21,8 +21,10 @@
 //
 // # In which order to read it
 //
+// README.md draws the life of a submission through these files.
+//
 //  1. node.go has the interfaces, and start.go says from which state a node continues.
 //  2. loop.go has the loop and its rounds, and pass.go and staged.go carry out each command.
-//  3. seen.go refuses a lock that was rolled back. heads.go and proofs.go publish.
+//  3. seen.go refuses a lock that was rolled back. heads.go, witnesses.go and proofs.go publish, and index.go adds the places.
 //  4. requests.go answers submissions that the log has already, and pool.go holds those that wait.
 package node

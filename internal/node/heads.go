@@ -32,6 +32,8 @@ var (
 	// errOtherHead: the object under a head's name is not that head.
 	errOtherHead = errors.New("node: a head's object is not that head")
 	errNote      = errors.New("it is not a signed head of this log")
+	// errForeign: a note is another log's, or another key signed it.
+	errForeign = errors.New("it is a head of another log")
 )
 
 // isPublished reports whether a state's head is published. Then all of the state is.
@@ -134,15 +136,20 @@ func (l *Loop) restore(ctx context.Context, k *state) (Head, error) {
 	if head, err = l.signedHead(ctx, k, resumed.Head, resumed.Objects); err != nil {
 		return Head{}, err
 	}
+	if err := l.cosign(ctx, k, &head, resumed.Objects); err != nil {
+		return Head{}, err
+	}
 	if err := l.putRight(ctx, headName(k.Size, k.Moment), head.Note); err != nil {
 		return Head{}, fmt.Errorf("node: %w", err)
 	}
 	return head, nil
 }
 
-// putHead has a state's head signed, and puts it. If another node put one, that is the head: the signatures of one head differ. The signer refuses a head that is
+// putHead has a state's head signed, and puts it beside something else. If another node put one, that is the head: the signatures of one head differ. The signer refuses a head that is
 // older than its last one; then the other node's is in the store, or a later one.
-func (l *Loop) putHead(ctx context.Context, k *state, of step.Head, objects []step.Object) (Head, error) {
+func (l *Loop) putHead(
+	ctx context.Context, k *state, of step.Head, objects []step.Object, beside func(context.Context) error,
+) (Head, error) {
 	made, err := l.signedHead(ctx, k, of, objects)
 	if errors.Is(err, signer.ErrRefused) {
 		if stored, absent := l.headOf(ctx, k); absent == nil {
@@ -155,7 +162,13 @@ func (l *Loop) putHead(ctx context.Context, k *state, of step.Head, objects []st
 	if err != nil {
 		return Head{}, err
 	}
-	err = l.config.Stores.Objects.Put(ctx, headName(k.Size, k.Moment), made.Note)
+	if err := l.cosign(ctx, k, &made, objects); err != nil {
+		return Head{}, err
+	}
+	put := func(ctx context.Context) error {
+		return l.config.Stores.Objects.Put(ctx, headName(k.Size, k.Moment), made.Note)
+	}
+	err = l.config.Machine.Parallel(ctx, put, beside)
 	if errors.Is(err, stores.ErrOther) {
 		return l.headOf(ctx, k)
 	}
@@ -189,7 +202,7 @@ func (l *Loop) signedHead(ctx context.Context, k *state, of step.Head, objects [
 			return Head{}, fmt.Errorf("node: the signer: a head of %d entries at %d ms: %w", k.Size, k.Moment, err)
 		}
 	}
-	blob := binary.BigEndian.AppendUint32(nil, l.verifier().KeyHash())
+	blob := binary.BigEndian.AppendUint32(nil, l.verifier.KeyHash())
 	blob = append(binary.BigEndian.AppendUint64(blob, k.Moment), signed...)
 	made, err := l.parseNote([]byte(of.Checkpoint + "\n" + l.signatureLine() + base64.StdEncoding.EncodeToString(blob) + "\n"))
 	if err != nil || matches(made, k) != nil {
@@ -212,11 +225,6 @@ func (n *Node) moved(ctx context.Context, last *signer.Head, err error) bool {
 
 func (n *Node) signatureLine() string { return "— " + n.config.Origin + " " }
 
-// verifier verifies the log's own signature of a note (C2SP static-ct-api, signatures of type 5).
-func (n *Node) verifier() note.Verifier {
-	return witness.OfRFC6962(n.config.Origin, n.config.Signer.Key())
-}
-
 // readHead reads a head and checks its signature.
 func (n *Node) readHead(ctx context.Context, name string) (Head, error) {
 	content, err := n.config.Stores.Objects.Get(ctx, name, maxNote)
@@ -225,14 +233,46 @@ func (n *Node) readHead(ctx context.Context, name string) (Head, error) {
 	}
 	head, err := n.parseNote(content)
 	if err != nil {
-		return Head{}, fmt.Errorf("%w: %w: %s: %v", ErrDamaged, errOtherHead, name, err)
+		return Head{}, fmt.Errorf("%w: %w: %s: %w", ErrDamaged, errOtherHead, name, err)
 	}
 	return head, nil
 }
 
+// foreign returns why a note that was not verified is another log's, or another key's, or nil if it is neither: then the settings have another origin, or another key.
+func (n *Node) foreign(err error) error {
+	var of *note.UnverifiedNoteError
+	if !errors.As(err, &of) {
+		return nil
+	}
+	origin, _, _ := strings.Cut(of.Note.Text, "\n")
+	switch {
+	case of.Note.UnverifiedSigs[0].Name != origin:
+		return errNote
+	case origin != n.config.Origin:
+		return fmt.Errorf("%w: it has the origin %.80q, and the settings have %q", errForeign, origin, n.config.Origin)
+	}
+	return fmt.Errorf("%w: another key than the settings' signed it", errForeign)
+}
+
+// signatureOf returns the DigitallySigned of a note whose first signature is the log's (C2SP static-ct-api, signatures of type 5).
+func (n *Node) signatureOf(content []byte) ([]byte, error) {
+	opened, err := note.Open(content, note.VerifierList(n.verifier))
+	if err != nil {
+		return nil, errNote
+	}
+	blob, err := base64.StdEncoding.DecodeString(opened.Sigs[0].Base64)
+	if err != nil || len(blob) < 12 {
+		return nil, errNote
+	}
+	return blob[12:], nil
+}
+
 // parseNote reads a head's note. The first signature must be the log's, and it must be right.
 func (n *Node) parseNote(content []byte) (Head, error) {
-	opened, err := note.Open(content, note.VerifierList(n.verifier()))
+	opened, err := note.Open(content, note.VerifierList(n.verifier))
+	if foreign := n.foreign(err); foreign != nil {
+		return Head{}, foreign
+	}
 	if err != nil || !strings.HasPrefix(string(content[len(opened.Text):]), "\n"+n.signatureLine()) {
 		return Head{}, errNote
 	}

@@ -7,6 +7,7 @@ import (
 	"time"
 
 	"wagtenib/service/decider"
+	"wagtenib/service/signer"
 	"wagtenib/service/step"
 	"wagtenib/service/stores"
 )
@@ -19,6 +20,8 @@ type Loop struct {
 	edge  map[string][]byte
 	last  last
 	clock timekeeper
+	// witnessed has, for each witness, the size that it cosigned last as far as this node knows.
+	witnessed []uint64
 	// faultSince is when the first of the rounds failed that have failed since, by Elapsed.
 	faultSince time.Duration
 }
@@ -32,6 +35,8 @@ type last struct {
 	unneeded []string
 	// decided says that this round had a step decided by the lock, won or lost. A round that writes nothing does not show that a store takes writes.
 	decided bool
+	// written is how many bytes this round's step writes, and answered how many submissions it answered.
+	written, answered int
 }
 
 const (
@@ -46,14 +51,19 @@ const (
 // errMoves: other nodes went on while something was compared. The next round learns it.
 var errMoves = errors.New("node: another node went on meanwhile")
 
-// Run makes round after round until the context ends. A round that fails is followed by a pause that doubles.
+// Run makes round after round until the context ends, or until End was called and all that wait are answered. It returns nil then. A round that fails is followed
+// by a pause that doubles.
 func (l *Loop) Run(ctx context.Context) error {
 	pause := minBackoff
 	for ctx.Err() == nil {
+		if l.pool.isOver() {
+			return nil
+		}
 		if l.pool.isEmpty() {
 			// An error is the context's end, which the loop's condition sees.
 			_ = l.config.Machine.Clock.Wait(ctx, l.config.Pace.Look, l.pool.wake)
 		}
+		began := l.config.Machine.Clock.Elapsed()
 		err := l.round(ctx)
 		if errors.Is(err, errMoves) {
 			err = nil
@@ -61,6 +71,7 @@ func (l *Loop) Run(ctx context.Context) error {
 		l.record(err)
 		if err == nil {
 			pause = minBackoff
+			l.rest(ctx, began)
 			continue
 		}
 		_ = l.config.Machine.Clock.Wait(ctx, pause, nil)
@@ -69,45 +80,96 @@ func (l *Loop) Run(ctx context.Context) error {
 	return fmt.Errorf("node: %w", ctx.Err())
 }
 
+// MaxBack is how long the clients that were answered are waited for at most.
+const MaxBack = 8 * time.Millisecond
+
+// rest waits until the next step may begin, after a round that began then had one decided. It also waits a moment for as many submissions as this round answered: without
+// that, two halves of the clients wait for each other's steps. While the node ends, it does not wait.
+func (l *Loop) rest(ctx context.Context, began time.Duration) {
+	if !l.last.decided || l.pool.isEnding() {
+		return
+	}
+	apart := l.config.Pace.Interval
+	if most := l.config.Limits.MaxWritten; most > 0 {
+		apart = max(apart, time.Duration(float64(l.last.written)/float64(most)*float64(time.Second)))
+	}
+	took := l.config.Machine.Clock.Elapsed() - began
+	if left := apart - took; left > 0 {
+		// An error is the context's end, which the loop sees.
+		_ = l.config.Machine.Clock.Wait(ctx, left, nil)
+	}
+	until := began + took + min(took/2, MaxBack)
+	for left := until - l.config.Machine.Clock.Elapsed(); left > 0 && l.pool.count() < l.last.answered; {
+		if l.config.Machine.Clock.Wait(ctx, left, l.pool.wake) != nil || l.pool.isEnding() {
+			return
+		}
+		left = until - l.config.Machine.Clock.Elapsed()
+	}
+}
+
 // record keeps what a round failed by, until a step is decided. If waiting does not help, or did not help for a while, the waiting submissions are refused.
 func (l *Loop) record(err error) {
 	if err == nil {
 		if l.last.decided {
-			l.health.set(nil)
+			l.health.set(nil, false)
+		}
+		if l.Fault() == nil {
+			l.config.Machine.Observer.WentWell()
 		}
 		return
 	}
 	now := l.config.Machine.Clock.Elapsed()
 	if l.Fault() == nil {
 		l.faultSince = now
+		l.config.Machine.Observer.Faulted(err)
 	}
-	l.health.set(err)
-	hopeless := errors.Is(err, ErrRolledBack) || errors.Is(err, ErrDamaged) || errors.Is(err, ErrIndex) || errors.Is(err, ErrClock)
-	if hopeless || now-l.faultSince >= l.config.Pace.Patience {
+	isLasting := isHopeless(err) || now-l.faultSince >= l.config.Pace.Patience
+	l.health.set(err, isLasting)
+	if isLasting {
 		l.pool.refuse(err)
 	}
+}
+
+// isHopeless reports whether waiting a little does not help against an error.
+func isHopeless(err error) bool {
+	for _, one := range []error{ErrRolledBack, ErrDamaged, ErrIndex, ErrClock, signer.ErrRefused, signer.ErrState} {
+		if errors.Is(err, one) {
+			return true
+		}
+	}
+	return false
 }
 
 // round learns the newest state, has it published, and takes the waiting submissions one step further.
 func (l *Loop) round(ctx context.Context) error {
 	ctx, cancel := l.config.Machine.Clock.Within(ctx, l.config.Pace.Round)
 	defer cancel()
-	l.last.decided = false
+	l.last.decided, l.last.written, l.last.answered = false, 0, 0
+	began := l.config.Machine.Clock.Elapsed()
 	k, err := l.learn(ctx)
 	if err != nil {
 		return err
+	}
+	if l.Leader() != "" {
+		l.pool.move()
 	}
 	// A state that is decided is published by any clock. With a wrong clock the node takes no submission.
 	skewed := l.clock.check(k.Moment)
 	p := &pass{Loop: l, from: k, command: k.look}
 	ready, err := p.reach(ctx)
+	if err == nil && ready && skewed != nil {
+		l.askTime(ctx, k)
+	}
 	if err != nil || !ready || skewed != nil {
 		return errors.Join(err, skewed)
+	}
+	if err := l.vouch(ctx, k); err != nil {
+		return err
 	}
 	if err := p.deleteUnneeded(ctx); err != nil {
 		return err
 	}
-	batch := l.pool.take(l.config.Limits.MaxBatch)
+	batch := l.pool.take()
 	defer func() { l.pool.giveBack(batch) }()
 	added, err := l.withoutKnown(ctx, k, batch)
 	if err != nil {
@@ -116,6 +178,13 @@ func (l *Loop) round(ctx context.Context) error {
 	if len(added) == 0 && !l.isStale(k) && l.Fault() == nil {
 		return nil
 	}
+	if len(added) == 0 && l.Fault() != nil {
+		// A step without entries asks nothing of the index, so it would not show that the fault is over.
+		if err := l.indexWorks(ctx, k); err != nil {
+			return err
+		}
+	}
+	l.took("take", began)
 	return p.advance(ctx, added)
 }
 
@@ -157,7 +226,11 @@ func (l *Loop) learn(ctx context.Context) (*state, error) {
 		return nil, fmt.Errorf("%w: it is gone, and had %d entries at %d ms (stop all nodes, and see \"Backup\" in OPERATING.md)", ErrRolledBack, before.Size, before.Moment)
 	}
 	if err != nil {
+		l.seen.isVouched = false
 		return nil, fmt.Errorf("node: the lock: %w", err)
+	}
+	if l.config.Machine.Clock.Elapsed()-l.seen.heard > maxUnvouched {
+		l.seen.isVouched = false
 	}
 	k := before
 	if text != before.text {
@@ -174,6 +247,7 @@ func (l *Loop) learn(ctx context.Context) (*state, error) {
 		}
 	}
 	l.seen.heard, l.seen.newest = l.config.Machine.Clock.Elapsed(), k
+	l.newest.Store(k)
 	return k, nil
 }
 
@@ -202,6 +276,8 @@ func (l *Loop) read(text string) (*state, error) {
 type timekeeper struct {
 	of      Clock
 	maxSkew time.Duration
+	// sources are other clocks, or nil.
+	sources Sources
 	// read is the time of day that was read last and may be believed, and since is Elapsed then.
 	read  time.Time
 	since time.Duration
@@ -210,8 +286,20 @@ type timekeeper struct {
 }
 
 // newTimekeeper reads the clock when the node starts, so that the node sees if the clock is set while it starts.
-func newTimekeeper(of Clock, maxSkew time.Duration) timekeeper {
-	return timekeeper{of: of, maxSkew: maxSkew, read: of.Now(), since: of.Elapsed()}
+func newTimekeeper(of Machine, maxSkew time.Duration) timekeeper {
+	return timekeeper{of: of.Clock, sources: of.Sources, maxSkew: maxSkew, read: of.Clock.Now(), since: of.Clock.Elapsed()}
+}
+
+// isVouched compares the time of day with other clocks. It reports false if none says what time it is.
+func (t *timekeeper) isVouched(now time.Time, elapsed time.Duration) (bool, error) {
+	if t.sources == nil {
+		return false, nil
+	}
+	isVouched, err := t.sources.Compare(now, elapsed, !t.isBelieved)
+	if err != nil {
+		return false, fmt.Errorf("%w: %w", ErrClock, err)
+	}
+	return isVouched, nil
 }
 
 // maxStood is how far a node's first timestamp may be after the newest head's, if only this machine's clock says what time it is.
@@ -220,14 +308,22 @@ const maxStood = 24 * time.Hour
 // check returns ErrClock if the time of day was set since it was believed, or is before the newest head's.
 func (t *timekeeper) check(newest uint64) error {
 	now, elapsed := t.of.Now(), t.of.Elapsed()
-	if early := time.UnixMilli(int64(newest)).Sub(now); early > t.maxSkew {
-		return fmt.Errorf("%w: it is earlier than the newest head by %v (set it right)", ErrClock, early.Round(time.Millisecond))
+	isVouched, err := t.isVouched(now, elapsed)
+	if err != nil {
+		return err
 	}
-	if off := now.Sub(t.read) - (elapsed - t.since); off > t.maxSkew || -off > t.maxSkew {
+	if early := time.UnixMilli(int64(newest)).Sub(now); early > t.maxSkew {
+		head := "the log's newest head"
+		if isVouched {
+			head += ", which is in the future by another clock, too"
+		}
+		return fmt.Errorf("%w: it is behind %s by %v (set it right)", ErrClock, head, early.Round(time.Millisecond))
+	}
+	if off := now.Sub(t.read) - (elapsed - t.since); !isVouched && (off > t.maxSkew || -off > t.maxSkew) {
 		return fmt.Errorf("%w: it was set by %v while this node ran (set it right)", ErrClock, off.Round(time.Millisecond))
 	}
-	if ahead := now.Sub(time.UnixMilli(int64(newest))); !t.isBelieved && newest > 0 && ahead > maxStood {
-		return fmt.Errorf("%w: it is ahead of the newest head by %v, and nothing else says what time it is (set it right)", ErrClock, ahead.Round(time.Millisecond))
+	if ahead := now.Sub(time.UnixMilli(int64(newest))); !isVouched && !t.isBelieved && newest > 0 && ahead > maxStood {
+		return fmt.Errorf("%w: it is ahead of the log's newest head by %v, and nothing else says what time it is (set it right, and name the day by ctserve clock)", ErrClock, ahead.Round(time.Millisecond))
 	}
 	t.read, t.since, t.isBelieved = now, elapsed, true
 	return nil

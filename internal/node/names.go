@@ -7,8 +7,7 @@ import (
 	"strings"
 	"time"
 
-	"golang.org/x/mod/sumdb/tlog"
-
+	"wagtenib/internal/tile"
 	"wagtenib/service/chains"
 	"wagtenib/service/datatile"
 	"wagtenib/service/decider"
@@ -20,12 +19,7 @@ import (
 const (
 	headsPrefix   = "heads/"
 	stagingPrefix = "staging/"
-	tilesPrefix   = "tile/"
-	dataPrefix    = "tile/data/"
-
-	tileHeight = 8
-	tileWidth  = datatile.Width
-	maxNote    = 16 << 10
+	maxNote       = 16 << 10
 
 	nodeWord = "node "
 	saltWord = "salt "
@@ -44,22 +38,6 @@ func headNamed(name string) (size, moment uint64, err error) {
 		return 0, 0, fmt.Errorf("%w: %.100q is not the name of a head", ErrDamaged, name)
 	}
 	return size, moment, nil
-}
-
-// tileName returns the name of a tile (C2SP tlog-tiles); the level of entries is -1.
-func tileName(tile tlog.Tile) string {
-	// tlog writes tile/8/LEVEL/..; C2SP leaves the height out.
-	const before = "tile/8/"
-	return tilesPrefix + tile.Path()[len(before):]
-}
-
-// dataTile returns the data tile of an entry in a tree of some size.
-func dataTile(index, size uint64) tlog.Tile {
-	tile := tlog.Tile{H: tileHeight, L: -1, N: int64(index / tileWidth), W: tileWidth}
-	if tile.N == int64(size/tileWidth) {
-		tile.W = int(size % tileWidth)
-	}
-	return tile
 }
 
 // state is a text of the lock: three lines, which are a state's line, the node that set it, and a random number.
@@ -99,6 +77,20 @@ func parseText(text string) (*state, error) {
 		k.node = ""
 	}
 	return k, nil
+}
+
+// HeadIn returns the head of the state that a text of the lock names. The error is ErrDamaged if it is not one of a log.
+func HeadIn(text string) (signer.Head, error) {
+	k, err := parseText(text)
+	if err != nil {
+		return signer.Head{}, err
+	}
+	return k.head(), nil
+}
+
+// Identity returns the identity of a leaf's entry: SHA-256 over its type, and the certificate, or the issuer's key hash and the TBSCertificate.
+func Identity(leaf *datatile.Leaf) stores.Identity {
+	return identity(leaf.Type, leaf.IssuerKeyHash, leaf.Certificate)
 }
 
 // where returns what the lock's text says about this node.
@@ -143,38 +135,23 @@ func identity(of chains.EntryType, what ...[]byte) (id stores.Identity) {
 	return id
 }
 
-// leavesOf reads a data tile, each of whose leaves must name its index.
-func leavesOf(name string, content []byte) ([]datatile.Leaf, error) {
-	leaves, err := datatile.Read(content)
-	if err != nil {
-		return nil, fmt.Errorf("%w: %s: %v", ErrDamaged, name, err)
-	}
-	for i := range leaves {
-		if _, ok := leaves[i].Index(); !ok {
-			return nil, fmt.Errorf("%w: %s: entry %d does not name its index", ErrDamaged, name, i)
-		}
-	}
-	return leaves, nil
-}
-
-// placesIn returns the places of all entries in a step's objects. A partial tile that grew has those of earlier steps as well.
-func placesIn(objects []step.Object) (placed []stores.Placed, err error) {
+// placesIn returns the places of all entries in a step's objects, by their identities and by the hashes of their leaves. A partial tile that grew has those of earlier steps as well.
+func placesIn(objects []step.Object) (placed, hashed []stores.Placed, err error) {
 	for _, object := range objects {
-		if !strings.HasPrefix(object.Name, dataPrefix) {
+		if !strings.HasPrefix(object.Name, tile.DataPrefix) {
 			continue
 		}
-		leaves, err := leavesOf(object.Name, object.Content)
+		leaves, err := tile.Leaves(object.Name, object.Content)
 		if err != nil {
-			return nil, err
+			return nil, nil, err
 		}
 		for i := range leaves {
 			l := &leaves[i]
 			index, _ := l.Index()
-			placed = append(placed, stores.Placed{
-				Identity: identity(l.Type, l.IssuerKeyHash, l.Certificate),
-				Place:    stores.Place{Index: index, Timestamp: l.Timestamp},
-			})
+			place := stores.Place{Index: index, Timestamp: l.Timestamp}
+			placed = append(placed, stores.Placed{Identity: identity(l.Type, l.IssuerKeyHash, l.Certificate), Place: place})
+			hashed = append(hashed, stores.Placed{Identity: stores.Identity(l.Hash()), Place: place})
 		}
 	}
-	return placed, nil
+	return placed, hashed, nil
 }

@@ -2,17 +2,20 @@ package node
 
 import (
 	"context"
-	"crypto/sha256"
 	"errors"
 	"fmt"
 	"strings"
 	"sync/atomic"
 	"time"
 
+	"golang.org/x/mod/sumdb/note"
+
+	"wagtenib/internal/tile"
 	"wagtenib/service/decider"
 	"wagtenib/service/signer"
 	"wagtenib/service/step"
 	"wagtenib/service/stores"
+	"wagtenib/service/witness"
 )
 
 // The errors of a node that cannot continue. Each is found by errors.Is.
@@ -20,13 +23,19 @@ var (
 	// ErrRolledBack: the lock is gone or was rolled back, or the store has a head that the lock's state does not descend from. The node takes no step.
 	ErrRolledBack = errors.New("node: the lock is older than the log")
 	// ErrDamaged: an object is missing, or it is not the one that the lock's state names.
-	ErrDamaged = errors.New("node: an object is not the log's")
+	ErrDamaged = tile.ErrDamaged
 	// ErrIndex: the index lacks an entry of the log.
 	ErrIndex = errors.New("node: the index is not the log's")
+	// ErrWitnesses: too few witnesses cosign a head, so it is not published.
+	ErrWitnesses = errors.New("node: too few witnesses cosign")
 	// ErrClock: the machine's clock is wrong, so the node takes no submission.
 	ErrClock = errors.New("node: the clock is wrong")
 	// ErrBusy: the queue is full.
 	ErrBusy = errors.New("node: too many submissions wait")
+	// ErrEnded: the node takes no more submissions.
+	ErrEnded = errors.New("node: it ends")
+	// ErrElsewhere: another node makes the steps, so the submission must be forwarded to it, or submitted again.
+	ErrElsewhere = errors.New("node: another node makes the steps")
 	// ErrConfig: a configuration lacks something.
 	ErrConfig = errors.New("node: no such configuration can be")
 )
@@ -74,9 +83,18 @@ type Clock interface {
 	Wait(ctx context.Context, long time.Duration, wake <-chan struct{}) error
 }
 
-// Signer signs heads and timestamps that its guard approves (signer.Signer).
+// Sources are other clocks than this machine's.
+type Sources interface {
+	// Compare compares a time of day, and the time since boot at which it was read, with the other clocks. It returns an error if one differs by more than it may,
+	// and otherwise whether one agrees. Starts says that the node has not believed its clock yet.
+	Compare(now time.Time, elapsed time.Duration, starts bool) (isVouched bool, err error)
+}
+
+// Signer signs heads and timestamps that its guard approves (signer.Signer). If it has a method Verifier, that one verifies the log's signatures of notes.
 type Signer interface {
 	Key() []byte
+	// IsGuarded reports whether there is a guard. Without one, Last knows no head.
+	IsGuarded() bool
 	Last(ctx context.Context) (*signer.Head, error)
 	SignHead(ctx context.Context, head signer.Head, consistency [][32]byte) ([]byte, error)
 	SignTimestamps(ctx context.Context, receipts []signer.Receipt) ([][]byte, error)
@@ -102,6 +120,8 @@ type Stores struct {
 	Objects Objects
 	Lock    Lock
 	Index   Index
+	// Leaves finds the places of leaves by their hashes (RFC 6962, section 2.1). It is nil if nobody asks for them.
+	Leaves Index
 }
 
 // Proved are the proved decisions.
@@ -118,6 +138,10 @@ type Machine struct {
 	Parallel func(ctx context.Context, all ...func(context.Context) error) error
 	// Random returns a random number.
 	Random func() (uint64, error)
+	// Sources are other clocks. It is nil if there are none.
+	Sources Sources
+	// Observer learns what the loop does. It is nil if nobody asks.
+	Observer Observer
 }
 
 // Pace says when a node does something.
@@ -130,10 +154,14 @@ type Pace struct {
 	Help time.Duration
 	// Call is how long one call to a store may take, and Round how long all calls of a round may take together.
 	Call, Round time.Duration
+	// Cosign is how long a witness may take for one head. It is not used without witnesses.
+	Cosign time.Duration
 	// Patience is how long something may fail until the waiting submissions are refused.
 	Patience time.Duration
 	// MaxSkew is how far the clock may be off by what else the node knows.
 	MaxSkew time.Duration
+	// Interval is the minimum time between the beginnings of two steps.
+	Interval time.Duration
 }
 
 // Limits bounds what waits.
@@ -142,6 +170,10 @@ type Limits struct {
 	MaxBatch int
 	// MaxQueue is the maximum number of submissions that wait.
 	MaxQueue int
+	// MaxBatchBytes and MaxQueueBytes are the maximum numbers of bytes of the same. 0 is no bound.
+	MaxBatchBytes, MaxQueueBytes int
+	// MaxWritten is the maximum number of bytes that steps write in a second, on average. 0 is no bound.
+	MaxWritten int
 }
 
 // Config is what a node needs.
@@ -151,13 +183,14 @@ type Config struct {
 	// Address names this node in the lock's text, so that others wait for it; it may be empty.
 	Address string
 	// Create says that the node creates a lock that was never created.
-	Create  bool
-	Stores  Stores
-	Proved  Proved
-	Signer  Signer
-	Machine Machine
-	Pace    Pace
-	Limits  Limits
+	Create    bool
+	Stores    Stores
+	Proved    Proved
+	Signer    Signer
+	Witnesses Witnesses
+	Machine   Machine
+	Pace      Pace
+	Limits    Limits
 }
 
 // check returns ErrConfig if something is missing.
@@ -175,8 +208,10 @@ func (c *Config) check() error {
 		return fmt.Errorf("%w: a time of Pace is not above 0", ErrConfig)
 	case c.Limits.MaxBatch <= 0 || c.Limits.MaxQueue <= 0:
 		return fmt.Errorf("%w: a number of Limits is not above 0", ErrConfig)
+	case c.Pace.Interval < 0 || c.Limits.MaxBatchBytes < 0 || c.Limits.MaxQueueBytes < 0 || c.Limits.MaxWritten < 0:
+		return fmt.Errorf("%w: the interval or a number of bytes is below 0", ErrConfig)
 	}
-	return nil
+	return c.Witnesses.check(c.Pace.Cosign)
 }
 
 // Snapshot is what readers see of a log: its newest published head that this node knows. It never changes.
@@ -189,11 +224,18 @@ type Snapshot struct {
 // Node is what requests may use of a node. All that its loop decides by is in Loop.
 type Node struct {
 	config   Config
-	logID    [32]byte
+	verifier note.Verifier
 	pool     *pool
 	snapshot atomic.Pointer[Snapshot]
-	health   health
+	stepping atomic.Pointer[decider.Command]
+	newest   atomic.Pointer[state]
+	// read is the newest published head that was read for a reader.
+	read   atomic.Pointer[Head]
+	health health
 }
+
+// Stepping returns the newest command to make a step, by which the decider says which staged batches may be deleted. It is nil before the first.
+func (n *Node) Stepping() *decider.Command { return n.stepping.Load() }
 
 // Snapshot returns the newest published head that this node knows, or nil before the first.
 func (n *Node) Snapshot() *Snapshot { return n.snapshot.Load() }
@@ -201,8 +243,41 @@ func (n *Node) Snapshot() *Snapshot { return n.snapshot.Load() }
 // Fault returns what keeps the node from going on, or nil.
 func (n *Node) Fault() error { return n.health.now() }
 
+// Lasting returns the fault if waiting does not help against it, or did not help for a while.
+func (n *Node) Lasting() error { return n.health.lasting() }
+
 // Waiting returns how many submissions have no answer yet.
 func (n *Node) Waiting() int { return n.pool.count() }
+
+// Decided returns the newest state of the lock that this node knows.
+func (n *Node) Decided() signer.Head {
+	if k := n.newest.Load(); k != nil {
+		return k.head()
+	}
+	return signer.Head{}
+}
+
+// followFor is for how long after a state another node is taken for the one that makes the steps.
+const followFor = 3 * time.Second
+
+// Leader returns the address of the other node that set the lock's newest state a short while ago, or nothing. Nodes that compete starve each other, since the one that
+// won knows the next state first. So submissions are forwarded to that node.
+func (n *Node) Leader() string {
+	k := n.newest.Load()
+	if k == nil || n.config.Address == "" || k.node == n.config.Address || n.config.Machine.Clock.Elapsed()-k.readAt > followFor {
+		return ""
+	}
+	return k.node
+}
+
+// End has the node take no more submissions. Run returns after all that wait are answered.
+func (n *Node) End() { n.pool.end() }
+
+// IsEnding reports whether End was called.
+func (n *Node) IsEnding() bool { return n.pool.isEnding() }
+
+// RefuseAll answers all that still wait with an error, and returns how many these were. It must be called after Run has returned only.
+func (n *Node) RefuseAll(err error) int { return n.pool.refuse(err) }
 
 // show makes a head the one that readers see, unless they see a later one.
 func (n *Node) show(head Head, line string) {
@@ -214,5 +289,16 @@ func (n *Node) show(head Head, line string) {
 // newNode returns a node that does nothing yet.
 func newNode(config Config) *Node {
 	config.Stores = limit(config)
-	return &Node{config: config, logID: sha256.Sum256(config.Signer.Key()), pool: newPool(config.Limits)}
+	if config.Machine.Observer == nil {
+		config.Machine.Observer = unobserved{}
+	}
+	return &Node{config: config, verifier: verifierOf(config), pool: newPool(config.Limits)}
+}
+
+// verifierOf returns what verifies the log's own signature of a note (C2SP static-ct-api, signatures of type 5).
+func verifierOf(config Config) note.Verifier {
+	if own, ok := config.Signer.(interface{ Verifier() note.Verifier }); ok {
+		return own.Verifier()
+	}
+	return witness.OfRFC6962(config.Origin, config.Signer.Key())
 }

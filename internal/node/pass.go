@@ -6,6 +6,9 @@ import (
 	"fmt"
 	"strings"
 
+	"golang.org/x/mod/sumdb/tlog"
+
+	"wagtenib/internal/tile"
 	"wagtenib/service/decider"
 	"wagtenib/service/step"
 	"wagtenib/service/stores"
@@ -21,6 +24,9 @@ type pass struct {
 	batch   []*Ticket
 }
 
+// places are those of a step's entries by their identities, and by the hashes of their leaves. replaced are those that the index has wrong.
+type places struct{ placed, leaves, replaced []stores.Placed }
+
 // made is a step of this node, or another node's out of its staged batch.
 type made struct {
 	// text and bundle are the lock's text that this node's step leads to, and the name of its staged batch; both are empty of another node's step.
@@ -30,9 +36,9 @@ type made struct {
 	head         step.Head
 	edge         map[string][]byte
 	receipts     []step.Receipt
-	placed       []stores.Placed
-	// replaced are the places that the index has wrong.
-	replaced []stores.Placed
+	// signatures are those of the timestamps of the receipts, or nil.
+	signatures [][]byte
+	places
 	// isNew says that the step was made in this pass.
 	isNew bool
 }
@@ -54,6 +60,10 @@ func (p *pass) goOn(told decider.Told) error {
 func (p *pass) carryOut(ctx context.Context) (bool, error) {
 	var told decider.Told
 	var err error
+	if p.command.Do != decider.Place {
+		// The places are added beside the objects, and are timed there.
+		defer p.took(p.command.Do, p.config.Machine.Clock.Elapsed())
+	}
 	switch p.command.Do {
 	case decider.Look:
 		told, err = p.look(ctx)
@@ -104,6 +114,7 @@ func (p *pass) reach(ctx context.Context) (bool, error) {
 		return false, fmt.Errorf("%w: a step from another text", errCommand)
 	}
 	p.Loop.last.stepping = p.command
+	p.stepping.Store(p.command)
 	return true, nil
 }
 
@@ -142,14 +153,15 @@ func (p *pass) look(ctx context.Context) (decider.Told, error) {
 	if err != nil {
 		return nil, err
 	}
-	placed, err := placesIn(resumed.Objects)
+	placed, leaves, err := placesIn(resumed.Objects)
 	if err != nil {
 		return nil, err
 	}
 	if err := p.accept(ctx, p.from, resumed.Objects); err != nil {
 		return nil, err
 	}
-	p.made = made{objects: resumed.Objects, head: resumed.Head, placed: placed}
+	p.config.Machine.Observer.Count(ResumedStep)
+	p.made = made{objects: resumed.Objects, head: resumed.Head, places: places{placed: placed, leaves: leaves}}
 	return decider.Bundled(references(resumed.Objects)), nil
 }
 
@@ -173,14 +185,20 @@ func references(objects []step.Object) []string {
 // step has the proved step made of the batch, over the edge that is remembered, or over the store's if that one is not the state's. If the store's is damaged,
 // what the staged batch has of it is put again.
 func (p *pass) step(ctx context.Context) error {
+	defer p.took(decider.Step, p.config.Machine.Clock.Elapsed())
 	stepped, err := p.stepOver(ctx)
 	if errors.Is(err, ErrDamaged) && len(p.edge) > 0 {
 		p.edge = map[string][]byte{}
 		stepped, err = p.stepOver(ctx)
 	}
 	if errors.Is(err, ErrDamaged) {
-		if _, failed := p.restore(ctx, p.from); failed == nil {
+		_, failed := p.restore(ctx, p.from)
+		switch {
+		case failed == nil:
 			stepped, err = p.stepOver(ctx)
+		case errors.Is(failed, errMoves):
+			// What an old state needs may be deleted.
+			return failed
 		}
 	}
 	if err != nil {
@@ -200,6 +218,7 @@ func (p *pass) step(ctx context.Context) error {
 		next++
 		placed := stores.Placed{Identity: t.identity, Place: stores.Place{Index: r.LeafIndex, Timestamp: r.Timestamp}}
 		p.made.placed = append(p.made.placed, placed)
+		p.made.leaves = append(p.made.leaves, stores.Placed{Identity: stores.Identity(tlog.RecordHash(r.Sign)), Place: placed.Place})
 		if t.misplaced {
 			p.made.replaced = append(p.made.replaced, placed)
 		}
@@ -295,6 +314,8 @@ func (p *pass) stage(ctx context.Context) (decider.Told, error) {
 	if err := p.isMade(); err != nil {
 		return nil, err
 	}
+	// What is in the staged batch is put once more, as objects.
+	p.last.written = 2 * len(p.made.content)
 	if err := p.config.Stores.Objects.Put(ctx, p.command.New.Bundle, p.made.content); err != nil {
 		return nil, fmt.Errorf("node: the staged batch: %w", err)
 	}
@@ -312,9 +333,11 @@ func (p *pass) swap(ctx context.Context) (decider.Told, error) {
 	}
 	p.last.decided = true
 	if !won {
+		p.config.Machine.Observer.Count(LostSwap)
 		p.last.unneeded = append(p.last.unneeded, p.command.New.Bundle)
 		return decider.Lost(), nil
 	}
+	p.config.Machine.Observer.Decided(len(p.batch), p.last.written)
 	p.last.unneeded = append(p.last.unneeded, p.command.Seen.Bundle)
 	p.keepEdge()
 	k, err := p.learn(ctx)
@@ -343,6 +366,9 @@ func (l *Loop) swapped(ctx context.Context, old, new string) (won bool, err erro
 		if errors.Is(err, stores.ErrLost) {
 			return false, nil
 		}
+		if errors.Is(err, stores.ErrUnknown) {
+			l.config.Machine.Observer.Count(UnknownSwap)
+		}
 		if l.config.Machine.Clock.Wait(ctx, swapPause, nil) != nil {
 			break
 		}
@@ -357,7 +383,10 @@ func (p *pass) put(ctx context.Context) (decider.Told, error) {
 		return nil, err
 	}
 	calls := []func(context.Context) error{
-		func(ctx context.Context) error { return p.index(ctx) },
+		func(ctx context.Context) error {
+			defer p.took(decider.Place, p.config.Machine.Clock.Elapsed())
+			return p.index(ctx)
+		},
 		func(ctx context.Context) error {
 			if p.isAccepted(p.from) {
 				return nil
@@ -380,24 +409,6 @@ func (p *pass) put(ctx context.Context) (decider.Told, error) {
 	return decider.Done(), nil
 }
 
-// index adds the places of the entries, so many at once as the index takes.
-func (p *pass) index(ctx context.Context) error {
-	for placed := p.made.placed; len(placed) > 0; {
-		some := placed[:min(len(placed), stores.MostPlaces)]
-		if err := p.config.Stores.Index.Add(ctx, some); err != nil {
-			return fmt.Errorf("node: the index: %w", err)
-		}
-		placed = placed[len(some):]
-	}
-	if len(p.made.replaced) == 0 {
-		return nil
-	}
-	if err := p.config.Stores.Index.Replace(ctx, p.made.replaced); err != nil {
-		return fmt.Errorf("node: the index: %w", err)
-	}
-	return nil
-}
-
 // place does nothing: the places were added beside the objects.
 func (p *pass) place(context.Context) (decider.Told, error) {
 	return decider.Done(), p.isFrom()
@@ -408,7 +419,7 @@ func (p *pass) publish(ctx context.Context) (decider.Told, error) {
 	if err := p.isFrom(); err != nil {
 		return nil, err
 	}
-	head, err := p.putHead(ctx, p.from, p.made.head, p.made.objects)
+	head, err := p.putHead(ctx, p.from, p.made.head, p.made.objects, p.sign)
 	if err != nil {
 		return nil, err
 	}
@@ -419,19 +430,36 @@ func (p *pass) publish(ctx context.Context) (decider.Told, error) {
 	return decider.Done(), nil
 }
 
-// answer signs the timestamps of the batch and answers it. Its entries are under a published head.
+// sign signs the timestamps of the batch beside the put of its head, which the guard approved and enough witnesses cosigned. Nobody sees them before that head is
+// published. A failure is none yet: answer signs again.
+func (p *pass) sign(ctx context.Context) error {
+	if len(p.batch) == 0 {
+		return nil
+	}
+	signatures, err := p.signTimestamps(ctx, p.made.receipts, p.from.head(), p.reading(p.made.objects))
+	if err == nil {
+		p.made.signatures = signatures
+	}
+	return nil
+}
+
+// answer signs the timestamps of the batch, if they are not signed yet, and answers it. Its entries are under a published head.
 func (p *pass) answer(ctx context.Context) (decider.Told, error) {
 	if err := p.isFrom(); err != nil || len(p.batch) == 0 {
 		return decider.Done(), err
 	}
-	signatures, err := p.signTimestamps(ctx, p.made.receipts, p.from.head(), p.reading(p.made.objects))
-	if err != nil {
-		return nil, err
+	if p.made.signatures == nil {
+		signatures, err := p.signTimestamps(ctx, p.made.receipts, p.from.head(), p.reading(p.made.objects))
+		if err != nil {
+			return nil, err
+		}
+		p.made.signatures = signatures
 	}
 	for i, t := range p.batch {
 		r := p.made.receipts[i]
-		p.pool.resolve(t, Answer{Place: Place{r.LeafIndex, r.Timestamp, signatures[i]}})
+		p.pool.resolve(t, Answer{Place: Place{r.LeafIndex, r.Timestamp, p.made.signatures[i]}})
 	}
+	p.last.answered = len(p.batch)
 	return decider.Done(), nil
 }
 
@@ -459,7 +487,7 @@ func (p *pass) keepEdge() {
 		if !strings.Contains(object.Name, ".p/") {
 			continue
 		}
-		level := object.Name[:strings.IndexByte(object.Name[len(tilesPrefix):], '/')+len(tilesPrefix)+1]
+		level := object.Name[:strings.IndexByte(object.Name[len(tile.Prefix):], '/')+len(tile.Prefix)+1]
 		for name := range p.edge {
 			if strings.HasPrefix(name, level) {
 				delete(p.edge, name)

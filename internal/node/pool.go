@@ -1,6 +1,7 @@
 package node
 
 import (
+	"context"
 	"fmt"
 	"sync"
 
@@ -29,6 +30,8 @@ type Ticket struct {
 	// must be replaced.
 	wrong     *stores.Place
 	misplaced bool
+	// isMovable says that the submission may be forwarded to another node.
+	isMovable bool
 	done      chan struct{}
 	answer    Answer
 }
@@ -43,36 +46,82 @@ func (t *Ticket) Answer() Answer { return t.answer }
 type pool struct {
 	mu      sync.Mutex
 	waiting []*Ticket
-	// open is how many tickets have no answer yet: those that wait and those that are in a step.
-	open, max int
-	wake      chan struct{}
+	// open is how many tickets have no answer yet: those that wait and those that are in a step. bytes is how many bytes these have.
+	open, bytes int
+	ended       bool
+	limits      Limits
+	wake        chan struct{}
 }
 
-func newPool(limits Limits) *pool { return &pool{max: limits.MaxQueue, wake: make(chan struct{}, 1)} }
+func newPool(limits Limits) *pool { return &pool{limits: limits, wake: make(chan struct{}, 1)} }
+
+// length returns how many bytes a ticket counts as.
+func (t *Ticket) length() int {
+	s := &t.submission
+	return len(s.LeafCertificate) + len(s.PreCertificate) + len(s.TBSCertificate) + 32*len(s.Chain)
+}
+
+// end has the pool take no more.
+func (p *pool) end() {
+	p.mu.Lock()
+	defer p.mu.Unlock()
+	p.ended = true
+	p.awake()
+}
+
+// awake wakes the loop up.
+func (p *pool) awake() {
+	select {
+	case p.wake <- struct{}{}:
+	default:
+	}
+}
+
+// isOver reports whether no more is taken, and all are answered.
+func (p *pool) isOver() bool {
+	p.mu.Lock()
+	defer p.mu.Unlock()
+	return p.ended && p.open == 0
+}
+
+// isEnding reports whether no more is taken.
+func (p *pool) isEnding() bool {
+	p.mu.Lock()
+	defer p.mu.Unlock()
+	return p.ended
+}
 
 // add puts a submission at the end of the queue.
 func (p *pool) add(of *Request) (*Ticket, error) {
 	p.mu.Lock()
 	defer p.mu.Unlock()
-	if p.open >= p.max {
+	if p.ended {
+		return nil, ErrEnded
+	}
+	if p.open >= p.limits.MaxQueue {
 		return nil, fmt.Errorf("%w: %d (submit again later)", ErrBusy, p.open)
 	}
-	t := &Ticket{submission: of.submission, identity: of.identity, wrong: of.wrong, done: make(chan struct{})}
+	t := &Ticket{submission: of.submission, identity: of.identity, wrong: of.wrong, isMovable: of.isMovable, done: make(chan struct{})}
+	if max := p.limits.MaxQueueBytes; max > 0 && p.bytes+t.length() > max {
+		return nil, fmt.Errorf("%w: %d, of %d bytes (submit again later)", ErrBusy, p.open, p.bytes)
+	}
 	p.waiting = append(p.waiting, t)
 	p.open++
-	select {
-	case p.wake <- struct{}{}:
-	default:
-	}
+	p.bytes += t.length()
+	p.awake()
 	return t, nil
 }
 
-// take removes the first tickets, at most max. Those that get no answer must be given back.
-func (p *pool) take(max int) []*Ticket {
+// take removes the first tickets, so many as one step may have. Those that get no answer must be given back.
+func (p *pool) take() []*Ticket {
 	p.mu.Lock()
 	defer p.mu.Unlock()
-	if max > len(p.waiting) {
-		max = len(p.waiting)
+	max, bytes := 0, 0
+	for ; max < min(len(p.waiting), p.limits.MaxBatch); max++ {
+		bytes += p.waiting[max].length()
+		if max > 0 && p.limits.MaxBatchBytes > 0 && bytes > p.limits.MaxBatchBytes {
+			break
+		}
 	}
 	taken := p.waiting[:max:max]
 	p.waiting = append([]*Ticket(nil), p.waiting[max:]...)
@@ -108,19 +157,55 @@ func (p *pool) resolve(t *Ticket, with Answer) {
 	defer p.mu.Unlock()
 	if !t.isAnswered() {
 		p.open--
+		p.bytes -= t.length()
 		t.answer = with
 		close(t.done)
 	}
 }
 
-// refuse answers all that wait with an error.
-func (p *pool) refuse(err error) {
+// leave removes a ticket for which nobody waits any more. One that is in a step stays there.
+func (p *pool) leave(t *Ticket) {
+	p.mu.Lock()
+	defer p.mu.Unlock()
+	for at := range p.waiting {
+		if p.waiting[at] == t {
+			p.waiting = append(p.waiting[:at:at], p.waiting[at+1:]...)
+			p.open--
+			p.bytes -= t.length()
+			t.answer = Answer{Err: context.Canceled}
+			close(t.done)
+			return
+		}
+	}
+}
+
+// refuse answers all that wait with an error, and returns how many these were.
+func (p *pool) refuse(err error) int {
 	p.mu.Lock()
 	all := p.waiting
 	p.waiting = nil
 	p.mu.Unlock()
 	for _, t := range all {
 		p.resolve(t, Answer{Err: err})
+	}
+	return len(all)
+}
+
+// move answers those that another node may take, and that are in no step.
+func (p *pool) move() {
+	p.mu.Lock()
+	var stay, moved []*Ticket
+	for _, t := range p.waiting {
+		if t.isMovable {
+			moved = append(moved, t)
+		} else {
+			stay = append(stay, t)
+		}
+	}
+	p.waiting = stay
+	p.mu.Unlock()
+	for _, t := range moved {
+		p.resolve(t, Answer{Err: ErrElsewhere})
 	}
 }
 
@@ -138,10 +223,22 @@ func (p *pool) isEmpty() bool {
 	return len(p.waiting) == 0
 }
 
-// health is what keeps a node from going on, and since when.
+// health is what keeps a node from going on.
 type health struct {
 	mu    sync.Mutex
 	fault error
+	// isLasting says that waiting does not help, or did not help for a while.
+	isLasting bool
+}
+
+// lasting returns the fault if waiting does not help.
+func (h *health) lasting() error {
+	h.mu.Lock()
+	defer h.mu.Unlock()
+	if h.isLasting {
+		return h.fault
+	}
+	return nil
 }
 
 func (h *health) now() error {
@@ -150,8 +247,8 @@ func (h *health) now() error {
 	return h.fault
 }
 
-func (h *health) set(err error) {
+func (h *health) set(err error, isLasting bool) {
 	h.mu.Lock()
 	defer h.mu.Unlock()
-	h.fault = err
+	h.fault, h.isLasting = err, isLasting
 }

@@ -5,8 +5,7 @@ import (
 	"errors"
 	"fmt"
 
-	"golang.org/x/mod/sumdb/tlog"
-
+	"wagtenib/internal/tile"
 	"wagtenib/service/step"
 	"wagtenib/service/stores"
 )
@@ -18,6 +17,7 @@ type Request struct {
 	submission step.Submission
 	identity   stores.Identity
 	wrong      *stores.Place
+	isMovable  bool
 }
 
 // Request returns the request of a submission.
@@ -25,12 +25,46 @@ func (n *Node) Request(submission step.Submission) *Request {
 	return &Request{node: n, submission: submission, identity: identityOf(submission)}
 }
 
-// Enqueue has the submission wait for a step, and never waits itself.
-func (r *Request) Enqueue() (*Ticket, error) { return r.node.pool.add(r) }
+// Enqueue has the submission wait for a step, and never waits itself. While a fault lasts, it returns that.
+func (r *Request) Enqueue() (*Ticket, error) {
+	if err := r.node.health.lasting(); err != nil {
+		return nil, err
+	}
+	return r.node.pool.add(r)
+}
+
+// Wait waits for the ticket's answer, and gives it up if the context ends first.
+func (r *Request) Wait(ctx context.Context, t *Ticket) (Answer, error) {
+	select {
+	case <-t.Done():
+		return t.Answer(), nil
+	case <-ctx.Done():
+		r.node.pool.leave(t)
+		return Answer{}, fmt.Errorf("node: %w", ctx.Err())
+	}
+}
+
+// Movable says that the submission may be forwarded to another node. It is answered by ErrElsewhere if another node makes the steps.
+func (r *Request) Movable() { r.isMovable = true }
 
 // Lookup returns where the log has the entry already, with a new signature over its first timestamp, or nil. A place that the index has is believed only if the
 // proved claim accepts the entry's audit path under the head that readers see.
 func (r *Request) Lookup(ctx context.Context) (*Place, error) {
+	c, err := r.Find(ctx)
+	if err != nil || c == nil {
+		return nil, err
+	}
+	return r.Claim(ctx, c)
+}
+
+// Candidate is where the index says that the log has an entry, with the head under which that is looked at.
+type Candidate struct {
+	at    *Snapshot
+	place stores.Place
+}
+
+// Find returns where the index says that the log has the entry, or nil. It reads no tile.
+func (r *Request) Find(ctx context.Context) (*Candidate, error) {
 	n := r.node
 	now := n.Snapshot()
 	if now == nil || now.Head.Size == 0 {
@@ -45,6 +79,12 @@ func (r *Request) Lookup(ctx context.Context) (*Place, error) {
 		// The place of an entry that is not under the head yet becomes known by the next round.
 		return nil, nil
 	}
+	return &Candidate{now, place}, nil
+}
+
+// Claim returns the entry at a candidate's place, with a new signature over its first timestamp, or nil if another entry is there. It may read two data tiles.
+func (r *Request) Claim(ctx context.Context, c *Candidate) (*Place, error) {
+	n, now, place := r.node, c.at, c.place
 	receipt, err := n.claimed(ctx, now, place, r)
 	if err != nil {
 		return nil, err
@@ -57,33 +97,27 @@ func (r *Request) Lookup(ctx context.Context) (*Place, error) {
 	if err != nil {
 		return nil, err
 	}
+	n.config.Machine.Observer.Count(Duplicate)
 	return &Place{place.Index, place.Timestamp, signatures[0]}, nil
 }
 
+// DamagedTile is ErrDamaged of a data tile with a number, or of the hash tiles above it.
+type DamagedTile struct {
+	Number uint64
+	Why    error
+}
+
+func (d DamagedTile) Error() string { return d.Why.Error() }
+func (d DamagedTile) Unwrap() error { return d.Why }
+
 // claimed returns the receipt of a request's entry at a place, or nil if another entry is there.
 func (n *Node) claimed(ctx context.Context, at *Snapshot, place stores.Place, r *Request) (*step.Receipt, error) {
-	name := tileName(dataTile(place.Index, at.Head.Size))
-	content, err := n.stored(ctx, name)
+	leaf, err := tile.LeafAt(ctx, place.Index, at.Head.Head, n.stored)
+	if errors.Is(err, ErrDamaged) {
+		return nil, DamagedTile{place.Index / tile.Width, err}
+	}
 	if err != nil {
 		return nil, err
-	}
-	leaves, err := leavesOf(name, content)
-	if err != nil {
-		return nil, err
-	}
-	offset := place.Index % tileWidth
-	if offset >= uint64(len(leaves)) {
-		return nil, fmt.Errorf("%w: %s has %d entries", ErrDamaged, name, len(leaves))
-	}
-	hashes, of := hashesOf(ctx, at.Head.Head, n.stored)
-	expected, err := hashes.ReadHashes([]int64{tlog.StoredHashIndex(0, int64(place.Index))})
-	if of.failed != nil {
-		return nil, of.failed
-	}
-	leaf := &leaves[offset]
-	index, _ := leaf.Index()
-	if err != nil || index != place.Index || tlog.Hash(leaf.Hash()) != expected[0] {
-		return nil, fmt.Errorf("%w: entry %d of %s is not the tree's (put it back from a backup)", ErrDamaged, place.Index, name)
 	}
 	if identity(leaf.Type, leaf.IssuerKeyHash, leaf.Certificate) != r.identity || leaf.Timestamp != place.Timestamp {
 		return nil, nil

@@ -23,6 +23,10 @@ type seen struct {
 	// newest is the state of the text that was read last, and heard is when that was, by Elapsed.
 	newest *state
 	heard  time.Duration
+	// isVouched says that enough witnesses cosigned the newest head again since this node started, or since it could not read the lock.
+	isVouched bool
+	// asked is when the witnesses were asked for the time, by Elapsed.
+	asked time.Duration
 }
 
 // maxUnheard is for how long a node may not have read the lock, until it looks for heads that are later than what it reads.

@@ -48,5 +48,9 @@ func (l *Loop) putRight(ctx context.Context, name string, content []byte) error 
 			return err
 		}
 	}
-	return l.config.Stores.Objects.Put(ctx, name, content)
+	if err := l.config.Stores.Objects.Put(ctx, name, content); err != nil {
+		return err
+	}
+	l.config.Machine.Observer.Repaired(name)
+	return nil
 }

@@ -5,6 +5,7 @@ import (
 	"errors"
 	"fmt"
 
+	"wagtenib/internal/tile"
 	"wagtenib/service/decider"
 	"wagtenib/service/signer"
 	"wagtenib/service/stores"
@@ -17,7 +18,7 @@ func Start(ctx context.Context, config Config) (*Node, *Loop, error) {
 		return nil, nil, err
 	}
 	n := newNode(config)
-	l := &Loop{Node: n, edge: map[string][]byte{}, clock: newTimekeeper(config.Machine.Clock, config.Pace.MaxSkew)}
+	l := &Loop{Node: n, edge: map[string][]byte{}, witnessed: make([]uint64, len(config.Witnesses.All)), clock: newTimekeeper(config.Machine, config.Pace.MaxSkew)}
 	remembered, err := config.Machine.Memory.Load(ctx)
 	if err != nil {
 		return nil, nil, fmt.Errorf("node: the memory: %w", err)
@@ -66,6 +67,7 @@ func (l *Loop) takeUp(ctx context.Context, remembered *signer.Head) (bool, error
 		return false, l.create(ctx)
 	}
 	l.seen.newest, l.seen.heard = f.k, l.config.Machine.Clock.Elapsed()
+	l.newest.Store(f.k)
 	if !f.published.Before(f.k.published()) {
 		if err := l.knowsNewest(ctx, f.k); err != nil {
 			return false, err
@@ -84,7 +86,7 @@ func rooted(head *signer.Head) *decider.Rooted {
 
 // find reads the lock, and after that everything that may be ahead of it.
 func (l *Loop) find(ctx context.Context, remembered *signer.Head) (f found, err error) {
-	f.Creates, f.Guarded, f.Seen = l.config.Create, true, rooted(remembered)
+	f.Creates, f.Guarded, f.Seen = l.config.Create, l.config.Signer.IsGuarded(), rooted(remembered)
 	if f.Register, err = l.lockText(ctx); err != nil {
 		return f, err
 	}
@@ -124,7 +126,7 @@ func (l *Loop) lockText(ctx context.Context) (string, error) {
 
 // hasLog reports whether the store has any object of a log.
 func (l *Loop) hasLog(ctx context.Context) (bool, error) {
-	for _, prefix := range []string{headsPrefix, tilesPrefix, stagingPrefix} {
+	for _, prefix := range []string{headsPrefix, tile.Prefix, stagingPrefix} {
 		names, err := l.config.Stores.Objects.List(ctx, prefix, "", 1)
 		if err != nil {
 			return false, fmt.Errorf("node: the objects: %w", err)
@@ -139,8 +141,11 @@ func (l *Loop) hasLog(ctx context.Context) (bool, error) {
 // newestListed returns the newest head in the store that is after the lock's or after the signer's last one, or nil.
 func (l *Loop) newestListed(ctx context.Context, f found) (*decider.Point, error) {
 	after := ""
-	if f.k != nil && f.last != nil {
+	switch {
+	case f.k != nil && f.last != nil:
 		after = min(headName(f.k.Size, f.k.Moment), headName(f.last.Size, f.last.Moment))
+	case f.k != nil && !f.Guarded:
+		after = headName(f.k.Size, f.k.Moment)
 	}
 	newest, err := l.newestHead(ctx, after)
 	if err != nil || newest == "" {
@@ -191,7 +196,7 @@ func refused(refusal decider.Refusal, f found) error {
 	case decider.TwoRoots:
 		return fmt.Errorf("%w: %s, and the signer approved another root of these", ErrDamaged, of)
 	case decider.GuardBehind:
-		return fmt.Errorf("%w: it is older than the store's newest head (see \"Backup\" in OPERATING.md)", signer.ErrState)
+		return fmt.Errorf("%w: it is older than the log, whose store has a head of %d entries at %d ms (see \"Backup\" in OPERATING.md)", signer.ErrState, f.Listed.Size, f.Listed.Moment)
 	case decider.BehindGuard:
 		return fmt.Errorf("%w: %s, and the signer approved %d at %d ms", ErrRolledBack, of, f.last.Size, f.last.Moment)
 	case decider.BehindSeen:
@@ -239,6 +244,9 @@ func (l *Loop) showNewest(ctx context.Context, f found) error {
 		return nil
 	}
 	head, err := l.headOf(ctx, f.k)
+	if errors.Is(err, errForeign) && !l.isOurs(ctx) {
+		return fmt.Errorf("%w: the store has heads, and none that was read is this log's: %v (correct --origin or --signing-key)", ErrConfig, err)
+	}
 	if errors.Is(err, stores.ErrAbsent) || errors.Is(err, ErrDamaged) {
 		// It is not served. The loop makes it again, or says why it cannot.
 		return nil
@@ -246,33 +254,59 @@ func (l *Loop) showNewest(ctx context.Context, f found) error {
 	if err != nil {
 		return err
 	}
+	if err := l.vouch(ctx, f.k); errors.Is(err, ErrRolledBack) {
+		return err
+	}
+	// If the witnesses do not answer, readers see the head, and the loop takes nothing until they do.
 	l.show(head, f.k.line)
 	return nil
+}
+
+// maxOld is how many of the oldest heads are read if the newest is another log's.
+const maxOld = 8
+
+// isOurs reports whether one of the store's oldest heads is of this origin and signed by this key.
+func (l *Loop) isOurs(ctx context.Context) bool {
+	names, err := l.config.Stores.Objects.List(ctx, headsPrefix, "", maxOld)
+	if err != nil {
+		return false
+	}
+	for _, name := range names {
+		if _, err := l.readHead(ctx, name); err == nil {
+			return true
+		}
+	}
+	return false
 }
 
 // knowsNewest returns ErrIndex if the index lacks the newest entry of a published state: its node added all places before it published the head. If the entry
 // cannot be read, the step says so.
 func (l *Loop) knowsNewest(ctx context.Context, k *state) error {
-	if k.Size == 0 {
+	newest := l.newestLeaf(ctx, k)
+	if newest == nil {
 		return nil
 	}
-	name := tileName(dataTile(k.Size-1, k.Size))
-	content, err := l.reading(nil)(ctx, name)
-	if err != nil {
-		return nil
-	}
-	leaves, err := leavesOf(name, content)
-	if err != nil || len(leaves) == 0 {
-		return nil
-	}
-	newest := &leaves[len(leaves)-1]
 	id := identity(newest.Type, newest.IssuerKeyHash, newest.Certificate)
+	return l.knows(ctx, id, stores.Identity(newest.Hash()), k.Size-1)
+}
+
+// knows returns ErrIndex unless the index has an entry of the log by its identity, and its leaf by its hash.
+func (l *Loop) knows(ctx context.Context, id, leaf stores.Identity, index uint64) error {
 	places, err := l.config.Stores.Index.Find(ctx, []stores.Identity{id})
 	if err != nil {
 		return fmt.Errorf("node: the index: %w", err)
 	}
-	if len(places) == 0 {
-		return fmt.Errorf("%w: it lacks the newest entry, %d (build it from the tiles again)", ErrIndex, k.Size-1)
+	isKnown := len(places) > 0
+	if l.config.Stores.Leaves != nil {
+		leaves, err := l.config.Stores.Leaves.Find(ctx, []stores.Identity{leaf})
+		if err != nil {
+			return fmt.Errorf("node: the index: %w", err)
+		}
+		place, ok := leaves[leaf]
+		isKnown = isKnown && ok && place.Index == index
+	}
+	if !isKnown {
+		return fmt.Errorf("%w: it lacks the newest entry, %d (all nodes must share one index; build a lost one from the tiles again by ctserve index)", ErrIndex, index)
 	}
 	return nil
 }

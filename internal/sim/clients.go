@@ -4,6 +4,7 @@ import (
 	"crypto/sha256"
 	"errors"
 	"fmt"
+	"strings"
 	"time"
 
 	"wagtenib/internal/node"
@@ -143,7 +144,14 @@ func (w *world) reader() {
 				continue
 			}
 			now := m.node.Snapshot().Head
+			if w.plan.Janitors && !w.excuses.missing {
+				// A reader may still read a head that it saw before.
+				w.judge.treeOf(now.Head, m.name+" shows a head whose tree is not whole")
+			}
 			if now.Head != last[i].head {
+				if line := cells(m.node.Snapshot().Line + "\nnode -\nsalt " + strings.Repeat("0", 32) + "\n"); line == nil || line.size != now.Size || line.moment != now.Moment {
+					w.judge.breaks("a reader sees a head with its state", "%s shows the head of %d entries at %d ms with another state", m.name, now.Size, now.Moment)
+				}
 				w.judge.read(m, now.Head, string(now.Note), last[i].head)
 			}
 			last[i].head = now.Head

@@ -13,6 +13,8 @@ type scheduler struct {
 	now     time.Duration
 	all     []*coroutine
 	current *coroutine
+	// idle are coroutines that ended, and run the next function: their stacks need not grow again.
+	idle []*coroutine
 	// switches counts how often a coroutine was resumed.
 	switches int
 }
@@ -28,6 +30,7 @@ type process struct {
 // coroutine is one of a process, or of the world if it has none.
 type coroutine struct {
 	of    *process
+	do    func()
 	next  func() (struct{}, bool)
 	stop  func()
 	yield func(struct{}) bool
@@ -35,7 +38,8 @@ type coroutine struct {
 	at       time.Duration
 	until    func() bool
 	happened bool
-	ended    bool
+	// ended says that the function has ended, and unwound that it did not return: then the coroutine runs no other one.
+	ended, unwound bool
 }
 
 // killed is what unwinds a coroutine whose process is dead.
@@ -46,21 +50,37 @@ const forever = time.Duration(1<<63 - 1)
 
 // spawn makes a coroutine, which begins at the next switch.
 func (s *scheduler) spawn(of *process, do func()) *coroutine {
-	c := &coroutine{of: of, at: s.now}
-	c.next, c.stop = iter.Pull(func(yield func(struct{}) bool) {
-		defer func() {
-			c.ended = true
-			if why := recover(); why != nil {
-				if _, ok := why.(killed); !ok {
-					panic(why)
+	var c *coroutine
+	if last := len(s.idle) - 1; last >= 0 {
+		c, s.idle = s.idle[last], s.idle[:last]
+	} else {
+		c = &coroutine{}
+		c.next, c.stop = iter.Pull(func(yield func(struct{}) bool) {
+			c.yield = yield
+			for {
+				if !c.carryOut() || !yield(struct{}{}) {
+					return
 				}
 			}
-		}()
-		c.yield = yield
-		do()
-	})
+		})
+	}
+	c.of, c.do, c.at, c.until, c.happened, c.ended = of, do, s.now, nil, false, false
 	s.all = append(s.all, c)
 	return c
+}
+
+// carryOut calls the coroutine's function, and reports whether it returned.
+func (c *coroutine) carryOut() (returned bool) {
+	defer func() {
+		c.ended, c.unwound = true, !returned
+		if why := recover(); why != nil {
+			if _, ok := why.(killed); !ok {
+				panic(why)
+			}
+		}
+	}()
+	c.do()
+	return true
 }
 
 // wait stops the current coroutine until a condition holds, or for a while. It reports whether the condition held. All that takes time in a history is this call.
@@ -130,11 +150,13 @@ func (s *scheduler) wakes(c *coroutine) time.Duration {
 func (s *scheduler) bury() {
 	left := s.all[:0]
 	for _, c := range s.all {
-		if !c.ended && c.of != nil && c.of.dead {
+		switch {
+		case c.ended && !c.unwound:
+			s.idle = append(s.idle, c)
+		case c.ended:
+		case c.of != nil && c.of.dead:
 			c.stop()
-			c.ended = true
-		}
-		if !c.ended {
+		default:
 			left = append(left, c)
 		}
 	}
@@ -144,13 +166,13 @@ func (s *scheduler) bury() {
 
 // stopAll unwinds all coroutines.
 func (s *scheduler) stopAll() {
-	for _, c := range s.all {
+	for _, c := range append(s.all, s.idle...) {
 		if c.of != nil {
 			c.of.dead = true
 		}
 		c.stop()
 	}
-	s.all = nil
+	s.all, s.idle = nil, nil
 }
 
 // simulated is a context in virtual time. It has no channel, so nothing but the simulation's calls can wait for its end.

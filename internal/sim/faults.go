@@ -2,6 +2,7 @@ package sim
 
 import (
 	"bytes"
+	"fmt"
 	"sort"
 	"strings"
 
@@ -33,6 +34,13 @@ func (w *world) befalls(m *machine, f Fault, store string) *Fault {
 	case ClockBack:
 		m.offset -= f.Long
 		w.excuses.clock = true
+	case WitnessSays:
+		if happened = len(w.observers) > 0; happened {
+			o := w.observers[f.Count%len(w.observers)]
+			o.says, o.which = 1+f.Count%4, f.Count
+		}
+	case WitnessRolledBack:
+		happened = w.mayRoll() && w.observers[f.Count%len(w.observers)].rollBack(1+f.Count/2)
 	default:
 		happened = w.loses(m, f)
 	}
@@ -56,6 +64,11 @@ func (w *world) loses(m *machine, f Fault) bool {
 		happened = w.bends(f.Count, "tile/", "staging/")
 	case HeadForged:
 		happened = w.bends(1, "heads/")
+	case HeadSwapped:
+		happened = w.swapsHead(f.Count)
+	case EdgeBent:
+		// The newest staged batch has the right one, so the log must go on.
+		return w.bendsEdge()
 	case IndexLost:
 		happened = w.losesPlaces(w.events.calls - 10*f.Count)
 	case IndexWrong:
@@ -81,7 +94,7 @@ func (w *world) losesNewest() bool {
 	for i := len(changes) - 1; i >= 0; i-- {
 		if _, ok := w.stores.objects[changes[i].name]; ok {
 			delete(w.stores.objects, changes[i].name)
-			w.excuses.missing = true
+			w.excuses.missing, w.bentAt = true, w.now
 			return true
 		}
 	}
@@ -102,14 +115,51 @@ func (w *world) bends(which int, prefixes ...string) bool {
 	at := len(content) - 4
 	if strings.HasPrefix(name, "heads/") {
 		// A byte of the signature, so that all else of the head is right.
-		at = len(content) - 12
+		at = bytes.Index(content, []byte("\n\n")) + 2
+		at += bytes.IndexByte(content[at:], '\n') - 11
 	}
 	if at < 0 {
 		return false
 	}
 	content[at] ^= 1
 	w.stores.objects[name] = content
-	w.excuses.missing = true
+	w.excuses.missing, w.bentAt = true, w.now
+	return true
+}
+
+// swapsHead gives the newest head the content of an older one.
+func (w *world) swapsHead(which int) bool {
+	names := w.stores.list("heads/", "")
+	if len(names) < 2 {
+		return false
+	}
+	newest, older := names[len(names)-1], names[max(0, len(names)-1-which)]
+	if older == newest {
+		older = names[0]
+	}
+	w.stores.objects[newest] = bytes.Clone(w.stores.objects[older])
+	w.excuses.missing, w.bentAt = true, w.now
+	return true
+}
+
+// bendsEdge changes a byte of a partial tile of the newest head's tree.
+func (w *world) bendsEdge() bool {
+	size, moment := w.judge.newest.Size, w.judge.newest.Moment
+	if w.stores.published != (stores.Published{Size: size, Moment: moment}) {
+		// A node may not put another content over the tile of a state that is not published: the lock may have been rolled back.
+		return false
+	}
+	name := fmt.Sprintf("tile/data/%03d.p/%d", size/256, size%256)
+	content, ok := w.stores.objects[name]
+	k := cells(w.stores.text)
+	if !ok || len(content) < 4 || k == nil || !bytes.Contains(w.stores.objects["staging/"+k.name], content) {
+		// The newest step had no entries, so its staged batch does not have the tile.
+		return false
+	}
+	content = bytes.Clone(content)
+	content[len(content)-4] ^= 1
+	w.stores.objects[name] = content
+	w.excuses.missing, w.bentAt = true, w.now
 	return true
 }
 
@@ -148,7 +198,7 @@ func (w *world) rollsBack(f Fault) bool {
 		ObjectsAndLockRolledBack: {objectsPart, lockPart}, ObjectsAndGuardRolledBack: {objectsPart, guardPart},
 		AllRolledBack: {objectsPart, lockPart, guardPart, indexPart},
 	}[f.Kind]
-	if f.Kind == AllRolledBack && !w.allRemember() {
+	if f.Kind == AllRolledBack && !w.allRemember() && len(w.observers) == 0 {
 		// Nothing would show a machine that did not accept the newest head that all stores are old together (OPERATING.md, "Backup").
 		return false
 	}
@@ -160,13 +210,18 @@ func (w *world) rollsBack(f Fault) bool {
 		// An operator stops all nodes before the stores are put back.
 		for _, m := range w.machines {
 			m.process.dead = true
+			if len(w.observers) > 0 {
+				// The machines are rolled back as well, and only the witnesses show it.
+				m.remembered = nil
+			}
 		}
+		w.excuses.signed = w.excuses.signed || len(w.observers) > 0
 	}
 	switch f.Kind {
 	case LockRolledBack, LockAndGuardRolledBack, ObjectsAndLockRolledBack, AllRolledBack:
 		w.excuses.tiles, w.excuses.repeats = true, true
 	}
-	w.excuses.missing = true
+	w.excuses.missing, w.bentAt = true, w.now
 	return happened
 }
 

@@ -15,8 +15,11 @@ import (
 	"sync"
 	"time"
 
+	"golang.org/x/mod/sumdb/note"
+
 	"wagtenib/service/signer"
 	"wagtenib/service/stores"
+	"wagtenib/service/witness"
 )
 
 // key is the log's in all histories, and keyDER its SubjectPublicKeyInfo.
@@ -34,30 +37,64 @@ func newKey() (*ecdsa.PrivateKey, []byte) {
 	return k, der
 }
 
-// signatures are those that the key made in this process, by what was signed. The key signs the same each time, and nobody else has it, so a signature is
-// the key's if it is one of these.
-var signatures sync.Map
+// signatures are those of the log's key.
+var signatures made
 
-// sign returns the DigitallySigned of a message (RFC 5246, section 4.7).
-func sign(message []byte) []byte {
+// made has the signatures that a key made in this process, by what was signed. The key signs the same each time, and nobody else has it, so a signature is
+// the key's if it is one of these.
+type made struct{ all sync.Map }
+
+// sign returns the key's signature of a message.
+func (m *made) sign(message []byte, sign func() []byte) []byte {
 	digest := sha256.Sum256(message)
-	if made, ok := signatures.Load(digest); ok {
-		return made.([]byte)
+	if signed, ok := m.all.Load(digest); ok {
+		return signed.([]byte)
 	}
-	signature, err := key.Sign(nil, digest[:], crypto.SHA256)
-	if err != nil {
-		panic(err)
-	}
-	signed := append(binary.BigEndian.AppendUint16([]byte{4, 3}, uint16(len(signature))), signature...)
-	signatures.Store(digest, signed)
+	signed := sign()
+	m.all.Store(digest, signed)
 	return signed
 }
 
-// isSigned reports whether a DigitallySigned is the key's over a message.
-func isSigned(message, signed []byte) bool {
-	made, ok := signatures.Load(sha256.Sum256(message))
-	return ok && bytes.Equal(made.([]byte), signed)
+// isSigned reports whether a signature is the key's over a message.
+func (m *made) isSigned(message, signed []byte) bool {
+	known, ok := m.all.Load(sha256.Sum256(message))
+	return ok && bytes.Equal(known.([]byte), signed)
 }
+
+// verifier verifies a key's signatures of notes by those that it made, which takes no arithmetic.
+type verifier struct {
+	note.Verifier
+	isSigned func(text, signature []byte) bool
+}
+
+func (v verifier) Verify(text, signature []byte) bool { return v.isSigned(text, signature) }
+
+// ownVerifier verifies the log's signatures of notes (C2SP static-ct-api, signatures of type 5).
+var ownVerifier = verifier{witness.OfRFC6962(Origin, keyDER), func(text, signature []byte) bool {
+	size, root, err := witness.TreeOf(string(text))
+	if err != nil || !bytes.HasPrefix(text, []byte(Origin+"\n")) || len(signature) <= 8 {
+		return false
+	}
+	return isSigned(headMessage(signer.Head{Size: size, Moment: binary.BigEndian.Uint64(signature), Root: root}), signature[8:])
+}}
+
+// Verifier is what a node verifies the log's signatures of notes by.
+func (g *guarded) Verifier() note.Verifier { return ownVerifier }
+
+// sign returns the DigitallySigned of a message (RFC 5246, section 4.7).
+func sign(message []byte) []byte {
+	return signatures.sign(message, func() []byte {
+		digest := sha256.Sum256(message)
+		signature, err := key.Sign(nil, digest[:], crypto.SHA256)
+		if err != nil {
+			panic(err)
+		}
+		return append(binary.BigEndian.AppendUint16([]byte{4, 3}, uint16(len(signature))), signature...)
+	})
+}
+
+// isSigned reports whether a DigitallySigned is the key's over a message.
+func isSigned(message, signed []byte) bool { return signatures.isSigned(message, signed) }
 
 // headMessage is what is signed of a tree head (RFC 6962, section 3.5).
 func headMessage(head signer.Head) []byte {
@@ -75,6 +112,9 @@ type guarded struct {
 }
 
 func (g *guarded) Key() []byte { return keyDER }
+
+// IsGuarded reports that there is a guard.
+func (g *guarded) IsGuarded() bool { return true }
 
 // signerWithin is how long one call of the signer may take.
 const signerWithin = 4 * time.Second

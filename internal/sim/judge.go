@@ -27,11 +27,13 @@ type judge struct {
 	roots      [][32]byte
 	tree       *compact.Range
 	identities map[[32]byte]int
-	// newest is the newest head that was put, and tiles the last content that was put of each tile.
+	// newest is the newest head that was put, and tiles has what was put of each tile.
 	newest signer.Head
-	tiles  map[string][]byte
-	counts [kinds]int
-	stats  Stats
+	tiles  map[string]*puts
+	// standing are all heads that were put, in that order.
+	standing []standing
+	counts   [kinds]int
+	stats    Stats
 }
 
 // allows reports whether an identity may get a second entry: the index lost its place, or has a wrong one, since the last one.
@@ -45,22 +47,22 @@ func (e *excuses) allows(identity [32]byte) bool {
 
 // Stats are the numbers of a history.
 type Stats struct {
-	Calls, Switches, Heads, Entries, Answers, Repeats, Reads, Starts int
+	Calls, Switches, Heads, Cosigned, Deleted, Partials, OldHeads, Staged, Reread, Entries, Answers, Repeats, Reads, Starts int
 }
 
 // leaf is an entry of the list.
 type leaf struct {
-	// tile is its TileLeaf, and merkle its MerkleTreeLeaf.
-	tile, merkle []byte
-	identity     [32]byte
-	timestamp    uint64
+	// tile is its TileLeaf, merkle its MerkleTreeLeaf, and hash the hash of that one.
+	tile, merkle, hash []byte
+	identity           [32]byte
+	timestamp          uint64
 }
 
 func newJudge(w *world) *judge {
 	empty := rfc6962.DefaultHasher.EmptyRoot()
 	return &judge{
-		w: w, identities: map[[32]byte]int{}, tiles: map[string][]byte{}, roots: [][32]byte{[32]byte(empty)},
-		tree: (&compact.RangeFactory{Hash: rfc6962.DefaultHasher.HashChildren}).NewEmptyRange(0),
+		w: w, identities: map[[32]byte]int{}, tiles: map[string]*puts{}, roots: [][32]byte{[32]byte(empty)},
+		tree: ranges.NewEmptyRange(0),
 	}
 }
 
@@ -75,11 +77,10 @@ func (j *judge) breaks(rule, what string, of ...any) {
 func (j *judge) put(name string, content []byte) {
 	switch {
 	case strings.HasPrefix(name, "tile/"):
-		if before, ok := j.tiles[name]; ok && !bytes.Equal(before, content) && !j.w.excuses.tiles {
+		if before, ok := j.tiles[name]; ok && !bytes.Equal(before.last(), content) && !j.w.excuses.tiles {
 			j.breaks("a tile has one content", "%s gets a second content", name)
 		}
-		// After a rollback, the tile of another tree may get this name.
-		j.tiles[name] = content
+		j.keepTile(name, content)
 	case strings.HasPrefix(name, "heads/"):
 		j.putHead(name, string(content))
 	case !strings.HasPrefix(name, "staging/"):
@@ -102,6 +103,7 @@ func (j *judge) putHead(name, note string) {
 	if !ok {
 		return
 	}
+	j.witnessed(name, note)
 	j.grow(added, name)
 	if root := j.roots[head.Size]; root != head.Root {
 		j.breaks("a head is the list's", "%s has the root %x and not %x", name, head.Root[:4], root[:4])
@@ -116,6 +118,7 @@ func (j *judge) putHead(name, note string) {
 	if head.Moment > j.newest.Moment {
 		j.newest = head
 	}
+	j.standing = append(j.standing, standing{head.Size, head.Moment, j.w.now})
 	j.stats.Heads++
 }
 
@@ -129,112 +132,7 @@ func (j *judge) judgeTime(head signer.Head, name string) {
 
 // signs judges a head that the key signs. All of its tree must be in the store by then.
 func (j *judge) signs(head signer.Head) {
-	name := fmt.Sprintf("a signed head of %d entries at %d ms", head.Size, head.Moment)
-	added, ok := j.treeOf(head, name)
-	if !ok {
-		return
-	}
-	tree := (&compact.RangeFactory{Hash: rfc6962.DefaultHasher.HashChildren}).NewEmptyRange(0)
-	for i := range head.Size {
-		one := added
-		var of leaf
-		if i < uint64(len(j.leaves)) {
-			of = j.leaves[i]
-		} else {
-			of = one[i-uint64(len(j.leaves))]
-		}
-		if tree.Append(rfc6962.DefaultHasher.HashLeaf(of.merkle), nil) != nil {
-			j.breaks("a signed head is the list's", "%s: no such tree", name)
-			return
-		}
-	}
-	root := rfc6962.DefaultHasher.EmptyRoot()
-	if head.Size > 0 {
-		root, _ = tree.GetRootHash(nil)
-	}
-	if !bytes.Equal(root, head.Root[:]) {
-		j.breaks("a signed head is the list's", "%s has the root %x and not %x", name, head.Root[:4], root[:4])
-	}
-}
-
-// treeOf reads the tiles of a head's tree, compares them with the list, and returns the leaves that come after it.
-func (j *judge) treeOf(head signer.Head, name string) (added []leaf, ok bool) {
-	for first := uint64(0); first < head.Size; first += 256 {
-		width := min(head.Size-first, 256)
-		content, ok := j.tile("tile/data/", first/256, width, name)
-		if !ok {
-			return nil, false
-		}
-		leaves, err := readTile(content)
-		if err != nil || uint64(len(leaves)) != width {
-			j.breaks("a tile is whole", "%s: the data tile of %d entries from %d on: %v", name, width, first, err)
-			return nil, false
-		}
-		hashes, ok := j.tile("tile/0/", first/256, width, name)
-		if !ok {
-			return nil, false
-		}
-		for i, one := range leaves {
-			index := int(first) + i
-			if end := 32 * (i + 1); len(hashes) < end || !bytes.Equal(hashes[end-32:end], rfc6962.DefaultHasher.HashLeaf(one.merkle)) {
-				j.breaks("a tile is whole", "%s: the hash of entry %d in its tile is another one", name, index)
-				return nil, false
-			}
-			switch {
-			case index < len(j.leaves):
-				if !bytes.Equal(one.tile, j.leaves[index].tile) {
-					j.breaks("one growing list", "%s: entry %d is another one than before", name, index)
-					return nil, false
-				}
-			default:
-				added = append(added, one)
-			}
-		}
-	}
-	return added, true
-}
-
-// tile returns a tile of a tree. It must be in the store, unless the store lost or bent something.
-func (j *judge) tile(prefix string, n, width uint64, name string) ([]byte, bool) {
-	tile := fmt.Sprintf("%s%03d", prefix, n)
-	if width < 256 {
-		tile += fmt.Sprintf(".p/%d", width)
-	}
-	last, put := j.tiles[tile]
-	stored, isThere := j.w.stores.objects[tile]
-	switch {
-	case j.w.excuses.missing && put:
-		return last, true
-	case !isThere:
-		j.breaks("a head's tree is in the store", "%s: %s is missing", name, tile)
-		return nil, false
-	}
-	return stored, true
-}
-
-// grow adds leaves to the list.
-func (j *judge) grow(added []leaf, name string) {
-	for _, one := range added {
-		index := len(j.leaves)
-		if before, ok := j.identities[one.identity]; ok && !j.w.excuses.allows(one.identity) {
-			j.breaks("one entry an identity", "%s: entry %d is the same as entry %d", name, index, before)
-		} else if !ok {
-			j.identities[one.identity] = index
-		}
-		j.leaves = append(j.leaves, one)
-		root, err := [32]byte{}, j.tree.Append(rfc6962.DefaultHasher.HashLeaf(one.merkle), nil)
-		if err == nil {
-			var hash []byte
-			if hash, err = j.tree.GetRootHash(nil); err == nil {
-				root = [32]byte(hash)
-			}
-		}
-		if err != nil {
-			j.breaks("one growing list", "%s: %v", name, err)
-		}
-		j.roots = append(j.roots, root)
-	}
-	j.stats.Entries = len(j.leaves)
+	j.isLists(head, fmt.Sprintf("a signed head of %d entries at %d ms", head.Size, head.Moment), "a signed head is the list's")
 }
 
 // swaps judges a step on which the lock decides: it is made of the text before, whose head is published, and its staged batch is in the store.
@@ -288,21 +186,6 @@ func (j *judge) raises(p stores.Published) {
 	}
 }
 
-// deletes judges a name that is deleted: a staged batch that is not the newest state's, or an object that has a wrong content.
-func (j *judge) deletes(name string) {
-	if strings.HasPrefix(name, "staging/") {
-		if now := cells(j.w.stores.text); now != nil && name == "staging/"+now.name && !j.w.excuses.tiles {
-			j.breaks("the newest staged batch stays", "%s is deleted", name)
-		}
-		return
-	}
-	if last, ok := j.tiles[name]; !ok || bytes.Equal(last, j.w.stores.objects[name]) {
-		if !j.w.excuses.missing {
-			j.breaks("published objects stay", "%s is deleted", name)
-		}
-	}
-}
-
 // answered judges a timestamp that a client gets, when it gets it.
 func (j *judge) answered(m *machine, number int, index, timestamp uint64, signed []byte) {
 	j.stats.Answers++
@@ -327,6 +210,7 @@ func (j *judge) answered(m *machine, number int, index, timestamp uint64, signed
 func (j *judge) read(m *machine, head signer.Head, note string, before signer.Head) {
 	j.stats.Reads++
 	what := fmt.Sprintf("%s shows the head of %d entries at %d ms", m.name, head.Size, head.Moment)
+	j.witnessed(what, note)
 	read, err := readNote(note)
 	switch {
 	case err != nil || read != head:
@@ -393,8 +277,9 @@ func readTile(content []byte) (leaves []leaf, err error) {
 		if len(rest) < entry+2+chain {
 			return nil, fmt.Errorf("entry %d is cut off", len(leaves))
 		}
+		merkle := append([]byte{0, 0}, whole[:entry]...)
 		leaves = append(leaves, leaf{
-			tile: whole[:entry+2+chain], merkle: append([]byte{0, 0}, whole[:entry]...),
+			tile: whole[:entry+2+chain], merkle: merkle, hash: rfc6962.DefaultHasher.HashLeaf(merkle),
 			identity: sha256.Sum256(append([]byte{0, 0}, rest[13:end]...)), timestamp: binary.BigEndian.Uint64(rest),
 		})
 		rest = rest[entry+2+chain:]

@@ -5,6 +5,8 @@ import (
 	"math/rand"
 	"strings"
 	"time"
+
+	"wagtenib/service/witness"
 )
 
 // Kind is a kind of fault.
@@ -35,6 +37,9 @@ const (
 	// ClockForward and ClockBack: the node's time of day is set.
 	ClockForward
 	ClockBack
+	// WitnessSays: a witness answers wrongly. WitnessRolledBack: a witness forgets what it cosigned last, if the log's quorums bear that.
+	WitnessSays
+	WitnessRolledBack
 	// PutLost: a put is acknowledged, and the object is not there. From here on the faults are losses: a store does not keep what it acknowledged. A history
 	// has at most one of these, since two may be a loss that no node can see.
 	PutLost
@@ -43,6 +48,10 @@ const (
 	// ObjectBent: an object has another content. HeadForged: a head has a signature that is not the key's.
 	ObjectBent
 	HeadForged
+	// HeadSwapped: the newest head has the content of another head. EdgeBent: a tile at the edge of the newest head's tree has another content, of which the newest
+	// staged batch has the right one.
+	HeadSwapped
+	EdgeBent
 	// IndexLost: some of the newest places are gone from the index. IndexWrong: a place is another entry's.
 	IndexLost
 	IndexWrong
@@ -64,7 +73,7 @@ const (
 
 var kindNames = [kinds]string{
 	"call fails", "call hangs", "done, says failed", "answers late", "done late", "killed before", "killed after", "paused", "away", "store full", "read-only",
-	"clock forward", "clock back", "put lost", "newest object lost", "object bent", "head forged", "index lost", "index wrong", "memory lost",
+	"clock forward", "clock back", "witness says", "witness rolled back", "put lost", "newest object lost", "object bent", "head forged", "head swapped", "edge bent", "index lost", "index wrong", "memory lost",
 	"objects rolled back", "lock rolled back", "guard rolled back", "lock, guard rolled back", "objects, lock rolled back", "objects, guard rolled back",
 	"all rolled back", "lock gone",
 }
@@ -97,15 +106,20 @@ type Client struct {
 
 // Plan is a history before it runs. Everything else follows from Seed.
 type Plan struct {
-	Seed     int64
-	Machines int
+	Seed      int64
+	Machines  int
+	Witnesses Witnesses
+	// Janitors says that each node has a janitor beside it.
+	Janitors bool
 	Faults   []Fault
 	Clients  []Client
+	// Answers is how many answers the clients get at least, if the plan says so.
+	Answers int
 }
 
 func (p Plan) String() string {
 	var text strings.Builder
-	fmt.Fprintf(&text, "seed %d, %d nodes", p.Seed, p.Machines)
+	fmt.Fprintf(&text, "seed %d, %d nodes, %d witnesses %+v, janitors: %v", p.Seed, p.Machines, p.Witnesses.Count, p.Witnesses.Quorums, p.Janitors)
 	for _, f := range p.Faults {
 		fmt.Fprintf(&text, "\n  fault: %v", f)
 	}
@@ -119,6 +133,9 @@ func (p Plan) String() string {
 func NewPlan(seed int64) Plan {
 	random := rand.New(rand.NewSource(seed))
 	plan := Plan{Seed: seed, Machines: 1 + random.Intn(3)}
+	if random.Intn(3) == 0 {
+		plan.Witnesses = quorums[random.Intn(len(quorums))]
+	}
 	for range random.Intn(10) {
 		plan.Faults = append(plan.Faults, newFault(random, Kind(random.Intn(int(PutLost))), 50+60*plan.Machines))
 	}
@@ -127,6 +144,12 @@ func NewPlan(seed int64) Plan {
 		plan.Faults = append(plan.Faults, newFault(random, PutLost+Kind(random.Intn(int(kinds-PutLost))), 50+60*plan.Machines))
 	case 4:
 		plan.pausesOne(random)
+	case 5:
+		plan.misplacesOne(random)
+	case 6:
+		plan.rollsAllBack(random)
+	case 7:
+		plan.restarts(random)
 	}
 	next := 0
 	for range 1 + random.Intn(4) {
@@ -142,15 +165,26 @@ func NewPlan(seed int64) Plan {
 		plan.Clients = append(plan.Clients, c)
 	}
 	if random.Intn(40) == 0 {
-		// A tile has 256 entries, so some histories have more.
-		burst := Client{Begins: time.Duration(random.Intn(3000)) * time.Millisecond, Machine: random.Intn(plan.Machines), Burst: true}
-		for range 245 + random.Intn(30) {
-			burst.Numbers = append(burst.Numbers, next)
-			next++
-		}
-		plan.Clients = append(plan.Clients, burst)
+		return plan.clockIsSlow(random)
+	}
+	plan.Janitors = random.Intn(3) == 0
+	if random.Intn(100) == 0 || plan.Janitors && random.Intn(12) == 0 {
+		plan.fillsTile(random, next)
 	}
 	return plan
+}
+
+// fillsTile has more entries submitted than a tile has, after a few that make partial tiles. Janitors get fewer faults, so that most of these logs go on.
+func (p *Plan) fillsTile(random *rand.Rand, next int) {
+	if p.Janitors {
+		p.Faults = p.Faults[:len(p.Faults)/3]
+	}
+	burst := Client{Begins: time.Duration(1000+random.Intn(3000)) * time.Millisecond, Machine: random.Intn(p.Machines), Burst: true}
+	for range 250 + random.Intn(25) {
+		burst.Numbers = append(burst.Numbers, next)
+		next++
+	}
+	p.Clients = append(p.Clients, burst, Client{Begins: burst.Begins + 6*time.Second, Machine: random.Intn(p.Machines), Numbers: []int{0, next, next + 1}})
 }
 
 // pausesOne pauses a node, and then rolls stores back to about that time. So the state that the node saw last is the newest again, and others saw more.
@@ -168,12 +202,91 @@ func (p *Plan) pausesOne(random *rand.Rand) {
 			c.Numbers = append(c.Numbers, 1000*(i+1)+n)
 		}
 		p.Clients = append(p.Clients, c)
+		if random.Intn(2) == 0 {
+			// A step of several entries writes tiles of other names than the steps of the other nodes.
+			several := Client{Begins: time.Duration(random.Intn(2500)) * time.Millisecond, Machine: i, Burst: true}
+			for n := range 3 + random.Intn(8) {
+				several.Numbers = append(several.Numbers, 1000*(i+1)+100+n)
+			}
+			p.Clients = append(p.Clients, several)
+		}
 	}
+}
+
+// restarts has a store lose something that only a node that starts can see, or has to mend, and has the nodes start again.
+func (p *Plan) restarts(random *rand.Rand) {
+	p.Machines = 1 + random.Intn(2)
+	lost := Fault{At: 50 + 30*p.Machines + random.Intn(80), Kind: []Kind{IndexLost, HeadSwapped, EdgeBent, GuardRolledBack, LockRolledBack}[random.Intn(5)], Count: 1 + random.Intn(6)}
+	lost.On = "lock: read"
+	p.Faults = append(p.Faults[:len(p.Faults)/4], lost)
+	for i := range p.Machines {
+		// The node that reads the lock then is killed at that call, and the other one soon.
+		p.Faults = append(p.Faults, Fault{At: lost.At + i, On: "lock: read", Kind: KilledBefore})
+	}
+	for i := range p.Machines {
+		p.Clients = append(p.Clients, Client{Machine: i, Numbers: []int{2000 + 10*i, 2001 + 10*i, 2002 + 10*i, 2003 + 10*i}})
+	}
+}
+
+// clockIsSlow returns a plan in which only the clock of a node is set back, by less than it may be off. Nothing else is wrong, so each client gets its answers.
+func (p *Plan) clockIsSlow(random *rand.Rand) Plan {
+	p.Faults = []Fault{{At: 40 + random.Intn(100), Kind: ClockBack, Long: 8 * time.Second}}
+	p.Witnesses, p.Answers = Witnesses{}, 0
+	for i := range p.Clients {
+		p.Clients[i].Begins += 2 * time.Second
+		p.Answers += len(p.Clients[i].Numbers)
+	}
+	return *p
+}
+
+// misplacesOne has a place wrong, and cuts off the step that replaces it.
+func (p *Plan) misplacesOne(random *rand.Rand) {
+	p.Machines = 1 + random.Intn(2)
+	wrong := Fault{At: 70 + 30*p.Machines + random.Intn(40), On: "lock: read", Kind: IndexWrong, Count: random.Intn(12)}
+	cut := Fault{At: wrong.At, On: []string{"index: replace", "index: add", "lock: swap"}[random.Intn(3)], Kind: []Kind{KilledBefore, KilledAfter, CallFails, Away}[random.Intn(4)], Long: 4 * time.Second}
+	p.Faults, p.Clients = []Fault{wrong, cut}, []Client{{Numbers: []int{0, 1, 2, 3}, Burst: true}}
+	for _, begins := range []time.Duration{15 * time.Second, 30 * time.Second} {
+		p.Clients = append(p.Clients, Client{Begins: begins, Machine: random.Intn(p.Machines), Numbers: []int{0, 1, 2, 3}})
+	}
+}
+
+// rollsAllBack rolls back everything that the log has, its machines included. Only its witnesses show that.
+func (p *Plan) rollsAllBack(random *rand.Rand) {
+	p.Witnesses = quorums[random.Intn(len(quorums))]
+	p.Faults = p.Faults[:len(p.Faults)/2]
+	if random.Intn(2) == 0 {
+		p.Faults = append(p.Faults, Fault{At: 60 + random.Intn(100), Kind: WitnessRolledBack, Count: 1 + random.Intn(12)})
+	}
+	p.Faults = append(p.Faults, Fault{At: 60 + random.Intn(100*p.Machines), Kind: AllRolledBack, Count: 1 + random.Intn(12)})
+	p.Clients = append(p.Clients, Client{Machine: random.Intn(p.Machines), Numbers: []int{3000, 3001, 3002, 3003, 3004, 3005}})
+	if random.Intn(2) == 0 {
+		p.beginsAgain(random)
+	}
+}
+
+// beginsAgain rolls the log back to its creation, and a witness with it. The witness that was not needed for the first heads saw none.
+func (p *Plan) beginsAgain(random *rand.Rand) {
+	count := 4 + random.Intn(3)
+	p.Machines, p.Witnesses = 1, quorums[2]
+	for i := range p.Clients {
+		p.Clients[i].Machine = 0
+	}
+	at := 10*count + 9 + random.Intn(5)
+	p.Faults = []Fault{{At: at, Kind: AllRolledBack, Count: count}, {At: at + 5, Kind: WitnessRolledBack, Count: 12 + random.Intn(3)}}
+}
+
+// quorums are those of logs with witnesses.
+var quorums = []Witnesses{
+	{Count: 1, Quorums: witness.Quorums{Publish: 1, Start: 1}},
+	{Count: 3, Quorums: witness.Quorums{Publish: 2, Start: 2}},
+	{Count: 3, Quorums: witness.Quorums{Publish: 2, Start: 3, Faults: 1}},
+	{Count: 3, Quorums: witness.Quorums{Publish: 3, Start: 2, Faults: 1}},
 }
 
 // moments are the calls between which a step may be cut off, as their lines begin.
 var moments = []string{
 	"objects: put staging", "lock: swap", "lock: swap", "lock: read", "objects: put tile", "index: add", "memory: save", "guard: swap", "objects: put heads", "lock: raise",
+	"witness1: add", "witness2: add", "objects: delete", "objects: list",
 }
 
 // newFault returns a fault at one of the first calls. Half of the faults of a call happen at one of the calls that decide.

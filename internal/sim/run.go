@@ -7,6 +7,7 @@ import (
 
 	"wagtenib/internal/node"
 	"wagtenib/service/signer"
+	"wagtenib/service/stores"
 )
 
 // Result is the outcome of a history.
@@ -47,6 +48,13 @@ func Run(plan Plan, proved node.Proved, logs bool) (result Result) {
 			w.judge.breaks("no panic", "%v", why)
 		}
 		w.judge.stats.Calls, w.judge.stats.Switches = w.events.calls, w.switches
+		for _, m := range w.machines {
+			if m.janitor != nil {
+				report := m.janitor.Report()
+				w.judge.stats.Staged += int(report.Staged)
+				w.judge.stats.Reread += int(report.Reread)
+			}
+		}
 		result.Violation, result.Counts, result.Stats, result.Lines = w.judge.violation, w.judge.counts, w.judge.stats, w.history.lines
 		result.Stopped = w.stopped
 	}()
@@ -61,6 +69,9 @@ func (w *world) script() {
 		w.spawn(nil, func() { w.client(c, func() { left-- }) })
 	}
 	w.wait(scriptWithin, func() bool { return left == 0 })
+	if got := w.judge.stats.Answers; got < w.plan.Answers {
+		w.judge.breaks("nothing is wrong, and all are answered", "clients got %d answers of %d", got, w.plan.Answers)
+	}
 }
 
 // ends has all faults end, sets the clocks right, and judges whether the log goes on or says why it does not.
@@ -89,6 +100,22 @@ func (w *world) ends() {
 		case w.excuses.loss, w.excuses.clock && errors.Is(err, node.ErrClock):
 		default:
 			w.judge.breaks("the log goes on", "%s", why)
+		}
+	}
+	if w.stopped == nil {
+		w.findsLeaves()
+	}
+	if w.plan.Janitors && w.stopped == nil {
+		w.tidied()
+	}
+}
+
+// findsLeaves judges whether each entry under the published head is found by the hash of its leaf.
+func (w *world) findsLeaves() {
+	for i := range min(w.stores.published.Size, uint64(len(w.judge.leaves))) {
+		place, ok := w.stores.leaves[stores.Identity(w.judge.leaves[i].hash)]
+		if !ok || place.Index != i || place.Timestamp != w.judge.leaves[i].timestamp {
+			w.judge.breaks("a leaf is found by its hash", "the leaf of entry %d is said to be %+v (%v)", i, place, ok)
 		}
 	}
 }

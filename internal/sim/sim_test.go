@@ -50,6 +50,9 @@ func TestHistories(t *testing.T) {
 	if missing := total.Missing(); histories >= 300 && len(missing) > 0 {
 		t.Errorf("faults that never happened: %v", missing)
 	}
+	if s := total.Stats; histories >= 300 && (s.Partials == 0 || s.OldHeads == 0 || s.Staged == 0 || s.Reread == 0 || s.Cosigned == 0) {
+		t.Errorf("janitors or witnesses did nothing of a kind: %+v", s)
+	}
 }
 
 // TestOneHistory prints the whole history of one seed, whether a rule is broken or not.

@@ -31,12 +31,16 @@ type memory struct {
 	published stores.Published
 	// guard is the text of the guard's state, which is another cell of the lock's engine.
 	guard string
-	index map[stores.Identity]stores.Place
+	// index has the places by identities, and leaves by the hashes of leaves.
+	index, leaves map[stores.Identity]stores.Place
 	// call is the number of the newest call. changes are those of each part, from the first on, so that the newest can be undone.
-	call                     int
-	changes                  [parts][]change
-	fullUntil, readOnlyUntil time.Duration
+	call    int
+	changes [parts][]change
+	denied
 }
+
+// denied says until when the stores take nothing, and until when they do not even delete.
+type denied struct{ fullUntil, readOnlyUntil time.Duration }
 
 // change is one of a part: the number of its call, the object's name, and what undoes it.
 type change struct {
@@ -46,7 +50,7 @@ type change struct {
 }
 
 func newMemory() memory {
-	return memory{objects: map[string][]byte{}, index: map[stores.Identity]stores.Place{}, guard: signer.NoHead}
+	return memory{objects: map[string][]byte{}, index: map[stores.Identity]stores.Place{}, leaves: map[stores.Identity]stores.Place{}, guard: signer.NoHead}
 }
 
 // set gives an object a content, or none.
@@ -109,6 +113,7 @@ type objects struct{ m *machine }
 func (o objects) Put(ctx context.Context, name string, content []byte) error {
 	w := o.m.w
 	content = bytes.Clone(content)
+	w.judge.remembers(o.m, name)
 	return o.m.call(ctx, "objects", fmt.Sprintf("put %s (%d bytes)", name, len(content)), true, func() error {
 		if stored, ok := w.stores.objects[name]; ok && !bytes.Equal(stored, content) {
 			return stores.ErrOther
@@ -274,6 +279,41 @@ func (i index) Add(ctx context.Context, placed []stores.Placed) error {
 
 func (i index) Replace(ctx context.Context, placed []stores.Placed) error {
 	return i.change(ctx, "replace", placed, true)
+}
+
+// leaves is the index by the hashes of leaves, as a machine's node sees it.
+type leaves struct{ m *machine }
+
+func (l leaves) Find(ctx context.Context, hashes []stores.Identity) (found map[stores.Identity]stores.Place, err error) {
+	err = l.m.call(ctx, "index", fmt.Sprintf("find %d leaves", len(hashes)), false, func() error {
+		found = map[stores.Identity]stores.Place{}
+		for _, hash := range hashes {
+			if place, ok := l.m.w.stores.leaves[hash]; ok {
+				found[hash] = place
+			}
+		}
+		return nil
+	})
+	if err != nil {
+		return nil, err
+	}
+	return found, nil
+}
+
+func (l leaves) Add(ctx context.Context, placed []stores.Placed) error {
+	return l.m.call(ctx, "index", fmt.Sprintf("add %d leaves", len(placed)), true, func() error {
+		for _, one := range placed {
+			if _, ok := l.m.w.stores.leaves[one.Identity]; !ok {
+				l.m.w.stores.leaves[one.Identity] = one.Place
+			}
+		}
+		return nil
+	})
+}
+
+// Replace is called by no node: a leaf has one hash.
+func (l leaves) Replace(context.Context, []stores.Placed) error {
+	panic("sim: a leaf's place is replaced")
 }
 
 func (i index) change(ctx context.Context, what string, placed []stores.Placed, replaces bool) error {

@@ -24,6 +24,12 @@ func (t *Totals) Add(r Result) {
 	s.Calls += r.Stats.Calls
 	s.Switches += r.Stats.Switches
 	s.Heads += r.Stats.Heads
+	s.Cosigned += r.Stats.Cosigned
+	s.Deleted += r.Stats.Deleted
+	s.Partials += r.Stats.Partials
+	s.OldHeads += r.Stats.OldHeads
+	s.Staged += r.Stats.Staged
+	s.Reread += r.Stats.Reread
 	s.Entries += r.Stats.Entries
 	s.Answers += r.Stats.Answers
 	s.Repeats += r.Stats.Repeats

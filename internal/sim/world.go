@@ -9,6 +9,7 @@ import (
 	"strings"
 	"time"
 
+	"wagtenib/internal/janitor"
 	"wagtenib/internal/node"
 	"wagtenib/service/signer"
 	"wagtenib/service/stores"
@@ -27,10 +28,14 @@ type world struct {
 	events   events
 	stores   memory
 	machines []*machine
-	judge    *judge
-	excuses  excuses
-	history  history
-	proved   node.Proved
+	// observers are the log's witnesses.
+	observers []*observer
+	judge     *judge
+	excuses   excuses
+	history   history
+	proved    node.Proved
+	// bentAt is when an object was bent or lost last.
+	bentAt time.Duration
 	// stopped is why the log stopped in the end.
 	stopped error
 }
@@ -69,6 +74,7 @@ type machine struct {
 	// remembered is the newest head that the machine's memory has.
 	remembered *signer.Head
 	signer     *guarded
+	janitor    *janitor.Janitor
 }
 
 // excuses say what a history may do since a store did not keep what it acknowledged, or a clock was wrong.
@@ -79,6 +85,8 @@ type excuses struct {
 	tiles, repeats, missing bool
 	// ahead says that a node may have started by a wrong clock.
 	ahead bool
+	// signed says that only the witnesses show that the log was longer. They see a head after it was signed, so one of another list may be signed. It must not be put.
+	signed bool
 	// again has the identities that may get one more entry.
 	again map[[32]byte]bool
 }
@@ -96,6 +104,7 @@ func newWorld(plan Plan, proved node.Proved, logs bool) *world {
 	w := &world{plan: plan, proved: proved, events: events{faults: slices.Clone(plan.Faults)}, stores: newMemory(), history: history{isKept: logs}}
 	w.random = rand.New(rand.NewSource(plan.Seed ^ 0x5deece66d))
 	w.judge, w.excuses.again = newJudge(w), map[[32]byte]bool{}
+	w.newObservers()
 	for i := range plan.Machines {
 		m := &machine{w: w, name: fmt.Sprintf("n%d", i+1)}
 		w.machines = append(w.machines, m)
@@ -131,13 +140,20 @@ func (m *machine) operate() {
 // carry runs a node until it is killed.
 func (m *machine) carry() {
 	ctx := m.w.background()
+	before := m.w.refuses(m)
 	n, loop, err := node.Start(ctx, m.config())
+	if now := m.w.refuses(m); err == nil && now != "" && now == before {
+		m.w.judge.breaks("a start is refused", "%s starts although %s", m.name, now)
+	}
 	if err != nil {
 		m.w.log(m.name, "does not start", err.Error(), "")
 		m.refused = err
 		return
 	}
 	m.node, m.refused = n, nil
+	if m.w.plan.Janitors {
+		m.tidies()
+	}
 	// It ends with its process only.
 	_ = loop.Run(ctx)
 }
@@ -149,13 +165,13 @@ const maxSkew = 10 * time.Second
 func (m *machine) config() node.Config {
 	return node.Config{
 		Origin: Origin, Address: m.name, Create: true,
-		Stores:  node.Stores{Objects: objects{m}, Lock: lock{m}, Index: index{m}},
-		Proved:  m.w.proved,
-		Signer:  m.signer,
+		Stores: node.Stores{Objects: objects{m}, Lock: lock{m}, Index: index{m}, Leaves: leaves{m}},
+		Proved: m.w.proved,
+		Signer: m.signer, Witnesses: m.witnesses(),
 		Machine: node.Machine{Clock: clock{m}, Memory: remembering{m}, Parallel: m.w.parallel, Random: func() (uint64, error) { return m.w.random.Uint64(), nil }},
 		Pace: node.Pace{
 			Look: time.Second, Refresh: time.Hour, Help: 400*time.Millisecond + time.Duration(m.w.random.Intn(400))*time.Millisecond,
-			Call: 2 * time.Second, Round: 60 * time.Second, Patience: 5 * time.Second, MaxSkew: maxSkew,
+			Call: 2 * time.Second, Cosign: 3 * time.Second, Round: 60 * time.Second, Patience: 5 * time.Second, MaxSkew: maxSkew,
 		},
 		Limits: node.Limits{MaxBatch: 300, MaxQueue: 1000},
 	}

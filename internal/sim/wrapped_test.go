@@ -89,7 +89,10 @@ func TestWrappedDecisions(t *testing.T) {
 	} {
 		found := ""
 		for seed := int64(0); seed < 40 && found == ""; seed++ {
-			if v := sim.Run(sim.NewPlan(seed), of.with, false).Violation; v != nil {
+			plan := sim.NewPlan(seed)
+			// A node with witnesses looks at its head once more before it takes anything, which hides a wrong order.
+			plan.Witnesses = sim.Witnesses{}
+			if v := sim.Run(plan, of.with, false).Violation; v != nil {
 				found = v.Rule
 				t.Logf("%s: found by seed %d: %v", of.name, seed, v)
 			}

@@ -1,6 +1,9 @@
 // Command ctcheck judges a log from what it published in a folder or a bucket: ctcheck FOLDER|s3://.. KEY.PEM [ANSWERS..]. KEY.PEM
 // has the log's public key; a file of answers has a JSON object a line, as check.Answer has it. It says what it saw, or what is
 // wrong, with status 1.
+//
+// ctcheck evidence FOLDER KEY.PEM judges the evidence against a log that a monitor kept in a folder. It prints what the files show, and what
+// must be believed beside them. The status is 1 if they do not show what evidence.json says.
 package main
 
 import (
@@ -23,8 +26,17 @@ func main() {
 		return
 	}
 	if len(os.Args) < 3 {
-		fmt.Fprintln(os.Stderr, "ctcheck FOLDER|s3://.. KEY.PEM [ANSWERS..]")
+		fmt.Fprintln(os.Stderr, "ctcheck FOLDER|s3://.. KEY.PEM [ANSWERS..]\nctcheck evidence FOLDER KEY.PEM")
 		os.Exit(2)
+	}
+	if len(os.Args) == 4 && os.Args[1] == "evidence" {
+		shown, err := judgeEvidence(os.Args[2], os.Args[3])
+		if err != nil {
+			fmt.Fprintln(os.Stderr, err)
+			os.Exit(1)
+		}
+		fmt.Println(shown)
+		return
 	}
 	report, err := judge(os.Args[1], os.Args[2], os.Args[3:])
 	if err != nil {
@@ -35,14 +47,31 @@ func main() {
 		report.Heads, report.Leaves, report.Repeats, report.Tiles, report.Issuers, report.Answers)
 }
 
-func judge(folder, keyFile string, answerFiles []string) (check.Report, error) {
+// readKey returns the public key of a file in PEM, as DER.
+func readKey(keyFile string) ([]byte, error) {
 	content, err := os.ReadFile(keyFile)
 	if err != nil {
-		return check.Report{}, err
+		return nil, err
 	}
 	block, _ := pem.Decode(content)
 	if block == nil || block.Type != "PUBLIC KEY" {
-		return check.Report{}, fmt.Errorf("ctcheck: %s is no public key in PEM", keyFile)
+		return nil, fmt.Errorf("ctcheck: %s is no public key in PEM", keyFile)
+	}
+	return block.Bytes, nil
+}
+
+func judgeEvidence(folder, keyFile string) (string, error) {
+	key, err := readKey(keyFile)
+	if err != nil {
+		return "", err
+	}
+	return check.Evidence(folder, key)
+}
+
+func judge(folder, keyFile string, answerFiles []string) (check.Report, error) {
+	key, err := readKey(keyFile)
+	if err != nil {
+		return check.Report{}, err
 	}
 	var answers []check.Answer
 	for _, name := range answerFiles {
@@ -61,7 +90,7 @@ func judge(folder, keyFile string, answerFiles []string) (check.Report, error) {
 		}
 		folder = copied
 	}
-	report, err := check.Folder(folder, block.Bytes, answers)
+	report, err := check.Folder(folder, key, answers)
 	if err != nil {
 		return report, err
 	}

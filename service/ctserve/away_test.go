@@ -60,11 +60,11 @@ func TestReadsGoOn(t *testing.T) {
 		t.Run(what, func(t *testing.T) {
 			t.Parallel()
 			at := newPlace(t)
-			disk, more := at.path("log"), []string{"--signing-key", at.path("log.pem"), "--submission-within", "3s"}
+			disk, more := at.path("log"), []string{"--signing-key", at.path("log.pem"), "--submission-timeout", "3s"}
 			if strings.Contains(what, "disk") {
 				disk = at.mount(t)
 				// (SQLite has files open for writing, with which no file system is made one to read alone)
-				more = append(more, "--places", "sqlite:"+at.path("places"), "--guard-state", "file:"+at.path("log/guard"), "--latest-head", at.path("log/latest-head"))
+				more = append(more, "--index", "sqlite:"+at.path("places"), "--guard-state", "file:"+at.path("log/guard"), "--latest-head", at.path("log/latest-head"))
 			}
 			words := at.realWords(more...)
 			p := started(t, "", append(words, "--create")...)
@@ -153,7 +153,7 @@ func TestObjectsAway(t *testing.T) {
 	if err == nil || !strings.Contains(told, "the folder of the objects") {
 		t.Errorf("a start without the objects' folder: %v: %s", err, told)
 	}
-	if status, told, faults := does(append([]string{"places"}, words...)...); status != 1 || !strings.Contains(faults, "the folder of the objects") {
+	if status, told, faults := does(append([]string{"index"}, words...)...); status != 1 || !strings.Contains(faults, "the folder of the objects") {
 		t.Errorf("places: %d, %q, %q", status, told, faults)
 	}
 	if isThere(objects) {

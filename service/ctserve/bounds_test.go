@@ -17,42 +17,42 @@ func TestEachBound(t *testing.T) {
 		return parse([]string{"--roots", "r", "--origin", "o.example", "--signing-key", "k", fmt.Sprintf("--%s=%v", name, value)}, io.Discard)
 	}
 	for name, least := range map[string]int64{
-		"most-connections": 1, "most-connections-by-address": 1, "most-checks": 1, "most-waiting-bytes": 1 << 20, "most-answer-bytes": 64 << 20,
-		"most-queue": 1, "most-batch": 1, "most-written": 1, "most-proofs": 1,
+		"max-connections": 1, "max-connections-per-address": 1, "max-checks": 1, "max-queued-bytes": 1 << 20, "max-response-bytes": 64 << 20,
+		"max-queue": 1, "max-batch": 1, "max-write-rate": 1, "max-proofs": 1,
 	} {
 		if _, err := with(name, least); err != nil {
 			t.Errorf("%s %d: %v", name, least, err)
 		}
-		if _, err := with(name, least-1); err == nil || !strings.Contains(err.Error(), "a bound is above 0") {
+		if _, err := with(name, least-1); err == nil || !strings.Contains(err.Error(), "a bound must be above 0") {
 			t.Errorf("%s %d: %v", name, least-1, err)
 		}
 	}
-	for _, name := range []string{"end-within", "headers-within", "request-within", "submission-within", "answer-within", "idle-within", "interval", "refresh", "open-within",
-		"sweep-after", "sweep-tiles-after", "read-again-every", "read-all-within", "most-clock-skew"} {
+	for _, name := range []string{"shutdown-timeout", "header-timeout", "request-timeout", "submission-timeout", "response-timeout", "idle-timeout", "interval", "refresh-interval", "open-timeout",
+		"delete-heads-after", "delete-tiles-after", "scrub-interval", "scrub-period", "max-clock-skew"} {
 		if _, err := with(name, time.Nanosecond); err != nil {
 			t.Errorf("%s: %v", name, err)
 		}
 		for _, time := range []time.Duration{0, -1} {
-			if _, err := with(name, time); err == nil || !strings.Contains(err.Error(), "a time is above 0") {
+			if _, err := with(name, time); err == nil || !strings.Contains(err.Error(), "a duration must be above 0") {
 				t.Errorf("%s %v: %v", name, time, err)
 			}
 		}
 	}
 	for name, rate := range map[string]func(*settings) int{
-		"submission-rate-by-address": func(s *settings) int { return s.limits.SubmissionRate },
-		"read-rate-by-address":       func(s *settings) int { return s.limits.ReadRate },
+		"submission-rate-per-address": func(s *settings) int { return s.limits.SubmissionRate },
+		"read-rate-per-address":       func(s *settings) int { return s.limits.ReadRate },
 	} {
 		for _, aSecond := range []int{0, 1, 500} {
 			if s, err := with(name, aSecond); err != nil || rate(s) != aSecond || s.limits.SubmissionRate+s.limits.ReadRate != aSecond {
 				t.Errorf("%s %d: %v", name, aSecond, err)
 			}
 		}
-		if _, err := with(name, -1); err == nil || !strings.Contains(err.Error(), "a rate is 0, for none, or above") {
+		if _, err := with(name, -1); err == nil || !strings.Contains(err.Error(), "a rate must be 0 (no bound) or above") {
 			t.Errorf("%s -1: %v", name, err)
 		}
 	}
 	for all, ofOne := range map[int]int{1: 1, 3: 1, 4: 1, 8: 2, 64: 16, 67: 16} {
-		if s, err := with("most-proofs", all); err != nil || s.limits.ProofsByAddress != ofOne || s.node.mostProofs != all {
+		if s, err := with("max-proofs", all); err != nil || s.limits.ProofsByAddress != ofOne || s.node.mostProofs != all {
 			t.Errorf("of %d proofs an address has another share than %d: %v", all, ofOne, err)
 		}
 	}
@@ -67,12 +67,12 @@ func TestWhatCantBeOpened(t *testing.T) {
 		"mkdir " + at.path("file"):                {"--folder", at.path("file/log"), "--latest-head", at.path("latest-head"), "--guard-state", "file:" + at.path("guard")},
 		"mkdir " + at.path("file/below"):          {"--latest-head", at.path("file/below/latest-head")},
 		at.path("file/objects"):                   {"--store", "folder:" + at.path("file/objects")},
-		at.path("file/register"):                  {"--register", "file:" + at.path("file/register")},
-		"the places in " + at.path("file/places"): {"--places", "sqlite:" + at.path("file/places")},
+		at.path("file/register"):                  {"--lock", "file:" + at.path("file/register")},
+		"the places in " + at.path("file/places"): {"--index", "sqlite:" + at.path("file/places")},
 		"open " + at.path("none.pem"):             {"--signing-key", at.path("none.pem")},
 		"objects are at folder:PATH":              {"--store", "nowhere:x"},
-		"a register is at file:PATH":              {"--register", "nowhere:x"},
-		"places are at sqlite:PATH":               {"--places", "nowhere:x"},
+		"a register is at file:PATH":              {"--lock", "nowhere:x"},
+		"places are at sqlite:PATH":               {"--index", "nowhere:x"},
 	} {
 		whole := at.realWords("--signing-key", at.path("log.pem"))
 		whole = append(append(whole, "--create"), words...)

@@ -19,7 +19,7 @@ import (
 	"strings"
 	"time"
 
-	"wagtenib/service/sequencer"
+	"wagtenib/internal/serve"
 	"wagtenib/service/settingsfile"
 	"wagtenib/service/signer"
 	"wagtenib/service/stores"
@@ -32,7 +32,7 @@ var commands = map[string]func(words []string, answers, faults io.Writer) error{
 	"key":        runKey,
 	"list-entry": runListEntry,
 	"check":      runCheck,
-	"places":     runPlaces,
+	"index":      runIndex,
 	"clock":      runClock,
 }
 
@@ -277,7 +277,7 @@ func runCheck(words []string, answers, faults io.Writer) error {
 	look("origin", s.node.origin, nil)
 	if s.node.signerAt != "" {
 		_, err := os.Stat(s.node.signerAt)
-		look("signer-at", s.node.signerAt, err)
+		look("signer-socket", s.node.signerAt, err)
 	} else {
 		key, err := signer.OpenKey(s.node.signingKey)
 		said := ""
@@ -313,7 +313,7 @@ func runCheck(words []string, answers, faults io.Writer) error {
 	for _, address := range []struct {
 		of, text string
 		check    func(string) error
-	}{{"store", s.node.store, stores.CheckObjects}, {"register", s.node.register, stores.CheckRegister}, {"places", s.node.places, stores.CheckPlaces}, {"guard-state", s.node.guardState, stores.CheckRegister}} {
+	}{{"store", s.node.store, stores.CheckObjects}, {"lock", s.node.register, stores.CheckRegister}, {"index", s.node.places, stores.CheckPlaces}, {"guard-state", s.node.guardState, stores.CheckRegister}} {
 		if address.text == "" {
 			continue
 		}
@@ -336,8 +336,8 @@ func runVersion(answers io.Writer) int {
 	return 0
 }
 
-// runPlaces builds a log's places anew out of its tiles. The log may run meanwhile.
-func runPlaces(words []string, answers, faults io.Writer) (err error) {
+// runIndex builds a log's deduplication index again from its tiles. The log may run at the same time.
+func runIndex(words []string, answers, faults io.Writer) (err error) {
 	if len(words) == 1 && !strings.HasPrefix(words[0], "-") {
 		words = []string{"--config", words[0]}
 	}
@@ -347,23 +347,15 @@ func runPlaces(words []string, answers, faults io.Writer) (err error) {
 	}
 	opening, cancel := context.WithTimeout(context.Background(), s.node.openWithin)
 	defer cancel()
-	config := sequencer.Config{}
 	if err := stores.ObjectsThere(s.node.store); err != nil {
 		return err
 	}
-	if config.Objects, err = stores.ObjectsAt(opening, s.node.store); err != nil {
+	of, err := openStores(opening, s.node)
+	if err != nil {
 		return err
 	}
-	defer config.Objects.Close()
-	if config.Register, err = stores.RegisterAt(opening, s.node.register); err != nil {
-		return err
-	}
-	defer config.Register.Close()
-	if config.Places, err = stores.PlacesAt(opening, s.node.places); err != nil {
-		return err
-	}
-	defer config.Places.Close()
-	return sequencer.RebuildPlaces(context.Background(), config, func(left uint64) {
+	defer of.close()
+	return serve.RebuildIndex(context.Background(), of.Stores, func(left uint64) {
 		fmt.Fprintf(answers, "%d entries are left\n", left)
 	})
 }
@@ -379,7 +371,7 @@ func runClock(words []string, answers, faults io.Writer) error {
 		return err
 	}
 	now := time.Now()
-	if err := sequencer.NameDay(s.node.namedDay, flags.Arg(1), now); err != nil {
+	if err := serve.NameDay(s.node.namedDay, flags.Arg(1), now); err != nil {
 		return err
 	}
 	fmt.Fprintf(answers, "%s: on %s it goes on; this machine's clock says %s\n", s.node.origin, flags.Arg(1), now.UTC().Format(time.RFC3339))

@@ -41,7 +41,7 @@ func settingsFile(t *testing.T, lines ...string) (folder, file string) {
 		t.Fatalf("no key: %s", told)
 	}
 	text := []string{"origin log.example/2027h1", "signing-key " + folder + "/log.key", "roots " + folder + "/roots.pem", "folder " + folder + "/log",
-		"not-after-from 2027-01-01", "not-after-to 2027-07-01"}
+		"not-after-start 2027-01-01", "not-after-limit 2027-07-01"}
 	file = filepath.Join(folder, "settings")
 	if err := os.WriteFile(file, []byte(strings.Join(append(text, lines...), "\n")), 0o600); err != nil {
 		t.Fatal(err)
@@ -173,13 +173,13 @@ func TestCheck(t *testing.T) {
 		{"store s3:/b", "store            WRONG: ", 1},
 		{"store s3://a.example/b", "store            WRONG: ", 1},
 		{"store s3://key:secret@a.example/b", "store            s3, not opened", 0},
-		{"register file:", "register         WRONG: ", 1},
-		{"register folder:" + folder, "register         WRONG: ", 1},
+		{"lock file:", "lock             WRONG: ", 1},
+		{"lock folder:" + folder, "lock             WRONG: ", 1},
 		{"guard false", "guard            off: the signer signs whatever it is asked for", 0},
 		{"guard none", "", 2},
 		{"guard-state folder:" + folder, "guard-state      WRONG: ", 1},
-		{"places http://a.example/", "places           WRONG: ", 1},
-		{"places postgres://a.example/b?log=one", "places           postgres, not opened", 0},
+		{"index http://a.example/", "index            WRONG: ", 1},
+		{"index postgres://a.example/b?log=one", "index            postgres, not opened", 0},
 	} {
 		_, file := settingsFile(t, c.line)
 		status, said, _ := does("check", file)

@@ -48,7 +48,7 @@ func TestMain(m *testing.M) {
 				return nil, err
 			}
 			of, err := standin.New(duration)
-			return &opened{log: of, nodes: http.NotFoundHandler(), close: func() {}}, err
+			return &opened{log: of, close: func() {}}, err
 		}
 	}
 	os.Exit(run(os.Args[1:], os.Stderr, open))
@@ -236,7 +236,7 @@ func (p *place) write(name string, content []byte) {
 
 // patient are words by which nothing is given up that takes long, where a test doesn't look at that.
 func patient() (words []string) {
-	for _, name := range []string{"open-within", "end-within", "submission-within", "headers-within", "request-within", "answer-within", "idle-within"} {
+	for _, name := range []string{"open-timeout", "shutdown-timeout", "submission-timeout", "header-timeout", "request-timeout", "response-timeout", "idle-timeout"} {
 		words = append(words, "--"+name, trial.Longest.String())
 	}
 	return words
@@ -334,14 +334,14 @@ func TestEndBySIGTERM(t *testing.T) {
 func TestEndWithinItsBound(t *testing.T) {
 	at := newPlace(t)
 	for within := 300 * time.Millisecond; ; within *= 4 {
-		p := started(t, "1h", at.words("--end-within", within.String())...)
+		p := started(t, "1h", at.words("--shutdown-timeout", within.String())...)
 		slow, err := net.Dial("tcp", p.clients)
 		if err != nil {
 			t.Fatal(err)
 		}
 		defer slow.Close()
 		fmt.Fprint(slow, "POST /ct/v1/add-chain HTTP/1.1\r\nHost: log\r\nContent-Length: 100\r\n\r\n{")
-		p.shows("ctserve_waiting_bytes 1")
+		p.shows("ctserve_queued_bytes 1")
 		began := time.Now()
 		p.signal(syscall.SIGTERM)
 		line := p.until("end")
@@ -369,7 +369,7 @@ func TestSecondSignal(t *testing.T) {
 	}
 	defer slow.Close()
 	fmt.Fprint(slow, "POST /ct/v1/add-chain HTTP/1.1\r\nHost: log\r\nContent-Length: 100\r\n\r\n{")
-	p.shows("ctserve_waiting_bytes 1")
+	p.shows("ctserve_queued_bytes 1")
 	p.signal(syscall.SIGTERM)
 	p.until("ending")
 	p.signal(syscall.SIGTERM)
@@ -521,7 +521,7 @@ func TestServesTLSAndAWindow(t *testing.T) {
 	}
 	at.write("tls.pem", certificate)
 	at.write("tls.key", key)
-	p := started(t, "20ms", at.words("--tls-certificate", at.path("tls.pem"), "--tls-key", at.path("tls.key"), "--not-after-to", "2027-01-01")...)
+	p := started(t, "20ms", at.words("--tls-certificate", at.path("tls.pem"), "--tls-key", at.path("tls.key"), "--not-after-limit", "2027-01-01")...)
 	roots := x509.NewCertPool()
 	roots.AddCert(at.authority.Root)
 	config := &tls.Config{RootCAs: roots, ServerName: "host-3.example"}
@@ -542,13 +542,6 @@ func TestServesTLSAndAWindow(t *testing.T) {
 // What the words and the file of settings have to be.
 func TestSettings(t *testing.T) {
 	at := newPlace(t)
-	at.write("secret", []byte("sixteen bytes or more\n"))
-	at.write("empty", nil)
-	at.write("short", []byte("fifteen bytes..\n"))
-	at.write("open", []byte("sixteen bytes or more\n"))
-	if err := os.Chmod(at.path("open"), 0o640); err != nil {
-		t.Fatal(err)
-	}
 	files := 0
 	file := func(text string) []string {
 		files++
@@ -564,11 +557,11 @@ func TestSettings(t *testing.T) {
 		words []string
 		why   string
 	}{
-		{nil, "--roots is needed"},
-		{[]string{"--roots", "a", "--origin", "b"}, "--signing-key or --signer-at is needed"},
-		{file(needed + "signer-at x"), "has the place of"},
-		{[]string{"--roots", "a", "--origin", "b", "--signer-at", "c", "--guard"}, "has the place of"},
-		{[]string{"--roots", "a", "--origin", "b", "--signer-at", "c", "--guard=false"}, "has the place of"},
+		{nil, "--roots is missing"},
+		{[]string{"--roots", "a", "--origin", "b"}, "--signing-key or --signer-socket is missing"},
+		{file(needed + "signer-socket x"), "replaces --signing-key"},
+		{[]string{"--roots", "a", "--origin", "b", "--signer-socket", "c", "--guard"}, "replaces --signing-key"},
+		{[]string{"--roots", "a", "--origin", "b", "--signer-socket", "c", "--guard=false"}, "replaces --signing-key"},
 		{[]string{"--roots", "a", "--origin", "b", "--signing-key", "c", "--guard=none"}, "neither true nor false"},
 		{[]string{"--nothing"}, "not defined"},
 		{[]string{"word"}, `"word" isn't expected`},
@@ -576,50 +569,44 @@ func TestSettings(t *testing.T) {
 		{file("nothing 7"), `line 1: there is no setting "nothing"`},
 		{file("config x"), `line 1: there is no setting "config"`},
 		{file("# x\n\norigin a\norigin b"), "line 4: origin stands in line 3 already"},
-		{file("idle-within soon"), "line 1: idle-within"},
-		{file(needed + "tls-key x"), "go together"},
-		{file(needed + "idle-within 0s"), "above 0"},
-		{file(needed + "interval 0s"), "interval: a time is above 0"},
+		{file("idle-timeout soon"), "line 1: idle-timeout"},
+		{file(needed + "tls-key x"), "need "},
+		{file(needed + "idle-timeout 0s"), "above 0"},
+		{file(needed + "interval 0s"), "interval: a duration must be above 0"},
 		{file(needed + "interval 50"), "interval: time: missing unit"},
-		{file(needed + "most-connections 0"), "above 0"},
-		{file(needed + "most-waiting-bytes 1000"), "1048576"},
-		{file(needed + "most-answer-bytes 1000"), "67108864"},
-		{file(needed + "not-after-from 2027-01-01\nnot-after-to 2027-01-01"), "isn't before"},
-		{file(needed + "not-after-from soon"), "not-after-from"},
-		{file(needed + "proxies 1.2.3"), "proxies"},
+		{file(needed + "max-connections 0"), "above 0"},
+		{file(needed + "max-queued-bytes 1000"), "1048576"},
+		{file(needed + "max-response-bytes 1000"), "67108864"},
+		{file(needed + "not-after-start 2027-01-01\nnot-after-limit 2027-01-01"), "must be before"},
+		{file(needed + "not-after-start soon"), "not-after-start"},
+		{file(needed + "trusted-proxies 1.2.3"), "trusted-proxies"},
 		{file(needed + "submitters 203.0.113.0/24"), "no bound above 0"},
 		{file(needed + "submitters 203.0.113.0/24=0"), "no bound above 0"},
 		{file(needed + "submitters 203.0.113.0/24=many"), "no bound above 0"},
 		{file(needed + "submitters 203.0.113/24=9"), "submitters"},
-		{file(needed + "submitters 203.0.113.1/24=9,203.0.113.2/24=8"), "203.0.113.0/24 stands there twice"},
+		{file(needed + "submitters 203.0.113.1/24=9,203.0.113.2/24=8"), "203.0.113.0/24 occurs twice"},
 		{named("https://log.example/"), "leave https:// out"},
 		{named("log.example/"), "ends with a slash"},
 		{named("/log.example"), "begins or ends with a slash"},
 		{named("lög.example"), "xn-- form"},
-		{named("log example"), "a space or a sign"},
+		{named("log example"), "a space or a character"},
 		{named("log.example+2027"), "leave +, ? and # out"},
 		{named("log.example?2027"), "leave +, ? and # out"},
 		{file(needed + "listen 8618"), "write HOST:PORT"},
 		{file(needed + "listen :99999"), "a port is 0 to 65535"},
-		{file(needed + "listen 127.0.0.1:8619"), "two listeners are at 127.0.0.1:8619"},
-		{file(needed + "nodes-listen 127.0.0.1:1"), "go together"},
-		{file(needed + "register etcd://127.0.0.1:2379/log\nnodes-listen 127.0.0.1:1\nnodes-address http://x/\nnodes-secret " + at.path("secret")), "one store of places"},
-		{file(needed + "nodes-listen 127.0.0.1:1\nnodes-address http://x/\nnodes-secret " + at.path("none")), "no such file"},
-		{file(needed + "nodes-listen 127.0.0.1:1\nnodes-address http://x/\nnodes-secret " + at.path("empty")), "has 0 bytes"},
-		{file(needed + "nodes-listen 127.0.0.1:1\nnodes-address http://x/\nnodes-secret " + at.path("short")), "has 15 bytes"},
-		{file(needed + "nodes-listen 127.0.0.1:1\nnodes-address http://x/\nnodes-secret " + at.path("open")), "others than its owner may read"},
+		{file(needed + "listen 127.0.0.1:8619"), "two listeners have the address 127.0.0.1:8619"},
 	} {
 		if _, err := parse(test.words, io.Discard); !errors.Is(err, errUsage) || !strings.Contains(err.Error(), test.why) {
 			t.Errorf("%q: %v, and not %s", test.words, err, test.why)
 		}
 	}
-	s, err := parse(append(file(needed+"# a comment\n  idle-within   5s # behind\nproxies 127.0.0.1, 10.1.2.3/8\nnot-after-from 2027-01-01\ncreate true\n"+
-		"nodes-listen 127.0.0.1:1\nnodes-address http://x/\nnodes-secret "+at.path("secret")+"\nmost-clock-skew 3s\nclock-synchronized true"), "--origin", "z"), io.Discard)
+	s, err := parse(append(file(needed+"# a comment\n  idle-timeout   5s # behind\ntrusted-proxies 127.0.0.1, 10.1.2.3/8\nnot-after-start 2027-01-01\ncreate true\n"+
+		"max-clock-skew 3s\nrequire-synchronized-clock true"), "--origin", "z"), io.Discard)
 	if err != nil {
 		t.Fatal(err)
 	}
 	if s.node.origin != "z" || s.node.mostSkew != 3*time.Second || !s.node.synchronized || s.limits.Idle != 5*time.Second || fmt.Sprint(s.proxies) != "[127.0.0.1/32 10.0.0.0/8]" || !s.node.create ||
-		s.window.From.Year() != 2027 || s.node.secret != "sixteen bytes or more" ||
+		s.window.From.Year() != 2027 ||
 		s.node.guardState != "file:ct-log.guard" || s.node.latestHead != "ct-log.latest-head" || s.node.namedDay != "ct-log.day" || !s.node.isGuarded() || s.node.store != "folder:ct-log/objects" || s.node.register != "file:ct-log/register" || s.node.places != "sqlite:ct-log/places" {
 		t.Errorf("%+v", s)
 	}
@@ -636,8 +623,8 @@ func TestSettings(t *testing.T) {
 			t.Errorf("%s: %v, %+v", text, err, s)
 		}
 	}
-	for text, rests := range map[string]bool{"": false, "store folder:x": false, "store s3://a.example/b": true, "register etcd://127.0.0.1:2379/log": true, "places etcd://127.0.0.1:2379/log": true} {
-		if s, err := parse(file(needed+text), io.Discard); err != nil || s.node.rests() != rests {
+	for text, rests := range map[string]bool{"": false, "store folder:x": false, "store s3://a.example/b": true, "lock etcd://127.0.0.1:2379/log": true, "index etcd://127.0.0.1:2379/log": true} {
+		if s, err := parse(file(needed+text), io.Discard); err != nil || s.node.isAway() != rests {
 			t.Errorf("%s: %v", text, err)
 		}
 	}
@@ -733,7 +720,7 @@ func TestRealLog(t *testing.T) {
 		t.Errorf("/checkpoint: %q", checkpoint)
 	}
 	// What it asks its stores is counted, of each kind.
-	for _, call := range []string{`call="get",store="objects"`, `call="read",store="register"`, `call="find",store="places"`} {
+	for _, call := range []string{`call="get",store="objects"`, `call="read",store="lock"`, `call="find",store="index"`} {
 		if asked, failed := figure(t, p, "ctserve_store_seconds_count{"+call+"}"), figure(t, p, "ctserve_store_failures_total{"+call+"}"); asked < 1 || failed != 0 {
 			t.Errorf("{%s}: %v calls, of which %v failed", call, asked, failed)
 		}
@@ -894,7 +881,7 @@ func TestPlacesAnew(t *testing.T) {
 	if status, told := runs(words); status != statusSetBack {
 		t.Errorf("status %d: %s", status, told)
 	}
-	if status, told, faults := does(append([]string{"places"}, words...)...); status != 0 || told != "0 entries are left\n" {
+	if status, told, faults := does(append([]string{"index"}, words...)...); status != 0 || told != "0 entries are left\n" {
 		t.Errorf("%d, %q, %q", status, told, faults)
 	}
 	p = started(t, "", words...)
@@ -923,7 +910,7 @@ func TestGuardStateAway(t *testing.T) {
 	within := 10 * time.Second
 	for until := time.Now().Add(trial.Longest); ; within = 30 * time.Second {
 		var told strings.Builder
-		status := run(append(words, "--open-within", within.String()), &told, openNode)
+		status := run(append(words, "--open-timeout", within.String()), &told, openNode)
 		if status == 1 && strings.Contains(told.String(), "the guard's state (guard-state, of etcd) isn't read") {
 			return
 		}
@@ -976,7 +963,7 @@ func TestSignerIsCreatedOnce(t *testing.T) {
 func TestDamageIsTold(t *testing.T) {
 	t.Parallel()
 	at := newPlace(t)
-	words := at.realWords("--signing-key", at.path("log.pem"), "--read-again-every", "50ms")
+	words := at.realWords("--signing-key", at.path("log.pem"), "--scrub-interval", "50ms")
 	p := started(t, "", append(words, "--create")...)
 	body := at.submission()
 	if status, text := post(p.clients, body); status != 200 {
@@ -1022,7 +1009,7 @@ func TestSignerAtASocket(t *testing.T) {
 	t.Parallel()
 	at := newPlace(t)
 	socket := at.path("signer")
-	words := at.realWords("--signer-at", socket)
+	words := at.realWords("--signer-socket", socket)
 	listening := func(key string) (kills func()) {
 		t.Helper()
 		for until := time.Now().Add(trial.Longest); ; {
@@ -1150,7 +1137,7 @@ func TestGuards(t *testing.T) {
 	lacks("no state of the guard: there is none", "--create=false")
 	lacks("no such file", "--signing-key", at.path("nowhere"))
 	words = at.realWords("--create")
-	lacks("no such file", "--signer-at", at.path("nowhere"))
+	lacks("no such file", "--signer-socket", at.path("nowhere"))
 	words = at.realWords("--signing-key", at.path("log.pem"))
 	p := started(t, "", append(words, "--create", "--guard=false")...)
 	if status, text := post(p.clients, at.submission()); status != 200 {

@@ -85,7 +85,7 @@ func from(t *testing.T, own, address, path string) (int, string) {
 func TestHalfBodiesAtNginx(t *testing.T) {
 	t.Parallel()
 	at, most := newPlace(t), 5
-	p := started(t, "20ms", at.words("--proxies", "127.0.0.1")...)
+	p := started(t, "20ms", at.words("--trusted-proxies", "127.0.0.1")...)
 	address := nginxBefore(t, p.clients, most)
 	var halves []net.Conn
 	const begun = "POST /ct/v1/add-chain HTTP/1.1\r\nHost: log.example\r\nContent-Length: 1000000\r\n\r\n{"
@@ -146,7 +146,7 @@ func TestHalfHeadersAtNginx(t *testing.T) {
 		t.Skip("nginx may open more files where root starts it")
 	}
 	at := newPlace(t)
-	p := started(t, "20ms", at.words("--proxies", "127.0.0.1")...)
+	p := started(t, "20ms", at.words("--trusted-proxies", "127.0.0.1")...)
 	address, folder := trial.Free(t), t.TempDir()
 	nginxHaving(t, siteInClear(t, address, p.clients, filepath.Join(folder, "cache"), 64), address, fmt.Sprintf("worker_rlimit_nofile %d; events { worker_connections %d; }", files, connections))
 	// (a machine that is slow enough has the first ones closed before others were answered, or sees late that they are, which says nothing)

@@ -60,7 +60,7 @@ func TestLargeTileByMany(t *testing.T) {
 	gigabytes, err := strconv.ParseInt(string(bound[1]), 10, 64)
 	trial.Must(t, err)
 	at := newPlace(t)
-	words := at.realWords("--signing-key", at.path("log.pem"), "--read-again-every", "1h")
+	words := at.realWords("--signing-key", at.path("log.pem"), "--scrub-interval", "1h")
 	p := started(t, "", append(words, "--create")...)
 	const entries = 5
 	for i := 0; i < entries; i++ {

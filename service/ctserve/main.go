@@ -4,7 +4,7 @@
 // who waits, and ends with status 0; where that isn't done within its time, with 1. A second one ends it at once.
 //
 // The key is read by a process of its own, `ctserve signer`, which it starts, or finds at a socket. `ctserve key`, `check` and
-// `list-entry` make a key, look at settings, and write a log list's entry; `places` builds a log's places anew out of its tiles,
+// `list-entry` make a key, look at settings, and write a log list's entry; `index` builds a log's deduplication index again from its tiles,
 // and `clock` names the day.
 package main
 
@@ -22,27 +22,31 @@ import (
 	"syscall"
 	"time"
 
+	"wagtenib/internal/serve"
 	"wagtenib/service/chains"
 	"wagtenib/service/log"
 	"wagtenib/service/reader"
-	"wagtenib/service/sequencer"
 	"wagtenib/service/settingsfile"
-	"wagtenib/service/signer"
 	"wagtenib/service/stores"
 	"wagtenib/service/version"
 	"wagtenib/service/web"
 )
 
-// opened is a log that was opened, what makes proofs of its tiles, what makes a precertificate's entry, the handler of what other nodes ask
-// it, its public key, what its stores were asked, and what closes what it stands on.
+// opened is a log that was opened.
 type opened struct {
-	log    log.Log
+	log log.Log
+	// proofs makes proofs from its tiles, and cutter a precertificate's entry.
 	proofs *reader.Reader
 	cutter chains.Cutter
-	nodes  http.Handler
-	key    []byte
-	calls  *stores.Calls
-	close  func()
+	// nodes returns the handler of what other nodes forward, forward forwards to them, and secured has the certificates for both. All are nil if the log has one node.
+	nodes   func(front http.Handler) http.Handler
+	forward web.Forwarder
+	secured *secured
+	key     []byte
+	// calls has counted what the stores were asked.
+	calls *stores.Calls
+	// close closes what the log uses.
+	close func()
 }
 
 type opener func(context.Context, node) (*opened, error)
@@ -77,9 +81,9 @@ func run(words []string, to io.Writer, open opener) int {
 	signals := make(chan os.Signal, 4)
 	signal.Notify(signals, syscall.SIGHUP, syscall.SIGTERM, syscall.SIGINT)
 	lines := web.NewLines(to)
-	if err := serve(s, lines, signals, open); err != nil {
+	if err := serveLog(s, lines, signals, open); err != nil {
 		lines.Error("end", "fault", err)
-		if errors.Is(err, sequencer.ErrSetBack) || errors.Is(err, signer.ErrState) || errors.Is(err, sequencer.ErrPlaces) {
+		if serve.NeedsOperator(err) {
 			return statusSetBack
 		}
 		return 1
@@ -102,7 +106,7 @@ type served struct {
 	server   *web.Server
 }
 
-func serve(s *settings, lines *web.Lines, signals <-chan os.Signal, open opener) (err error) {
+func serveLog(s *settings, lines *web.Lines, signals <-chan os.Signal, open opener) (err error) {
 	roots, err := s.roots.Load()
 	if err != nil {
 		return err
@@ -129,11 +133,11 @@ func serve(s *settings, lines *web.Lines, signals <-chan os.Signal, open opener)
 	if err != nil {
 		return err
 	}
-	front := web.New(of.log, of.proofs, checker, web.Options{Limits: s.limits, Proxies: s.proxies, Lines: lines, LogRequests: s.logRequests, ReadOnly: s.readOnly, About: about, Stores: of.calls})
+	front := web.New(of.log, of.proofs, checker, web.Options{Limits: s.limits, Proxies: s.proxies, Lines: lines, LogRequests: s.logRequests, ReadOnly: s.readOnly, About: about, Stores: of.calls, Forward: of.forward})
 
 	servers := []*served{{of: "clients", address: s.listen, over: over, handler: front}}
-	if s.listenNodes != "" {
-		servers = append(servers, &served{of: "nodes", address: s.listenNodes, handler: of.nodes})
+	if of.secured != nil {
+		servers = append(servers, &served{of: "nodes", address: s.node.peers.listen, over: of.secured.listens, handler: of.nodes(front.Nodes())})
 	}
 	if s.operator != "" {
 		servers = append(servers, &served{of: "operator", address: s.operator, handler: front.Operator()})
@@ -153,7 +157,12 @@ func serve(s *settings, lines *web.Lines, signals <-chan os.Signal, open opener)
 			continue
 		}
 		each := each
-		if each.server = front.Serve(each.handler); each.of != "clients" {
+		switch each.of {
+		case "clients":
+			each.server = front.Serve(each.handler)
+		case "nodes":
+			each.server = front.ServeNodes(each.handler)
+		default:
 			each.server = front.ServeOthers(each.handler)
 		}
 		go func() { failed <- each.server.Listen(each.listener, each.over) }()
@@ -163,7 +172,7 @@ func serve(s *settings, lines *web.Lines, signals <-chan os.Signal, open opener)
 		telling, stop := context.WithCancel(context.Background())
 		defer stop()
 		go front.Tell(telling, looksEvery)
-		ending, err = wait(func() { reload(s, front, checker, certificate, lines) }, signals, failed)
+		ending, err = wait(func() { reload(s, front, checker, []*web.Certificate{certificate, of.secured.its()}, lines) }, signals, failed)
 	}
 	// From here on another signal ends the process; that it ends is told behind that.
 	signal.Reset(syscall.SIGTERM, syscall.SIGINT)
@@ -236,7 +245,7 @@ func wait(reload func(), signals <-chan os.Signal, failed <-chan error) (os.Sign
 }
 
 // reload reads the roots and the certificate again, and tells what came of it.
-func reload(s *settings, front *web.Front, checker *chains.Checker, certificate *web.Certificate, lines *web.Lines) {
+func reload(s *settings, front *web.Front, checker *chains.Checker, certificates []*web.Certificate, lines *web.Lines) {
 	reloaded := func(of string, err error, more ...any) {
 		front.Reloaded(of, err)
 		if err != nil {
@@ -250,8 +259,10 @@ func reload(s *settings, front *web.Front, checker *chains.Checker, certificate 
 	if err == nil {
 		tellLeftOut(checker.Roots(), lines)
 	}
-	if certificate != nil {
-		reloaded("certificate", certificate.Reload())
+	for at, name := range []string{"certificate", "nodes-certificate"} {
+		if certificates[at] != nil {
+			reloaded(name, certificates[at].Reload())
+		}
 	}
 }
 

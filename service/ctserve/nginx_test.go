@@ -164,7 +164,7 @@ func TestExampleHasTheDefaults(t *testing.T) {
 func TestExampleOverTLS(t *testing.T) {
 	nginxFound(t)
 	at, address := newPlace(t), trial.Free(t)
-	p := started(t, "20ms", at.words("--proxies", "127.0.0.1")...)
+	p := started(t, "20ms", at.words("--trusted-proxies", "127.0.0.1")...)
 	certificate, key, err := at.authority.KeyPair()
 	trial.Must(t, err)
 	at.write("log.example.pem", certificate)
@@ -189,7 +189,7 @@ func TestExampleOverTLS(t *testing.T) {
 // own address.
 func TestBehindNginx(t *testing.T) {
 	at := newPlace(t)
-	p := started(t, "20ms", at.words("--proxies", "127.0.0.1", "--most-connections-by-address", "1", "--log-requests")...)
+	p := started(t, "20ms", at.words("--trusted-proxies", "127.0.0.1", "--max-connections-per-address", "1", "--log-requests")...)
 	address := nginxBefore(t, p.clients, 64)
 	if status, text := post(address, at.submission()); status != 200 {
 		t.Fatalf("%d %s", status, text)
@@ -278,7 +278,7 @@ func TestBehindNginx(t *testing.T) {
 func TestBentTileBehindNginx(t *testing.T) {
 	t.Parallel()
 	at := newPlace(t)
-	words := at.realWords("--signing-key", at.path("log.pem"), "--proxies", "127.0.0.1", "--read-again-every", "1h", "--interval", "500ms", "--most-connections-by-address", "500")
+	words := at.realWords("--signing-key", at.path("log.pem"), "--trusted-proxies", "127.0.0.1", "--scrub-interval", "1h", "--interval", "500ms", "--max-connections-per-address", "500")
 	p := started(t, "", append(words, "--create")...)
 	address := nginxBefore(t, p.clients, 64)
 	const atOnce = 257

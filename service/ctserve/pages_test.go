@@ -39,7 +39,7 @@ func TestPagesNameSettings(t *testing.T) {
 			settings[name] = said
 		}
 	}
-	for _, name := range []string{"listen", "most-written", "guard-state", "clock-synchronized"} {
+	for _, name := range []string{"listen", "max-write-rate", "guard-state", "require-synchronized-clock"} {
 		if settings[name] == "" {
 			t.Fatalf("--help doesn't list %s: %d settings", name, len(settings))
 		}
@@ -62,14 +62,14 @@ func TestPagesNameSettings(t *testing.T) {
 	}
 	for _, said := range []struct{ name, onPage, standard string }{
 		{"operator-listen", "`operator-listen` (127.0.0.1:8619;", `default "127.0.0.1:8619"`},
-		{"most-connections-by-address", "64 connections at once, or 64 requests at once through nginx (`most-connections-by-address`)", "default 64)"},
-		{"most-clock-skew", "`most-clock-skew` (10 s)", "default 10s)"},
-		{"end-within", "`end-within` (30 s)", "default 30s)"},
+		{"max-connections-per-address", "64 connections at once, or 64 requests at once through nginx (`max-connections-per-address`)", "default 64)"},
+		{"max-clock-skew", "`max-clock-skew` (10 s)", "default 10s)"},
+		{"shutdown-timeout", "`shutdown-timeout` (30 s)", "default 30s)"},
 		{"guard", "`guard` is on by default", "default true)"},
 		{"latest-head", "`latest-head`, by default `FOLDER.latest-head`", "default FOLDER.latest-head"},
 		{"guard-state", "`guard-state`, by default `FOLDER.guard`", "FOLDER.guard"},
-		{"refresh", "each `refresh` (an hour)", "default 1h0m0s)"},
-		{"interval", "twenty heads a second", "50ms are twenty a second at most"},
+		{"refresh-interval", "each `refresh-interval` (an hour)", "default 1h0m0s)"},
+		{"interval", "twenty heads a second", "50ms means at most twenty a second"},
 	} {
 		if !strings.Contains(whole, said.onPage) {
 			t.Errorf("the pages don't say %q", said.onPage)
@@ -85,7 +85,7 @@ func TestPageSaysBounds(t *testing.T) {
 	s, err := parse([]string{"--roots", "r", "--origin", "o.example", "--signing-key", "k"}, &bytes.Buffer{})
 	trial.Must(t, err)
 	trial.Says(t, trial.Page(t, "../README.md"), map[string]bool{
-		"more than `most-written` allows in a second (16 MiB)": s.node.mostWritten == 16<<20,
+		"more than `max-write-rate` allows in a second (16 MiB)": s.node.mostWritten == 16<<20,
 	})
 	if s.node.mostProofs != 64 || s.limits.ProofsByAddress != 16 {
 		t.Errorf("%d proofs at once, of one address %d", s.node.mostProofs, s.limits.ProofsByAddress)

@@ -2,42 +2,40 @@ package main
 
 import (
 	"errors"
+	"flag"
 	"fmt"
 	"io"
 	"net"
 	"net/netip"
-	"os"
 	"path/filepath"
 	"strconv"
 	"strings"
 	"time"
 
 	"wagtenib/service/chains"
-	"wagtenib/service/sequencer"
 	"wagtenib/service/settingsfile"
 	"wagtenib/service/stores"
 	"wagtenib/service/web"
 	"wagtenib/service/witness"
 )
 
-// fileRules are those of the file of settings.
+// fileRules are the rules of the file of settings.
 var fileRules = settingsfile.Rules{Only: []string{"config"}}
 
-// settings are what the command line and the file of settings say.
+// settings are the values of the command line and of the file of settings.
 type settings struct {
-	listen, operator, notice   string
-	certificate, key           string
-	proxies                    []netip.Prefix
-	roots                      chains.RootFiles
-	window                     chains.Window
-	limits                     web.Limits
-	endWithin                  time.Duration
-	logRequests, readOnly      bool
-	node                       node
-	listenNodes, nodesSecretAt string
+	listen, operator, notice string
+	certificate, key         string
+	proxies                  []netip.Prefix
+	roots                    chains.RootFiles
+	window                   chains.Window
+	limits                   web.Limits
+	endWithin                time.Duration
+	logRequests, readOnly    bool
+	node                     node
 }
 
-// node is what the log stands on.
+// node has the settings of the log itself.
 type node struct {
 	origin, signingKey string
 	// guard is whether the signer has a guard. nil means that no setting says so, and then it has one.
@@ -53,7 +51,7 @@ type node struct {
 	mostQueue, mostBatch, mostProofs int
 	mostWritten                      int
 	create, makesFolder              bool
-	address, secret                  string
+	peers                            peers
 	witnesses                        []witness.One
 	quorums                          witness.Quorums
 }
@@ -61,82 +59,120 @@ type node struct {
 // isGuarded reports whether a guard approves what the signer signs.
 func (n *node) isGuarded() bool { return n.guard == nil || *n.guard }
 
-// rests says whether steps leave their stores half of the time: one of them isn't this machine's own folder or file.
-func (n *node) rests() bool {
+// isAway reports whether a store is not a folder or file of this machine.
+func (n *node) isAway() bool {
 	return !strings.HasPrefix(n.store, "folder:") || !strings.HasPrefix(n.register, "file:") || !strings.HasPrefix(n.places, "sqlite:")
 }
 
-// errUsage: the command line or the file of settings isn't one.
+// errUsage reports a command line or a file of settings that is refused.
 var errUsage = errors.New("ctserve")
 
-// parse reads the command line, and the file that it names. What stands on the command line counts.
+// page is what --help prints before the settings.
+const page = `ctserve serves a Certificate Transparency log over HTTP. Each setting is a flag, or a line 'name value' in the file that --config names.
+
+Other commands, each with --help:
+  ctserve signer            runs the process that has the log's key
+  ctserve key FILE          makes a key
+  ctserve check FILE        checks settings without starting
+  ctserve list-entry        writes the log's entry for a log list
+  ctserve index FILE        builds the deduplication index again from the tiles
+  ctserve clock FILE DAY    says which day it is, if only the machine's clock says so`
+
+// parse reads the command line, and the file that it names. If both have a setting, the command line counts.
 func parse(words []string, help io.Writer) (*settings, error) {
 	s := &settings{limits: web.DefaultLimits()}
-	flags := settingsfile.Flags("ctserve", "ctserve serves a Certificate Transparency log over HTTP. Each word may also stand as a line 'name value' in the file of --config.\n'ctserve signer --help' says what its signer takes; 'ctserve key FILE' makes a key, 'ctserve check FILE' looks at settings without starting, 'ctserve list-entry' writes a log list's entry, 'ctserve places FILE' builds the places anew, 'ctserve clock FILE DAY' names the day where nothing but the machine's clock does, each with --help.", help)
-	flags.String("config", "", "`file` with a line 'name value' for each of these, and comments behind #")
+	flags := settingsfile.Flags("ctserve", page, help)
+	flags.String("config", "", "`file` with a line 'name value' for each of these settings. A comment begins with #")
+	s.frontFlags(flags)
+	limitFlags(flags, &s.limits)
+	s.node.storeFlags(flags)
+	s.node.paceFlags(flags)
+	s.node.witnessFlags(flags)
+	s.node.peers.flags(flags)
+	if err := fileRules.Settle(flags, words, s.settle, errUsage); err != nil {
+		return nil, err
+	}
+	return s, nil
+}
+
+// frontFlags defines the settings of the HTTP server and of the certificates that the log accepts.
+func (s *settings) frontFlags(flags *flag.FlagSet) {
 	flags.StringVar(&s.listen, "listen", "127.0.0.1:8618", "`address` for clients")
-	flags.StringVar(&s.operator, "operator-listen", "127.0.0.1:8619", "`address` for /metrics, /healthz and /readyz; none where it is empty")
+	flags.StringVar(&s.operator, "operator-listen", "127.0.0.1:8619", "`address` for /metrics, /healthz and /readyz. If it is empty, they are not served")
 	flags.StringVar(&s.notice, "notice", "", "`text` that the log's page and /log.v3.json show")
-	flags.StringVar(&s.certificate, "tls-certificate", "", "`file` with the certificate chain of TLS in PEM, read again at SIGHUP; without it clients are answered in the clear")
-	flags.StringVar(&s.key, "tls-key", "", "`file` with its key in PEM")
-	flags.Func("proxies", "`prefixes` with commas between them, of proxies whose X-Forwarded-For is believed", func(text string) (err error) {
+	flags.StringVar(&s.certificate, "tls-certificate", "", "`file` with the TLS certificate chain in PEM. It is read again at SIGHUP. Without it, the log serves plain HTTP")
+	flags.StringVar(&s.key, "tls-key", "", "`file` with the key of the TLS certificate in PEM")
+	flags.Func("trusted-proxies", "comma-separated `prefixes` of the proxies whose X-Forwarded-For header is trusted", func(text string) (err error) {
 		s.proxies, err = prefixes(text)
 		return err
 	})
-	flags.Func("roots", "`files` with the log's roots, with commas between them, read again at SIGHUP: in PEM, CCADB's .csv, or folders with such", func(text string) error {
+	flags.Func("roots", "comma-separated `files` with the log's roots: PEM, CSV of CCADB, or folders with such files. They are read again at SIGHUP", func(text string) error {
 		s.roots.Paths = strings.Split(text, ",")
 		return nil
 	})
-	flags.StringVar(&s.roots.Without, "roots-without", "", "`file` with the SHA-256 fingerprint of a root a line: these aren't taken")
-	flags.Func("not-after-from", "certificates that end before this `moment` are refused (2026-07-01 or 2026-07-01T00:00:00Z)", moment(&s.window.From))
-	flags.Func("not-after-to", "certificates that end at this `moment` or later are refused", moment(&s.window.To))
-	flags.DurationVar(&s.endWithin, "end-within", 30*time.Second, "how long an end by SIGTERM may take, until who waits isn't answered")
-	flags.BoolVar(&s.readOnly, "read-only", false, "refuse submissions (403 read-only), for a log that takes no more; heads and reading go on")
-	flags.BoolVar(&s.logRequests, "log-requests", false, "tell each request, and not only those that fail at the log's side")
+	flags.StringVar(&s.roots.Without, "excluded-roots", "", "`file` with the SHA-256 fingerprint of one root on each line. These roots are not accepted")
+	flags.Func("not-after-start", "`time` (2026-07-01 or 2026-07-01T00:00:00Z). Certificates that expire before it are refused", moment(&s.window.From))
+	flags.Func("not-after-limit", "`time`. Certificates that expire at this time or later are refused", moment(&s.window.To))
+	flags.DurationVar(&s.endWithin, "shutdown-timeout", 30*time.Second, "time after SIGTERM within which waiting clients are still answered")
+	flags.BoolVar(&s.readOnly, "read-only", false, "refuse submissions with 403 read-only. Heads are still made, and reads continue")
+	flags.BoolVar(&s.logRequests, "log-requests", false, "log every request, and not only those that fail because of the log")
+}
 
-	flags.IntVar(&s.limits.Connections, "most-connections", s.limits.Connections, "connections at once")
-	flags.IntVar(&s.limits.ConnectionsByAddress, "most-connections-by-address", s.limits.ConnectionsByAddress, "connections at once of one address, or one /64; of a client behind a proxy requests at once")
-	flags.Func("submitters", "`prefixes` with commas between them, each with how many connections, or requests behind a proxy, all its addresses have at once in the place of most-connections-by-address: 203.0.113.0/24=512,2001:db8::/32=512", func(text string) (err error) {
-		s.limits.Submitters, err = submitters(text)
+// limitFlags defines the bounds of what clients may use.
+func limitFlags(flags *flag.FlagSet, l *web.Limits) {
+	flags.IntVar(&l.Connections, "max-connections", l.Connections, "maximum number of connections at the same time")
+	flags.IntVar(&l.ConnectionsByAddress, "max-connections-per-address", l.ConnectionsByAddress, "maximum number of connections of one address or one /64 at the same time. For a client behind a trusted proxy it bounds requests")
+	flags.Func("submitters", "comma-separated `prefixes`, each with the number of connections (behind a proxy: requests) that its addresses may have together, instead of max-connections-per-address: 203.0.113.0/24=512,2001:db8::/32=512", func(text string) (err error) {
+		l.Submitters, err = submitters(text)
 		return err
 	})
-	flags.IntVar(&s.limits.SubmissionRate, "submission-rate-by-address", 0, "submissions a second of one address, or one /64, that are taken, and of ten seconds at once; 0 for as many as come, and submitters have none")
-	flags.IntVar(&s.limits.ReadRate, "read-rate-by-address", 0, "proofs and get-entries a second of one address, in the same way")
-	flags.IntVar(&s.limits.Checks, "most-checks", s.limits.Checks, "chains that are checked at once")
-	flags.Int64Var(&s.limits.WaitingBytes, "most-waiting-bytes", s.limits.WaitingBytes, "bytes of all submissions that are read or wait; of one address an eighth, at least 1 MiB")
-	flags.Int64Var(&s.limits.AnswerBytes, "most-answer-bytes", s.limits.AnswerBytes, "bytes of all objects that are read for answers or sent; of one address an eighth, at least 65 MiB")
-	flags.DurationVar(&s.limits.Headers, "headers-within", s.limits.Headers, "how long the headers of a request may take")
-	flags.DurationVar(&s.limits.Request, "request-within", s.limits.Request, "how long a request with its body may take")
-	flags.DurationVar(&s.limits.Submission, "submission-within", s.limits.Submission, "how long a submission waits")
-	flags.DurationVar(&s.limits.Answer, "answer-within", s.limits.Answer, "how long an answer may take to be sent")
-	flags.DurationVar(&s.limits.Idle, "idle-within", s.limits.Idle, "how long a connection is kept between requests")
+	flags.IntVar(&l.SubmissionRate, "submission-rate-per-address", 0, "maximum number of submissions of one address or one /64 in a second, with a burst of ten seconds. 0: no bound. Submitters have none")
+	flags.IntVar(&l.ReadRate, "read-rate-per-address", 0, "the same for proofs and get-entries")
+	flags.IntVar(&l.Checks, "max-checks", l.Checks, "maximum number of chains that are checked at the same time")
+	flags.Int64Var(&l.WaitingBytes, "max-queued-bytes", l.WaitingBytes, "maximum number of bytes of all submissions that are being read or are waiting. One address may have an eighth of it, and at least 1 MiB")
+	flags.Int64Var(&l.AnswerBytes, "max-response-bytes", l.AnswerBytes, "maximum number of bytes of all objects that are being read for responses or sent. One address may have an eighth of it, and at least 65 MiB")
+	flags.DurationVar(&l.Headers, "header-timeout", l.Headers, "time within which the headers of a request must arrive")
+	flags.DurationVar(&l.Request, "request-timeout", l.Request, "time within which a request must arrive with its body")
+	flags.DurationVar(&l.Submission, "submission-timeout", l.Submission, "time after which a waiting submission is answered with 503")
+	flags.DurationVar(&l.Answer, "response-timeout", l.Answer, "time within which a client must read a response")
+	flags.DurationVar(&l.Idle, "idle-timeout", l.Idle, "time after which an idle connection is closed")
+}
 
-	n := &s.node
-	flags.StringVar(&n.origin, "origin", "", "the log's `name` in checkpoints, as log.example/2027h1")
-	flags.StringVar(&n.signingKey, "signing-key", "", "`file` with the log's key in PEM, of P-256, that none but its owner may read; or a URI of PKCS#11, pkcs11:token=LABEL;object=LABEL?module-path=PATH&pin-source=file:PATH")
-	flags.BoolFunc("guard", "let the guard, which is proved code, approve what is signed (default true); without it the signer signs whatever it is asked for", isOn(&n.guard))
-	flags.StringVar(&n.guardState, "guard-state", "", "`address` of the register with the guard's state: file:PATH, etcd://HOST:PORT/PREFIX, postgres://HOST/DATABASE?log=NAME; by default FOLDER.guard, beside the folder")
-	flags.StringVar(&n.signerAt, "signer-at", "", "`socket` of a signer that runs (ctserve signer --help), instead of signing-key, guard and guard-state")
-	flags.StringVar(&n.folder, "folder", "ct-log", "`folder` of the objects, the register and the places, where no other address is given")
+// storeFlags defines the log's name, its key and its stores.
+func (n *node) storeFlags(flags *flag.FlagSet) {
+	flags.StringVar(&n.origin, "origin", "", "`name` of the log in checkpoints, for example log.example/2027h1")
+	flags.StringVar(&n.signingKey, "signing-key", "", "`file` with the log's P-256 key in PEM, which only its owner may have the permission to read, or a PKCS#11 URI: pkcs11:token=LABEL;object=LABEL?module-path=PATH&pin-source=file:PATH")
+	flags.BoolFunc("guard", "have the guard, which is proved code, approve what is signed (default true). Without it, the signer signs everything that it is asked to sign", isOn(&n.guard))
+	flags.StringVar(&n.guardState, "guard-state", "", "`address` of the guard's state: file:PATH, etcd://HOST:PORT/PREFIX, postgres://HOST/DATABASE?log=NAME (default FOLDER.guard, beside the folder)")
+	flags.StringVar(&n.signerAt, "signer-socket", "", "`socket` of a running signer (ctserve signer --help), instead of signing-key, guard and guard-state")
+	flags.StringVar(&n.folder, "folder", "ct-log", "`folder` for the objects, the lock and the index, if no other addresses are given")
 	flags.StringVar(&n.store, "store", "", "`address` of the objects: folder:PATH, s3://HOST/BUCKET")
-	flags.StringVar(&n.register, "register", "", "`address` of the register: file:PATH, etcd://HOST:PORT/PREFIX, postgres://HOST/DATABASE?log=NAME")
-	flags.StringVar(&n.places, "places", "", "`address` of the places of identities: sqlite:PATH, postgres://HOST/DATABASE?log=NAME")
-	flags.DurationVar(&n.mostSkew, "most-clock-skew", 10*time.Second, "how far the machine's clock may be off, by the newest head, the stores' machines, another node or what elapsed, until nothing is taken")
-	flags.BoolVar(&n.synchronized, "clock-synchronized", false, "take nothing as long as the kernel doesn't say that its clock is synchronized (timedatectl)")
-	flags.StringVar(&n.latestHead, "latest-head", "", "`file` of this machine's own, apart from all stores and their backups, with the latest tree head that this node saw: a log that is older is refused (default FOLDER.latest-head, beside the folder)")
-	flags.Func("interval", "how far two heads are apart at least, as a `duration`: 50ms are twenty a second at most; where none is set a folder's heads follow what a step takes and writes, and over other stores and with witnesses they are 50ms apart; over other stores twice as long as a step takes there, up to 500ms", above0(&n.interval))
-	flags.DurationVar(&n.refresh, "refresh", time.Hour, "how old a head gets before one without new entries is made")
-	flags.DurationVar(&n.sweepAfter, "sweep-after", time.Hour, "how long a head stands before older ones are deleted")
-	flags.DurationVar(&n.sweepTilesAfter, "sweep-tiles-after", 5*time.Minute, "how long a full tile stands before its partial ones are deleted, and a head before of those before it one is left each half second; at most sweep-after")
-	flags.DurationVar(&n.readEvery, "read-again-every", time.Second, "how far two turns are apart in which an old tile is read again")
-	flags.DurationVar(&n.readAllWithin, "read-all-within", 7*24*time.Hour, "how long it takes at most until each old tile was read again: the larger the log, the more a turn, up to 16")
-	flags.DurationVar(&n.openWithin, "open-within", 30*time.Second, "how long the stores may take to open")
-	flags.IntVar(&n.mostQueue, "most-queue", 4096, "submissions that wait")
-	flags.IntVar(&n.mostWritten, "most-written", 16<<20, "bytes a second that steps write at most, over a while: where they have large certificates to write again, heads are farther apart")
-	flags.IntVar(&n.mostBatch, "most-batch", 1024, "entries of one step")
-	flags.IntVar(&n.mostProofs, "most-proofs", 64, "proofs for readers that are made at once")
-	flags.BoolVar(&n.create, "create", false, "make a log where there is none; without it, an empty register ends the start")
-	flags.Func("witnesses", "`witnesses` that cosign the log's heads, with spaces between them: of each its URL, a comma, and its verifier key", func(text string) error {
+	flags.StringVar(&n.register, "lock", "", "`address` of the lock, which has the log's newest state: file:PATH, etcd://HOST:PORT/PREFIX, postgres://HOST/DATABASE?log=NAME")
+	flags.StringVar(&n.places, "index", "", "`address` of the deduplication index: sqlite:PATH, postgres://HOST/DATABASE?log=NAME")
+	flags.StringVar(&n.latestHead, "latest-head", "", "`file` with the latest tree head that this node saw. A log that is older is refused. It must be on this machine, and in no backup of the stores (default FOLDER.latest-head, beside the folder)")
+	flags.BoolVar(&n.create, "create", false, "create the log if there is none. Without it, ctserve does not start with an empty lock")
+	flags.DurationVar(&n.openWithin, "open-timeout", 30*time.Second, "time within which the stores must open")
+}
+
+// paceFlags defines when a node acts, and how much it does at once.
+func (n *node) paceFlags(flags *flag.FlagSet) {
+	flags.DurationVar(&n.mostSkew, "max-clock-skew", 10*time.Second, "maximum difference of the machine's clock from the newest head, the stores' machines, the other nodes and the elapsed time. Beyond it, submissions are refused")
+	flags.BoolVar(&n.synchronized, "require-synchronized-clock", false, "refuse submissions until the kernel reports that its clock is synchronized (timedatectl)")
+	flags.Func("interval", "minimum `duration` between two heads. 50ms means at most twenty a second. By default, 50ms with witnesses and with stores on other machines, and 5ms for a folder", above0(&n.interval))
+	flags.DurationVar(&n.refresh, "refresh-interval", time.Hour, "age of the newest head at which a head without new entries is made")
+	flags.DurationVar(&n.sweepAfter, "delete-heads-after", time.Hour, "age of a head at which older heads are deleted")
+	flags.DurationVar(&n.sweepTilesAfter, "delete-tiles-after", 5*time.Minute, "age of a full tile at which its partial tiles are deleted. Of heads that are older than ten seconds, one in each five seconds is kept. At most delete-heads-after")
+	flags.DurationVar(&n.readEvery, "scrub-interval", time.Second, "time between two checks of old tiles")
+	flags.DurationVar(&n.readAllWithin, "scrub-period", 7*24*time.Hour, "time within which every old tile is checked. In a larger log, more tiles are checked each time, up to 16")
+	flags.IntVar(&n.mostQueue, "max-queue", 4096, "maximum number of waiting submissions")
+	flags.IntVar(&n.mostWritten, "max-write-rate", 16<<20, "maximum number of bytes that steps write in a second, on average. If large certificates must be written again, heads are made less often")
+	flags.IntVar(&n.mostBatch, "max-batch", 1024, "maximum number of entries of one step")
+	flags.IntVar(&n.mostProofs, "max-proofs", 64, "maximum number of proofs that are made at the same time")
+}
+
+// witnessFlags defines the witnesses, and how many must cosign.
+func (n *node) witnessFlags(flags *flag.FlagSet) {
+	flags.Func("witnesses", "space-separated `witnesses` that cosign the log's heads. Each is a URL, a comma, and a verifier key", func(text string) error {
 		n.witnesses = nil
 		for _, word := range strings.Fields(text) {
 			one, err := witness.ReadOne(word)
@@ -147,56 +183,48 @@ func parse(words []string, help io.Writer) (*settings, error) {
 		}
 		return nil
 	})
-	flags.IntVar(&n.quorums.Publish, "publish-with", 0, "how many witnesses cosign a head before it is published (default more than half of all and the faulty ones)")
-	flags.IntVar(&n.quorums.Start, "start-with", 0, "how many witnesses cosign the newest head afresh before anything is taken (default as many)")
-	flags.IntVar(&n.quorums.Faults, "witness-faults", 0, "how many witnesses may be set back, or lie: with n witnesses n + witness-faults is below publish-with + start-with")
-	flags.StringVar(&s.listenNodes, "nodes-listen", "", "`address` for the other nodes of the log; none where it is empty")
-	flags.StringVar(&n.address, "nodes-address", "", "`URL` by which other nodes find this one")
-	flags.StringVar(&s.nodesSecretAt, "nodes-secret", "", "`file` with what the nodes show each other, 16 bytes or more, that none but its owner may read")
-
-	if err := fileRules.Settle(flags, words, s.settle, errUsage); err != nil {
-		return nil, err
-	}
-	return s, nil
+	flags.IntVar(&n.quorums.Publish, "publish-quorum", 0, "number of witnesses that must cosign a head before it is published (default more than half of the witnesses and the faulty ones)")
+	flags.IntVar(&n.quorums.Start, "start-quorum", 0, "number of witnesses that must cosign the newest head again before submissions are accepted after a start (default the same)")
+	flags.IntVar(&n.quorums.Faults, "faulty-witnesses", 0, "number of witnesses that may be rolled back or may lie. With n witnesses, n + faulty-witnesses must be below publish-quorum + start-quorum")
 }
 
-// settle looks at what has to go together, and fills in what follows from the rest.
+// settle checks which settings need one another, and fills in the defaults that follow from others.
 func (s *settings) settle() error {
 	n, l := &s.node, &s.limits
-	for _, needed := range []struct{ name, value string }{{"roots", strings.Join(s.roots.Paths, "")}, {"origin", n.origin}, {"signing-key or --signer-at", n.signingKey + n.signerAt}} {
+	for _, needed := range []struct{ name, value string }{{"roots", strings.Join(s.roots.Paths, "")}, {"origin", n.origin}, {"signing-key or --signer-socket", n.signingKey + n.signerAt}} {
 		if needed.value == "" {
-			return fmt.Errorf("--%s is needed", needed.name)
+			return fmt.Errorf("--%s is missing", needed.name)
 		}
 	}
 	if err := checkOrigin(n.origin); err != nil {
 		return err
 	}
-	if err := checkListeners(s.listen, s.listenNodes, s.operator); err != nil {
+	if err := checkListeners(s.listen, n.peers.listen, s.operator); err != nil {
 		return err
 	}
 	if n.signerAt != "" && (n.signingKey != "" || n.guard != nil || n.guardState != "") {
-		return errors.New("--signer-at has the place of --signing-key, --guard and --guard-state")
+		return errors.New("--signer-socket replaces --signing-key, --guard and --guard-state: remove either")
 	}
 	if (s.certificate == "") != (s.key == "") {
-		return errors.New("--tls-certificate and --tls-key go together")
+		return errors.New("--tls-certificate and --tls-key need each other")
 	}
 	if !s.window.From.IsZero() && !s.window.To.IsZero() && !s.window.From.Before(s.window.To) {
-		return errors.New("--not-after-from isn't before --not-after-to")
+		return errors.New("--not-after-start must be before --not-after-limit")
 	}
 	for _, time := range []time.Duration{s.endWithin, l.Headers, l.Request, l.Submission, l.Answer, l.Idle, n.refresh, n.openWithin, n.sweepAfter, n.sweepTilesAfter, n.readEvery, n.readAllWithin, n.mostSkew} {
 		if time <= 0 {
-			return errors.New("a time is above 0")
+			return errors.New("a duration must be above 0")
 		}
 	}
-	// A quarter of all proofs is one address's.
+	// One address may use a quarter of the proofs.
 	if l.ProofsByAddress = n.mostProofs / 4; l.ProofsByAddress < 1 {
 		l.ProofsByAddress = 1
 	}
 	if l.Connections < 1 || l.ConnectionsByAddress < 1 || l.Checks < 1 || l.WaitingBytes < web.MostBody || l.AnswerBytes < stores.MostObject || n.mostQueue < 1 || n.mostBatch < 1 || n.mostWritten < 1 || n.mostProofs < 1 {
-		return fmt.Errorf("a bound is above 0, --most-waiting-bytes at least %d, and --most-answer-bytes at least %d", web.MostBody, stores.MostObject)
+		return fmt.Errorf("a bound must be above 0, --max-queued-bytes at least %d, and --max-response-bytes at least %d", web.MostBody, stores.MostObject)
 	}
 	if l.SubmissionRate < 0 || l.ReadRate < 0 {
-		return errors.New("a rate is 0, for none, or above")
+		return errors.New("a rate must be 0 (no bound) or above")
 	}
 	for _, address := range []struct {
 		of   *string
@@ -213,27 +241,17 @@ func (s *settings) settle() error {
 		n.latestHead = beside(n.folder, ".latest-head")
 	}
 	n.namedDay = strings.TrimSuffix(n.latestHead, ".latest-head") + ".day"
-	if (s.listenNodes == "") != (n.address == "") || (n.address == "") != (s.nodesSecretAt == "") {
-		return errors.New("--nodes-listen, --nodes-address and --nodes-secret go together")
-	}
-	if n.address != "" && strings.HasPrefix(n.places, "sqlite:") && !strings.HasPrefix(n.register, "file:") {
-		return errors.New("--nodes-address: nodes on several machines share one store of places: name one of PostgreSQL (--places postgres://HOST/DATABASE?log=NAME), not a file of each machine")
-	}
-	if err := n.settleWitnesses(); err != nil {
+	if err := n.peers.check(); err != nil {
 		return err
 	}
-	if s.nodesSecretAt != "" {
-		secret, err := readSecret(s.nodesSecretAt)
-		if err != nil {
-			return err
-		}
-		n.secret = secret
+	if n.peers.isSet() && strings.HasPrefix(n.places, "sqlite:") && !strings.HasPrefix(n.register, "file:") {
+		return errors.New("--nodes-address: nodes on several machines must share one index: use PostgreSQL (--index postgres://HOST/DATABASE?log=NAME) instead of a file on each machine")
 	}
-	return nil
+	return n.settleWitnesses()
 }
 
-// checkOrigin refuses a name that can't be a log's origin: its submission prefix as a URL without the scheme and without a slash at the end (C2SP static-ct-api). An
-// origin is signed with each head and can't be changed later.
+// checkOrigin refuses a name that cannot be a log's origin. An origin is the submission prefix as a URL, without the scheme and without a slash at the end (C2SP
+// static-ct-api). It is signed with each head, and so cannot be changed later.
 func checkOrigin(origin string) error {
 	wrong := func(why, remedy string) error { return fmt.Errorf("--origin %q: %s (%s)", origin, why, remedy) }
 	switch {
@@ -242,17 +260,17 @@ func checkOrigin(origin string) error {
 	case strings.HasPrefix(origin, "/") || strings.HasSuffix(origin, "/"):
 		return wrong("it begins or ends with a slash", "leave that out")
 	case strings.ContainsAny(origin, "+?#"):
-		return wrong("it has a sign that a submission prefix can't have", "leave +, ? and # out")
+		return wrong("it has a character that a submission prefix cannot have", "leave +, ? and # out")
 	}
 	for _, sign := range origin {
 		if sign <= ' ' || sign > '~' {
-			return wrong("it has a space or a sign that isn't ASCII", "write a domain's name in its xn-- form")
+			return wrong("it has a space or a character that is not ASCII", "write a domain name in its xn-- form")
 		}
 	}
 	return nil
 }
 
-// checkListeners sees that each address to listen at is a host and a port, and that no two are one.
+// checkListeners checks that each address is a host and a port, and that no two are the same.
 func checkListeners(addresses ...string) error {
 	taken := map[string]bool{}
 	for _, address := range addresses {
@@ -261,26 +279,26 @@ func checkListeners(addresses ...string) error {
 		}
 		_, port, err := net.SplitHostPort(address)
 		if err != nil {
-			return fmt.Errorf("%q isn't an address to listen at: %w (write HOST:PORT)", address, err)
+			return fmt.Errorf("%q is not an address to listen at: %w (write HOST:PORT)", address, err)
 		}
 		number, err := net.LookupPort("tcp", port)
 		if err != nil {
-			return fmt.Errorf("%q isn't an address to listen at: %w (a port is 0 to 65535)", address, err)
+			return fmt.Errorf("%q is not an address to listen at: %w (a port is 0 to 65535)", address, err)
 		}
 		if number != 0 && taken[address] {
-			return fmt.Errorf("two listeners are at %s (--listen, --operator-listen and --nodes-listen differ)", address)
+			return fmt.Errorf("two listeners have the address %s (--listen, --operator-listen and --nodes-listen must differ)", address)
 		}
 		taken[address] = true
 	}
 	return nil
 }
 
-// settleWitnesses fills the quorums in, and sees that they can be.
+// settleWitnesses fills in the quorums, and checks that they are possible.
 func (n *node) settleWitnesses() error {
 	q := &n.quorums
 	if len(n.witnesses) == 0 {
 		if *q != (witness.Quorums{}) {
-			return errors.New("--publish-with, --start-with and --witness-faults are of --witnesses")
+			return errors.New("--publish-quorum, --start-quorum and --faulty-witnesses need --witnesses")
 		}
 		return nil
 	}
@@ -296,41 +314,13 @@ func (n *node) settleWitnesses() error {
 	return circle.Close()
 }
 
-// beside names what belongs to a log's folder and doesn't lie in it: a copy of the folder doesn't have it, nor does an older one put it back.
+// beside returns the name of a file that belongs to a log's folder and is not in it, so that a copy of the folder does not have it and an older copy does not restore it.
 func beside(folder, kind string) string {
 	if whole, err := filepath.Abs(folder); err == nil && filepath.Base(filepath.Clean(folder)) != filepath.Base(whole) {
 		// (. and .. have no name of their own)
 		folder = whole
 	}
 	return filepath.Clean(folder) + kind
-}
-
-// mostSecret is how many bytes of the nodes' secret are read.
-const mostSecret = 64 << 10
-
-// readSecret reads the nodes' secret from a file that none but its owner may read.
-func readSecret(path string) (string, error) {
-	opened, err := os.Open(path)
-	if err != nil {
-		return "", err
-	}
-	defer opened.Close()
-	info, err := opened.Stat()
-	if err != nil {
-		return "", err
-	}
-	if info.Mode().Perm()&0o077 != 0 {
-		return "", fmt.Errorf("--nodes-secret: others than its owner may read or write %s", path)
-	}
-	content, err := io.ReadAll(io.LimitReader(opened, mostSecret))
-	if err != nil {
-		return "", err
-	}
-	secret := strings.TrimSpace(string(content))
-	if len(secret) < sequencer.LeastSecret {
-		return "", fmt.Errorf("--nodes-secret: %s has %d bytes, and at least %d are needed", path, len(secret), sequencer.LeastSecret)
-	}
-	return secret, nil
 }
 
 func prefixes(text string) (found []netip.Prefix, err error) {
@@ -344,7 +334,7 @@ func prefixes(text string) (found []netip.Prefix, err error) {
 	return found, nil
 }
 
-// prefixOf reads a prefix, or an address as the prefix that has it alone.
+// prefixOf reads a prefix, or an address as the prefix with only this address.
 func prefixOf(text string) (netip.Prefix, error) {
 	text = strings.TrimSpace(text)
 	if address, err := netip.ParseAddr(text); err == nil {
@@ -354,7 +344,7 @@ func prefixOf(text string) (netip.Prefix, error) {
 	return prefix.Masked(), err
 }
 
-// submitters reads prefixes with a bound behind each, of which each stands there once.
+// submitters reads prefixes, each with a bound. No prefix may occur twice.
 func submitters(text string) (found []web.Submitter, err error) {
 	for _, part := range strings.Split(text, ",") {
 		of, bound, _ := strings.Cut(part, "=")
@@ -368,7 +358,7 @@ func submitters(text string) (found []web.Submitter, err error) {
 		}
 		for _, other := range found {
 			if other.Prefix == prefix {
-				return nil, fmt.Errorf("%s stands there twice", prefix)
+				return nil, fmt.Errorf("%s occurs twice", prefix)
 			}
 		}
 		found = append(found, web.Submitter{Prefix: prefix, Most: most})
@@ -388,12 +378,12 @@ func isOn(into **bool) func(string) error {
 	}
 }
 
-// above0 reads a time that isn't 0 where it is set.
+// above0 reads a duration, which must be above 0.
 func above0(into *time.Duration) func(string) error {
 	return func(text string) error {
 		set, err := time.ParseDuration(text)
 		if err == nil && set <= 0 {
-			err = errors.New("a time is above 0")
+			err = errors.New("a duration must be above 0")
 		}
 		*into = set
 		return err

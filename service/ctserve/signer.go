@@ -19,12 +19,12 @@ const (
 	// guardStateKey is where the environment has the address of the guard's state: it may have a password, which other users would see
 	// among a process's words.
 	guardStateKey = "CTSERVE_GUARD_STATE"
-	// signsWithin is how long a signer may take for one request.
+	// signsWithin is the time within which a signer must answer a request.
 	signsWithin = 30 * time.Second
 )
 
-// askSigner starts the log's signer, a process of its own, or finds the one at a socket. One that is started again makes no state of the
-// guard: what it would make it of is gone.
+// askSigner starts the log's signer, which is a process of its own, or connects to the one at a socket. A signer that is started again does not create the
+// guard's state, because the log may have grown since.
 func askSigner(ctx context.Context, n node) (*signer.Client, error) {
 	open := func(ctx context.Context) (*signer.End, error) { return signer.Dial(ctx, n.signerAt) }
 	if n.signerAt == "" {
@@ -34,8 +34,8 @@ func askSigner(ctx context.Context, n node) (*signer.Client, error) {
 		}
 		words := []string{self, "signer", "--signing-key", n.signingKey, "--guard=" + strconv.FormatBool(n.isGuarded())}
 		if n.openWithin > 0 {
-			// (so that it says why before it is given up)
-			words = append(words, "--open-within", (n.openWithin * 4 / 5).String())
+			// (so that it reports the reason before the node gives up)
+			words = append(words, "--open-timeout", (n.openWithin * 4 / 5).String())
 		}
 		create := n.create
 		open = func(context.Context) (*signer.End, error) {
@@ -47,22 +47,22 @@ func askSigner(ctx context.Context, n node) (*signer.Client, error) {
 	return signer.Ask(ctx, open, signsWithin)
 }
 
-// runSigner answers a node's lines, until there are no more, or those of all who come to a socket. It gives the status: 0 at the lines'
-// end, 1 at another, 2 where the words aren't ones.
+// runSigner answers the lines of a node until they end, or those of all nodes that connect to a socket. It returns the exit status: 0 at the end of the lines, 1 after a
+// fault, 2 if the command line is refused.
 func runSigner(given []string, from io.Reader, answers, to io.Writer) int {
-	flags := commandFlags("signer", "ctserve signer has a log's key, and signs what the guard lets through. It is asked by nodes of ctserve, over two pipes or at a socket.", to)
-	key := flags.String("signing-key", "", "`file` with the log's key in PEM, of P-256, that none but its owner may read; or a URI of PKCS#11, pkcs11:token=LABEL;object=LABEL?module-path=PATH&pin-source=file:PATH")
-	guard := flags.Bool("guard", true, "let the guard, which is proved code, approve what is signed; without it the signer signs whatever it is asked for")
-	state := flags.String("guard-state", os.Getenv(guardStateKey), "`address` of the register with the guard's state: file:PATH, etcd://.. or postgres://..")
-	create := flags.Bool("create", false, "make the guard's state where there is none")
-	openWithin := flags.Duration("open-within", signsWithin, "how long the guard's state may take to open")
-	listen := flags.String("listen", "", "`path` of a socket, for nodes of this user or group; without it, lines come by the standard input")
+	flags := commandFlags("signer", "ctserve signer has a log's key, and signs what the guard approves. Nodes of ctserve ask it over two pipes or a socket.", to)
+	key := flags.String("signing-key", "", "`file` with the log's P-256 key in PEM, which only its owner may have the permission to read, or a PKCS#11 URI: pkcs11:token=LABEL;object=LABEL?module-path=PATH&pin-source=file:PATH")
+	guard := flags.Bool("guard", true, "have the guard, which is proved code, approve what is signed. Without it, the signer signs everything that it is asked to sign")
+	state := flags.String("guard-state", os.Getenv(guardStateKey), "`address` of the guard's state: file:PATH, etcd://HOST:PORT/PREFIX, postgres://HOST/DATABASE?log=NAME")
+	create := flags.Bool("create", false, "create the guard's state if there is none")
+	openWithin := flags.Duration("open-timeout", signsWithin, "time within which the guard's state must open")
+	listen := flags.String("listen", "", "`path` of a socket for nodes of this user or group. Without it, requests come over standard input")
 	err := flags.Parse(given)
 	if errors.Is(err, flag.ErrHelp) {
 		return 0
 	}
 	if err != nil || flags.NArg() > 0 || *key == "" {
-		fmt.Fprintln(to, "ctserve signer: --signing-key is needed, and only words that --help names")
+		fmt.Fprintln(to, "ctserve signer: --signing-key is missing, or there are words that are not settings (see --help)")
 		return 2
 	}
 	if err := serveSigner(*key, *guard, *state, *create, *openWithin, *listen, from, answers); err != nil {

@@ -4,6 +4,7 @@ import (
 	"context"
 	"crypto/ed25519"
 	"crypto/rand"
+	"encoding/base64"
 	"errors"
 	"fmt"
 	"io"
@@ -72,7 +73,7 @@ func TestWitnessedLog(t *testing.T) {
 	first, firstKey := at.aWitness("v.example")
 	second, secondKey := at.aWitness("w.example")
 	words := at.realWords("--signing-key", at.path("log.pem"))
-	words = append(words, "--witnesses", first+" "+second, "--witness-faults", "1")
+	words = append(words, "--witnesses", first+" "+second, "--faulty-witnesses", "1")
 	p := started(t, "", append(words, "--create")...)
 	submitted := func() { t.Helper(); at.comesIn(p) }
 	submitted()
@@ -93,7 +94,7 @@ func TestWitnessedLog(t *testing.T) {
 	p = started(t, "", words...)
 	submitted()
 	_, figures := get(p.operator, "/metrics")
-	for _, line := range []string{`ctserve_witness_lag{witness="v.example"} 0`, `ctserve_witness_seen_more{witness="w.example"} 0`, `ctserve_witness_cosignatures_total{witness="w.example"} `} {
+	for _, line := range []string{`ctserve_witness_lag{witness="v.example"} 0`, `ctserve_witness_ahead{witness="w.example"} 0`, `ctserve_witness_cosignatures_total{witness="w.example"} `} {
 		if !strings.Contains(figures, line) {
 			t.Errorf("/metrics lacks %s", line)
 		}
@@ -126,53 +127,62 @@ func TestWitnessedLog(t *testing.T) {
 	}
 }
 
-// TestWatchedWitness: ctmonitor-watch finds the log's head cosigned by a quorum, reads its entries, and has a third witness cosign it that cosigns
-// nothing but what this monitor accepted.
+// TestWatchedWitness runs ctwatch over a log whose head a quorum of witnesses cosigned. ctwatch reads the entries, and has a third witness cosign the head. This
+// witness cosigns only what ctwatch accepted.
 func TestWatchedWitness(t *testing.T) {
 	t.Parallel()
-	for _, tool := range []string{"curl", "flock", "openssl"} {
-		if _, err := exec.LookPath(tool); err != nil {
-			t.Skipf("for want of %s", tool)
-		}
-	}
 	at := newPlace(t)
 	first, _ := at.aWitness("v.example")
 	second, _ := at.aWitness("w.example")
-	var state string
+	file := filepath.Join(at.path("accepted"), "log.example%2Ftest")
 	third, thirdKey := at.aWitness("x.example", func(log *witness.Log) {
-		log.Accepted = func() (uint64, [32]byte, error) { return witness.AcceptedBy(state) }
+		log.Accepted = func() (uint64, [32]byte, error) { return witness.AcceptedBy(file, log.Origin, log.Keys) }
 	})
-	words := append(at.realWords("--signing-key", at.path("log.pem")), "--witnesses", first+" "+second, "--create")
-	p := started(t, "", words...)
-	folder := at.path("watched")
-	log := filepath.Join(folder, strings.ReplaceAll(p.clients, ":", "_"))
-	state = filepath.Join(log, "state")
+	p := started(t, "", append(at.realWords("--signing-key", at.path("log.pem")), "--witnesses", first+" "+second, "--create")...)
+	ctwatch := at.path("ctwatch")
+	if told, err := exec.Command("go", "build", "-o", ctwatch, "wagtenib/cmd/ctwatch").CombinedOutput(); err != nil {
+		t.Fatalf("go build: %v: %s", err, told)
+	}
+	key, err := signer.OpenKey(at.path("log.pem"))
+	trial.Must(t, err)
+	of := []string{"--folder", at.path("store"), "--log", "tiled+http://" + p.clients + " " + base64.StdEncoding.EncodeToString(key.Key()) + " log.example/test"}
 	_, one, _ := strings.Cut(first, ",")
 	_, two, _ := strings.Cut(second, ",")
 	_, three, _ := strings.Cut(third, ",")
-	watches := func(keys string, least string, says string, status int) {
+	runs := func(words ...string) (status int, told string) {
+		t.Helper()
+		command := exec.Command(ctwatch, append(words, of...)...)
+		said, _ := command.CombinedOutput()
+		return command.ProcessState.ExitCode(), string(said)
+	}
+	watches := func(keys string) (status int, told string) {
 		t.Helper()
 		at.write("witnesses", []byte(keys))
-		// (by PWD a shell would look for the script where the packages' folder is linked from)
-		watch := exec.Command("env", "-u", "PWD", "../../examples/monitor/watch.sh", "--folder", folder, "--witnesses", at.path("witnesses"), "--quorum", least, "--cosign", third)
-		watch.Env = append(os.Environ(), "LOG=tiled+http://"+p.clients)
-		said, _ := watch.CombinedOutput()
-		if came := watch.ProcessState.ExitCode(); came != status || !strings.Contains(string(said), says) {
-			t.Fatalf("status %d, and not %d: %s", came, status, said)
-		}
+		return runs("run", "--once", "--quiet", "--listen=", "--from-start", "--name", "a.example", "--unread", "none", "--accepted-folder", at.path("accepted"),
+			"--witnesses", at.path("witnesses"), "--quorum", "2")
 	}
 	for entries := 1; entries < 4; entries++ {
 		at.comesIn(p)
-		watches(one+"\n"+two+"\n", "2", fmt.Sprintf("%d leaves are cosigned by x.example", entries), 0)
-		kept, err := os.ReadFile(filepath.Join(log, "cosigned"))
-		if err != nil {
-			t.Fatal(err)
+		if entries > 1 {
+			if status, told := runs("cosign", third, "--into", at.path("cosigned")); status != 0 || !strings.Contains(told, fmt.Sprintf("%d leaves", entries-1)) {
+				t.Fatalf("before the entries are read: status %d: %s", status, told)
+			}
 		}
+		if status, told := watches(one + "\n" + two + "\n"); status != 0 {
+			t.Fatalf("with %d entries: status %d: %s", entries, status, told)
+		}
+		if status, told := runs("cosign", third, "--into", at.path("cosigned")); status != 0 || !strings.Contains(told, fmt.Sprintf("%d leaves are cosigned by x.example", entries)) {
+			t.Fatalf("with %d entries: status %d: %s", entries, status, told)
+		}
+		kept, err := os.ReadFile(at.path("cosigned"))
+		trial.Must(t, err)
 		if opened, err := note.Open(kept, note.VerifierList(thirdKey)); err != nil || len(opened.Sigs) != 1 || len(opened.UnverifiedSigs) != 3 {
 			t.Errorf("%q: %v", kept, err)
 		}
 	}
-	watches(one+"\n"+three+"\n", "2", `"cosigned":1,"error":"few-cosignatures","quorum":2`, 3)
+	if status, told := watches(one + "\n" + three + "\n"); status != 3 {
+		t.Errorf("with one cosignature of two: status %d: %s", status, told)
+	}
 	p.signal(syscall.SIGTERM)
 	p.ends()
 }
@@ -196,14 +206,14 @@ func TestWitnessesSettings(t *testing.T) {
 		{[]string{"--witnesses", "https://a.example"}, "no verifier key"},
 		{[]string{"--witnesses", three + " x"}, "a witness is a URL"},
 		{[]string{"--witnesses", three + " " + ones[0]}, "one name, key or URL"},
-		{[]string{"--publish-with", "2"}, "are of --witnesses"},
-		{[]string{"--start-with", "2"}, "are of --witnesses"},
-		{[]string{"--witness-faults", "1"}, "are of --witnesses"},
-		{[]string{"--witnesses", three, "--publish-with", "1"}, "has to be below 2 + 1"},
-		{[]string{"--witnesses", three, "--publish-with", "2", "--start-with", "2", "--witness-faults", "1"}, "3 + 1 has to be below 2 + 2"},
-		{[]string{"--witnesses", three, "--publish-with", "4"}, "no such quorums"},
-		{[]string{"--witnesses", three, "--witness-faults", "3"}, "no such quorums"},
-		{[]string{"--witnesses", three, "--witness-faults", "-1"}, "no such quorums"},
+		{[]string{"--publish-quorum", "2"}, "need --witnesses"},
+		{[]string{"--start-quorum", "2"}, "need --witnesses"},
+		{[]string{"--faulty-witnesses", "1"}, "need --witnesses"},
+		{[]string{"--witnesses", three, "--publish-quorum", "1"}, "must be below 2 + 1"},
+		{[]string{"--witnesses", three, "--publish-quorum", "2", "--start-quorum", "2", "--faulty-witnesses", "1"}, "3 + 1 must be below 2 + 2"},
+		{[]string{"--witnesses", three, "--publish-quorum", "4"}, "impossible quorums"},
+		{[]string{"--witnesses", three, "--faulty-witnesses", "3"}, "impossible quorums"},
+		{[]string{"--witnesses", three, "--faulty-witnesses", "-1"}, "impossible quorums"},
 	} {
 		if _, err := parse(at.words(test.words...), io.Discard); !errors.Is(err, errUsage) || !strings.Contains(err.Error(), test.why) {
 			t.Errorf("%q: %v", test.words, err)
@@ -214,8 +224,8 @@ func TestWitnessesSettings(t *testing.T) {
 		quorums witness.Quorums
 	}{
 		{[]string{"--witnesses", three}, witness.Quorums{Publish: 2, Start: 2}},
-		{[]string{"--witnesses", three, "--witness-faults", "1"}, witness.Quorums{Publish: 3, Start: 3, Faults: 1}},
-		{[]string{"--witnesses", three, "--publish-with", "3", "--witness-faults", "1", "--start-with", "2"}, witness.Quorums{Publish: 3, Start: 2, Faults: 1}},
+		{[]string{"--witnesses", three, "--faulty-witnesses", "1"}, witness.Quorums{Publish: 3, Start: 3, Faults: 1}},
+		{[]string{"--witnesses", three, "--publish-quorum", "3", "--faulty-witnesses", "1", "--start-quorum", "2"}, witness.Quorums{Publish: 3, Start: 2, Faults: 1}},
 		{[]string{"--witnesses", ones[0]}, witness.Quorums{Publish: 1, Start: 1}},
 	} {
 		s, err := parse(at.words(test.words...), io.Discard)
@@ -223,7 +233,7 @@ func TestWitnessesSettings(t *testing.T) {
 			t.Errorf("%q: %v", test.words, err)
 		}
 	}
-	at.write("settings", []byte("witnesses "+three+"\nstart-with 3\n"))
+	at.write("settings", []byte("witnesses "+three+"\nstart-quorum 3\n"))
 	s, err := parse(at.words("--config", filepath.Join(at.folder, "settings")), io.Discard)
 	if err != nil || len(s.node.witnesses) != 3 || s.node.quorums != (witness.Quorums{Publish: 2, Start: 3}) {
 		t.Errorf("%v", err)

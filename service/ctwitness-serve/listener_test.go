@@ -247,7 +247,7 @@ func (standing) Create(ctx context.Context, _ string) error {
 // TestOpenWithin: states that give no answer are waited for as long as is said, where they are made and where they are taken up.
 func TestOpenWithin(t *testing.T) {
 	p, _ := ofOneLog(t)
-	s, err := parse(p.words("--open-within", "10ms", "--create", "a.example"), io.Discard)
+	s, err := parse(p.words("--open-timeout", "10ms", "--create", "a.example"), io.Discard)
 	must(t, err)
 	w, err := open(s, web.NewLines(io.Discard))
 	must(t, err)
@@ -369,7 +369,7 @@ func TestEndAnswers(t *testing.T) {
 // TestEndIsLate: an end has its time and no more, also if a state's register gives no answer: who still waits then isn't answered, which is told, with status 1.
 func TestEndIsLate(t *testing.T) {
 	p, ofA := ofOneLog(t)
-	one, state := p.startedOver("--end-within", "20ms")
+	one, state := p.startedOver("--shutdown-timeout", "20ms")
 	gone := make(chan struct{})
 	go func() {
 		defer close(gone)
@@ -406,7 +406,7 @@ func TestKeyWithoutState(t *testing.T) {
 		t.Errorf("status %d, %q", status, out.String())
 	}
 	var told strings.Builder
-	if status := run(words, io.Discard, &told, nil); status != 2 || !strings.Contains(told.String(), "--state is needed") {
+	if status := run(words, io.Discard, &told, nil); status != 2 || !strings.Contains(told.String(), "--state is missing") {
 		t.Errorf("status %d, %q", status, told.String())
 	}
 }

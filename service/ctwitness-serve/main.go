@@ -110,7 +110,7 @@ func (w *running) close() {
 func (w *running) log(ctx context.Context, s *settings, of logSetting) (witness.Log, error) {
 	log := witness.Log{Origin: of.origin, Keys: of.keys, State: w.registers[of.origin]}
 	if path := s.accepted[of.origin]; path != "" {
-		log.Accepted = func() (uint64, [32]byte, error) { return witness.AcceptedBy(path) }
+		log.Accepted = func() (uint64, [32]byte, error) { return witness.AcceptedBy(path, of.origin, of.keys) }
 	}
 	if log.State != nil {
 		return log, nil

@@ -84,7 +84,7 @@ type process struct {
 // started runs a witness with these arguments.
 func (p place) started(more ...string) *process {
 	var words []string
-	for _, name := range []string{"open-within", "end-within"} {
+	for _, name := range []string{"open-timeout", "shutdown-timeout"} {
 		// (what stands later counts)
 		words = append(words, "--"+name, trial.Longest.String())
 	}
@@ -230,7 +230,7 @@ func TestServes(t *testing.T) {
 	}
 }
 
-// TestAcceptedBy: of a log with a monitor's state nothing is cosigned but what that accepted; the others are as they were.
+// TestAcceptedBy checks that only the head that a monitor accepted is cosigned of a log with accepted-by, and that other logs are as before.
 func TestAcceptedBy(t *testing.T) {
 	p := newPlace(t)
 	a, ofA := p.log("a.example")
@@ -239,15 +239,7 @@ func TestAcceptedBy(t *testing.T) {
 	if status := run(p.words("--create", "a.example", "--create", "b.example"), io.Discard, io.Discard, nil); status != 0 {
 		t.Fatalf("--create: status %d", status)
 	}
-	// (states that accepted a head of the log's one root, whose check is their own)
-	root := sha256.Sum256([]byte("a.example"))
-	accept := func(size int) {
-		line := func(check string) string {
-			return fmt.Sprintf(`{"accepted":{"sha256_root_hash":"%s","timestamp":7,"tree_size":%d},"all":{},"check":%s,"state":1}`, base64.StdEncoding.EncodeToString(root[:]), size, check)
-		}
-		sum := sha256.Sum256([]byte(line("null")))
-		p.write("monitor", line(`"`+base64.StdEncoding.EncodeToString(sum[:])+`"`)+"\n")
-	}
+	accept := func(size int) { p.write("monitor", string(ofA(size))) }
 	accept(2)
 	one := p.started(p.words()...)
 	one.wants(503, ofA(3))
@@ -303,16 +295,16 @@ func TestWords(t *testing.T) {
 		{"nothing 7", nil, 2, `there is no setting "nothing"`},
 		{"create a", nil, 2, `there is no setting "create"`},
 		{"name x", nil, 2, "stands in line 1 already"},
-		{"end-within 0s", nil, 2, "above 0"},
+		{"shutdown-timeout 0s", nil, 2, "above 0"},
 		{"program ctwitness", nil, 2, `there is no setting "program"`},
-		{"log a.example", nil, 2, "a key behind it"},
+		{"log a.example", nil, 2, "at least one key"},
 		{"log a.example " + p.path("none"), nil, 2, "no such file"},
 		{"log a.example " + p.path("no-key"), nil, 2, "no such key"},
-		{a + "\n" + a, nil, 2, "stands twice"},
-		{a + " " + key, nil, 2, "two keys of one hash"},
-		{a + "\naccepted-by a.example", nil, 2, "a file behind it"},
+		{a + "\n" + a, nil, 2, "is given twice"},
+		{a + " " + key, nil, 2, "two keys have the same key hash"},
+		{a + "\naccepted-by a.example", nil, 2, "a space and a file"},
 		{a + "\naccepted-by b.example /state", nil, 2, "there is no such log"},
-		{a + "\naccepted-by a.example /state\naccepted-by a.example /other", nil, 2, "stands twice"},
+		{a + "\naccepted-by a.example /state\naccepted-by a.example /other", nil, 2, "is given twice"},
 		{"", []string{"--config", p.path("missing")}, 2, "no such file"},
 		{"", []string{"--key", p.path("none")}, 1, "no such file"},
 		{"", []string{"--key", p.path("no-key")}, 1, "no private key"},
@@ -330,14 +322,14 @@ func TestWords(t *testing.T) {
 	}
 	for _, words := range [][]string{{"--key", "k"}, {"--name", "n"}, {"--name", "n", "--key", "k"}} {
 		var told bytes.Buffer
-		if status := run(words, io.Discard, &told, nil); status != 2 || !strings.Contains(told.String(), "is needed") {
+		if status := run(words, io.Discard, &told, nil); status != 2 || !strings.Contains(told.String(), "is missing") {
 			t.Errorf("%q: status %d: %s", words, status, &told)
 		}
 	}
 	must(t, os.Chmod(p.path("key.pem"), 0o640))
 	p.write("settings", string(base))
 	var told bytes.Buffer
-	if status := run(p.words(), io.Discard, &told, nil); status != 1 || !strings.Contains(told.String(), "others than its owner") {
+	if status := run(p.words(), io.Discard, &told, nil); status != 1 || !strings.Contains(told.String(), "not only its owner") {
 		t.Errorf("a key that others may read: status %d: %s", status, &told)
 	}
 }

@@ -35,7 +35,12 @@ type Leaf struct {
 	Precertificate []byte
 	// Chain has the SHA-256 fingerprints of the issuers, 32 bytes each.
 	Chain []byte
+
+	length int
 }
+
+// Length returns how many bytes of its tile the leaf takes.
+func (l *Leaf) Length() int { return l.length }
 
 // Input gives the bytes of the tree's leaf, a MerkleTreeLeaf: version v1 and the type timestamped_entry, two bytes of zero, before the entry
 // (RFC 6962, section 3.4).
@@ -109,5 +114,6 @@ func read(tile *cryptobyte.String) (leaf Leaf, ok bool) {
 		return leaf, false
 	}
 	leaf.Certificate, leaf.Extensions, leaf.Precertificate, leaf.Chain = certificate, extensions, precertificate, chain
+	leaf.length = len(whole) - len(*tile)
 	return leaf, true
 }

@@ -1,5 +1,5 @@
 // Package log says what a front sees of a log: submissions that are answered with their places, the newest published head, and
-// the published objects. The sequencer of wagtenib/service/sequencer is one.
+// the published objects. The log of wagtenib/internal/serve is one.
 package log
 
 import (
@@ -16,6 +16,8 @@ var (
 	ErrBusy = errors.New("log: busy")
 	// ErrTooLarge: the entry has more bytes than one of a log may have. It will never be taken.
 	ErrTooLarge = errors.New("log: entry too large")
+	// ErrElsewhere: another node makes the steps. A submission that may be forwarded must be, or be submitted again.
+	ErrElsewhere = errors.New("log: another node makes the steps")
 	// ErrEnded: the log takes no more.
 	ErrEnded = errors.New("log: ended")
 	// ErrClock: the machine's clock isn't where it was expected, and nothing is stepped until it is.

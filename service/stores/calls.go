@@ -18,8 +18,8 @@ type Call struct {
 
 const (
 	ofObjects  = "objects"
-	ofRegister = "register"
-	ofPlaces   = "places"
+	ofRegister = "lock"
+	ofPlaces   = "index"
 )
 
 // callsThatAre are all, in their order; nothing else is counted.

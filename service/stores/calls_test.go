@@ -95,8 +95,8 @@ func TestCallsAreCounted(t *testing.T) {
 	cancel()
 	late, stop := context.WithDeadline(context.Background(), time.Now().Add(-time.Second))
 	defer stop()
-	want := [][2]string{{"objects", "put"}, {"objects", "get"}, {"objects", "list"}, {"objects", "delete"}, {"register", "create"}, {"register", "read"}, {"register", "swap"}, {"register", "published"},
-		{"register", "raise"}, {"places", "find"}, {"places", "add"}, {"places", "replace"}}
+	want := [][2]string{{"objects", "put"}, {"objects", "get"}, {"objects", "list"}, {"objects", "delete"}, {"lock", "create"}, {"lock", "read"}, {"lock", "swap"}, {"lock", "published"},
+		{"lock", "raise"}, {"index", "find"}, {"index", "add"}, {"index", "replace"}}
 	for what, test := range map[string]struct {
 		ctx    context.Context
 		err    error
@@ -206,7 +206,7 @@ func TestCountedStores(t *testing.T) {
 	}
 	for _, call := range calls.All() {
 		due := uint64(0)
-		if call.Store == "places" && call.Name == "add" {
+		if call.Store == "index" && call.Name == "add" {
 			due = 2
 		}
 		if call.Count != due {

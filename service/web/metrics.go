@@ -13,7 +13,7 @@ import (
 	"wagtenib/service/version"
 )
 
-// metrics are what Prometheus reads. Labels have the names of calls, statuses and refusals, and nothing that a client says.
+// metrics are the metrics for Prometheus. Labels are names of calls, statuses and refusals, and never text from a client.
 type metrics struct {
 	registry *prometheus.Registry
 	requests *prometheus.CounterVec
@@ -21,7 +21,7 @@ type metrics struct {
 	refusals *prometheus.CounterVec
 	refused  *prometheus.CounterVec
 	reloads  *prometheus.CounterVec
-	// closedIdle are connections that were closed for others, and handshakes those of TLS that failed.
+	// closedIdle counts idle connections that were closed to make room, and handshakes counts failed TLS handshakes.
 	closedIdle, handshakes prometheus.Counter
 }
 
@@ -33,16 +33,16 @@ func newMetrics(f *Front) *metrics {
 		registry: prometheus.NewRegistry(),
 		requests: counter("ctserve_requests_total", "Requests that were answered.", "call", "status"),
 		seconds: prometheus.NewHistogramVec(prometheus.HistogramOpts{
-			Name: "ctserve_request_seconds", Help: "How long requests took.",
+			Name: "ctserve_request_seconds", Help: "Time that requests took.",
 			Buckets: []float64{.0005, .001, .0025, .005, .01, .025, .05, .1, .25, .5, 1, 2, 4, 8, 16, 32},
 		}, []string{"call"}),
-		refusals: counter("ctserve_refusals_total", "Requests that were refused, by the refusal's name.", "call", "refusal"),
-		refused:  counter("ctserve_connections_refused_total", "Connections that were closed at once: there were too many, altogether or of an address.", "bound"),
-		reloads:  counter("ctserve_reloads_total", "Reloads of the roots and of the certificate of TLS.", "of", "outcome"),
+		refusals: counter("ctserve_refusals_total", "Requests that were refused, by the name of the refusal.", "call", "refusal"),
+		refused:  counter("ctserve_connections_refused_total", "Connections that were closed at once, because there were too many of them, or too many from one address.", "bound"),
+		reloads:  counter("ctserve_reloads_total", "Reloads of the roots and of the TLS certificate.", "of", "outcome"),
 	}
-	m.closedIdle = prometheus.NewCounter(prometheus.CounterOpts{Name: "ctserve_idle_connections_closed_total", Help: "Connections on which nothing was asked, and that were closed for new ones."})
-	m.handshakes = prometheus.NewCounter(prometheus.CounterOpts{Name: "ctserve_tls_handshakes_failed_total", Help: "Handshakes of TLS that failed."})
-	build := prometheus.NewGaugeVec(prometheus.GaugeOpts{Name: "ctserve_build_info", Help: "1: which version runs, of which commit."}, []string{"version", "commit"})
+	m.closedIdle = prometheus.NewCounter(prometheus.CounterOpts{Name: "ctserve_idle_connections_closed_total", Help: "Idle connections that were closed to make room for new ones."})
+	m.handshakes = prometheus.NewCounter(prometheus.CounterOpts{Name: "ctserve_tls_handshakes_failed_total", Help: "TLS handshakes that failed."})
+	build := prometheus.NewGaugeVec(prometheus.GaugeOpts{Name: "ctserve_build_info", Help: "Always 1, labelled with the version and commit of this build."}, []string{"version", "commit"})
 	build.WithLabelValues(version.Number(), version.Commit()).Set(1)
 	for _, bound := range []string{"all", "address"} {
 		m.refused.WithLabelValues(bound)
@@ -60,7 +60,7 @@ func (m *metrics) request(call string, status int, refusal string, took time.Dur
 	}
 }
 
-// Reloaded counts a reload of the roots or of the certificate of TLS.
+// Reloaded counts a reload of the roots or of the TLS certificate.
 func (f *Front) Reloaded(of string, err error) {
 	outcome := "done"
 	if err != nil {
@@ -69,7 +69,7 @@ func (f *Front) Reloaded(of string, err error) {
 	f.metrics.reloads.WithLabelValues(of, outcome).Inc()
 }
 
-// figures collects the log's figures, as they are at one moment.
+// figures collects the log's figures at the time of a scrape.
 type figures struct{ front *Front }
 
 func described(name, help string) *prometheus.Desc {
@@ -78,50 +78,50 @@ func described(name, help string) *prometheus.Desc {
 
 var (
 	descEntries    = described("ctserve_entries", "Entries of the newest published head.")
-	descHeadAge    = described("ctserve_head_age_seconds", "How old the newest published head is.")
-	descAhead      = described("ctserve_unpublished_entries", "Entries that are decided, and in no published head that is known.")
-	descRound      = described("ctserve_round_age_seconds", "How long ago a round of the log's went well: one is made each second, also where nobody submits.")
-	descStore      = prometheus.NewDesc("ctserve_store_seconds", "How long calls of the stores took, also those that failed.", []string{"store", "call"}, nil)
-	descFailed     = prometheus.NewDesc("ctserve_store_failures_total", "Calls in which a store didn't do what it is there for: what it has to answer, as that there is no such object, isn't one.", []string{"store", "call"}, nil)
-	descQueue      = described("ctserve_queue", "Submissions that wait.")
-	descMostQueue  = described("ctserve_queue_most", "At how many that wait no more is taken.")
-	descFault      = described("ctserve_fault", "1 where something keeps the log from going on.")
-	descFaults     = described("ctserve_faults_total", "How often something began to keep the log from going on.")
-	descReady      = described("ctserve_ready", "1 where a submission would be taken now, as /readyz says.")
-	descSteps      = described("ctserve_steps_total", "Swaps of the register that were won.")
-	descLost       = described("ctserve_lost_swaps_total", "Swaps of the register that another node was faster with.")
-	descUnknown    = described("ctserve_unknown_swaps_total", "Swaps whose outcome was settled by reading the register.")
-	descRepeats    = described("ctserve_repeats_total", "Submissions that were answered with the place that they had.")
-	descHelped     = described("ctserve_helped_total", "Heads of other nodes that were rolled out.")
-	descHandedOver = described("ctserve_handed_over_total", "Submissions that another node answered.")
-	descSigner     = described("ctserve_signer_starts_total", "How often the signer was started, or found.")
-	descSwept      = described("ctserve_swept_tiles_total", "Partial tiles that were deleted behind their full one.")
-	descSweptHeads = described("ctserve_swept_heads_total", "Heads that were deleted behind a later one.")
-	descScrubbed   = described("ctserve_scrubbed_tiles_total", "Old data tiles that were read again and were right.")
-	descDamaged    = described("ctserve_damaged_tiles", "Data tiles that are missing, can't be read or aren't the log's, or stand below such hash tiles, by what was read last.")
-	descWritten    = described("ctserve_written_bytes_total", "Bytes that steps put, in their bundles and as objects.")
-	descPhase      = prometheus.NewDesc("ctserve_step_seconds", "How long the parts of a step took: take (the newest state is read, and repeats are answered), look (another node's step is rolled out), step (it is made), stage (its bundle is put), swap, put (its objects), place, sign (its head, and timestamps), answer, delete. Objects are put and places added side by side.", []string{"phase"}, nil)
-	descBatches    = described("ctserve_step_submissions", "How many submissions a step took in, of those that were decided.")
-	descBundles    = described("ctserve_swept_bundles_total", "Bundles of steps that were deleted since nobody needs them.")
-	descStaged     = described("ctserve_staged_bundles", "Bundles of steps that were there when they were listed last.")
-	descTending    = described("ctserve_tend_failures_total", "What failed of sweeping partial tiles, heads and bundles.")
-	descSweptTo    = described("ctserve_swept_entries", "Up to how many entries no partial tile is left below the full ones, by what this node knows.")
-	descReadNext   = described("ctserve_read_again_tile", "The data tile, of 256 entries, that is read again next.")
-	descIssuers    = described("ctserve_damaged_issuers", "Issuers that are missing or have another content, by what was read last.")
-	descMended     = described("ctserve_mended_objects_total", "Objects that were missing or had another content, and were made again.")
-	descLag        = prometheus.NewDesc("ctserve_witness_lag", "Heads that a witness was asked to cosign since it last did.", []string{"witness"}, nil)
+	descHeadAge    = described("ctserve_head_age_seconds", "Age of the newest published head.")
+	descAhead      = described("ctserve_unpublished_entries", "Entries that were added to the log and are in no published head that this node knows.")
+	descRound      = described("ctserve_round_age_seconds", "Time since the last round that succeeded. A round is made each second, even without submissions.")
+	descStore      = prometheus.NewDesc("ctserve_store_seconds", "Time that calls of the stores took, including those that failed.", []string{"store", "call"}, nil)
+	descFailed     = prometheus.NewDesc("ctserve_store_failures_total", "Calls of a store that failed. An expected answer, for example that an object does not exist, is no failure.", []string{"store", "call"}, nil)
+	descQueue      = described("ctserve_queue", "Submissions that are waiting.")
+	descMostQueue  = described("ctserve_queue_capacity", "Number of waiting submissions at which further ones are refused.")
+	descFault      = described("ctserve_fault", "1 if a fault keeps the log from accepting submissions.")
+	descFaults     = described("ctserve_faults_total", "Number of times that a fault began.")
+	descReady      = described("ctserve_ready", "1 if a submission would be accepted now, as /readyz says.")
+	descSteps      = described("ctserve_steps_total", "Steps of this node that the lock took.")
+	descLost       = described("ctserve_lost_swaps_total", "Swaps of the lock that this node lost to another node.")
+	descUnknown    = described("ctserve_unknown_swaps_total", "Swaps of the lock whose outcome was only known after reading it.")
+	descRepeats    = described("ctserve_duplicates_total", "Submissions that were already in the log.")
+	descHelped     = described("ctserve_resumed_steps_total", "Steps of other nodes that this node completed.")
+	descHandedOver = described("ctserve_forwarded_submissions_total", "Submissions that were forwarded to another node, which answered them.")
+	descSigner     = described("ctserve_signer_starts_total", "Number of times that the signer was started or connected to.")
+	descSwept      = described("ctserve_deleted_tiles_total", "Partial tiles that were deleted after their full tile was stored.")
+	descSweptHeads = described("ctserve_deleted_heads_total", "Heads that were deleted after a later one was published.")
+	descScrubbed   = described("ctserve_scrubbed_tiles_total", "Old data tiles that were checked and were right.")
+	descDamaged    = described("ctserve_damaged_tiles", "Data tiles that are missing, unreadable or wrong, or are below such hash tiles, by the last check.")
+	descWritten    = described("ctserve_written_bytes_total", "Bytes that steps stored, in staged batches and as objects.")
+	descPhase      = prometheus.NewDesc("ctserve_step_seconds", "Time that the parts of a step took: take (read the newest state, answer duplicates), look (complete another node's step), step (make it), stage (store its batch), swap, put (store its objects), place (add to the index), sign (its head and SCTs), answer, delete. put and place run at the same time.", []string{"phase"}, nil)
+	descBatches    = described("ctserve_step_submissions", "Number of submissions of a step that the lock took.")
+	descBundles    = described("ctserve_deleted_batches_total", "Staged batches that were deleted because nothing needs them.")
+	descStaged     = described("ctserve_staged_batches", "Staged batches in the store when they were last listed.")
+	descTending    = described("ctserve_janitor_failures_total", "Failed deletions of partial tiles, heads and staged batches.")
+	descSweptTo    = described("ctserve_partial_tiles_deleted_to", "Number of entries up to which all partial tiles were deleted, as far as this node knows.")
+	descReadNext   = described("ctserve_scrub_next_tile", "Index of the data tile (256 entries) that is checked next.")
+	descIssuers    = described("ctserve_damaged_issuers", "Issuers that are missing or wrong, by the last check.")
+	descMended     = described("ctserve_repaired_objects_total", "Objects that were missing or wrong, and were made again.")
+	descLag        = prometheus.NewDesc("ctserve_witness_lag", "Heads that a witness was asked to cosign since it last cosigned one.", []string{"witness"}, nil)
 	descCosigned   = prometheus.NewDesc("ctserve_witness_cosignatures_total", "Heads that a witness cosigned.", []string{"witness"}, nil)
-	descSeenMore   = prometheus.NewDesc("ctserve_witness_seen_more", "1 where a witness says that it cosigned a later head than it was shown, or another one.", []string{"witness"}, nil)
-	descOpen       = described("ctserve_connections", "Connections that are open.")
-	descWaiting    = described("ctserve_waiting_bytes", "Bytes of the submissions that are read, checked or wait.")
-	descAnswers    = described("ctserve_answer_bytes", "Bytes of the objects that are read for answers, or sent.")
-	descRoots      = described("ctserve_roots", "Roots that chains are checked against.")
+	descSeenMore   = prometheus.NewDesc("ctserve_witness_ahead", "1 if a witness says that it cosigned a later head than this log's newest one, or another one of that size.", []string{"witness"}, nil)
+	descOpen       = described("ctserve_connections", "Open connections.")
+	descWaiting    = described("ctserve_queued_bytes", "Bytes of the submissions that are being read or checked, or are waiting.")
+	descAnswers    = described("ctserve_response_bytes", "Bytes of the objects that are being read for responses or sent.")
+	descRoots      = described("ctserve_roots", "Roots against which chains are checked.")
 )
 
 func (c figures) Describe(to chan<- *prometheus.Desc) { prometheus.DescribeByCollect(c, to) }
 
 func (c figures) Collect(to chan<- prometheus.Metric) {
-	// (it looks for the newest head, which the figures are of)
+	// (this reads the newest head, which the figures describe)
 	unready := c.front.unready(context.Background())
 	f := c.front.log.Figures()
 	gauge := func(of *prometheus.Desc, value float64) {
@@ -193,7 +193,7 @@ func (c figures) Collect(to chan<- prometheus.Metric) {
 	gauge(descRoots, float64(len(c.front.checker.Roots().Certificates())))
 }
 
-// Operator answers an operator: /metrics, and /healthz and /readyz as clients see them.
+// Operator returns the handler for operators: /metrics, and /healthz and /readyz as clients see them.
 func (f *Front) Operator() http.Handler {
 	mux := http.NewServeMux()
 	mux.Handle("/metrics", promhttp.HandlerFor(f.metrics.registry, promhttp.HandlerOpts{MaxRequestsInFlight: 4, Timeout: 10 * time.Second}))

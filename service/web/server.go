@@ -10,8 +10,9 @@ import (
 	"sync"
 )
 
-// mostOfOthers is how many connections operators have, or the other nodes: they don't count as clients.
-const mostOfOthers = 64
+// mostOfOthers is how many connections operators have, and mostOfNodes how many the other nodes have: they don't count as clients. Each of up to three other nodes opens
+// no more than 1,024 (internal/serve).
+const mostOfOthers, mostOfNodes = 64, 4096
 
 // Server answers requests on listeners until it is ended.
 type Server struct {
@@ -24,10 +25,15 @@ type Server struct {
 	ending bool
 }
 
-// ServeOthers makes a server for operators or other nodes: with the front's limits of time, and connections of its own.
-func (f *Front) ServeOthers(handler http.Handler) *Server {
+// ServeOthers makes a server for operators: with the front's limits of time, and connections of its own.
+func (f *Front) ServeOthers(handler http.Handler) *Server { return f.serveFew(handler, mostOfOthers) }
+
+// ServeNodes makes a server for the other nodes of the log, likewise.
+func (f *Front) ServeNodes(handler http.Handler) *Server { return f.serveFew(handler, mostOfNodes) }
+
+func (f *Front) serveFew(handler http.Handler, most int) *Server {
 	s := f.Serve(handler)
-	own := make(chan struct{}, mostOfOthers)
+	own := make(chan struct{}, most)
 	s.bounds = func(l net.Listener) net.Listener { return few{l, own} }
 	return s
 }

@@ -50,14 +50,11 @@ func (f *Front) add(w http.ResponseWriter, r *http.Request, check func([][]byte)
 	if err != nil {
 		return err
 	}
-	body = nil
-	place, err := f.log.Submit(ctx, *entry)
-	if err != nil {
-		return err
+	if f.options.Forward == nil || log.IsForwarded(ctx) {
+		// (the entry has its own bytes)
+		body = nil
 	}
-	w.Header().Set("Cache-Control", "no-store")
-	writeJSON(w, http.StatusOK, timestampOf(place))
-	return nil
+	return f.submit(ctx, w, r, client, *entry, body)
 }
 
 func timestampOf(place log.Place) signedTimestamp {

@@ -99,6 +99,8 @@ type Options struct {
 	About About
 	// Stores has counted what the log's stores are asked; nil where nobody counts.
 	Stores *stores.Calls
+	// Forward forwards submissions to another node. It is nil if the log has one node only.
+	Forward Forwarder
 }
 
 // Front answers the calls of one log. It is an http.Handler, for clients; Operator is the one for operators.
@@ -233,7 +235,7 @@ func (f *Front) ServeHTTP(w http.ResponseWriter, r *http.Request) {
 		a.Header().Set("Access-Control-Expose-Headers", "ETag, Retry-After, Content-Range")
 	}
 	client := f.clientOf(r)
-	if r.Context().Value(operatorKey{}) == nil {
+	if !isUncounted(r.Context()) {
 		if !f.requests.take(client) {
 			f.refuse(a, tooMany)
 			return
@@ -277,7 +279,7 @@ func (f *Front) serve(c call, w http.ResponseWriter, r *http.Request) error {
 	if c.method == http.MethodGet && r.ContentLength != 0 {
 		return refusal{status: http.StatusBadRequest, name: "body", detail: "a request that reads has none", closes: true}
 	}
-	if !f.isInRate(c, f.clientOf(r)) {
+	if r.Context().Value(nodeKey{}) == nil && !f.isInRate(c, f.clientOf(r)) {
 		return tooOften
 	}
 	return c.serve(f, w, r)
@@ -350,7 +352,7 @@ func (f *Front) told(c call, a *answer, r *http.Request, took time.Duration) {
 // clientOf is for whom a request is: the peer, or where that is one of the proxies, whom it names.
 func (f *Front) clientOf(r *http.Request) netip.Addr {
 	peer := addressOf(r.RemoteAddr)
-	if !f.isProxy(peer) {
+	if r.Context().Value(nodeKey{}) == nil && !f.isProxy(peer) {
 		return peer
 	}
 	named := r.Header.Values("X-Forwarded-For")

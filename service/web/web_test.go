@@ -515,14 +515,14 @@ func TestMetricsAndHealth(t *testing.T) {
 		`ctserve_requests_total{call="none",status="404"} 1`,
 		`ctserve_refusals_total{call="add-chain",refusal="empty-chain"} 1`,
 		`ctserve_request_seconds_count{call="checkpoint"} 1`,
-		"ctserve_entries 5", "ctserve_queue 0", `ctserve_build_info{commit="unknown",version="unreleased"} 1`, "ctserve_queue_most 1024", "ctserve_lost_swaps_total 3", "ctserve_fault 0", "ctserve_ready 1", "ctserve_roots 1",
-		"ctserve_swept_tiles_total 4", "ctserve_swept_heads_total 8", "ctserve_scrubbed_tiles_total 5", "ctserve_damaged_tiles 6", "ctserve_written_bytes_total 16", `ctserve_step_seconds_sum{phase="stage"} 1.5`, `ctserve_step_seconds_count{phase="stage"} 17`, "ctserve_swept_bundles_total 11", "ctserve_staged_bundles 12", "ctserve_tend_failures_total 13", "ctserve_damaged_issuers 9", "ctserve_mended_objects_total 10", "ctserve_signer_starts_total 7", "ctserve_waiting_bytes 0", "ctserve_answer_bytes 0", `ctserve_connections_refused_total{bound="address"} 0`,
-		"ctserve_unpublished_entries 18", "ctserve_round_age_seconds 2.5", "ctserve_swept_entries 512", "ctserve_read_again_tile 19", "ctserve_faults_total 0",
+		"ctserve_entries 5", "ctserve_queue 0", `ctserve_build_info{commit="unknown",version="unreleased"} 1`, "ctserve_queue_capacity 1024", "ctserve_lost_swaps_total 3", "ctserve_fault 0", "ctserve_ready 1", "ctserve_roots 1",
+		"ctserve_deleted_tiles_total 4", "ctserve_deleted_heads_total 8", "ctserve_scrubbed_tiles_total 5", "ctserve_damaged_tiles 6", "ctserve_written_bytes_total 16", `ctserve_step_seconds_sum{phase="stage"} 1.5`, `ctserve_step_seconds_count{phase="stage"} 17`, "ctserve_deleted_batches_total 11", "ctserve_staged_batches 12", "ctserve_janitor_failures_total 13", "ctserve_damaged_issuers 9", "ctserve_repaired_objects_total 10", "ctserve_signer_starts_total 7", "ctserve_queued_bytes 0", "ctserve_response_bytes 0", `ctserve_connections_refused_total{bound="address"} 0`,
+		"ctserve_unpublished_entries 18", "ctserve_round_age_seconds 2.5", "ctserve_partial_tiles_deleted_to 512", "ctserve_scrub_next_tile 19", "ctserve_faults_total 0",
 		`ctserve_step_submissions_bucket{le="1"} 18`, `ctserve_step_submissions_bucket{le="8"} 20`, `ctserve_step_submissions_bucket{le="+Inf"} 20`, "ctserve_step_submissions_sum 21", "ctserve_step_submissions_count 20",
 		`ctserve_store_seconds_count{call="put",store="objects"} 3`, `ctserve_store_failures_total{call="put",store="objects"} 1`, `ctserve_store_seconds_count{call="get",store="objects"} 1`,
-		`ctserve_store_failures_total{call="get",store="objects"} 0`, `ctserve_store_seconds_count{call="swap",store="register"} 0`, `ctserve_store_failures_total{call="find",store="places"} 0`,
+		`ctserve_store_failures_total{call="get",store="objects"} 0`, `ctserve_store_seconds_count{call="swap",store="lock"} 0`, `ctserve_store_failures_total{call="find",store="index"} 0`,
 		fmt.Sprintf(`ctserve_store_seconds_sum{call="put",store="objects"} %v`, f.front.options.Stores.All()[0].Took.Seconds()),
-		`ctserve_witness_lag{witness="w.example"} 14`, `ctserve_witness_cosignatures_total{witness="w.example"} 15`, `ctserve_witness_seen_more{witness="w.example"} 1`,
+		`ctserve_witness_lag{witness="w.example"} 14`, `ctserve_witness_cosignatures_total{witness="w.example"} 15`, `ctserve_witness_ahead{witness="w.example"} 1`,
 	} {
 		if !strings.Contains(w.Body.String(), line+"\n") {
 			t.Errorf("/metrics lacks %s", line)

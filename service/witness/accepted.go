@@ -1,72 +1,59 @@
 package witness
 
 import (
-	"bytes"
-	"crypto/sha256"
-	"encoding/base64"
-	"encoding/json"
 	"errors"
 	"fmt"
 	"io"
 	"net/http"
 	"os"
-	"regexp"
+
+	"golang.org/x/mod/sumdb/note"
 
 	"wagtenib/bindings/go/wagtenib"
 )
 
-// mostAccepted is how many bytes a monitor's state has: two heads and at most 128 hashes.
-const mostAccepted = 64 << 10
+// maxAccepted is the number of bytes of a signed checkpoint that are read.
+const maxAccepted = 64 << 10
 
-// ErrAccepted: a file isn't a monitor's state, or it has accepted no head.
+// ErrAccepted means that a file has no checkpoint that the log signed.
 var ErrAccepted = errors.New("witness: no accepted head of a monitor")
 
-// checked finds the check in a monitor's state (docs/MONITOR.md).
-var checked = regexp.MustCompile(`,"check":"([A-Za-z0-9+/]{43}=)",`)
-
-// AcceptedBy reads the tree that a monitor accepted last out of its state (ctmonitor's last line, as ctmonitor-watch keeps it): the root of that tree
-// was computed from all leaves that the monitor read. A state whose check isn't its own is none.
-func AcceptedBy(path string) (size uint64, root [32]byte, err error) {
-	text, err := readAccepted(path)
+// AcceptedBy returns the size and the root of the tree that a monitor accepted last. The monitor keeps the log's signed checkpoint in a file (ctwatch run
+// --accepted-folder) after it read all leaves and compared their root. The note must have a signature by each of the log's keys.
+func AcceptedBy(path, origin string, keys []note.Verifier) (size uint64, root [32]byte, err error) {
+	signed, err := readAccepted(path)
 	if err != nil {
 		return 0, root, err
 	}
-	wrong := func(why string) error { return fmt.Errorf("%w: %s: %s", ErrAccepted, path, why) }
-	check := checked.FindSubmatch(text)
-	if check == nil {
-		return 0, root, wrong("it is no state")
+	opened, err := note.Open(signed, note.VerifierList(keys...))
+	if err != nil || len(opened.Sigs) != len(keys) {
+		return 0, root, fmt.Errorf("%w: %s: the log did not sign it", ErrAccepted, path)
 	}
-	sum := sha256.Sum256(bytes.Replace(text, check[0], []byte(`,"check":null,`), 1))
-	if string(check[1]) != base64.StdEncoding.EncodeToString(sum[:]) {
-		return 0, root, wrong("it is damaged")
+	checkpoint, err := wagtenib.ReadCheckpoint(opened.Text)
+	if err != nil {
+		return 0, root, fmt.Errorf("%w: %s: %v", ErrAccepted, path, err)
 	}
-	var state struct {
-		Accepted *struct {
-			Root []byte `json:"sha256_root_hash"`
-			Size uint64 `json:"tree_size"`
-		} `json:"accepted"`
+	if checkpoint.Origin != origin {
+		return 0, root, fmt.Errorf("%w: %s: it is of the log %q", ErrAccepted, path, checkpoint.Origin)
 	}
-	if err := json.Unmarshal(text, &state); err != nil {
-		return 0, root, wrong(err.Error())
-	}
-	if state.Accepted == nil || len(state.Accepted.Root) != len(root) {
-		return 0, root, wrong("none is accepted")
-	}
-	return state.Accepted.Size, *(*[32]byte)(state.Accepted.Root), nil
+	return checkpoint.TreeSize, checkpoint.Root, nil
 }
 
-// readAccepted reads the line of a state's file, without its end.
+// readAccepted reads a file that has at most maxAccepted bytes.
 func readAccepted(path string) ([]byte, error) {
 	opened, err := os.Open(path)
 	if err != nil {
 		return nil, fmt.Errorf("%w: %v", ErrAccepted, err)
 	}
 	defer opened.Close()
-	text, err := io.ReadAll(io.LimitReader(opened, mostAccepted))
+	text, err := io.ReadAll(io.LimitReader(opened, maxAccepted+1))
 	if err != nil {
 		return nil, fmt.Errorf("%w: %v", ErrAccepted, err)
 	}
-	return bytes.TrimSuffix(text, []byte("\n")), nil
+	if len(text) > maxAccepted {
+		return nil, fmt.Errorf("%w: %s has more than %d bytes", ErrAccepted, path, maxAccepted)
+	}
+	return text, nil
 }
 
 // unread says why a tree isn't cosigned that the log's monitor hasn't accepted: it may not have read so far, or it accepted another one, which is told.

@@ -26,7 +26,7 @@ var (
 	// ErrFew: too few witnesses cosign.
 	ErrFew = errors.New("witness: too few cosignatures")
 	// ErrQuorum: of so many witnesses so many quorums can't be.
-	ErrQuorum = errors.New("witness: no such quorums can be")
+	ErrQuorum = errors.New("witness: impossible quorums")
 )
 
 const (
@@ -92,7 +92,7 @@ type member struct {
 func NewCircle(all []One, quorums Quorums, client *http.Client) (*Circle, error) {
 	n, seen := len(all), map[string]bool{}
 	if quorums.Publish < 1 || quorums.Start < 1 || quorums.Faults < 0 || quorums.Publish > n || quorums.Start > n || !quorums.IsSafe(n) {
-		return nil, fmt.Errorf("%w: of %d witnesses %d publish, %d start and %d may be faulty, and %d + %d has to be below %d + %d", ErrQuorum, n, quorums.Publish, quorums.Start, quorums.Faults, n, quorums.Faults, quorums.Start, quorums.Publish)
+		return nil, fmt.Errorf("%w: of %d witnesses, %d publish, %d start and %d may be faulty, and %d + %d must be below %d + %d", ErrQuorum, n, quorums.Publish, quorums.Start, quorums.Faults, n, quorums.Faults, quorums.Start, quorums.Publish)
 	}
 	if client == nil {
 		client = &http.Client{Transport: &http.Transport{MaxIdleConnsPerHost: 2, IdleConnTimeout: time.Minute, TLSHandshakeTimeout: asksWithin}}
@@ -276,7 +276,7 @@ func (c *Circle) cosigned(ctx context.Context, m *member, signed []byte, text st
 				return "", err
 			}
 		}
-		status, answer, err := c.post(ctx, m, r.body())
+		status, answer, err := c.post(ctx, m, r.Body())
 		if err != nil {
 			return "", fmt.Errorf("%w: %s: %v", ErrFew, m.Name, err)
 		}

@@ -32,7 +32,7 @@ var refusals = map[wagtenib.Code]refusal{
 	wagtenib.ErrRootMismatch:  {"inconsistent", http.StatusUnprocessableEntity},
 }
 
-// faults has the names of the faults of a consistency proof (docs/MONITOR.md), which are answered with "inconsistent".
+// faults has the names of the faults of a consistency proof, which follow "inconsistent" in an answer (docs/WITNESS.md).
 var faults = map[wagtenib.Code]string{
 	wagtenib.ErrEmptyPath: "empty-path", wagtenib.ErrPathTooLong: "path-too-long", wagtenib.ErrPathTooShort: "path-too-short",
 	wagtenib.ErrFirstMismatch: "first-mismatch", wagtenib.ErrRootMismatch: "root-mismatch",

@@ -102,8 +102,8 @@ func ParseRequest(body []byte) (r Request, err error) {
 	return r, err
 }
 
-// body writes a request.
-func (r Request) body() []byte {
+// Body returns the bytes of a request.
+func (r Request) Body() []byte {
 	body := []byte("old " + strconv.FormatUint(r.Old, 10) + "\n")
 	for i := range r.Proof {
 		body = append(body, base64.StdEncoding.EncodeToString(r.Proof[i][:])+"\n"...)

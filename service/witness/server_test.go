@@ -162,7 +162,7 @@ func posted(t testing.TB, s http.Handler, body []byte) *httptest.ResponseRecorde
 }
 
 func request(old int64, proof [][32]byte, signed []byte) []byte {
-	return Request{Old: uint64(old), Proof: proof, Note: signed}.body()
+	return Request{Old: uint64(old), Proof: proof, Note: signed}.Body()
 }
 
 // requestIn reads what a server is asked, which may be read once more.

@@ -1,15 +1,14 @@
 #!/usr/bin/env python3
 """Runs the lines of docs/OPERATING.md, in the order of the page and as they stand there, on a bare Debian: a folder with Debian's base alone, into which
-change-root leads, and the packages of a release. Neither the kit nor this checkout is in it. Then those of docs/MONITOR.md and of service/README.md that
-tests/readme.py leaves to it: the log is watched, and has a witness.
+change-root leads, and the packages of a release. Neither the kit nor this checkout is in it. Then those of service/README.md that tests/readme.py leaves to it: the
+log is watched by ctwatch, and has a witness.
 
     bare.py [--built FOLDER] [--keep]
 
-As root, with mmdebstrap (Debian's package of that name). The release is made here, out of what is built (crates/NAME/out, service/out). If ctlog or
-ctmonitor isn't built, a program in Python stands in for it, and that is said. The release that the page upgrades to is this one with another VERSION.
+As root, with mmdebstrap (Debian's package of that name). The release is made here, out of what is built (crates/NAME/out, service/out). If ctlog is not
+built, a program in Python replaces it, and the script says so. The release that the page upgrades to is this one with another VERSION.
 
-Debian's packages come from its mirror; all else goes on in a network of its own, which has loopback alone: there the log list that the monitor's page reads
-is served at its address by this machine's nginx, and has the log. No systemd runs there: tests/bare/systemctl does
+Debian's packages come from its mirror. Everything else happens in a network of its own, which has only loopback. No systemd runs there: tests/bare/systemctl does
 what the units' files say, and systemd-analyze looks at these. Beside the page's lines the log is read by certspotter, by tlog (x/mod, in ctread) and by
 curl, through nginx over TLS; Prometheus has its figures and rules; an older copy of the log is put back, and refused; and ctcheck judges it from its folder,
 with all that was answered. It prints what it saw, and ends with status 1 where something isn't as the page has it.
@@ -36,7 +35,6 @@ import urllib.request
 ROOT = pathlib.Path(__file__).resolve().parent.parent.parent
 sys.path += [str(ROOT / "release"), str(ROOT / "tests"), str(ROOT / "tests" / "tiles")]
 
-import promises  # noqa: E402
 from readme import bare_commands, commands, files  # noqa: E402
 from release import PROGRAMS  # noqa: E402
 
@@ -47,7 +45,7 @@ LOG, SITE = "http://127.0.0.1:8618", f"https://{HOST}"
 WITHIN = 900
 MADE = "# Ctrl-C once it says serving"
 # The programs in Python that stand in for one that isn't built.
-MODELS = {"ctlog": "expected.py", "ctmonitor": "../examples/monitor/stand_in.py"}
+MODELS = {"ctlog": "expected.py"}
 NEW_NETWORK = 0x40000000
 
 
@@ -234,13 +232,11 @@ class Trial:
     def __init__(self, bare):
         self.bare, self.seen = bare, {}
         # What is done before a line, and what is seen behind it, by how the line begins.
-        self.before = {"cp -an /root/backup": self.lose_an_issuer, "ctmonitor-watch --logs": self.list_logs, "ctmonitor-audit": self.certificate}
+        self.before = {"cp -an /root/backup": self.lose_an_issuer, "ctwatch cosign": self.watch}
         self.behind = {
             "nginx -t": lambda said: bare.run(f"echo 127.0.0.1 {HOST} >> /etc/hosts", quiet=True), "promtool": self.figures, "ctload": self.submitted, "rm /etc/ctserve/roots": self.root_went,
             "curl -s --cacert": self.checkpoint, "systemctl start": self.goes_on, "cp -an /root/backup": self.issuer_is_back, "systemctl restart ctserve": self.upgraded,
-            "ctread": self.mirrored, "ctcheck": self.judged, "LOG=tiled+": self.watched, "systemctl enable --now ctmonitor": self.watched_by_units, "mkdir -p ct-watch": self.from_end,
-            "systemctl enable --now ctwitness": self.witnessed, "ctmonitor-watch --logs": self.watched, "ctmonitor-log-list": self.listed, "ctmonitor-audit": self.audited,
-            f"LOG=tiled+{SITE} ctmonitor-watch --cosign": self.cosigned,
+            "ctread": self.mirrored, "ctcheck": self.judged, "systemctl enable --now ctwitness": self.witnessed, "ctwatch cosign": self.cosigned,
         }
 
     def run(self, lines):
@@ -261,64 +257,15 @@ class Trial:
         if missing := [beginning for beginning in self.behind if beginning not in self.seen]:
             fail(f"no page has a line that begins with {missing[0]}")
 
-    def watched(self, said):
-        if f": accepted {self.size} leaves" not in said:
-            fail(f"ctmonitor-watch says {said}")
-
-    def watched_by_units(self, said):
-        kept = self.bare.folder / "var/lib/ctmonitor-watch" / HOST
-        if not (kept / "state").exists() or f'"tree_size":{self.size}' not in (kept / "state").read_text():
-            fail(f"the timer's unit has {list(kept.glob('*'))}: {said}")
-        self.bare.run("apt-get install --yes --no-install-recommends logrotate && logrotate --force /etc/logrotate.d/ctmonitor-watch", quiet=True)
-        if not (kept / "verdicts.1").exists():
-            fail(f"logrotate leaves {list(kept.glob('*'))}")
-        self.bare.run("systemctl start ctmonitor-watch.timer", quiet=True)
-
-    def from_end(self, said):
-        until(lambda: HOST in self.bare.run("ls ct-watch", quiet=True), "ctmonitor-from-end writes nothing")
-        self.watched(self.bare.run(f"LOG=tiled+{SITE} ctmonitor-watch --name example.org"))
-
-    def list_logs(self):
-        """A log list that has the log as usable stands at the address of the page's."""
-        run = self.bare.run
-        listed = json.loads(run(f"ctserve list-entry --config /etc/ctserve/{NAME}.conf --operator An-operator --email mail@log.example", quiet=True))
-        listed["operators"][0]["tiled_logs"][0]["state"] = {"usable": {"timestamp": "2026-01-01T00:00:00Z"}}
-        host, path = re.search(r"ctmonitor-watch --logs https://([^/ ]+)(/\S+)", (ROOT / "docs" / "MONITOR.md").read_text()).groups()
-        (self.bare.folder / "srv/list.json").write_text(json.dumps(listed))
-        certificate = "openssl req -x509 -newkey rsa:2048 -nodes -days 90 -keyout /etc/ssl/list.key -out /usr/local/share/ca-certificates/list.crt"
-        run(f"{certificate} -subj /CN={host} -addext subjectAltName=DNS:{host} && update-ca-certificates && echo 127.0.0.1 {host} >> /etc/hosts", quiet=True)
-        site = f"server {{ listen 443 ssl; server_name {host}; ssl_certificate /usr/local/share/ca-certificates/list.crt; ssl_certificate_key /etc/ssl/list.key; location = {path} {{ alias /srv/list.json; }} }}\n"
-        (self.bare.folder / "etc/nginx/conf.d/list.conf").write_text(site)
-        run("nginx -t && nginx -s reload", quiet=True)
-        until(lambda: HOST in run(f"curl -s https://{host}{path} || true", quiet=True), "the log list isn't served")
-
-    def listed(self, said):
-        line = (self.bare.folder / "root/logs").read_text()
-        if not re.fullmatch(rf"tiled\+{SITE}/? [A-Za-z0-9+/=]+\n", line):
-            fail(f"ctmonitor-log-list prints {line}{said}")
-
-    def certificate(self):
-        """A certificate of ctload's, with the timestamp that its precertificate was answered with; and its issuer's."""
-        answers = map(json.loads, (self.bare.folder / "root/answers").read_text().splitlines())
-        answer = {name: base64.b64decode(value) if isinstance(value, str) else value for name, value in next(one for one in answers if "tbs_certificate" in one).items()}
-        self.promised = int.from_bytes(answer["extensions"][-5:], "big")
-        head = b"\0" + answer["log_id"] + answer["timestamp"].to_bytes(8, "big")
-        tbs = promises.with_timestamps(answer["tbs_certificate"], head + promises.vector(2, answer["extensions"]) + answer["signature"])
-        issuer = base64.b64decode("".join(self.trial_root.splitlines()[1:-1]))
-        # (its own signature is the issuer's over another: the log's are those that are looked at)
-        signed = promises.only(promises.SEQUENCE, issuer, "issuer")[len(promises.tbs_of(issuer)) :]
-        text = base64.encodebytes(promises.written(promises.SEQUENCE, tbs + signed)).decode()
-        (self.bare.folder / "root/certificate.pem").write_text(f"-----BEGIN CERTIFICATE-----\n{text}-----END CERTIFICATE-----\n")
-        (self.bare.folder / "root/issuer.pem").write_text(self.trial_root)
-
-    def audited(self, said):
-        if f"it stands at {self.promised} of {self.size}, under " not in said:
-            fail(f"ctmonitor-audit says {said} of an entry at {self.promised}")
+    def watch(self):
+        """ctwatch reads the log to its end, and puts the accepted head where the witness reads it."""
+        self.bare.run("mkdir -p /var/lib/ctwatch", quiet=True)
+        self.bare.run(f'ctwatch run --once --from-start --quiet --listen= --name example.net --unread none --folder /var/lib/ctwatch --accepted-folder /var/lib/ctwatch/accepted --log "tiled+{SITE} 2027h1.pem"')
 
     def cosigned(self, said):
-        kept = (self.bare.folder / f"root/ct-watch/{HOST}/cosigned").read_text()
+        kept = (self.bare.folder / "root/cosigned").read_text()
         if not kept.startswith(f"{HOST}\n{self.size}\n") or "\n\u2014 witness.example " not in kept:
-            fail(f"the monitor has no cosignature of the witness: {kept}{said}")
+            fail(f"there is no cosignature of the witness: {kept}{said}")
 
     def witnessed(self, said):
         until(lambda: get("http://127.0.0.1:8641/healthz"), "the witness doesn't answer")
@@ -434,7 +381,7 @@ class Trial:
 
     def judge(self):
         """The units, the log's folder with all that was answered, and its entry for a list."""
-        for unit in ("ctserve@.service", "ctwitness-serve@.service", "ctmonitor-watch.service", "ctmonitor-watch.timer"):
+        for unit in ("ctserve@.service", "ctwitness-serve@.service", "ctwatch.service"):
             said = self.bare.run(f"systemd-analyze verify /lib/systemd/system/{unit} 2>&1", quiet=True)
             if unit in said:
                 fail(f"systemd-analyze says {said}")

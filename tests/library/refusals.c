@@ -8,21 +8,21 @@
 #include <sys/mman.h>
 #include <ucontext.h>
 
-/* No function has more arguments. What is passed beyond a function's own is not read. */
-#define PARAMETERS \
-    uint64_t a0, uint64_t a1, uint64_t a2, uint64_t a3, uint64_t a4, uint64_t a5, uint64_t a6, uint64_t a7, uint64_t a8, uint64_t a9, uint64_t a10, uint64_t a11, uint64_t a12, \
-        uint64_t a13, uint64_t a14, uint64_t a15, uint64_t a16, uint64_t a17
-#define ARGUMENTS a0, a1, a2, a3, a4, a5, a6, a7, a8, a9, a10, a11, a12, a13, a14, a15, a16, a17
+#include "calls.h"
+/* refusals.py writes MULTIPLE_NAME of each function, which is how many bytes of memory the header allows for each byte of the arguments. */
+#include "multiples.h"
+
 #define OUT_OF_MEMORY 8
 #define TRIES 4
 #define STACK (1 << 20)
 #define FILL 0xA5
 
-typedef uint64_t call(PARAMETERS);
-
 struct counts {
-    const char *name;
+    struct function function;
+    uint64_t multiple;
     uint64_t calls, refused, wrong, kept, stack, memory;
+    /* The most memory of a call beyond `multiple` bytes for each byte of its arguments. */
+    uint64_t excess;
 };
 
 struct block {
@@ -62,21 +62,29 @@ __attribute__((visibility("hidden"))) void rattle_dealloc(void *at, size_t size,
 
 static uint64_t arguments[18], answer;
 static ucontext_t caller, callee;
-static call *called;
+static call_of_c *called;
 
 static void on_stack(void) {
     const uint64_t *a = arguments;
     answer = called(a[0], a[1], a[2], a[3], a[4], a[5], a[6], a[7], a[8], a[9], a[10], a[11], a[12], a[13], a[14], a[15], a[16], a[17]);
 }
 
+/* Counts the memory of a call. What a function reads are its arguments, and what it only writes is not. */
+static void count_memory(struct counts *counts, uint64_t memory) {
+    uint64_t given = 0;
+    for (int i = 0; counts->function.parameters[i].kind != 0; i++) given += counts->function.parameters[i].kind == 'i' ? bytes_at(&counts->function, arguments, i) : 0;
+    if (memory > counts->memory) counts->memory = memory;
+    if (memory > counts->multiple * given && memory - counts->multiple * given > counts->excess) counts->excess = memory - counts->multiple * given;
+}
+
 /* Makes the call on a filled stack, with this growth refused (0 for none). */
-static uint64_t made(struct counts *counts, call *function, uint64_t refused) {
+static uint64_t made(struct counts *counts, uint64_t refused) {
     static unsigned char *stack;
     if (stack == NULL) stack = mmap(NULL, STACK, PROT_READ | PROT_WRITE, MAP_PRIVATE | MAP_ANONYMOUS, -1, 0);
     memset(stack, FILL, STACK);
     getcontext(&callee);
     callee.uc_stack.ss_sp = stack, callee.uc_stack.ss_size = STACK, callee.uc_link = &caller;
-    called = function;
+    called = counts->function.call;
     makecontext(&callee, on_stack, 0);
     uint64_t bytes_before = bytes, blocks_before = blocks, unused = 0;
     most_bytes = bytes, growths = 0, refused_growth = refused;
@@ -84,33 +92,35 @@ static uint64_t made(struct counts *counts, call *function, uint64_t refused) {
     counts->kept += bytes != bytes_before || blocks != blocks_before;
     while (unused < STACK && stack[unused] == FILL) unused++;
     if (STACK - unused > counts->stack) counts->stack = STACK - unused;
-    if (most_bytes - bytes_before > counts->memory) counts->memory = most_bytes - bytes_before;
+    count_memory(counts, most_bytes - bytes_before);
     return answer;
 }
 
-static uint64_t tried(struct counts *counts, call *function, PARAMETERS) {
+static uint64_t tried(struct counts *counts, PARAMETERS) {
     const uint64_t given[] = {ARGUMENTS};
     memcpy(arguments, given, sizeof given);
     counts->calls++;
-    uint64_t first = made(counts, function, 0), all = growths;
+    uint64_t first = made(counts, 0), all = growths;
     /* wagtenib_push changes what it is given, so a call that takes no memory is made once only. */
     if (all == 0) return first;
     for (uint64_t i = 0; i < all && i < TRIES; i++) {
         counts->refused++;
-        counts->wrong += (uint32_t)made(counts, function, all <= TRIES ? i + 1 : 1 + random() % all) != OUT_OF_MEMORY;
+        counts->wrong += (uint32_t)made(counts, all <= TRIES ? i + 1 : 1 + random() % all) != OUT_OF_MEMORY;
     }
-    return made(counts, function, 0);
+    return made(counts, 0);
 }
 
-/* refusals.py writes FUNCTION(NAME) of each function. */
-#define FUNCTION(name)                                                     \
-    static struct counts counts_##name = {#name, 0, 0, 0, 0, 0, 0};        \
-    extern __attribute__((visibility("hidden"))) call real_##name;         \
-    uint64_t name(PARAMETERS) { return tried(&counts_##name, real_##name, ARGUMENTS); }
+/* refusals.py writes FUNCTION(NAME, HAS_CODE, PARAMETERS) of each function. The declarations of the header are not those of these wrappers, so they have names of their
+ * own in C. */
+#define FUNCTION(name, has_code, ...)                                                                                  \
+    extern __attribute__((visibility("hidden"))) call_of_c real_##name;                                                \
+    static struct counts counts_##name = {{#name, real_##name, has_code, {__VA_ARGS__}}, MULTIPLE_##name, 0, 0, 0, 0, 0, 0, 0}; \
+    uint64_t wrapped_##name(PARAMETERS) __asm__(#name);                                                                \
+    uint64_t wrapped_##name(PARAMETERS) { return tried(&counts_##name, ARGUMENTS); }
 #include "functions.h"
 #undef FUNCTION
 
-#define FUNCTION(name) &counts_##name,
+#define FUNCTION(name, has_code, ...) &counts_##name,
 static struct counts *const all_counts[] = {
 #include "functions.h"
 };
@@ -121,8 +131,8 @@ __attribute__((destructor)) static void tell(void) {
     if (file == NULL) return;
     for (size_t i = 0; i < sizeof all_counts / sizeof *all_counts; i++) {
         const struct counts *c = all_counts[i];
-        fprintf(file, "%s %llu %llu %llu %llu %llu %llu\n", c->name, (unsigned long long)c->calls, (unsigned long long)c->refused, (unsigned long long)c->wrong,
-                (unsigned long long)c->kept, (unsigned long long)c->stack, (unsigned long long)c->memory);
+        fprintf(file, "%s %llu %llu %llu %llu %llu %llu %llu\n", c->function.name, (unsigned long long)c->calls, (unsigned long long)c->refused, (unsigned long long)c->wrong,
+                (unsigned long long)c->kept, (unsigned long long)c->stack, (unsigned long long)c->memory, (unsigned long long)c->excess);
     }
     fclose(file);
 }

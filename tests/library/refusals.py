@@ -4,9 +4,11 @@
     refusals.py
 
 refusals.c wraps the functions while other comparisons run over them. Each call is made again with one growth of memory refused, and must return
-OUT_OF_MEMORY then. After every call all memory must be given back, and no call may use more stack than the header says. Each function must be called, and each
+OUT_OF_MEMORY then. After every call all memory must be given back, and no call may use more stack or more memory than the header says. large.py makes calls that take much
+memory. Each function must be called, and each
 that takes memory must have been refused some. Without gcc for this processor it says so.
 """
+import fnmatch
 import os
 import pathlib
 import platform
@@ -16,11 +18,24 @@ import subprocess
 import sys
 import tempfile
 
+import signatures
+
 HERE = pathlib.Path(__file__).resolve().parent
 ROOT = HERE.parent.parent
 HEADER = (ROOT / "include" / "wagtenib.h").read_text()
-# What the header says of stack, in bytes: of each function, and of those of the step and of the witness.
-LEAST_STACK, MORE_STACK = 16 << 10, 128 << 10
+# What the header says of stack, in bytes, whichever function is called.
+STACK = 16 << 10
+
+# The lines in which it says of groups of functions how many bytes of memory a call takes at most for each byte of its arguments, and how much beyond these.
+MEMORY = re.compile(r"^ \*   (wagtenib_[\w*]+(?:, wagtenib_[\w*]+)*) +(\d+) bytes? and (\d+) (KB|MB)$", re.M)
+
+
+def memory_of(name):
+    """How many bytes of memory a function may take for each byte of its arguments, and how many beyond these. A function that the header does not name takes none."""
+    for names, multiple, more, unit in MEMORY.findall(HEADER):
+        if any(fnmatch.fnmatchcase(name, one) for one in names.split(", ")):
+            return int(multiple), int(more) << (20 if unit == "MB" else 10)
+    return 0, 0
 
 
 def library_in(folder):
@@ -28,9 +43,10 @@ def library_in(folder):
     code = pathlib.Path(subprocess.run([ROOT / "dist" / "processor.sh"], capture_output=True, text=True, check=True).stdout.strip()).read_text()
     names = sorted(set(re.findall(r"\.globl\s+(wagtenib_\w+)", code)))
     (folder / "real.s").write_text(re.sub(rf"\b({'|'.join(names)})\b", r"real_\1", code))
-    (folder / "functions.h").write_text("".join(f"FUNCTION({name})\n" for name in names))
+    (folder / "functions.h").write_text(signatures.table())
+    (folder / "multiples.h").write_text("".join(f"#define MULTIPLE_{name} {memory_of(name)[0]}\n" for name in names))
     made = folder / "libwagtenib.so"
-    subprocess.run(["gcc", "-shared", "-fPIC", "-O2", "-Wall", f"-I{folder}", HERE / "refusals.c", folder / "real.s", "-o", made], check=True)
+    subprocess.run(["gcc", "-shared", "-fPIC", "-O2", "-Wall", f"-I{folder}", f"-I{ROOT / 'include'}", HERE / "refusals.c", folder / "real.s", "-o", made], check=True)
     return made
 
 
@@ -39,28 +55,35 @@ def runs(library):
     tiles = ROOT / "tests" / "tiles"
     yield [tiles / "histories.py", "--histories", "4", sys.executable, tiles / "calls.py", library]
     yield [HERE / "witness.py", "--calls", "1000"]
+    yield [HERE / "monitor.py", "--calls", "2000"]
     yield [HERE / "node.py", "--calls", "4000", "--histories", "6"]
+    yield [HERE / "names.py", "--calls", "600"]
+    yield [HERE / "data_tiles.py", "--calls", "1500"]
+    yield [HERE / "texts.py", "--calls", "400"]
     yield [ROOT / "bindings" / "python" / "tests" / "compare.py", "--calls", "150"]
+    yield [HERE / "large.py"]
 
 
 def faults(told):
     """What is not as it must be."""
     names = set(re.findall(r"^\w+ (wagtenib_\w+)\(", HEADER, re.M))
-    stacks = re.search(r"The stack has (\d+) KB left, or (\d+) KB for the functions of the step and of the witness", HEADER)
-    if not stacks or (int(stacks[1]) << 10, int(stacks[2]) << 10) != (LEAST_STACK, MORE_STACK):
+    said = re.search(r"The stack has (\d+) KB left\.", HEADER)
+    if not said or int(said[1]) << 10 != STACK:
         yield "the header has another sentence about the stack"
     for name in sorted(names - set(told)):
         yield f"{name} is not called"
-    for name, (calls, refused, wrong, kept, stack, memory) in sorted(told.items()):
+    for name, (calls, refused, wrong, kept, stack, memory, excess) in sorted(told.items()):
         if not calls:
             yield f"{name} is not called"
         if memory and not refused:
             yield f"{name} takes memory, and none was refused"
+        if excess > memory_of(name)[1]:
+            yield f"{name} takes {excess} bytes of memory beyond {memory_of(name)[0]} for each byte of its arguments"
         if wrong:
             yield f"{name}: {wrong} of {refused} calls without memory do not return OUT_OF_MEMORY"
         if kept:
             yield f"{name}: {kept} calls did not give back all memory"
-        if stack > (MORE_STACK if re.match("wagtenib_(step|witness)", name) else LEAST_STACK):
+        if stack > STACK:
             yield f"{name}: {stack} bytes of stack"
 
 
@@ -80,7 +103,7 @@ def main():
         told = {}
         for line in report.read_text().splitlines():
             name, *numbers = line.split()
-            numbers, before = list(map(int, numbers)), told.get(name, [0] * 6)
+            numbers, before = list(map(int, numbers)), told.get(name, [0] * 7)
             told[name] = [*(a + b for a, b in zip(numbers[:4], before)), *map(max, numbers[4:], before[4:])]
     found = list(faults(told))
     for fault in found:

@@ -81,7 +81,7 @@ def sys_source():
         declared = "\n".join(field(part) for part in fields.split(";") if part.strip())
         structs += f"\n#[repr(C)]\n#[derive(Clone, Copy, Debug, Default)]\npub struct {name} {{\n{declared}\n}}\n"
     functions = [
-        f"    pub fn {name}({', '.join(map(argument, arguments.split(',')))}){' -> u32' if result == 'uint32_t' else ''};"
+        f"    pub fn {name}({', '.join(map(argument, arguments.split(','))) if arguments != 'void' else ''}){' -> u32' if result == 'uint32_t' else ''};"
         for result, name, arguments in re.findall(r"\b(uint32_t|void) (wagtenib_\w+)\(([^)]*)\);", bare)
     ]
     constants = "\n".join(f"    pub const {name}: u32 = {number};" for name, number in codes().items())
@@ -91,7 +91,9 @@ def sys_source():
 def unnamed():
     """The constants of the header that have no error in the crate."""
     named = set(re.findall(r"^    \w+ = (\w+), \"", (RUST / "wagtenib" / "src" / "error.rs").read_text(), re.M))
-    return sorted(set(codes()) - {"OK"} - named)
+    # (the second enum has the verdicts of a monitor, which no call returns)
+    returned = set(re.findall(r"\bWAGTENIB_(\w+) = \d+", HEADER.partition("};")[0]))
+    return sorted(returned - {"OK"} - named)
 
 
 def code_of(fault):
@@ -144,11 +146,11 @@ def returned(reply):
     return f"{code} {written if code == '0' else '-'}"
 
 
-def compare(calls, seed):
-    """Makes random calls, and returns how many differ."""
+def compare(calls, seed, program=("cargo", "run", "--offline", "--quiet", "--example", "calls")):
+    """Has the example make random calls, and returns how many differ."""
     proofs, history = Proofs(seed), guard.History(seed)
     asked = [proofs.call() if at % 2 else history.call() for at in range(calls)]
-    made = subprocess.run(["cargo", "run", "--offline", "--quiet", "--example", "calls"], cwd=RUST, input="".join(f"{line}\n" for line, _ in asked), capture_output=True, text=True, check=True, timeout=600)
+    made = subprocess.run(program, cwd=RUST, input="".join(f"{line}\n" for line, _ in asked), capture_output=True, text=True, check=True, timeout=600)
     replies = made.stdout.splitlines()
     wrong = [(line, returned(due), got) for (line, due), got in zip(asked, [*replies, *[""] * calls]) if returned(due) != got]
     for line, due, got in wrong[:5]:

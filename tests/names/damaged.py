@@ -1,13 +1,12 @@
 #!/usr/bin/env python3
-"""Reads the names of certificates that are cut off anywhere, or of which one byte is another, by four programs.
+"""Reads the names of certificates that are cut off, or in which one byte is changed, with four programs.
 
     damaged.py [EVERY]
 
-Of a certificate with each kind of name, each beginning is taken, and each byte set to EVERY'th (64) value from a first one that depends on the
-place, and to those that DER's lengths and tags turn on. Each of them Go's golang.org/x/crypto/cryptobyte (names.go) and
-../monitor/certificate_names.py have to read alike, names or a refusal; where python's `cryptography` reads names at all, it reads
-these; and the built ctmonitor, or else stand_in.py, says of them what certificate_names.py does. Where Go, x/crypto (make deps fetches
-both) or `cryptography` isn't there, it says so. It ends with status 1 where something differs.
+The script takes each beginning of a certificate that has each kind of name. It also sets each byte to EVERY'th (64) value, from a first one that depends on the position,
+and to the values that DER's lengths and tags depend on. Go's golang.org/x/crypto/cryptobyte (names.go), certificate_names.py and the library must all read the same names,
+or all refuse the certificate. If python's `cryptography` reads names, they must be these too. Without Go, x/crypto (make deps fetches both), `cryptography` or gcc it says
+so. The status is 1 if something differs.
 """
 import base64
 import json
@@ -26,8 +25,7 @@ from compare import kinds, x509  # noqa: E402
 
 DEPS = compare.ROOT / "deps"
 # What a byte of DER is set to besides: tags and lengths that are near to others, 0x80 (indefinite), and 31 (a tag of more bytes).
-TOLD = [0x00, 0x01, 0x1F, 0x30, 0x31, 0x7F, 0x80, 0x81, 0x82, 0x84, 0x85, 0xA2, 0xA6, 0xFF]
-PIECE = 2000
+SET = [0x00, 0x01, 0x1F, 0x30, 0x31, 0x7F, 0x80, 0x81, 0x82, 0x84, 0x85, 0xA2, 0xA6, 0xFF]
 
 
 def certificate():
@@ -43,7 +41,7 @@ def damaged(data, every):
     for size in range(1, len(data)):
         yield data[:size]
     for place, byte in enumerate(data):
-        for value in sorted({*TOLD, byte ^ 1, byte ^ 0x20, *range(place % every, 256, every)} - {byte}):
+        for value in sorted({*SET, byte ^ 1, byte ^ 0x20, *range(place % every, 256, every)} - {byte}):
             yield data[:place] + bytes([value]) + data[place + 1 :]
 
 
@@ -61,7 +59,7 @@ def main():
     every = int(sys.argv[1]) if len(sys.argv) > 1 else 64
     data = certificate()
     everything = [data, *damaged(data, every)]
-    ours = [compare.read_here(one) for one in everything]
+    ours = [compare.is_read_alike(one, [compare.BELOW, compare.ALONE, "192.0.2.1"]) for one in everything]
     if ours[0] is None or len(ours[0][0]) != 6 or ours[0][1] != [b"www.example.org", b"example.org"]:
         compare.fail(f"the whole certificate's names are {ours[0]}")
     others = 0
@@ -78,12 +76,7 @@ def main():
                 if names != theirs:
                     compare.fail(f"other names are read: {names}, where cryptobyte reads {theirs}: {base64.b64encode(one).decode()}")
         gos = "Go's cryptobyte reads the same names, and refuses the same"
-    judge = [str(compare.BUILT)] if os.access(compare.BUILT, os.X_OK) else [sys.executable, str(compare.ROOT / "examples" / "monitor" / "stand_in.py")]
-    entries = [(one, False) for one in everything]
-    for start in range(0, len(entries), PIECE):
-        compare.is_said(f"the damaged certificates from {start} on", judge, entries[start : start + PIECE], [compare.BELOW, compare.ALONE, "192.0.2.1"])
-    which = "ctmonitor" if len(judge) == 1 else "its stand-in"
-    print(f"tests/names: of {len(everything) - 1} damaged certificates (each beginning, each byte) {sum(names is not None for names in ours) - 1} are read by {which}; {gos};")
+    print(f"tests/names: of {len(everything) - 1} damaged certificates (each beginning, each byte) {sum(names is not None for names in ours) - 1} are read by the library and by certificate_names.py, with the same names; {gos};")
     print(f"cryptography reads {others - 1} of them, with the same names.")
 
 

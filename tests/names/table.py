@@ -1,22 +1,17 @@
 #!/usr/bin/env python3
-"""What an owner of names is told, by ctmonitor and by certspotter (SSLMate's): the table of examples/monitor/CERTSPOTTER.md, cell by cell.
+"""Has libwagtenib find watched names in certificates of many kinds of names, and is the log of these certificates for beside.py.
 
-    table.py [--certspotter] [--write]
+    table.py
 
-Each row's certificate is made twice, by openssl's commands and by python's `cryptography`. All are the entries of one log, and the built ctmonitor, or
-else stand_in.py, has to find each name where the row says so. With --certspotter, which has to be installed, the log answers by RFC 6962's calls on
-127.0.0.1, and both certspotter and watch.sh watch it: certspotter has to tell of what the row says, and watch.sh of what ctmonitor finds. With --write the
-table is written; else it has to stand there. Where openssl or `cryptography` isn't here, it says so and ends well. It ends with status 1 at
-the first thing that isn't so.
+Each row's certificate is made twice, by openssl's commands and by python's `cryptography`. In both the library must find each of three watched names where the row
+says. Without openssl, `cryptography` or gcc for this processor it says so and compares nothing. The status is 1 if something differs.
 """
-import argparse
 import base64
 import dataclasses
 import datetime
 import http.server
 import json
 import pathlib
-import re
 import shutil
 import subprocess
 import sys
@@ -27,9 +22,8 @@ import urllib.parse
 
 HERE = pathlib.Path(__file__).resolve().parent
 ROOT = HERE.parent.parent
-sys.path += [str(HERE), str(HERE.parent), str(HERE.parent / "monitor")]
+sys.path += [str(HERE), str(HERE.parent)]
 
-import answers  # noqa: E402
 import compare  # noqa: E402
 import der  # noqa: E402
 import merkle  # noqa: E402
@@ -37,32 +31,21 @@ from compare import kinds, x509  # noqa: E402
 from cryptography.hazmat.primitives import hashes, serialization  # noqa: E402
 from cryptography.hazmat.primitives.asymmetric import ec  # noqa: E402
 
-PAGE = ROOT / "examples" / "monitor" / "CERTSPOTTER.md"
-MADE, END = "<!-- Made by tests/names/table.py --write. -->\n\n", "\n<!-- Made until here. -->"
 # What is watched: a name with what is below it, a name alone, and one with other letters than ASCII's.
 BELOW, ALONE, OTHER_LETTERS = ".example.org", "www.example.org", "bücher.example"
 WATCHED = BELOW, ALONE, OTHER_LETTERS
-# How long certspotter may take, in seconds.
-PATIENCE = 120
 # ASN.1's string types: python's name, openssl's mask for names (ASN1_STRING_set_default_mask_asc), and its word for a made element (ASN1_generate_nconf).
 STRINGS = {"UTF8String": ("0x2000", "UTF8"), "PrintableString": ("0x2", "PRINTABLE"), "T61String": ("0x4", "T61"), "BMPString": ("0x800", "BMP"),
            "IA5String": (None, "IA5"), "UniversalString": (None, "UNIV")}
-WHERE = {"s": "san", "c": "cn", "b": "bytes", ".": None}
-# Why the two differ.
-KINDS = "certspotter reads dNSNames and common names alone"
-BYTES = "its bytes have it, and none of its names does; certspotter looks at names alone"
-STAR = "a star is a whole first label (RFC 9525, section 6.3); certspotter takes one anywhere"
+WHERE = {"s": "san", "c": "cn", ".": None}
 
 
 @dataclasses.dataclass
 class Row:
-    """A certificate, where ctmonitor has to find each of WATCHED in it (s: subjectAltName, c: common name, b: among the bytes alone, a dot: not), which of
-    them certspotter tells of (x), and why the two differ."""
+    """A certificate, and where each of WATCHED must be found in it (s: subjectAltName, c: common name, a dot: not)."""
 
     what: str
     found: str
-    spotted: str
-    why: str = ""
     common: str = ""
     kind: str = "UTF8String"
     alt: tuple = ()
@@ -72,50 +55,61 @@ class Row:
     poison: bool = False
 
 
-def host(name, found, spotted, why="", **more):
-    return Row(f"dNSName `{name}`" + (" of a precertificate" if more.get("poison") else ""), found, spotted, why, alt=(("DNS", name),), **more)
+def host(name, found, **more):
+    return Row(f"dNSName `{name}`" + (" of a precertificate" if more.get("poison") else ""), found, alt=(("DNS", name),), **more)
 
 
 ROWS = [
-    host("www.example.org", "ss.", "xx."),
-    host("example.org", "s..", "x.."),
-    host("*.example.org", "ss.", "xx."),
-    Row("commonName `www.example.org`", "cc.", "xx.", common="www.example.org"),
-    host("WWW.EXAMPLE.ORG", "ss.", "xx."),
-    host("example.org.", "s..", "x.."),
-    Row("mail `admin@example.org`", "s..", "...", alt=(("email", "admin@example.org"),), why=KINDS),
-    Row("URI `https://www.example.org/`", "ss.", "...", alt=(("URI", "https://www.example.org/"),), why=KINDS),
-    Row("emailAddress `admin@example.org` of the subject", "b..", "...", subject=(("emailAddress", "admin@example.org"),), why=BYTES),
-    Row("500 names, the last `shop.example.org`", "s..", "x..", alt=(*(("DNS", f"host-{n}.other.net") for n in range(499)), ("DNS", "shop.example.org"))),
-    host("pre.example.org", "s..", "x..", poison=True),
-    host("*.example.org", "ss.", "xx.", poison=True),
-    host("*.org", "s..", "x.."),
-    host("xn--bcher-kva.example", "..s", "..x"),
-    Row("commonName `bücher.example`", "..c", "..x", common="bücher.example"),
-    host("XN--BCHER-KVA.EXAMPLE", "..s", "..x"),
-    Row("commonName `www.example.org` as BMPString", "cc.", "xx.", common="www.example.org", kind="BMPString"),
-    host("notexample.org", "b..", "...", BYTES),
-    host("example.org.evil.net", "b..", "...", BYTES),
-    host("www.example.organic.com", "bb.", "...", BYTES),
-    Row("a list of revoked ones at `crl.example.org`", "b..", "...", alt=(("DNS", "other.net"),), lists="http://crl.example.org/a.crl", why=BYTES),
-    Row("issuer `Example.org TLS CA 1`", "b..", "...", alt=(("DNS", "other.net"),), issuer="Example.org TLS CA 1", why=BYTES),
-    Row("organisation `Friends of example.org`", "b..", "...", alt=(("DNS", "other.net"),), subject=(("O", "Friends of example.org"),), why=BYTES),
-    host("other.net", "...", "..."),
-    host("sub.www.example.org", "sb.", "x..", BYTES),
-    *(Row(f"commonName `www.example.org` as {kind}", "cc.", "xx.", common="www.example.org", kind=kind) for kind in (
+    host("www.example.org", "ss."),
+    host("example.org", "s.."),
+    host("*.example.org", "ss."),
+    Row("commonName `www.example.org`", "cc.", common="www.example.org"),
+    host("WWW.EXAMPLE.ORG", "ss."),
+    host("example.org.", "s.."),
+    Row("mail `admin@example.org`", "s..", alt=(("email", "admin@example.org"),)),
+    Row("URI `https://www.example.org/`", "ss.", alt=(("URI", "https://www.example.org/"),)),
+    Row("emailAddress `admin@example.org` of the subject", "...", subject=(("emailAddress", "admin@example.org"),)),
+    Row("500 names, the last `shop.example.org`", "s..", alt=(*(("DNS", f"host-{n}.other.net") for n in range(499)), ("DNS", "shop.example.org"))),
+    host("pre.example.org", "s..", poison=True),
+    host("*.example.org", "ss.", poison=True),
+    host("*.org", "s.."),
+    host("xn--bcher-kva.example", "..s"),
+    Row("commonName `bücher.example`", "..c", common="bücher.example"),
+    host("XN--BCHER-KVA.EXAMPLE", "..s"),
+    Row("commonName `www.example.org` as BMPString", "cc.", common="www.example.org", kind="BMPString"),
+    host("notexample.org", "..."),
+    host("example.org.evil.net", "..."),
+    host("www.example.organic.com", "..."),
+    Row("a list of revoked ones at `crl.example.org`", "...", alt=(("DNS", "other.net"),), lists="http://crl.example.org/a.crl"),
+    Row("issuer `Example.org TLS CA 1`", "...", alt=(("DNS", "other.net"),), issuer="Example.org TLS CA 1"),
+    Row("organisation `Friends of example.org`", "...", alt=(("DNS", "other.net"),), subject=(("O", "Friends of example.org"),)),
+    host("other.net", "..."),
+    host("sub.www.example.org", "s.."),
+    *(Row(f"commonName `www.example.org` as {kind}", "cc.", common="www.example.org", kind=kind) for kind in (
         "PrintableString", "IA5String", "T61String", "UniversalString")),
-    host("*.sub.example.org", "s..", "x.."),
-    host("*.www.example.org", "sb.", "x..", BYTES),
-    host("*.*.example.org", "s..", "x.."),
-    host("www.*.org", "...", "xx.", STAR),
-    host("w*.example.org", "s..", "xx.", STAR),
-    host("bücher.example", "..s", "..x"),
-    host("*.bücher.example", "..b", "...", BYTES),
+    host("*.sub.example.org", "s.."),
+    host("*.www.example.org", "s.."),
+    host("*.*.example.org", "s.."),
+    host("www.*.org", "..."),
+    host("w*.example.org", "s.."),
+    host("bücher.example", "..s"),
+    host("*.bücher.example", "..."),
 ]
 
 
 def fail(why):
     sys.exit(f"table.py: {why}")
+
+
+def text(data):
+    """Bytes in base64 (RFC 4648, section 4)."""
+    return base64.b64encode(data).decode()
+
+
+def leaf_of(timestamp, certificate, key_hash):
+    """A MerkleTreeLeaf (RFC 6962, section 3.4)."""
+    kind = b"\0\1" + key_hash if key_hash else b"\0\0"
+    return b"\0\0" + timestamp.to_bytes(8, "big") + kind + len(certificate).to_bytes(3, "big") + certificate + b"\0\0"
 
 
 def openssl(*words, given=None):
@@ -199,7 +193,7 @@ class Log:
         for i, (data, poison) in enumerate(certificates):
             bare = der.Certificate(data).without_poison() if poison else data
             self.entries.append((bare, poison))
-            leaf = answers.leaf(now - len(certificates) + i, bare, merkle.sha256(b"an issuer's key") if poison else None)
+            leaf = leaf_of(now - len(certificates) + i, bare, merkle.sha256(b"an issuer's key") if poison else None)
             chain = three(three(data))
             self.leaves.append((leaf, three(data) + chain if poison else chain))
         self.root, self.moment = merkle.root([leaf for leaf, _ in self.leaves]), now
@@ -207,8 +201,8 @@ class Log:
     def head(self):
         signed = b"\0\1" + self.moment.to_bytes(8, "big") + len(self.leaves).to_bytes(8, "big") + self.root
         signature = self.key.sign(signed, ec.ECDSA(hashes.SHA256()))
-        return {"tree_size": len(self.leaves), "timestamp": self.moment, "sha256_root_hash": answers.text(self.root),
-                "tree_head_signature": answers.text(b"\4\3" + len(signature).to_bytes(2, "big") + signature)}
+        return {"tree_size": len(self.leaves), "timestamp": self.moment, "sha256_root_hash": text(self.root),
+                "tree_head_signature": text(b"\4\3" + len(signature).to_bytes(2, "big") + signature)}
 
     def answer(self, path):
         """What is answered to a call; None where it is none."""
@@ -217,7 +211,7 @@ class Log:
         if call == "/ct/v1/get-sth":
             return self.head()
         if call == "/ct/v1/get-entries":
-            return {"entries": [{"leaf_input": answers.text(leaf), "extra_data": answers.text(extra)} for leaf, extra in self.leaves[words["start"] : words["end"] + 1]]}
+            return {"entries": [{"leaf_input": text(leaf), "extra_data": text(extra)} for leaf, extra in self.leaves[words["start"] : words["end"] + 1]]}
         return None
 
     def serve(self):
@@ -243,129 +237,35 @@ class Log:
 
     def listed(self, url):
         """A log list (v3) with this log alone."""
-        log = {"key": answers.text(self.public), "log_id": answers.text(merkle.sha256(self.public)), "description": "a log", "mmd": 86400, "url": url,
+        log = {"key": text(self.public), "log_id": text(merkle.sha256(self.public)), "description": "a log", "mmd": 86400, "url": url,
                "state": {"usable": {"timestamp": "2026-01-01T00:00:00Z"}}}
         return {"version": "1.0.0", "log_list_timestamp": "2026-01-01T00:00:00Z", "operators": [{"name": "an operator", "email": [], "logs": [log]}]}
 
 
 def as_watched(name):
-    """What ctmonitor is given for a watched name, as watch.sh gives it: other letters in DNS's form too."""
+    """The forms in which a watched name is looked for: if it has other letters than ASCII's, in DNS's form too."""
     return [name] if name.isascii() else [name.encode("idna").decode(), name]
 
 
-def places(found):
-    """Of lines of verdicts, where each of WATCHED is found in which entry."""
-    told = {}
-    for line in found:
-        for place, name in enumerate(WATCHED):
-            if line["name"] in as_watched(name):
-                told.setdefault((line["entry"], place), line["where"])
-    return told
-
-
-def compare_cells(whose, told, rows, due):
-    """Each cell of the rows is as it is due."""
-    other = []
-    for i, row in enumerate(rows):
-        for place, name in enumerate(WATCHED):
-            if told.get((i, place)) != due(row, place):
-                maker = "openssl" if i < len(ROWS) else "cryptography"
-                other.append(f"{row.what} by {maker}: {name} is {told.get((i, place))}, where {due(row, place)} is due")
-    if other:
-        fail("\n".join([f"of {whose} other cells than are due", *other]))
-
-
-def found_by_ctmonitor(log, judge):
-    told = [json.loads(line) for line in compare.said(judge, log.entries, [word for name in WATCHED for word in as_watched(name)])]
-    unread = [line for line in told if "unread" in line]
-    if unread:
-        fail(f"names aren't read: {unread[0]}")
-    return places(told)
-
-
-def found_by_watching(url, folder, judge):
-    """What watch.sh finds, and hands to its command."""
-    (folder / "bin").mkdir()
-    (folder / "bin" / "ctmonitor").write_text(f'#!/bin/sh\nexec {" ".join(judge)} "$@"\n')
-    (folder / "bin" / "ctmonitor").chmod(0o755)
-    words = [word for name in WATCHED for word in ("--name", name)]
-    environment = {"LOG": url, "PATH": f"{folder}/bin:/usr/local/bin:/usr/bin:/bin", "LC_ALL": "C.UTF-8"}
-    ran = subprocess.run([ROOT / "examples" / "monitor" / "watch.sh", "--folder", folder / "watched", *words, "--tell", f"cat >> {folder}/told"],
-                         env=environment, capture_output=True, text=True)
-    if ran.returncode != 8:
-        fail(f"watch.sh ends with status {ran.returncode}: {ran.stdout}{ran.stderr}")
-    return places(json.loads(line) for line in (folder / "told").read_text().splitlines())
-
-
-def spotted(log, url, folder, size):
-    """Which entries certspotter tells of, one run for each of WATCHED."""
-    (folder / "logs.json").write_text(json.dumps(log.listed(url)))
-    told = {}
-    for place, name in enumerate(WATCHED):
-        (folder / f"watchlist.{place}").write_text(f"{name}\n")
-        said, state = folder / f"spotted.{place}", folder / f"state.{place}"
-        words = ["certspotter", "-verbose", "-stdout", "-no_save", "-logs", folder / "logs.json", "-state_dir", state, "-watchlist", folder / f"watchlist.{place}"]
-        with said.open("w") as file:
-            running = subprocess.Popen(words, stdout=file, stderr=subprocess.STDOUT)
-        verified = [sys.executable, HERE.parent / "clients" / "verified.py", state, url, str(size)]
-        ends = time.monotonic() + PATIENCE
-        while subprocess.run(verified, capture_output=True).returncode:
-            if running.poll() is not None or time.monotonic() > ends:
-                fail(f"certspotter verifies no head: {said.read_text()[-2000:]}")
-            time.sleep(0.1)
-        running.terminate()
-        running.wait()
-        for entry in re.findall(r"Log Entry = (\d+) @", said.read_text()):
-            told[int(entry), place] = "x"
-    return told
-
-
-def table():
-    """The table as Markdown."""
-    lines = ["| In the certificate | " + " | ".join(f"`{name}`: ctmonitor | certspotter" for name in WATCHED) + " | Why they differ |", "|---|" + "---|---|" * len(WATCHED) + "---|"]
-    for row in ROWS:
-        cells = (f"{WHERE[row.found[i]] or '.'} | {row.spotted[i]}" for i in range(len(WATCHED)))
-        lines.append(f"| {row.what} | {' | '.join(cells)} | {row.why} |")
-    return "\n".join(lines) + "\n"
+def check_row(row, data, maker):
+    """The library finds each of WATCHED where the row says."""
+    bare = der.Certificate(data).without_poison() if row.poison else data
+    for place, name in zip(row.found, WATCHED):
+        found = compare.found_by_library(bare, row.poison, as_watched(name))
+        if list(found.values())[:1] != [WHERE[place]] * (WHERE[place] is not None):
+            fail(f"{row.what} by {maker}: {name} is found as {found}, and must be {WHERE[place]}")
 
 
 def main():
-    given = argparse.ArgumentParser()
-    given.add_argument("--certspotter", action="store_true")
-    given.add_argument("--write", action="store_true")
-    given.add_argument("--keep", help=argparse.SUPPRESS)
-    given = given.parse_args()
     if not shutil.which("openssl"):
         print("tests/names: table.py wasn't tried: openssl isn't here.")
         return
-    before, rest = PAGE.read_text().split(MADE)
-    _, behind = rest.split(END)
-    page = before + MADE + table() + END + behind
-    if given.write:
-        PAGE.write_text(page)
-    elif PAGE.read_text() != page:
-        fail(f"{PAGE.name} has another table than is made (table.py --write writes it)")
-    judge = [str(compare.BUILT)] if compare.BUILT.exists() else [sys.executable, str(ROOT / "examples" / "monitor" / "stand_in.py")]
-    with tempfile.TemporaryDirectory() as name:
-        folder = pathlib.Path(name)
-        maker = Openssl(folder)
-        made = [maker.make(row) for row in ROWS] + [by_library(row) for row in ROWS]
-        rows = ROWS + ROWS
-        log = Log([(data, row.poison) for data, row in zip(made, rows)])
-        compare_cells("ctmonitor", found_by_ctmonitor(log, judge), rows, lambda row, place: WHERE[row.found[place]])
-        tried = f"{len(ROWS)} rows, each made by openssl and by cryptography, are found where they are due"
-        if given.certspotter:
-            url = log.serve()
-            compare_cells("watch.sh", found_by_watching(url, folder, judge), rows, lambda row, place: WHERE[row.found[place]])
-            compare_cells("certspotter", spotted(log, url, folder, len(made)), rows, lambda row, place: "x" if row.spotted[place] == "x" else None)
-            version = re.search(r"[0-9][0-9.]*", subprocess.run(["certspotter", "-version"], capture_output=True, text=True).stdout)
-            words = re.findall(r"^  -(\w+)", subprocess.run(["certspotter", "-help"], capture_output=True, text=True).stderr, re.M)
-            lacking = [word for word in words if not re.search(rf"`-{word}\b", page)]
-            if lacking or not words:
-                fail(f"{PAGE.name} says nothing of certspotter's words {lacking}")
-            tried += f", by watch.sh too, and certspotter {version and version.group()} tells of what the table says"
-    which = "ctmonitor" if len(judge) == 1 else "its stand-in"
-    print(f"tests/names: {tried} ({which}).")
+    with tempfile.TemporaryDirectory() as folder:
+        maker = Openssl(pathlib.Path(folder))
+        for row in ROWS:
+            check_row(row, maker.make(row), "openssl")
+            check_row(row, by_library(row), "cryptography")
+    print(f"tests/names: {len(ROWS)} rows, each made by openssl and by cryptography, are found where they must be.")
 
 
 if __name__ == "__main__":

@@ -1,5 +1,5 @@
 #!/usr/bin/env python3
-"""What the readers of a tiled log have to answer to hostile input, by hashlib and the grammars alone: writes crates/line_tests/src/hostile.rt.
+"""What the readers of a tiled log have to answer to hostile input, by hashlib and the grammars alone: writes crates/tile_tests/src/hostile.rt.
 
     hostile.py
 

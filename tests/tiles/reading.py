@@ -5,7 +5,7 @@ tiles_for_path, tiles_for_proof and tiles_for_root. A Tree of their contents, in
 that has no contents is a missing-tile, and one whose bytes aren't 32 for each of its hashes is a bad-tile. The caller must check the answer against roots
 that it has: nothing here decides whether the tiles are a log's.
 """
-from expected import name
+from trees import name
 from merkle import Ranges, node_hash, split
 
 

@@ -19,7 +19,7 @@ import sys
 
 sys.path.append(str(pathlib.Path(__file__).resolve().parent.parent))
 
-from expected import digest, mth, name  # noqa: E402
+from trees import digest, mth, name  # noqa: E402
 from json_lines import is_bytes, is_hash, is_list_of, is_number, json_line, json_of, lines_of, text  # noqa: E402
 from leaves import Submission, signed_bytes, tile_leaf, vector  # noqa: E402
 from merkle import includes  # noqa: E402

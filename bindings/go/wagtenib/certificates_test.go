@@ -30,7 +30,7 @@ type authority struct {
 	root *x509.Certificate
 }
 
-func newAuthority(t *testing.T) *authority {
+func newAuthority(t testing.TB) *authority {
 	t.Helper()
 	key, err := ecdsa.GenerateKey(elliptic.P256(), rand.Reader)
 	if err != nil {
@@ -48,7 +48,7 @@ func newAuthority(t *testing.T) *authority {
 	return &authority{key, root}
 }
 
-func (a *authority) issue(t *testing.T, extensions ...pkix.Extension) *x509.Certificate {
+func (a *authority) issue(t testing.TB, extensions ...pkix.Extension) *x509.Certificate {
 	t.Helper()
 	template := &x509.Certificate{SerialNumber: big.NewInt(7), Subject: pkix.Name{CommonName: "www.example"}, DNSNames: []string{"www.example"}, NotAfter: time.Unix(1<<31, 0), ExtraExtensions: extensions}
 	made, err := x509.CreateCertificate(rand.Reader, template, a.root, &a.key.PublicKey, a.key)

@@ -22,7 +22,7 @@ type madeLog struct {
 	stored storedHashes
 }
 
-func (l *madeLog) append(t *testing.T, leaf []byte) {
+func (l *madeLog) append(t testing.TB, leaf []byte) {
 	t.Helper()
 	more, err := tlog.StoredHashes(int64(len(l.leaves)), leaf, l.stored)
 	if err != nil {
@@ -31,7 +31,7 @@ func (l *madeLog) append(t *testing.T, leaf []byte) {
 	l.leaves, l.stored = append(l.leaves, leaf), append(l.stored, more...)
 }
 
-func (l *madeLog) root(t *testing.T, size uint64) wagtenib.Hash {
+func (l *madeLog) root(t testing.TB, size uint64) wagtenib.Hash {
 	t.Helper()
 	if size == 0 {
 		return sha256.Sum256(nil)
@@ -44,7 +44,7 @@ func (l *madeLog) root(t *testing.T, size uint64) wagtenib.Hash {
 }
 
 // proof returns tlog's consistency proof, or none where there is none.
-func (l *madeLog) proof(t *testing.T, first, second uint64) []wagtenib.Hash {
+func (l *madeLog) proof(t testing.TB, first, second uint64) []wagtenib.Hash {
 	t.Helper()
 	if first == 0 || first >= second {
 		return nil
@@ -57,7 +57,7 @@ func (l *madeLog) proof(t *testing.T, first, second uint64) []wagtenib.Hash {
 }
 
 // path returns tlog's audit path, or none where there is none.
-func (l *madeLog) path(t *testing.T, index, size uint64) []wagtenib.Hash {
+func (l *madeLog) path(t testing.TB, index, size uint64) []wagtenib.Hash {
 	t.Helper()
 	if index >= size {
 		return nil

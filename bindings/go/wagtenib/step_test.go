@@ -39,7 +39,7 @@ func submissionAt(number int) wagtenib.Submission {
 }
 
 // batchOf returns the bytes of a batch.
-func batchOf(t *testing.T, submissions ...wagtenib.Submission) (batch []byte) {
+func batchOf(t testing.TB, submissions ...wagtenib.Submission) (batch []byte) {
 	t.Helper()
 	for _, s := range submissions {
 		var err error
@@ -58,7 +58,7 @@ type steppedLog struct {
 }
 
 // edge returns the edge that the next step needs.
-func (l *steppedLog) edge(t *testing.T) (edge []byte) {
+func (l *steppedLog) edge(t testing.TB) (edge []byte) {
 	t.Helper()
 	names, err := wagtenib.StepNeeds(l.state)
 	if err != nil {
@@ -75,7 +75,7 @@ func (l *steppedLog) edge(t *testing.T) (edge []byte) {
 }
 
 // take publishes a step.
-func (l *steppedLog) take(t *testing.T, step *wagtenib.Step) {
+func (l *steppedLog) take(t testing.TB, step *wagtenib.Step) {
 	t.Helper()
 	for _, o := range step.Objects {
 		content := step.Bundle[o.Start : o.Start+o.Length]

@@ -12,7 +12,7 @@ import (
 )
 
 // tilesOf returns the tiles with these names of the tree of the first size leaves, by tlog.
-func (l *madeLog) tilesOf(t *testing.T, names []string) [][]byte {
+func (l *madeLog) tilesOf(t testing.TB, names []string) [][]byte {
 	t.Helper()
 	var contents [][]byte
 	for _, name := range names {

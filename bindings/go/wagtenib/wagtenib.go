@@ -9,7 +9,7 @@
 // A call keeps no state, does no input or output, and returns for every input, by proof. It can be made from any number of goroutines at
 // once. Nothing may write to its arguments meanwhile.
 //
-// A call runs on the stack of an operating system's thread. It takes at most 16 KB of it, or 128 KB if it is one of the step or of the witness. The threads of Go have 8 MB with glibc (ulimit -s).
+// A call runs on the stack of an operating system's thread. It takes at most 16 KB of it. The threads of Go have 8 MB with glibc (ulimit -s).
 package wagtenib
 
 // #cgo CFLAGS: -std=c11 -O2
@@ -30,8 +30,8 @@ type Hash = [HashSize]byte
 // Code is an answer of the library (wagtenib.h) that reports a fault. It is the type of all errors of this package, except that a *CertificateError wraps it.
 type Code uint32
 
-// The faults of an audit path, of a consistency proof and of a leaf, the reasons for which a call has no reply, and those of the guard, of the step, of tiles, of certificates and of
-// the witness.
+// The faults of an audit path, of a consistency proof and of a leaf, the reasons for which a call has no reply, and those of the guard, of the step, of tiles, of certificates, of
+// the witness, of watched names and of texts.
 const (
 	ErrIndexOutOfRange     Code = C.WAGTENIB_INDEX_OUT_OF_RANGE    // the index of the leaf isn't below the size of the tree
 	ErrPathTooLong         Code = C.WAGTENIB_PATH_TOO_LONG         // hashes are left after the last level of the tree
@@ -88,6 +88,11 @@ const (
 	ErrNotLast             Code = C.WAGTENIB_NOT_LAST              // the old size is not that of the tree that was cosigned last
 	ErrProofNotEmpty       Code = C.WAGTENIB_PROOF_NOT_EMPTY       // there is a proof, although both trees are the same or the last one has no leaves
 	ErrTimeFalls           Code = C.WAGTENIB_TIME_FALLS            // the time of a cosignature is 0, or earlier than the last one's
+	ErrPartialFingerprint  Code = C.WAGTENIB_PARTIAL_FINGERPRINT   // the length of an entry's fingerprints is no multiple of 32
+	ErrOtherCount          Code = C.WAGTENIB_OTHER_COUNT           // there are not as many subtrees as a tree of the head's size has
+	ErrOtherLengths        Code = C.WAGTENIB_OTHER_LENGTHS         // the lengths of the entries do not add up to that of their bytes
+	ErrWatched             Code = C.WAGTENIB_BAD_WATCHED           // the bytes are no list of watched names
+	ErrNotUTF8             Code = C.WAGTENIB_NOT_UTF8              // the text is not UTF-8
 )
 
 // The faults of a node's commands and of a lock's text, and what a node that starts must not continue from.
@@ -162,6 +167,11 @@ var texts = map[Code]string{
 	ErrNotLast:             "the old size is not that of the tree that was cosigned last",
 	ErrProofNotEmpty:       "there is a proof, although both trees are the same or the last one has no leaves",
 	ErrTimeFalls:           "the time of a cosignature is 0, or earlier than that of the last one",
+	ErrPartialFingerprint:  "the length of the issuers' fingerprints is no multiple of 32 bytes",
+	ErrOtherCount:          "there are not as many subtrees as a tree of the head's size has",
+	ErrOtherLengths:        "the lengths of the entries do not add up to that of their bytes",
+	ErrWatched:             "the bytes are no list of watched names",
+	ErrNotUTF8:             "the text is not UTF-8",
 	ErrCommand:             "no command of a node has this number",
 	ErrOutcome:             "no outcome of a command has this number",
 	ErrLockText:            "the bytes are no lock's text",

@@ -9,7 +9,7 @@ import typing
 
 import reading
 import wagtenib
-from expected import levels, name
+from trees import levels, name
 from judge import tile_named
 from merkle import Ranges, leaf_hash, node_hash, path, proof, split
 

@@ -4,31 +4,57 @@ Each function says in include/wagtenib.h what it does. It returns a value, or ra
 """
 
 from ._certificates import Promise, check_promise, precertificate_entry, promised_leaf
-from ._errors import CertificateError, Code, Error, Field
+from ._data_tiles import TileEntry, data_tile_leaves
+from ._errors import CertificateError, Code, Error, Field, TileError
 from ._guard import TreeHead, guard_first_head, guard_head, guard_receipt, guard_state
 from ._library import Unavailable
+from ._monitor import EntryReport, Judgement, Verdict, monitor_begin, monitor_entries, monitor_head, monitor_proof, monitor_start
+from ._names import Name, NameKind, Place, certificate_names, watch_list, watched_names
 from ._node import NodeCommand, NodeDoes, NodeFound, NodeOutcome, NodeState, NodeTold, batch_name, batch_state, lock_state, lock_text, node_next, node_start
+from ._step import Object, Published, Receipt, Step, Submission, step, step_begin, step_claim, step_needs, step_resume
+from ._texts import Checkpoint, checkpoint_text, cosignature_message, log_id, note_key_id, read_checkpoint, tree_head_signature, version
 from ._tiles import path_of_tiles, path_tiles, proof_of_tiles, proof_tiles, root_of_tiles, root_tiles
 from ._tree import Leaf, decode_leaf, leaf_hash, push, root, subtrees_root, verify_consistency, verify_inclusion
+from ._witness import WitnessedTree, WitnessRequest, witness_cosign, witness_first, witness_state
 
 __all__ = [
     "CertificateError",
+    "Checkpoint",
     "Code",
+    "EntryReport",
     "Error",
     "Field",
+    "Judgement",
     "Leaf",
+    "Name",
+    "NameKind",
     "NodeCommand",
     "NodeDoes",
     "NodeFound",
     "NodeOutcome",
     "NodeState",
     "NodeTold",
+    "Object",
+    "Place",
     "Promise",
+    "Published",
+    "Receipt",
+    "Step",
+    "Submission",
+    "TileEntry",
+    "TileError",
     "TreeHead",
     "Unavailable",
+    "Verdict",
+    "WitnessRequest",
+    "WitnessedTree",
     "batch_name",
     "batch_state",
+    "certificate_names",
     "check_promise",
+    "checkpoint_text",
+    "cosignature_message",
+    "data_tile_leaves",
     "decode_leaf",
     "guard_first_head",
     "guard_head",
@@ -37,8 +63,15 @@ __all__ = [
     "leaf_hash",
     "lock_state",
     "lock_text",
+    "log_id",
+    "monitor_begin",
+    "monitor_entries",
+    "monitor_head",
+    "monitor_proof",
+    "monitor_start",
     "node_next",
     "node_start",
+    "note_key_id",
     "path_of_tiles",
     "path_tiles",
     "precertificate_entry",
@@ -46,10 +79,23 @@ __all__ = [
     "proof_of_tiles",
     "proof_tiles",
     "push",
+    "read_checkpoint",
     "root",
     "root_of_tiles",
     "root_tiles",
+    "step",
+    "step_begin",
+    "step_claim",
+    "step_needs",
+    "step_resume",
     "subtrees_root",
+    "tree_head_signature",
     "verify_consistency",
     "verify_inclusion",
+    "version",
+    "watch_list",
+    "watched_names",
+    "witness_cosign",
+    "witness_first",
+    "witness_state",
 ]

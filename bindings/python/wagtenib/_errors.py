@@ -76,6 +76,11 @@ class Code(enum.IntEnum):
     SIGNED_BEHIND_LISTED = 121
     BEHIND_LISTED = 122
     BEHIND_PUBLISHED = 123
+    PARTIAL_FINGERPRINT = 139
+    OTHER_COUNT = 140
+    OTHER_LENGTHS = 141
+    BAD_WATCHED = 144
+    NOT_UTF8 = 145
 
 
 class Field(enum.IntEnum):
@@ -109,6 +114,14 @@ class Error(ValueError):
     def name(self) -> str:
         """The name of the code in the header, without WAGTENIB_."""
         return self.code.name
+
+
+class TileError(Error):
+    """The first fault of a data tile, and the index in the tile of the entry that has it."""
+
+    def __init__(self, code: int, entry: int) -> None:
+        self.entry = entry
+        super().__init__(code, f" at entry {entry} of the data tile")
 
 
 class CertificateError(Error):

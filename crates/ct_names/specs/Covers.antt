@@ -20,11 +20,6 @@ ends_label n = if length n == 0 then true else ends_dot n
 unfoldable pub plain_of : List ℕ → List ℕ
 plain_of n = if length n == 0 then n else (if ends_dot n then take (length n - 1) n else n)
 
--- without one dot in front
-abbrev pub behind_dot : List ℕ → List ℕ
-behind_dot [] = []
-behind_dot (x ∷ w) = if x == 46 then w else x ∷ w
-
 -- whether a name is the watched name, or below it
 unfoldable pub at_or_below : List ℕ → List ℕ → Bool
 at_or_below n w =

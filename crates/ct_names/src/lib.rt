@@ -13,19 +13,15 @@
 #![tactic(auto)]
 
 mod fault;
-mod filing;
 mod hosts;
 pub mod laws;
 mod matching;
 mod name;
-mod needles;
 mod reading;
-mod ready;
 mod watched;
 
 pub use fault::NamesFault;
-pub use matching::{behind_dot, covers, narrowed, without_dot};
+pub use matching::{covers, narrowed, without_dot};
 pub use name::{Name, NameKind};
 pub use reading::{names_of_certificate, names_of_tbs};
-pub use ready::WatchedNames;
 pub use watched::{FoundIn, find_watched, is_told_for};

@@ -2,7 +2,7 @@
 
 ghost use Rattle.std.specs.Prelude.{◌≡◌, IfOk, IfSome, IfNone};
 ghost use Rattle.std.specs.Str.{str_eq_ignore_ascii_case};
-ghost use Rattle.ct_names.specs.Covers.{behind_first, ends_label, at_or_below, wildcard_over, plain_of, covered, narrow, star_parent, behind_dot};
+ghost use Rattle.ct_names.specs.Covers.{behind_first, ends_label, at_or_below, wildcard_over, plain_of, covered, narrow, star_parent};
 
 use std::alloc::{AllocError, Global};
 
@@ -40,21 +40,6 @@ pub fn without_dot(name: &[u8]) -> &[u8]
         [front @ .., last] => {
             if *last == 46 {
                 return front;
-            }
-            name
-        }
-        [] => name,
-    }
-}
-
-/// The name without one dot in front.
-pub fn behind_dot(name: &[u8]) -> &[u8]
-    ensures { result.now ≡ behind_dot name.now }
-{
-    match name {
-        [first, behind @ ..] => {
-            if *first == 46 {
-                return behind;
             }
             name
         }

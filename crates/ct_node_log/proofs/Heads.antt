@@ -1,14 +1,17 @@
 -- The heads that guards let through are of the nodes' one log.
 use Rattle.std.proofs.Common.{subst, ◌⊎◌, inl, inr, ⊎_elim, ◌≡◌, refl, ℕ, ◌<◌, ◌≤◌, sym, ◌∙◌, ap, arith, List, [], ◌∷◌, ◌++◌, length, take, map}
 use Rattle.std.specs.Prelude.{All}
+use Rattle.std.specs.declared.option.Option.{Option}
 use Rattle.std.proofs.lemmas.List.{length-take, length-take-le, length-map, take-take, take-map}
 use Rattle.std.proofs.lemmas.List.Elements.{All-weaker}
 use Rattle.ct_tree.specs.Tree.{mth_of_leaves}
 use Rattle.ct_tree.specs.declared.head.Head.{Head}
 use Rattle.ct_data_tiles.specs.TileLeaf.{Tiled, leaf_of}
-use Rattle.ct_guard.specs.NewestHead.{HeadStep, NewestIsOf, IsHeadOfFirst, HeadsGoBack}
+use Rattle.ct_guard.specs.NewestHead.{HeadStep, NewestIsOf, IsHeadOfFirst, IsHashedForHeads, HeadsGoBack}
 use Rattle.ct_log_state.specs.declared.line.StateLine.{StateLine}
 use Rattle.ct_monitor.specs.Heads.{IsHeadOfAll}
+use Rattle.ct_older_tree.proofs.Agreeing.{collide_more}
+use Rattle.ct_older_tree.specs.Hashed.{CollideAmong, IsHashedIn, IsHashedInLog}
 use Rattle.ct_verify.specs.Laws.{SomeCollide}
 use Rattle.ct_node.specs.declared.state.State.{State}
 use Rattle.ct_node.specs.declared.node.Node.TheVariants.{Heading}
@@ -67,6 +70,15 @@ module _ (H : List ℕ → List ℕ) (line : State → StateLine) (b : State) (k
       let below : head.tree_size ≤ n = omega (arith, g.0, length-take-le n (tree_leaves E) fits) in
       (omega (arith, below, fits), g.1 ∙ ap (mth_of_leaves H) (take-take head.tree_size n (tree_leaves E) below))
 
+  -- what is hashed for a beginning of a list is hashed for the list
+  more_hashed : (last : Option Head) (steps : List HeadStep) (n : ℕ) (D : List (List ℕ)) → n ≤ length D → (x : List ℕ) → IsHashedForHeads H last steps (take n D) x
+      → IsHashedForHeads H last steps D x
+  more_hashed last steps n D l x (inl c) = inl c
+  more_hashed last steps n D l x (inr w) =
+      let e : length (take n D) ≡ n = length-take-le n D l in
+      let i : w.0 ≤ n = omega (arith, w.1, e) in
+      inr (w.0, omega arith, subst (λ (L : List (List ℕ)). IsHashedIn H L x) (take-take w.0 n D i) w.2)
+
   heads_of : HeadsGoBack → ((x : List ℕ) → length (H x) ≡ 32) → (w : World) → ((l : State) → Has (Heading l) w.sent → IsLineOf (line l))
       → HeadsLetThroughAreOf H line E w
   heads_of back sized w lines last steps through asked =
@@ -75,7 +87,9 @@ module _ (H : List ℕ → List ℕ) (line : State → StateLine) (b : State) (k
       (λ (all : All (λ (s : HeadStep). IsHeadOfFirst H (take n.0 (tree_leaves E)) s.head) steps).
       inl (All-weaker (λ (s : HeadStep). IsHeadOfFirst H (take n.0 (tree_leaves E)) s.head) (λ (s : HeadStep). IsHeadOfFirst H (tree_leaves E) s.head)
       (λ (s : HeadStep). wider n.0 n.1 s.head) steps all))
-      (λ (pair : SomeCollide H). inr pair)
+      (λ (pair : CollideAmong H (IsHashedForHeads H last steps (take n.0 (tree_leaves E)))).
+      inr (collide_more H (IsHashedForHeads H last steps (take n.0 (tree_leaves E))) (IsHashedForHeads H last steps (tree_leaves E))
+      (more_hashed last steps n.0 (tree_leaves E) n.1) pair))
       (back H sized last steps (take n.0 (tree_leaves E)) through n.2)
 
 pub guarded_heads_are_of_one_log : NodesWriteOneLog → AskedAreTaken → HeadsGoBack → GuardedHeadsAreOfOneLog

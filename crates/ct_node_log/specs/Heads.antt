@@ -3,8 +3,9 @@ use Rattle.std.specs.Prelude.{◌≡◌, ◌⊎◌, ⊤, ℕ, List, [], ◌∷�
 use Rattle.std.specs.declared.option.Option.{Option}
 use Rattle.ct_tree.specs.declared.head.Head.{Head}
 use Rattle.ct_data_tiles.specs.TileLeaf.{Tiled}
-use Rattle.ct_guard.specs.NewestHead.{HeadStep, AreHeadSteps, IsHeadOfFirst}
+use Rattle.ct_guard.specs.NewestHead.{HeadStep, AreHeadSteps, IsHeadOfFirst, IsHashedForHeads}
 use Rattle.ct_log_state.specs.declared.line.StateLine.{StateLine}
+use Rattle.ct_older_tree.specs.Hashed.{CollideAmong}
 use Rattle.ct_verify.specs.Laws.{SomeCollide}
 use Rattle.ct_node.specs.declared.state.State.{State}
 use Rattle.ct_node.specs.declared.node.Node.TheVariants.{Heading}
@@ -24,11 +25,11 @@ NewestIsAsked line w (s ∷ []) = IsAsked line w s.head
 NewestIsAsked line w (s ∷ t ∷ steps) = NewestIsAsked line w (t ∷ steps)
 
 -- Take any heads that were let through one behind the other, by whichever guards, of which the newest is one that these nodes ask for: each of them
--- that has leaves is that of the first entries of E, or two different strings with one hash are given. Of the others nothing is asked.
+-- that has leaves is that of the first entries of E, or two of the strings that are hashed collide. Of the others nothing is asked.
 abbrev pub HeadsLetThroughAreOf : (List ℕ → List ℕ) → (State → StateLine) → List Tiled → World → Type 0
 HeadsLetThroughAreOf H line E w =
     (last : Option Head) (steps : List HeadStep) → AreHeadSteps H last steps → NewestIsAsked line w steps
-    → All (λ s. IsHeadOfFirst H (tree_leaves E) s.head) steps ⊎ SomeCollide H
+    → All (λ s. IsHeadOfFirst H (tree_leaves E) s.head) steps ⊎ CollideAmong H (IsHashedForHeads H last steps (tree_leaves E))
 
 -- Whatever happens, there is one list of entries, which begins with those that were known, that all is of that stands, and so are heads that guards let
 -- through; or two different strings with one hash are given.

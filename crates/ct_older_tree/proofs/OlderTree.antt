@@ -1,16 +1,25 @@
--- An accepted consistency proof whose second root is that of a list: the first root is that of a beginning of it, or two different
--- strings have one hash. Nothing is asked of the first root.
-use Rattle.std.proofs.Common.{refl, zero, suc, ◌⊎◌, inl, inr, ⊎_elim, ◌≡◌, ℕ, ◌-◌, ◌<◌, ◌≤◌, sym, ◌∙◌, ap, arith, Bool, true, false, List, [], ◌∷◌, ◌++◌}
-use Rattle.std.proofs.Common.{length, take, drop, map, Some, length-drop}
-use Rattle.std.proofs.lemmas.Bool.{cases_lt}
+-- An accepted consistency proof whose second root is that of a list: the first root is that of a beginning of it, or two of the strings that were hashed
+-- collide. Nothing is asked of the first root. S says of which strings that is.
+use Rattle.std.proofs.Common.{refl, subst, ◌⊎◌, inl, inr, ⊎_elim, ◌≡◌, ℕ, ◌-◌, ◌<◌, ◌≤◌, sym, ◌∙◌, ap, arith, Bool, true, false, List, [], ◌∷◌, ◌++◌, length, take, drop, map, reverse}
+use Rattle.std.proofs.Common.{Some, length-drop}
+use Rattle.std.specs.Prelude.{All, Contains}
+use Rattle.std.proofs.lemmas.Bool.{both_ways, cases_lt}
 use Rattle.std.proofs.lemmas.List.{length-map, length-take-le, take-map, drop-map, take-take, take_all}
+use Rattle.std.proofs.lemmas.List.Elements.{All-head, All-tail, All-weaker, All-contains_itself}
 use Rattle.ct_tree.proofs.Split.{split_pos, split_lt}
 use Rattle.ct_tree.specs.Tree.{split, hash_leaf, hash_node, mth_of_leaves}
+use Rattle.ct_verify.proofs.Both.{both-left, both-right, both-end}
+use Rattle.ct_verify.proofs.Options.{none_some, mapped}
 use Rattle.ct_verify.proofs.RebuildLaws.{first_root}
-use Rattle.ct_verify.proofs.Shown.{last_of, left_nodes, right_nodes, leaves_length, leaves_split}
-use Rattle.ct_verify.proofs.Walking.{short, inner_left, inner_right, whole_value}
-use Rattle.ct_verify.specs.Laws.{AreHashes, SomeCollide}
-use Rattle.ct_verify.specs.Rebuild.{both_roots}
+use Rattle.ct_verify.proofs.Shown.{leaves_length, leaves_split}
+use Rattle.ct_verify.specs.Climb.{pair_left, pair_right}
+use Rattle.ct_verify.specs.Laws.{AreHashes}
+use Rattle.ct_verify.specs.Rebuild.{both_roots, both_down}
+use Rattle.ct_older_tree.proofs.Agreeing.{left_nodes, right_nodes, all_reverse}
+use Rattle.ct_older_tree.proofs.Extending.{whole_end, whole_given}
+use Rattle.ct_older_tree.proofs.Strings.{both_strings_left, both_strings_right}
+use Rattle.ct_older_tree.specs.Hashed.{CollideAmong, IsHashedIn, proof_strings, proof_strings_down}
+use Rattle.ct_older_tree.specs.Hashed.IsHashedIn.{node, left, right}
 use Rattle.ct_older_tree.specs.OlderTree.{ProofGoesBack}
 
 module _ (H : List ℕ → List ℕ) where
@@ -27,37 +36,48 @@ module _ (H : List ℕ → List ℕ) where
         take-map (hash_leaf H) (m - k) (drop k D),
       ) at z
 
-  -- both roots are one where the lists are equally long
-  whole_same : (n : ℕ) (b : Bool) (r x y : List ℕ) (p : List (List ℕ)) → AreHashes p → both_roots H n n b r p ≡ Some (x, y) → x ≡ y
-  whole_same n b r x y [] a e =
-      let z = whole_value H n b r [] x y [] [] (λ l. absurd (omega (arith, l))) e in
-      z.0 ∙ sym z.1
-  whole_same n b r x y (c ∷ p) a e =
-      let w = last_of (c ∷ p) (omega arith) a in
-      let z = whole_value H n b r w.1 x y (c ∷ p) w.0 (λ _. w.2) e in
-      z.0 ∙ sym z.1
+module _ (H : List ℕ → List ℕ) (hash_length : (x : List ℕ) → length (H x) ≡ 32) (S : List ℕ → Type 0) where
+  -- S has the strings of a tree
+  abbrev pub HasTree : List (List ℕ) → Type 0
+  HasTree D = (s : List ℕ) → IsHashedIn H D s → S s
 
-module _ (H : List ℕ → List ℕ) (hash_length : (x : List ℕ) → length (H x) ≡ 32) where
+  -- S has the strings of the trees of all beginnings
+  abbrev pub HasLog : List (List ℕ) → Type 0
+  HasLog D = (n : ℕ) → n ≤ length D → (s : List ℕ) → IsHashedIn H (take n D) s → S s
+
+  pub has_cut : (D : List (List ℕ)) (n : ℕ) → n ≤ length D → HasLog D → HasLog (take n D)
+  has_cut D n l log m up s w =
+      let e : length (take n D) ≡ n = length-take-le n D l in
+      let i : m ≤ n = omega (arith, up, e) in
+      log m (omega arith) s (subst (λ L. IsHashedIn H L s) (take-take m n D i) w)
+
+  pub whole_log : (D : List (List ℕ)) → HasLog D → HasTree D
+  whole_log D log s w = log (length D) (omega arith) s (subst (λ L. IsHashedIn H L s) (sym (take_all (length D) D (omega arith))) w)
+
   abbrev Found : ℕ → List (List ℕ) → List ℕ → Type 0
-  Found m D x = (x ≡ mth_of_leaves H (take m D)) ⊎ SomeCollide H
+  Found m D x = (x ≡ mth_of_leaves H (take m D)) ⊎ CollideAmong H S
 
-  -- in lists of at most so many leaves
-  abbrev Back : ℕ → Type 0
-  Back most =
-      (b : Bool) (r : List ℕ) (m : ℕ) (D p : List (List ℕ)) (x : List ℕ) → length D ≤ most → 0 < m → m ≤ length D → AreHashes p
-      → both_roots H m (length D) b r p ≡ Some (x, mth_of_leaves H D) → Found m D x
+  abbrev Going : List (List ℕ) → Type 0
+  Going p =
+      (m : ℕ) (b : Bool) (r x : List ℕ) (D : List (List ℕ)) → AreHashes p → 0 < m → m ≤ length D → both_down H m (length D) b r p ≡ Some (x, mth_of_leaves H D)
+      → All S (proof_strings_down H m (length D) b r p) → HasTree D → Found m D x
 
-  in_left : (fuel : ℕ) → Back fuel → (b : Bool) (r : List ℕ) (m : ℕ) (D p : List (List ℕ)) (x : List ℕ) → length D ≤ suc fuel → 0 < m
-      → both_roots H m (length D) b r p ≡ Some (x, mth_of_leaves H D) → (q : List (List ℕ)) (s : List ℕ) → m < length D → m ≤ split (length D)
-      → p ≡ q ++ s ∷ [] → length s ≡ 32 → AreHashes q → Found m D x
-  in_left fuel back b r m D p x within some e q s less low f g h =
+  whole_tree : (m : ℕ) (D : List (List ℕ)) (x : List ℕ) → length D ≤ m → x ≡ mth_of_leaves H D → Found m D x
+  whole_tree m D x all e = inl (e ∙ ap (mth_of_leaves H) (sym (take_all m D all)))
+
+  in_left : (p : List (List ℕ)) → Going p → (s : List ℕ) (m : ℕ) (b : Bool) (r x : List ℕ) (D : List (List ℕ)) → AreHashes (s ∷ p) → 0 < m → m < length D
+      → m ≤ split (length D) → both_down H m (length D) b r (s ∷ p) ≡ Some (x, mth_of_leaves H D)
+      → All S (proof_strings_down H m (length D) b r (s ∷ p)) → HasTree D → Found m D x
+  in_left p ih s m b r x D hashes some less low e strings tree =
       let k = split (length D) in
-      let below : k < length D = split_lt (length D) (omega arith) in
+      let more : 1 < length D = omega arith in
+      let below : k < length D = split_lt (length D) more in
       let j : length (take k D) ≡ k = length-take-le k D (omega arith) in
       let d : length (drop k D) ≡ length D - k = length-drop k D in
       let A = mth_of_leaves H (take k D) in
       let B = mth_of_leaves H (drop k D) in
-      let u = inner_left H m (length D) k b r s p q (x, mth_of_leaves H D) less refl low (λ _. f) e in
+      let u = mapped (λ z. pair_left H z s) (both_down H m k b r p) (x, mth_of_leaves H D) (sym (both-left H m (length D) k b r s p less refl low) ∙ e) in
+      let own = subst (All S) (both_strings_left H m (length D) k b r s u.0.0 u.0.1 p less refl low u.1) strings in
       let first : u.0.0 ≡ x = ap (λ (z : List ℕ × List ℕ). z.0) u.2 in
       let second : hash_node H u.0.1 s ≡ mth_of_leaves H D = ap (λ (z : List ℕ × List ℕ). z.1) u.2 in
       let long : length B ≡ 32 = leaves_length H hash_length (drop k D) (omega arith) in
@@ -65,24 +85,31 @@ module _ (H : List ℕ → List ℕ) (hash_length : (x : List ℕ) → length (H
       (λ (same : (u.0.1 ≡ A) × (s ≡ B)).
       ⊎_elim
       (λ (i : u.0.0 ≡ mth_of_leaves H (take m (take k D))). inl (sym first ∙ i ∙ ap (mth_of_leaves H) (take-take m k D low)))
-      (λ (pair : SomeCollide H). inr pair)
-      (back b r m (take k D) q u.0.0 (omega arith) some (omega arith) h
-      (ap (λ n. both_roots H m n b r q) j ∙ u.1 ∙ ap (λ v. Some (u.0.0, v)) same.0)))
-      (λ (pair : SomeCollide H). inr pair)
-      (right_nodes H u.0.1 s A B (g ∙ sym long) (second ∙ leaves_split H D k (omega arith) refl))
+      (λ (pair : CollideAmong H S). inr pair)
+      (ih m b r u.0.0 (take k D) (All-tail (λ v. length v ≡ 32) s p hashes) some (omega arith)
+      (ap (λ n. both_down H m n b r p) j ∙ u.1 ∙ ap (λ v. Some (u.0.0, v)) same.0)
+      (subst (λ n. All S (proof_strings_down H m n b r p)) (sym j) (All-tail S (1 ∷ u.0.1 ++ s) (proof_strings_down H m k b r p) own))
+      (λ z w. tree z (left D k z more refl w))))
+      (λ (pair : CollideAmong H S). inr pair)
+      (right_nodes H S u.0.1 s A B (All-head (λ v. length v ≡ 32) s p hashes ∙ sym long) (All-head S (1 ∷ u.0.1 ++ s) (proof_strings_down H m k b r p) own)
+      (tree (1 ∷ A ++ B) (node D k more refl)) (second ∙ leaves_split H D k more refl))
 
-  in_right : (fuel : ℕ) → Back fuel → (b : Bool) (r : List ℕ) (m : ℕ) (D p : List (List ℕ)) (x : List ℕ) → length D ≤ suc fuel → 0 < m
-      → both_roots H m (length D) b r p ≡ Some (x, mth_of_leaves H D) → (q : List (List ℕ)) (s : List ℕ) → m < length D → split (length D) < m
-      → p ≡ q ++ s ∷ [] → length s ≡ 32 → AreHashes q → Found m D x
-  in_right fuel back b r m D p x within some e q s less high f g h =
+  in_right : (p : List (List ℕ)) → Going p → (s : List ℕ) (m : ℕ) (b : Bool) (r x : List ℕ) (D : List (List ℕ)) → AreHashes (s ∷ p) → 0 < m → m < length D
+      → split (length D) < m → both_down H m (length D) b r (s ∷ p) ≡ Some (x, mth_of_leaves H D)
+      → All S (proof_strings_down H m (length D) b r (s ∷ p)) → HasTree D → Found m D x
+  in_right p ih s m b r x D hashes some less high e strings tree =
       let k = split (length D) in
-      let positive : 0 < k = split_pos (length D) (omega arith) in
-      let below : k < length D = split_lt (length D) (omega arith) in
+      let more : 1 < length D = omega arith in
+      let positive : 0 < k = split_pos (length D) more in
+      let below : k < length D = split_lt (length D) more in
       let j : length (take k D) ≡ k = length-take-le k D (omega arith) in
       let d : length (drop k D) ≡ length D - k = length-drop k D in
       let A = mth_of_leaves H (take k D) in
       let B = mth_of_leaves H (drop k D) in
-      let u = inner_right H m (length D) k b r r s p q (x, mth_of_leaves H D) less refl high (λ _. f) e in
+      let u = mapped (λ z. pair_right H z s) (both_down H (m - k) (length D - k) false r p) (x, mth_of_leaves H D)
+      (sym (both-right H m (length D) k b r s p less refl high) ∙ e) in
+      let own = subst (All S) (both_strings_right H m (length D) k b r s u.0.0 u.0.1 p less refl high u.1) strings in
+      let rest = All-tail S (1 ∷ s ++ u.0.0) ((1 ∷ s ++ u.0.1) ∷ proof_strings_down H (m - k) (length D - k) false r p) own in
       let first : hash_node H s u.0.0 ≡ x = ap (λ (z : List ℕ × List ℕ). z.0) u.2 in
       let second : hash_node H s u.0.1 ≡ mth_of_leaves H D = ap (λ (z : List ℕ × List ℕ). z.1) u.2 in
       let long : length A ≡ 32 = leaves_length H hash_length (take k D) (omega arith) in
@@ -91,30 +118,47 @@ module _ (H : List ℕ → List ℕ) (hash_length : (x : List ℕ) → length (H
       ⊎_elim
       (λ (i : u.0.0 ≡ mth_of_leaves H (take (m - k) (drop k D))).
       inl (sym first ∙ ap (λ v. hash_node H v u.0.0) same.0 ∙ ap (λ v. hash_node H A v) i ∙ sym (first_leaves H m k D refl high less)))
-      (λ (pair : SomeCollide H). inr pair)
-      (back false r (m - k) (drop k D) q u.0.0 (omega arith) (omega arith) (omega arith) h
-      (ap (λ n. both_roots H (m - k) n false r q) d ∙ u.1 ∙ ap (λ v. Some (u.0.0, v)) same.1)))
-      (λ (pair : SomeCollide H). inr pair)
-      (left_nodes H s u.0.1 A B (g ∙ sym long) (second ∙ leaves_split H D k (omega arith) refl))
+      (λ (pair : CollideAmong H S). inr pair)
+      (ih (m - k) false r u.0.0 (drop k D) (All-tail (λ v. length v ≡ 32) s p hashes) (omega arith) (omega arith)
+      (ap (λ n. both_down H (m - k) n false r p) d ∙ u.1 ∙ ap (λ v. Some (u.0.0, v)) same.1)
+      (subst (λ n. All S (proof_strings_down H (m - k) n false r p)) (sym d) (All-tail S (1 ∷ s ++ u.0.1) (proof_strings_down H (m - k) (length D - k) false r p) rest))
+      (λ z w. tree z (right D k z more refl w))))
+      (λ (pair : CollideAmong H S). inr pair)
+      (left_nodes H S s u.0.1 A B (All-head (λ v. length v ≡ 32) s p hashes ∙ sym long)
+      (All-head S (1 ∷ s ++ u.0.1) (proof_strings_down H (m - k) (length D - k) false r p) rest) (tree (1 ∷ A ++ B) (node D k more refl))
+      (second ∙ leaves_split H D k more refl))
 
-  back_within : (fuel : ℕ) → Back fuel
-  back_within zero b r m D p x within some up a e = absurd (omega (arith, within, some, up))
-  back_within (suc fuel) b r m D p x within some up a e =
+  goes : (p : List (List ℕ)) → Going p
+  goes [] m b r x D hashes some up e strings tree =
       ⊎_elim
-      (λ (less : m < length D).
-      let w = last_of p (short H m (length D) b r p (x, mth_of_leaves H D) less e) a in
+      (λ (less : m < length D). absurd (none_some (x, mth_of_leaves H D) (sym (both-end H m (length D) b r less) ∙ e)))
+      (λ (all : length D ≤ m).
+      let f : length D ≡ m = omega arith in
+      let z = whole_end H (length D) b r x (mth_of_leaves H D) (ap (λ n. both_down H n (length D) b r []) f ∙ e) in
+      whole_tree m D x all (z.0 ∙ sym z.1))
+      (cases_lt m (length D))
+  goes (s ∷ p) m b r x D hashes some up e strings tree =
       ⊎_elim
-      (λ (high : split (length D) < m).
-      in_right fuel (back_within fuel) b r m D p x within some e w.0 w.1 less high w.2 w.3 w.4)
-      (λ (low : m ≤ split (length D)).
-      in_left fuel (back_within fuel) b r m D p x within some e w.0 w.1 less low w.2 w.3 w.4)
+      (λ (less : m < length D). ⊎_elim
+      (λ (high : split (length D) < m). in_right p (goes p) s m b r x D hashes some less high e strings tree)
+      (λ (low : m ≤ split (length D)). in_left p (goes p) s m b r x D hashes some less low e strings tree)
       (cases_lt (split (length D)) m))
       (λ (all : length D ≤ m).
       let f : length D ≡ m = omega arith in
-      let y = whole_same H (length D) b r x (mth_of_leaves H D) p a (ap (λ n. both_roots H n (length D) b r p) f ∙ e) in
-      inl (y ∙ ap (mth_of_leaves H) (sym (take_all m D all))))
+      let z = whole_given H (length D) b r s x (mth_of_leaves H D) p (ap (λ n. both_down H n (length D) b r (s ∷ p)) f ∙ e) in
+      whole_tree m D x all (z.0 ∙ sym z.1))
       (cases_lt m (length D))
 
+  -- the same, for a proof in its own order
+  pub goes_back : (p : List (List ℕ)) (m : ℕ) (x : List ℕ) (D : List (List ℕ)) → AreHashes p → 0 < m → m ≤ length D
+      → both_roots H m (length D) true x p ≡ Some (x, mth_of_leaves H D) → All S (proof_strings H m (length D) true x p) → HasTree D → Found m D x
+  unfolding both_roots proof_strings
+  goes_back p m x D hashes some up e strings tree =
+      goes (reverse p) m true x x D (all_reverse (λ v. length v ≡ 32) p hashes) some up e strings tree
+
 pub proof_goes_back : ProofGoesBack
-proof_goes_back H hash_length D p m x a accepted =
-    back_within H hash_length (length D) true x m D p x (omega arith) accepted.0 (omega (arith, accepted.1)) a accepted.2
+proof_goes_back H hash_length D p m x hashes accepted =
+    let strings = proof_strings H m (length D) true x p in
+    let S : List ℕ → Type 0 = λ s. Contains strings s ⊎ IsHashedIn H D s in
+    goes_back H hash_length S p m x D hashes accepted.0 (omega (arith, accepted.1)) accepted.2
+    (All-weaker (Contains strings) S (λ s c. inl c) strings (All-contains_itself strings)) (λ s w. inr w)

@@ -1,1 +1,4 @@
+pub mod Hashed
+pub mod ListLaws
 pub mod OlderTree
+pub mod Shown

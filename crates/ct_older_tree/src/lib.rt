@@ -1,17 +1,43 @@
-//! What an accepted consistency proof says of the older tree, where the newer one is that of a list of leaves.
+//! What accepted proofs say of lists of leaves and of older trees, or else which strings collide.
 //!
-//! [`ct_verify::laws::proof`] holds such a proof against two lists. Here there is one, the newer tree's, and nothing is asked of the
-//! older tree's root: the proof shows that it is the root of the first leaves of that list, or two different strings with one digest
-//! are given. So who keeps a chain of trees, each of which the next one's proof leads from, needs a list of the newest alone.
+//! [`ct_verify`] checks the proofs. The laws here say what an accepted proof shows. Each law ends in "or two of these strings collide", where the strings are
+//! those that are hashed when the proof is checked, and those that are hashed in the trees of the lists that the law names. So each law says something about
+//! SHA-256, although two strings somewhere must have one digest.
 //!
-//! It holds for every hash function with digests of 32 bytes.
+//! In [`proof_goes_back`] nothing is asked of the older tree's root: the proof shows that it is the root of the first leaves of the newer tree's list. So a
+//! caller that keeps a chain of trees, each of which the next one's proof leads from, needs a list only of the newest tree.
+//!
+//! [`heads`] is about clients of a log that lies. Such a log has no list of leaves, so the law asks for none: a client holds a head, an audit path to a leaf, and
+//! perhaps a consistency proof from one head to another.
+//!
+//! The laws hold for every hash function with digests of 32 bytes.
 #![tactic(auto)]
 
+ghost use Rattle.ct_older_tree.specs.ListLaws.{OneRootIsOfOneList, AcceptedPathIsPath, AcceptedProofIsOfBeginning};
 ghost use Rattle.ct_older_tree.specs.OlderTree.{ProofGoesBack};
+ghost use Rattle.ct_older_tree.specs.Shown.{OneHeadShowsOneLeaf, ConsistentHeadsShowOneLeaf};
 
-/// A consistency proof (RFC 6962, section 2.1.2) from a size and root to the tree of a list of leaves is accepted: that root is the one of
-/// so many first leaves of the list, or two different strings with one digest are given.
+/// A consistency proof (RFC 6962, section 2.1.2) from a size and root to the tree of a list of leaves is accepted: that root is the one of so many first leaves
+/// of the list, or two of the strings that are hashed collide.
 #[tactic(auto, using(crate::proofs::OlderTree::proof_goes_back))]
 pub fn proof_goes_back()
     ensures { ProofGoesBack }
+{}
+
+/// Two lists of one length with one root are one list. An audit path that is accepted to the root of a list shows that the leaf is in the list at its index, and is
+/// the PATH of RFC 6962, section 2.1.1. A consistency proof that is accepted between the roots of two lists shows that the old list begins the new one. Or
+/// two of the strings that are hashed collide.
+#[tactic(auto, using(crate::proofs::ListProofs::one_root_is_of_one_list, crate::proofs::ListProofs::accepted_path_is_path, crate::proofs::ListProofs::accepted_proof_is_of_beginning))]
+pub fn lists()
+    ensures root { OneRootIsOfOneList }
+    ensures path { AcceptedPathIsPath }
+    ensures proof { AcceptedProofIsOfBeginning }
+{}
+
+/// Two leaves that two clients are shown at one index are one leaf, if both hold the same head, or heads between which there is a consistency proof (RFC 6962,
+/// section 2.1.2); or two of the strings that were hashed collide.
+#[tactic(auto, using(crate::proofs::Viewing::one_head_shows_one_leaf, crate::proofs::Viewing::consistent_heads_show_one_leaf))]
+pub fn heads()
+    ensures one { OneHeadShowsOneLeaf }
+    ensures two { ConsistentHeadsShowOneLeaf }
 {}

@@ -1,6 +1,7 @@
 //! How a line waits for another party: it glances at that party's bell some times in a row, and then sleeps until the
-//! bell was rung often enough. It looks again after that, and after each sleep that nobody ended. Each front has a bell of its
-//! own: the operator waits for one front at a time, and the others don't wake it.
+//! bell was rung often enough. It looks again after that, and after each sleep that nobody ended. A turn of the line is a look at the
+//! bell, which says whether anything has happened since. Each front has a bell of its own: the operator waits for one front at a time,
+//! and the others do not wake it.
 
 ghost use Rattle.std.specs.Prelude.{◌≡◌, ◌<◌, ◌≤◌, ◌+◌, ◌-◌, ◌^◌};
 
@@ -21,8 +22,8 @@ const GLANCES_FOR_FRONT: u64 = 64;
 
 const MILLISECONDS_FOR_FRONT: u64 = 1;
 
-// A turn asleep that nobody ended counts as so many.
-const TURNS_ASLEEP: u64 = 16_384;
+// So often a line looks at the bell after a sleep that nobody ended, a load of a word each time.
+const LOOKS: u64 = 16_384;
 
 // How many fronts have a bell.
 const FRONTS: usize = 16;
@@ -96,8 +97,21 @@ impl Bell {
         false
     }
 
-    /// Ends a turn of a line that waits until the bell was rung `more` times, and answers the next turn's number. `seen` is how
-    /// often the bell was rung before the line looked.
+    // Looks at the bell until it was rung since, at most so many times, and answers how often it looked.
+    fn looks(&self, seen: u64) -> u64
+        ensures some { 0 < result }
+        ensures few { result ≤ 16384 }
+    {
+        for look in 1..LOOKS {
+            if self.rung() != seen {
+                return look;
+            }
+        }
+        LOOKS
+    }
+
+    /// Ends turns of a line that waits until the bell was rung `more` times, and answers the next turn's number. `seen` is how
+    /// often the bell was rung before the line looked. Each look at the bell is a turn.
     pub fn wait_turn<R: Wait>(&self, rt: &R, turn: u64, seen: u64, more: u64) -> u64
         ensures later { turn < 2 ^ 64 - 1 → turn < result }
         ensures some { result ≤ turn + 16384 }
@@ -106,8 +120,7 @@ impl Bell {
         if !self.is_rung(until) {
             self.sleep(rt, until);
         }
-        let turns = if self.rung() == seen { TURNS_ASLEEP } else { 1 };
-        turn.saturating_add(turns)
+        turn.saturating_add(self.looks(seen))
     }
 }
 

@@ -12,7 +12,9 @@ use Rattle.ct_der.proofs.Readings.{content_bytes, bytes_before}
 use Rattle.ct_codec.specs.Leaf.{precertificate, leaf_text, LeafText}
 use Rattle.ct_tree.specs.Tree.{hash_leaf, mth_of_leaves}
 use Rattle.ct_verify.specs.Verdict.{AcceptsInclusion}
-use Rattle.ct_verify.proofs.Telling.{path_tells}
+use Rattle.ct_older_tree.proofs.Agreeing.{collide_more}
+use Rattle.ct_older_tree.proofs.ListProofs.{accepted_path_is_path}
+use Rattle.ct_older_tree.specs.ListLaws.{IsHashedInAudit}
 use Rattle.ct_promise.specs.declared.fault.CutFault.{CutFault}
 use Rattle.ct_promise.specs.Tbs.{Parts, IsWithout, IsTbsOf}
 use Rattle.ct_promise.specs.Reading.{parts_cut_at, without, whole_tbs_at, key_at}
@@ -24,7 +26,7 @@ use Rattle.ct_promise.specs.declared.fault.Document.TheVariants.{Certificate, Is
 use Rattle.ct_promise.specs.declared.fault.Unfit.{Unfit}
 use Rattle.ct_promise.specs.declared.fault.Unfit.TheVariants.{BadPoison, TooLong}
 use Rattle.ct_promise.specs.declared.fault.PromiseFault.{PromiseFault}
-use Rattle.ct_promise.specs.Promise.{poison_identifier, poison_text, list_identifier, in_document, promised_entry_at, promised_leaf_at}
+use Rattle.ct_promise.specs.Promise.{poison_identifier, poison_text, list_identifier, in_document, promised_entry_at, promised_leaf_at, IsHashedForPromise}
 use Rattle.ct_promise.specs.Promise.{promised_at, GivesPromise, IsEntryOf, IsPromised, IsPromiseKept, StandsInAll, KeptPromisesStand}
 
 bound : {A B F : Type 0} (r : Result A F) (f : A → Result B F) (y : B) → (r >>= f) ≡ Ok y → (x : A) × (r ≡ Ok x) × (f x ≡ Ok y)
@@ -146,7 +148,10 @@ pub kept_promises_stand : KeptPromisesStand
 kept_promises_stand H hash_length certificate issuer t x index size path root (leaf, is, accepts) D all mth =
     let there = subst (λ (n : ℕ). AcceptsInclusion H (hash_leaf H leaf) index n path (mth_of_leaves H D)) (sym all)
     (subst (λ (r : List ℕ). AcceptsInclusion H (hash_leaf H leaf) index size path r) (sym mth) accepts) in
-    elim (path_tells H hash_length D leaf index path there) [ inl audited ↦ inl (leaf, is, audited) | inr clash ↦ inr clash ]
+    elim (accepted_path_is_path H hash_length D leaf index path there) [
+      | inl audited ↦ inl (leaf, is, audited)
+      | inr clash ↦ inr (collide_more H (IsHashedInAudit H D leaf index path) (IsHashedForPromise H certificate issuer t x index path D) (λ s w. (leaf, is, w)) clash)
+    ]
 
 pub kept_stands : (certificate issuer : List ℕ) (t : ℕ) (x : List ℕ) (index size : ℕ) (path : List (List ℕ)) (root : List ℕ)
     → IsPromiseKept certificate issuer t x index size path root → StandsInAll certificate issuer t x index size path root

@@ -6,7 +6,8 @@ use Rattle.ct_codec.specs.Leaf.{precertificate, leaf_text, LeafText}
 use Rattle.ct_tree.specs.Tree.{hash_leaf, mth_of_leaves}
 use Rattle.ct_verify.specs.Verdict.{AcceptsInclusion, RefusesInclusion}
 use Rattle.ct_verify.specs.Evidence.{IsAudited}
-use Rattle.ct_verify.specs.Laws.{SomeCollide}
+use Rattle.ct_older_tree.specs.Hashed.{CollideAmong}
+use Rattle.ct_older_tree.specs.ListLaws.{IsHashedInAudit}
 use Rattle.ct_promise.specs.declared.fault.CutFault.{CutFault}
 use Rattle.ct_promise.specs.Tbs.{Parts, IsParted, IsWithout, IsCutOut, IsTbsOf, IsKeyOf}
 use Rattle.ct_promise.specs.Reading.{parts_cut_at, without, whole_tbs_at, key_at}
@@ -99,19 +100,25 @@ IsUnkept certificate issuer t x index size path root (kept.NotThere f) =
     (leaf : List ℕ) × IsPromised certificate issuer t x leaf × RefusesInclusion sha256 (hash_leaf sha256 leaf) index size path root f
 IsUnkept certificate issuer t x index size path root kept.Memory = Unit {0}
 
--- By a hash function H: in each list of so many leaves whose MTH is the root, the leaf that was promised stands at the index, and the path is
--- its PATH; or two different strings with one hash are given (RFC 6962, 2.1).
+-- the string is hashed when the audit path of the leaf that was promised is checked, or in the tree of the leaves D
+abbrev pub IsHashedForPromise : (List ℕ → List ℕ) → List ℕ → List ℕ → ℕ → List ℕ → ℕ → List (List ℕ) → List (List ℕ) → List ℕ → Type 0
+IsHashedForPromise H certificate issuer t x index path D s =
+    (leaf : List ℕ) × IsPromised certificate issuer t x leaf × IsHashedInAudit H D leaf index path s
+
+-- By a hash function H: in each list of so many leaves whose MTH is the root, the leaf that was promised is at the index, and the path is
+-- its PATH; or two of the strings that are hashed collide (RFC 6962, 2.1).
 abbrev pub StandsInAllBy : (List ℕ → List ℕ) → List ℕ → List ℕ → ℕ → List ℕ → ℕ → ℕ → List (List ℕ) → List ℕ → Type 0
 StandsInAllBy H certificate issuer t x index size path root =
     (D : List (List ℕ)) → length D ≡ size → mth_of_leaves H D ≡ root
-    → ((leaf : List ℕ) × IsPromised certificate issuer t x leaf × IsAudited H D leaf index path) ⊎ SomeCollide H
+    → ((leaf : List ℕ) × IsPromised certificate issuer t x leaf × IsAudited H D leaf index path)
+    ⊎ CollideAmong H (IsHashedForPromise H certificate issuer t x index path D)
 
 -- the same by SHA-256
 abbrev pub StandsInAll : List ℕ → List ℕ → ℕ → List ℕ → ℕ → ℕ → List (List ℕ) → List ℕ → Type 0
 StandsInAll certificate issuer t x index size path root = StandsInAllBy sha256 certificate issuer t x index size path root
 
--- By every hash function H with hashes of 32 bytes: where the audit path leads from the leaf that was promised to the root, that leaf stands in
--- each list with this root, or two different strings with one hash are given.
+-- By every hash function H with hashes of 32 bytes: if the audit path leads from the leaf that was promised to the root, that leaf is in each list
+-- with this root, or two of the strings that are hashed collide.
 abbrev pub KeptPromisesStand : Type 0
 KeptPromisesStand = (H : List ℕ → List ℕ) → ((y : List ℕ) → length (H y) ≡ 32)
     → (certificate issuer : List ℕ) (t : ℕ) (x : List ℕ) (index size : ℕ) (path : List (List ℕ)) (root : List ℕ)

@@ -4,7 +4,9 @@ ghost use Rattle.ct_tree.specs.Tree.{mth, path as path_of, proof as proof_of};
 ghost use Rattle.ct_verify.specs.Evidence.{IsAudited};
 ghost use Rattle.ct_verify.specs.InclusionEvidence.{IsAccepted};
 ghost use Rattle.ct_verify.specs.ConsistencyEvidence.{IsAcceptedFor, IsBeginning};
-ghost use Rattle.ct_verify.specs.Laws.{AreHashes, SomeCollide};
+ghost use Rattle.ct_verify.specs.Laws.{AreHashes};
+ghost use Rattle.ct_older_tree.specs.Hashed.{CollideAmong};
+ghost use Rattle.ct_older_tree.specs.ListLaws.{IsHashedInAudit, IsHashedBetween};
 ghost use Rattle.ct_tile_reader.specs.Needed.{root_tiles, path_tiles, proof_tiles};
 ghost use Rattle.ct_tile_reader.specs.Handed.{contents_in, handed_fault, IsHandedFault, AreTilesOf};
 ghost use Rattle.ct_tile_reader.specs.declared.handed.HandedFault.TheVariants.{Memory};
@@ -80,10 +82,10 @@ pub fn path_of_handed<H: NodeHash>(
     ensures fault { IfErr result (λ fault. IsHandedFault fault (path_tiles m n) (contents_in contents.now)) }
     // The tiles of a list of leaves aren't refused, unless memory is.
     ensures never_refused { IfErr result (λ fault. (D : List (List ℕ)) → AreTilesOf H.digest D (path_tiles m n) (contents_in contents.now) → fault ≡ Memory) }
-    // Whatever the bytes were: where the verifier accepts the path for a leaf and the root of some leaves, that leaf stands there and the
-    // path is theirs, or two different strings with one hash are given.
+    // Whatever the bytes were: if the verifier accepts the path for a leaf and the root of some leaves, that leaf is there and the path is
+    // theirs, or two of the strings that are hashed collide.
     ensures tells { IfOk result (λ path. (D : List (List ℕ)) (leaf : List ℕ) → IsAccepted H.digest D leaf m path.items
-        → IsAudited H.digest D leaf m path.items ⊎ SomeCollide H.digest) }
+        → IsAudited H.digest D leaf m path.items ⊎ CollideAmong H.digest (IsHashedInAudit H.digest D leaf m path.items)) }
 {
     let needed = tiles_for_path(alloc, m, n)?;
     let tiles = HandedTiles::new(&needed, contents)?;
@@ -116,10 +118,10 @@ pub fn proof_of_handed<H: NodeHash>(
     ensures never_refused { IfErr result (λ fault. (D : List (List ℕ)) → AreTilesOf H.digest D (proof_tiles m n) (contents_in contents.now) → fault ≡ Memory) }
     // Each of its hashes has 32 bytes.
     ensures hashes { IfOk result (λ proof. AreHashes proof.items) }
-    // Whatever the bytes were: where the verifier accepts the proof for the roots of two lists of leaves, the first begins the second, or
-    // two different strings with one hash are given.
+    // Whatever the bytes were: if the verifier accepts the proof for the roots of two lists of leaves, the first begins the second, or two of
+    // the strings that are hashed collide.
     ensures tells { IfOk result (λ proof. (E : List (List ℕ)) (D : List (List ℕ)) → IsAcceptedFor H.digest E D proof.items
-        → IsBeginning E D ⊎ SomeCollide H.digest) }
+        → IsBeginning E D ⊎ CollideAmong H.digest (IsHashedBetween H.digest E D proof.items)) }
 {
     let needed = tiles_for_proof(alloc, m, n)?;
     let tiles = HandedTiles::new(&needed, contents)?;

@@ -1,2 +1,3 @@
 pub mod Runs
 pub mod Quorums
+pub mod Viewing

@@ -1,22 +1,23 @@
 -- What follows where so many of several witnesses cosigned a tree: any three groups that are large enough have a witness in common.
 use Rattle.std.proofs.Common.{refl, zero, suc, subst, inl, inr, ⊎_elim, ◌≡◌, ℕ, ◌+◌, ◌-◌, ◌*◌, ◌<◌, ◌≤◌, sym, arith, cond, Bool, true, false, List, [], ◌∷◌, ◌++◌, length}
 use Rattle.std.proofs.Common.{replicate}
-use Rattle.std.specs.Prelude.{All, count_by}
+use Rattle.std.specs.Prelude.{All, Contains, count_by, flat_map}
 use Rattle.std.proofs.lemmas.List.{length-append, length-replicate}
-use Rattle.std.proofs.lemmas.List.Elements.{All-nil, All-head, All-tail}
+use Rattle.std.proofs.lemmas.List.Elements.{All-nil, All-head, All-tail, All-weaker, Contains-append_right}
 use Rattle.std.proofs.lemmas.List.Sums.{sum_by-cons}
-use Rattle.ct_verify.specs.Laws.{SomeCollide}
-use Rattle.ct_witness.proofs.Runs.{cosigned_go_back, cosigned_agree}
+use Rattle.ct_older_tree.proofs.Viewing.{in_left}
+use Rattle.ct_older_tree.specs.Hashed.{CollideAmong}
+use Rattle.ct_witness.proofs.Runs.{all_back, both_back}
 use Rattle.ct_witness.specs.declared.tree.Tree.{Tree}
-use Rattle.ct_witness.specs.Runs.{Granted, no_tree, AreGranted, IsWitness, newest_tree, IsCosigned, IsTreeOf, IsTreeOfFirst}
-use Rattle.ct_witness.specs.Quorums.{AtLeast, AreMarked, MarksCount, QuorumsAgree, StartsBehindNone, BoundIsExact}
+use Rattle.ct_witness.specs.Runs.{Granted, no_tree, AreGranted, IsWitness, newest_tree, IsCosigned, IsTreeOf, IsTreeOfFirst, granted_strings}
+use Rattle.ct_witness.specs.Quorums.{AtLeast, AreMarked, MarksCount, IsHashedByAny, QuorumsAgree, StartsBehindNone, BoundIsExact}
 
 -- ---- three groups of more than twice all together have one in common
 module _ (P Q R : List Granted → Type 0) where
   abbrev Common : Type 0
   Common = (w : List Granted) × P w × Q w × R w
 
-  common : (ws : List (List Granted)) (j k h : ℕ) → AtLeast P j ws → AtLeast Q k ws → AtLeast R h ws → 2 * length ws < j + k + h → Common
+  pub common : (ws : List (List Granted)) (j k h : ℕ) → AtLeast P j ws → AtLeast Q k ws → AtLeast R h ws → 2 * length ws < j + k + h → Common
   unfolding AtLeast
   common [] j k h a b c l = absurd (omega (arith, a, b, c, l))
   common (w ∷ ws) j k h (inl a) (inl b) (inl c) l = (w, a.0, b.0, c.0)
@@ -63,12 +64,43 @@ marks_count t (false ∷ marks) (w ∷ ws) k m l =
     let e : count_by (λ mark. mark) (false ∷ marks) ≡ count_by (λ mark. mark) marks = refl in
     inr (marks_count t marks ws k m (omega (arith, l, e)))
 
+-- the strings of each witness are among those of all
+module _ (H : List ℕ → List ℕ) where
+  abbrev pub Has : List (List Granted) → List Granted → Type 0
+  Has ws w = All (Contains (flat_map (granted_strings H (no_tree H)) ws)) (granted_strings H (no_tree H) w)
+
+  later : (v w : List Granted) (ws : List (List Granted)) → Has ws w → Has (v ∷ ws) w
+  later v w ws a =
+      All-weaker (Contains (flat_map (granted_strings H (no_tree H)) ws)) (Contains (flat_map (granted_strings H (no_tree H)) (v ∷ ws)))
+      (λ x c. Contains-append_right (granted_strings H (no_tree H) v) (flat_map (granted_strings H (no_tree H)) ws) x c) (granted_strings H (no_tree H) w) a
+
+  weaker_at : (P Q : List Granted → Type 0) → ((w : List Granted) → P w → Q w) → (k : ℕ) (ws : List (List Granted)) → AtLeast P k ws → AtLeast Q k ws
+  unfolding AtLeast
+  weaker_at P Q f k [] a = a
+  weaker_at P Q f k (w ∷ ws) (inl a) = inl (f w a.0, weaker_at P Q f (k - 1) ws a.1)
+  weaker_at P Q f k (w ∷ ws) (inr a) = inr (weaker_at P Q f k ws a)
+
+  -- so many have the property, and their strings are among those of all
+  pub with_strings_of : (P : List Granted → Type 0) (k : ℕ) (ws : List (List Granted)) → AtLeast P k ws → AtLeast (λ w. P w × Has ws w) k ws
+  unfolding AtLeast
+  with_strings_of P k [] a = a
+  with_strings_of P k (w ∷ ws) (inl a) =
+      inl (
+        (a.0, in_left (granted_strings H (no_tree H) w) (flat_map (granted_strings H (no_tree H)) ws)),
+        weaker_at (λ v. P v × Has ws v) (λ v. P v × Has (w ∷ ws) v) (λ v b. (b.0, later w v ws b.1)) (k - 1) ws (with_strings_of P (k - 1) ws a.1),
+      )
+  with_strings_of P k (w ∷ ws) (inr a) =
+      inr (weaker_at (λ v. P v × Has ws v) (λ v. P v × Has (w ∷ ws) v) (λ v b. (b.0, later w v ws b.1)) k ws (with_strings_of P k ws a))
+
 -- ---- what they agree on
 pub quorums_agree : QuorumsAgree
 quorums_agree H hash_length ws f j k honest l a b c d less D t =
+    let S = IsHashedByAny H ws D in
     let enough : 2 * length ws < j + k + (length ws - f) = omega (arith, l) in
-    let w = common (IsCosigned a) (IsCosigned b) (IsWitness H) ws j k (length ws - f) c d honest enough in
-    cosigned_agree H hash_length w.0 w.3 a b w.1 w.2 less D t
+    let w = common (λ v. IsCosigned a v × Has H ws v) (IsCosigned b) (IsWitness H) ws j k (length ws - f) (with_strings_of H (IsCosigned a) j ws c) d honest enough in
+    let strings : All S (granted_strings H (no_tree H) w.0) =
+    All-weaker (Contains (flat_map (granted_strings H (no_tree H)) ws)) S (λ s z. inl z) (granted_strings H (no_tree H) w.0) w.1.1 in
+    both_back H hash_length S w.0 w.3 strings a b w.1.0 w.2 less D (λ n i s z. inr (n, i, z)) t
 
 behind : (H : List ℕ → List ℕ) (D : List (List ℕ)) (a : Tree) (steps : List Granted) → All (λ s. IsTreeOfFirst H D s.tree) steps → IsCosigned a steps
     → IsTreeOfFirst H D a
@@ -79,13 +111,17 @@ behind H D a (s ∷ steps) all (inr c) = behind H D a steps (All-tail (λ z. IsT
 
 pub starts_behind_none : StartsBehindNone
 starts_behind_none H hash_length ws f j k honest l h a c d D t =
+    let S = IsHashedByAny H ws D in
     let enough : 2 * length ws < j + k + (length ws - f) = omega (arith, l) in
-    let w = common (λ w. newest_tree (no_tree H) w ≡ h) (IsCosigned a) (IsWitness H) ws j k (length ws - f) c d honest enough in
-    let u : IsTreeOf H D (newest_tree (no_tree H) w.0) = subst (IsTreeOf H D) (sym w.1) t in
+    let P : List Granted → Type 0 = λ w. newest_tree (no_tree H) w ≡ h in
+    let w = common (λ v. P v × Has H ws v) (IsCosigned a) (IsWitness H) ws j k (length ws - f) (with_strings_of H P j ws c) d honest enough in
+    let u : IsTreeOf H D (newest_tree (no_tree H) w.0) = subst (IsTreeOf H D) (sym w.1.0) t in
+    let strings : All S (granted_strings H (no_tree H) w.0) =
+    All-weaker (Contains (flat_map (granted_strings H (no_tree H)) ws)) S (λ s z. inl z) (granted_strings H (no_tree H) w.0) w.1.1 in
     ⊎_elim
     (λ (all : All (λ s. IsTreeOfFirst H D s.tree) w.0). inl (behind H D a w.0 all w.2))
-    (λ (pair : SomeCollide H). inr pair)
-    (cosigned_go_back H hash_length w.0 D w.3 u)
+    (λ (pair : CollideAmong H S). inr pair)
+    (all_back H hash_length S w.0 D w.3 strings (λ n i s z. inr (n, i, z)) u)
 
 -- ---- where the bound isn't kept: some cosigned a alone, some b alone, and the faulty ones both
 module _ (H : List ℕ → List ℕ) where

@@ -1,9 +1,9 @@
 -- What follows where so many of several witnesses cosigned a tree. A witness is the list of the requests that it granted, in their
 -- order; a faulty one's is any list. H is any hash function on byte lists with hashes of 32 bytes.
-use Rattle.std.specs.Prelude.{◌≡◌, ◌⊎◌, ◌+◌, ◌-◌, ◌<◌, ◌≤◌, ⊤, ℕ, Bool, true, false, List, [], ◌∷◌, length, count_by}
-use Rattle.ct_verify.specs.Laws.{SomeCollide}
+use Rattle.std.specs.Prelude.{◌≡◌, ◌⊎◌, ◌+◌, ◌-◌, ◌<◌, ◌≤◌, ⊤, ℕ, Bool, true, false, List, [], ◌∷◌, length, count_by, flat_map, Contains}
+use Rattle.ct_older_tree.specs.Hashed.{CollideAmong, IsHashedInLog}
 use Rattle.ct_witness.specs.declared.tree.Tree.{Tree}
-use Rattle.ct_witness.specs.Runs.{Granted, IsWitness, IsCosigned, IsTreeOf, IsTreeOfFirst, newest_tree, no_tree}
+use Rattle.ct_witness.specs.Runs.{Granted, IsWitness, IsCosigned, IsTreeOf, IsTreeOfFirst, newest_tree, no_tree, granted_strings}
 
 -- k of these witnesses, or more, have the property P: of none, none have; of one and others, it has, and so have k - 1 of the others, or
 -- k of the others have
@@ -29,21 +29,25 @@ MarksCount =
     (t : Tree) (marks : List Bool) (ws : List (List Granted)) (k : ℕ) → AreMarked t marks ws → k ≤ count_by (λ mark. mark) marks
     → AtLeast (IsCosigned t) k ws
 
+-- the strings that these witnesses hash, and those that are hashed in the trees of the beginnings of D
+abbrev pub IsHashedByAny : (List ℕ → List ℕ) → List (List Granted) → List (List ℕ) → List ℕ → Type 0
+IsHashedByAny H ws D s = Contains (flat_map (granted_strings H (no_tree H)) ws) s ⊎ IsHashedInLog H D s
+
 -- Of n witnesses, f of which may be faulty, j cosigned the tree a and k the tree b, and n + f < j + k: where b is the tree of a list, and
--- a isn't larger, a is the tree of a beginning of that list; or two different strings with one hash are given.
+-- a isn't larger, a is the tree of a beginning of that list; or two of the strings that are hashed collide.
 abbrev pub QuorumsAgree : Type 0
 QuorumsAgree =
     (H : List ℕ → List ℕ) → ((x : List ℕ) → length (H x) ≡ 32) → (ws : List (List Granted)) (f j k : ℕ) → AllBut H f ws
     → length ws + f < j + k → (a b : Tree) → AtLeast (IsCosigned a) j ws → AtLeast (IsCosigned b) k ws → a.size ≤ b.size
-    → (D : List (List ℕ)) → IsTreeOf H D b → IsTreeOfFirst H D a ⊎ SomeCollide H
+    → (D : List (List ℕ)) → IsTreeOf H D b → IsTreeOfFirst H D a ⊎ CollideAmong H (IsHashedByAny H ws D)
 
 -- Where j of them cosigned the tree h last, and h is the tree of a list, each tree a that k of them cosigned is the tree of a beginning of
--- that list; or two different strings with one hash are given.
+-- that list; or two of the strings that are hashed collide.
 abbrev pub StartsBehindNone : Type 0
 StartsBehindNone =
     (H : List ℕ → List ℕ) → ((x : List ℕ) → length (H x) ≡ 32) → (ws : List (List Granted)) (f j k : ℕ) → AllBut H f ws
     → length ws + f < j + k → (h a : Tree) → AtLeast (λ w. newest_tree (no_tree H) w ≡ h) j ws → AtLeast (IsCosigned a) k ws
-    → (D : List (List ℕ)) → IsTreeOf H D h → IsTreeOfFirst H D a ⊎ SomeCollide H
+    → (D : List (List ℕ)) → IsTreeOf H D h → IsTreeOfFirst H D a ⊎ CollideAmong H (IsHashedByAny H ws D)
 
 -- The bound is exact: where n + f < j + k isn't so, any two trees that have leaves can be cosigned by j and by k of n witnesses, at most f
 -- of which are faulty.

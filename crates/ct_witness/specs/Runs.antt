@@ -1,7 +1,8 @@
 -- What follows over all trees that a witness cosigned. H is any hash function on byte lists with hashes of 32 bytes.
-use Rattle.std.specs.Prelude.{◌≡◌, ◌⊎◌, ◌≤◌, ⊤, ℕ, List, [], ◌∷◌, length, take, All}
+use Rattle.std.specs.Prelude.{◌≡◌, ◌⊎◌, ◌≤◌, ⊤, ℕ, true, List, [], ◌∷◌, ◌++◌, length, take, All, Contains}
 use Rattle.ct_tree.specs.Tree.{mth_of_leaves}
-use Rattle.ct_verify.specs.Laws.{AreHashes, SomeCollide}
+use Rattle.ct_older_tree.specs.Hashed.{CollideAmong, IsHashedInLog, proof_strings}
+use Rattle.ct_verify.specs.Laws.{AreHashes}
 use Rattle.ct_witness.specs.declared.tree.Tree.{Tree}
 use Rattle.ct_witness.specs.Witnessed.{PassesTree}
 
@@ -42,16 +43,25 @@ IsTreeOf H D t = (t.size ≡ length D) × (t.root ≡ mth_of_leaves H D)
 abbrev pub IsTreeOfFirst : (List ℕ → List ℕ) → List (List ℕ) → Tree → Type 0
 IsTreeOfFirst H D t = (t.size ≤ length D) × (t.root ≡ mth_of_leaves H (take t.size D))
 
--- where the newest tree is that of a list, each that was cosigned is that of a beginning of it; or two different strings with one hash
--- are given
+-- the strings that are hashed when the proofs of these requests are checked, the first of which comes after the tree `last`
+unfoldable pub granted_strings : (List ℕ → List ℕ) → Tree → List Granted → List (List ℕ)
+granted_strings H last [] = []
+granted_strings H last (s ∷ steps) = proof_strings H last.size s.tree.size true last.root s.proof ++ granted_strings H s.tree steps
+
+-- the strings that a witness hashes, and those that are hashed in the trees of the beginnings of D
+abbrev pub IsHashedOver : (List ℕ → List ℕ) → List Granted → List (List ℕ) → List ℕ → Type 0
+IsHashedOver H steps D s = Contains (granted_strings H (no_tree H) steps) s ⊎ IsHashedInLog H D s
+
+-- if the newest tree is that of a list, each tree that was cosigned is that of a beginning of it; or two of the strings that are hashed collide
 abbrev pub CosignedGoBack : Type 0
 CosignedGoBack =
     (H : List ℕ → List ℕ) → ((x : List ℕ) → length (H x) ≡ 32) → (steps : List Granted) (D : List (List ℕ)) → IsWitness H steps
-    → IsTreeOf H D (newest_tree (no_tree H) steps) → All (λ s. IsTreeOfFirst H D s.tree) steps ⊎ SomeCollide H
+    → IsTreeOf H D (newest_tree (no_tree H) steps) → All (λ s. IsTreeOfFirst H D s.tree) steps ⊎ CollideAmong H (IsHashedOver H steps D)
 
--- of every two trees that were cosigned, where the larger one is that of a list, the other is that of a beginning of it; or two
--- different strings with one hash are given
+-- of every two trees that were cosigned, if the larger one is that of a list, the other one is that of a beginning of it; or two of the strings
+-- that are hashed collide
 abbrev pub CosignedAgree : Type 0
 CosignedAgree =
     (H : List ℕ → List ℕ) → ((x : List ℕ) → length (H x) ≡ 32) → (steps : List Granted) → IsWitness H steps → (a b : Tree)
-    → IsCosigned a steps → IsCosigned b steps → a.size ≤ b.size → (D : List (List ℕ)) → IsTreeOf H D b → IsTreeOfFirst H D a ⊎ SomeCollide H
+    → IsCosigned a steps → IsCosigned b steps → a.size ≤ b.size → (D : List (List ℕ)) → IsTreeOf H D b
+    → IsTreeOfFirst H D a ⊎ CollideAmong H (IsHashedOver H steps D)

@@ -11,7 +11,7 @@ use Rattle.ct_guard.proofs.History.{passed_heads_agree, passed_receipts_stand}
 use Rattle.ct_guard.proofs.NewestHead.{heads_go_back}
 use Rattle.ct_guard.specs.Guarded.{PassesHead, PassesReceipt}
 use Rattle.ct_guard.specs.History.{Passed, ArePassed}
-use Rattle.ct_guard.specs.NewestHead.{HeadStep, AreHeadSteps, IsHeadOfFirst, NewestIsOf}
+use Rattle.ct_guard.specs.NewestHead.{HeadStep, AreHeadSteps, IsHeadOfFirst, NewestIsOf, IsHashedForHeads}
 use Rattle.ct_guard.specs.declared.refusal.HeadRefusal.{HeadRefusal}
 use Rattle.ct_guard.specs.declared.refusal.HeadRefusal.TheVariants.{SizeFalls, MomentNotLater, Fork, Inconsistent}
 use Rattle.ct_guard.specs.declared.refusal.ReceiptRefusal.{ReceiptRefusal}
@@ -19,7 +19,10 @@ use Rattle.ct_guard.specs.declared.refusal.ReceiptRefusal.TheVariants.{NoHead, N
 use Rattle.ct_monitor.specs.Heads.{IsHeadOfAll}
 use Rattle.ct_tree.specs.Tree.{hash_leaf, mth_of_leaves}
 use Rattle.ct_tree.specs.declared.head.Head.{Head}
-use Rattle.ct_verify.specs.Laws.{AreHashes, SomeCollide}
+use Rattle.ct_older_tree.proofs.Agreeing.{collide_more}
+use Rattle.ct_older_tree.specs.Hashed.{CollideAmong}
+use Rattle.ct_older_tree.specs.ListLaws.{IsHashedInAudit}
+use Rattle.ct_verify.specs.Laws.{AreHashes}
 use Rattle.ct_verify.specs.Verdict.{AcceptsInclusion}
 use Rattle.ct_verify.specs.declared.fault.ProofFault.{ProofFault}
 use Rattle.ct_verify.specs.declared.fault.ProofFault.TheVariants.{IndexOutOfRange, PathTooLong, PathTooShort, RootMismatch, EmptyPath, FirstMismatch}
@@ -27,7 +30,7 @@ use Rattle.ct_verify.specs.declared.fault.ProofFault.TheVariants.{SizesOutOfRang
 use Rattle.libwagtenib.specs.Codes.{proof_code, leaf_code, head_code, receipt_code}
 use Rattle.libwagtenib.specs.Guard.{IsStateOf, IsOfNoHead, MayFollow, GuardsFirstHead, GuardsHead, GuardsReceipt}
 use Rattle.libwagtenib.specs.GuardLaws.{Over, no_state, the_state, LetsThrough, HeadCall, held_of, AreTaken, HoldsStateOf, head_step_of, head_steps_of, passed_step}
-use Rattle.libwagtenib.specs.GuardLaws.{TakenAreSteps, TakenAgree, TakenGoBack, ReceiptCall, ReceiptsStandInNewest, ReceiptsAreNoHeads, StatesDiffer, StatesAreReadBack}
+use Rattle.libwagtenib.specs.GuardLaws.{TakenAreSteps, TakenAgree, TakenGoBack, ReceiptCall, IsHashedForReceipt, ReceiptsStandInNewest, ReceiptsAreNoHeads, StatesDiffer, StatesAreReadBack}
 
 -- ---- 0 is the number of no refusal
 above_0-proof : (f : ProofFault) → 0 < proof_code f
@@ -172,27 +175,33 @@ of_one H D (c ∷ calls) all =
     (of_one H D calls (All-tail (λ (s : HeadStep). IsHeadOfFirst H D s.head) (head_step_of c) (head_steps_of calls) all))
 
 stands : (H : List ℕ → List ℕ) → ((x : List ℕ) → length (H x) ≡ 32) → (D : List (List ℕ)) (last : Head) (leaf : List ℕ) (index : ℕ)
-    (path : List (List ℕ)) → IsHeadOfFirst H D last → AcceptsInclusion H (hash_leaf H leaf) index last.tree_size path last.root
-    → ((index < length D) × (leaf ≡ get_or D index [])) ⊎ SomeCollide H
-stands H sized D last leaf index path f accepts =
+    (path : List (List ℕ)) (T : List ℕ → Type 0)
+    → ((n : ℕ) → n ≤ length D → (x : List ℕ) → IsHashedInAudit H (take n D) leaf index path x → T x)
+    → IsHeadOfFirst H D last → AcceptsInclusion H (hash_leaf H leaf) index last.tree_size path last.root
+    → ((index < length D) × (leaf ≡ get_or D index [])) ⊎ CollideAmong H T
+stands H sized D last leaf index path T more f accepts =
     let g = f (omega (arith, accepts.0)) in
-    let size : last.tree_size ≡ length (take last.tree_size D) = sym (length-take-le last.tree_size D g.0) in
+    let E = take last.tree_size D in
+    let size : last.tree_size ≡ length E = sym (length-take-le last.tree_size D g.0) in
     ⊎_elim
-    (λ (z : (index < length (take last.tree_size D)) × (leaf ≡ get_or (take last.tree_size D) index [])).
+    (λ (z : (index < length E) × (leaf ≡ get_or E index [])).
     inl (omega (arith, g.0, accepts.0), z.1 ∙ get_or-take last.tree_size D index [] accepts.0))
-    (λ (pair : SomeCollide H). inr pair)
-    (passed_receipts_stand H sized last (take last.tree_size D) leaf index path (size, g.1) accepts)
+    (λ (pair : CollideAmong H (IsHashedInAudit H E leaf index path)).
+    inr (collide_more H (IsHashedInAudit H E leaf index path) T (more last.tree_size g.0) pair))
+    (passed_receipts_stand H sized last E leaf index path (size, g.1) accepts)
 
 pub receipts_stand : ReceiptsStandInNewest
 receipts_stand H sized last held h calls a D newest c among r over =
+    let T = IsHashedForReceipt H last calls D r in
+    let S = IsHashedForHeads H last (head_steps_of calls) D in
     let p = let_through H r.state r.leaf r.index r.path r.returned in
     let is = wrote H c.over c.head c.proof c.ahead c.before c.signed c.returned in
     let same : p.0 ≡ c.head = same_head p.0 c.head r.state p.1 (subst (IsStateOf c.head) (sym over) is) in
     ⊎_elim
     (λ (all : All (λ (s : HeadStep). IsHeadOfFirst H D s.head) (head_steps_of calls)).
-    stands H sized D p.0 r.leaf r.index r.path
+    stands H sized D p.0 r.leaf r.index r.path T (λ n l x w. inr (n, l, w))
     (subst (IsHeadOfFirst H D) (sym same) (All-contains (λ (c : HeadCall H). IsHeadOfFirst H D c.head) calls c (of_one H D calls all) among)) p.2.1)
-    (λ (pair : SomeCollide H). inr pair)
+    (λ (pair : CollideAmong H S). inr (collide_more H S T (λ x w. inl w) pair))
     (taken_go_back H sized last held h calls a D newest)
 
 pub receipts_are_no_heads : ReceiptsAreNoHeads

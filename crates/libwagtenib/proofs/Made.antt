@@ -5,7 +5,7 @@ use Rattle.std.proofs.lemmas.List.{append-nil, map_push}
 use Rattle.sha2.specs.Sha256.{sha256}
 use Rattle.sha2.proofs.Facts256.{length-sha256}
 use Rattle.ct_verify.specs.Laws.{AreHashes}
-use Rattle.ct_verify.proofs.Telling.{path_tells, proof_tells}
+use Rattle.ct_older_tree.proofs.ListProofs.{accepted_path_is_path, accepted_proof_is_of_beginning}
 use Rattle.ct_tree.specs.Tree.{mth, path, proof}
 use Rattle.ct_tile_names.specs.Names.{name_text}
 use Rattle.ct_tile_reader.specs.Needed.{root_tiles, path_tiles, proof_tiles}
@@ -18,13 +18,13 @@ use Rattle.libwagtenib.specs.Tiles.{Reading, root_of, path_of, proof_of, HasRead
 use Rattle.libwagtenib.specs.Tiles.{AreHanded, RefusesContents, IsRootOf, IsPathOf, IsProofOf, PathTellsLeaf, ProofTellsBeginning, ByEveryHash}
 
 leaf_told_by : (m : ℕ) (hashes : List (List ℕ)) (H : List ℕ → List ℕ) → ((x : List ℕ) → length (H x) ≡ 32) → PathTellsLeaf m hashes H
-leaf_told_by m hashes H is D leaf accepted = path_tells H is D leaf m hashes accepted
+leaf_told_by m hashes H is D leaf accepted = accepted_path_is_path H is D leaf m hashes accepted
 
 pub leaf_told : (m : ℕ) (hashes : List (List ℕ)) → ByEveryHash (PathTellsLeaf m hashes)
 leaf_told m hashes = (leaf_told_by m hashes, leaf_told_by m hashes sha256 length-sha256)
 
 beginning_told_by : (hashes : List (List ℕ)) → AreHashes hashes → (H : List ℕ → List ℕ) → ((x : List ℕ) → length (H x) ≡ 32) → ProofTellsBeginning hashes H
-beginning_told_by hashes are H is E D accepted = proof_tells H is E D hashes are accepted
+beginning_told_by hashes are H is E D accepted = accepted_proof_is_of_beginning H is E D hashes are accepted
 
 pub beginning_told : (hashes : List (List ℕ)) → AreHashes hashes → ByEveryHash (ProofTellsBeginning hashes)
 beginning_told hashes are = (beginning_told_by hashes are, beginning_told_by hashes are sha256 length-sha256)

@@ -1,25 +1,27 @@
 -- The laws of many calls of a witness.
-use Rattle.std.proofs.Common.{◌≡◌, ◌∙◌, ◌⊎◌, ◌<◌, ◌≤◌, ◌^◌, ℕ, List, [], ◌∷◌, ◌++◌, length, map, take, drop, Option, Some, None, All, sym, subst, ap, refl, inl, inr, ⊎_elim, arith}
-use Rattle.std.proofs.lemmas.List.Elements.{All-nil, All-cons, All-head, All-tail}
+use Rattle.std.proofs.Common.{◌≡◌, ◌∙◌, ◌⊎◌, ◌<◌, ◌≤◌, ◌^◌, ℕ, List, [], ◌∷◌, ◌++◌, length, map, take, drop, Option, Some, None, All, Contains, true, sym, subst, ap, refl, inl, inr, ⊎_elim, arith}
+use Rattle.std.proofs.lemmas.List.Elements.{All-nil, All-cons, All-head, All-tail, All-append, All-weaker, All-contains_itself}
 use Rattle.std.proofs.lemmas.Option.{same_Some, none-some}
 use Rattle.std.proofs.Math.Seq.{take-append_seam}
 use Rattle.ct_checkpoint.specs.Message.{cosignature_message}
-use Rattle.ct_verify.specs.Laws.{AreHashes, SomeCollide}
+use Rattle.ct_older_tree.proofs.Viewing.{first_of, second_of}
+use Rattle.ct_older_tree.specs.Hashed.{CollideAmong, proof_strings, proof_strings_down}
+use Rattle.ct_verify.specs.Laws.{AreHashes}
 use Rattle.ct_verify.specs.Verdict.{AcceptsConsistency}
 use Rattle.ct_verify.specs.declared.fault.ProofFault.{ProofFault}
 use Rattle.ct_verify.specs.declared.fault.ProofFault.TheVariants.{IndexOutOfRange, PathTooLong, PathTooShort, RootMismatch, EmptyPath, FirstMismatch}
 use Rattle.ct_verify.specs.declared.fault.ProofFault.TheVariants.{SizesOutOfRange}
-use Rattle.ct_witness.proofs.Runs.{cosigned_go_back}
+use Rattle.ct_witness.proofs.Runs.{all_back}
 use Rattle.ct_witness.specs.declared.refusal.WitnessRefusal.{WitnessRefusal}
 use Rattle.ct_witness.specs.declared.refusal.WitnessRefusal.TheVariants.{OldAbove, NotLast, Fork as ForkedTree, ProofNotEmpty, Inconsistent as Unproved}
 use Rattle.ct_witness.specs.declared.tree.Tree.{Tree}
-use Rattle.ct_witness.specs.Runs.{Granted, AreGranted, IsWitness, IsTreeOf, IsTreeOfFirst, newest_tree, no_tree}
+use Rattle.ct_witness.specs.Runs.{Granted, AreGranted, IsWitness, IsTreeOf, IsTreeOfFirst, IsHashedOver, granted_strings, newest_tree, no_tree}
 use Rattle.ct_witness.specs.Witnessed.{PassesTree, TreeGoesOn}
 use Rattle.libwagtenib.proofs.Messages.{same_cosigned}
 use Rattle.libwagtenib.specs.Codes.{proof_code, tree_code}
 use Rattle.libwagtenib.specs.Output.{WritesOutput}
 use Rattle.libwagtenib.specs.Witness.{Cosigned, cosigned, none_yet, IsCheckpointOf, IsMessageOf, MayCosign, MayNotCosign, CosignsAfter, CosignsFirst, Cosigns}
-use Rattle.libwagtenib.specs.WitnessLaws.{Over, none, state, Returned, CosignCall, Cosignature, message, held_by, AreKept, cosigned_tree, granted_tree, newest_cosigned}
+use Rattle.libwagtenib.specs.WitnessLaws.{Over, none, state, Returned, CosignCall, Cosignature, message, held_by, AreKept, cosigned_tree, granted_tree, granted_by, newest_cosigned}
 use Rattle.libwagtenib.specs.WitnessLaws.{CallsAreCosignatures, KeptAreAWitness, KeptGoBack, CosignedInOrder, KeptAreInOrder, NoTimeIs0}
 
 -- ---- 0 is the number of no refusal
@@ -111,21 +113,22 @@ HoldsTree H t None = t ≡ no_tree H
 HoldsTree H t (Some bytes) = (k : Cosigned) × IsMessageOf k bytes × (k.tree ≡ t)
 
 -- the step of a witness that a cosignature is
-Steps : (List ℕ → List ℕ) → Tree → Tree → Type 0
-Steps H last tree = (s : Granted) × PassesTree H last s.old s.tree s.proof × AreHashes s.proof × (s.tree ≡ tree)
+Steps : (List ℕ → List ℕ) → Tree → Tree → List (List ℕ) → Type 0
+Steps H last tree given =
+    (s : Granted) × PassesTree H last s.old s.tree s.proof × AreHashes s.proof × (s.tree ≡ tree) × ((s.proof ≡ given) ⊎ (s.proof ≡ []))
 
-again : (H : List ℕ → List ℕ) (last tree : Tree) → tree ≡ last → Steps H last tree
+again : (H : List ℕ → List ℕ) (last tree : Tree) (given : List (List ℕ)) → tree ≡ last → Steps H last tree given
 unfolding Steps
-again H last tree e =
+again H last tree given e =
     let s : Granted = record { old = last.size; tree = last; proof = [] } in
-    (s, (refl, inl (refl, refl, refl)), All-nil (λ (x : List ℕ). length x ≡ 32), sym e)
+    (s, (refl, inl (refl, refl, refl)), All-nil (λ (x : List ℕ). length x ≡ 32), sym e, inr refl)
 
 anew : (H : List ℕ → List ℕ) (t : Tree) (last : Cosigned) (origin : List ℕ) (tree : Tree) (old : ℕ) (proof : List (List ℕ)) (time : ℕ)
-    → last.tree ≡ t → MayCosign H last origin tree old proof time → Steps H t tree
+    → last.tree ≡ t → MayCosign H last origin tree old proof time → Steps H t tree proof
 unfolding Steps
 anew H t last origin tree old proof time e may =
     let s : Granted = record { old = old; tree = tree; proof = proof } in
-    (s, subst (λ (l : Tree). PassesTree H l old tree proof) e may.1, may.2, refl)
+    (s, subst (λ (l : Tree). PassesTree H l old tree proof) e may.1, may.2, refl, inl refl)
 
 over_held : (H : List ℕ → List ℕ) (t : Tree) (held : Option (List ℕ)) (over : Over) (last : Cosigned) → HoldsTree H t held → held ≡ held_by over
     → WasAfter H over last → last.tree ≡ t
@@ -146,28 +149,39 @@ held_already H t (Some other) bytes k (l, at, tree) e is =
     ap (λ (x : Cosigned). x.tree) (same_cosigned k l other (subst (IsMessageOf k) (sym same) is) at) ∙ tree
 
 one_step : (H : List ℕ → List ℕ) (t : Tree) (held : Option (List ℕ)) (c : Cosignature H) → HoldsTree H t held
-    → (held ≡ held_by c.call.over) ⊎ (held ≡ Some (message c.call)) → Steps H t c.says.tree
+    → (held ≡ held_by c.call.over) ⊎ (held ≡ Some (message c.call)) → Steps H t c.says.tree c.call.proof
 one_step H t held c h (inl e) =
     let m = made c in
     anew H t m.0 c.says.origin c.says.tree c.call.old c.call.proof c.call.time (over_held H t held c.call.over m.0 h e m.1) m.2
-one_step H t held c h (inr e) = again H t c.says.tree (held_already H t held (message c.call) c.says h e c.is)
+one_step H t held c h (inr e) = again H t c.says.tree c.call.proof (held_already H t held (message c.call) c.says h e c.is)
 
 holds_it : (H : List ℕ → List ℕ) (c : Cosignature H) → HoldsTree H c.says.tree (Some (message c.call))
 unfolding HoldsTree
 holds_it H c = (c.says, c.is, refl)
 
 -- ---- all of them
+-- the proofs of the steps are those of the calls, or none
+AreOf : (H : List ℕ → List ℕ) → List Granted → List (Cosignature H) → Type 0
+AreOf H [] [] = Unit {0}
+AreOf H [] (c ∷ rest) = ⊥
+AreOf H (s ∷ steps) [] = ⊥
+AreOf H (s ∷ steps) (c ∷ rest) = (s.tree ≡ c.says.tree) × ((s.proof ≡ c.call.proof) ⊎ (s.proof ≡ [])) × AreOf H steps rest
+
 Run : (H : List ℕ → List ℕ) → Tree → List (Cosignature H) → Type 0
-Run H t all = (steps : List Granted) × AreGranted H t steps × (map granted_tree steps ≡ map cosigned_tree all)
+Run H t all = (steps : List Granted) × AreGranted H t steps × (map granted_tree steps ≡ map cosigned_tree all) × AreOf H steps all
 
 run : (H : List ℕ → List ℕ) (t : Tree) (held : Option (List ℕ)) (all : List (Cosignature H)) → HoldsTree H t held → AreKept H held all → Run H t all
-unfolding AreKept AreGranted Run Steps
-run H t held [] h a = ([], tt, refl)
+unfolding AreKept AreGranted Run Steps AreOf
+run H t held [] h a = ([], tt, refl, tt)
 run H t held (c ∷ rest) h a =
     let one = one_step H t held c h a.0 in
     let more = run H c.says.tree (Some (message c.call)) rest (holds_it H c) a.1 in
-    let on : AreGranted H (one.0).tree more.0 = subst (λ (x : Tree). AreGranted H x more.0) (sym one.3) more.1 in
-    (one.0 ∷ more.0, (one.1, one.2, on), ap (λ (x : Tree). x ∷ map granted_tree more.0) one.3 ∙ ap (λ (xs : List Tree). c.says.tree ∷ xs) more.2)
+    let on : AreGranted H (one.0).tree more.0 = subst (λ (x : Tree). AreGranted H x more.0) (sym one.3) more.1 in (
+      one.0 ∷ more.0,
+      (one.1, one.2, on),
+      ap (λ (x : Tree). x ∷ map granted_tree more.0) one.3 ∙ ap (λ (xs : List Tree). c.says.tree ∷ xs) more.2,
+      (one.3, one.4, more.3),
+    )
 
 starts : (H : List ℕ → List ℕ) → HoldsTree H (no_tree H) None
 unfolding HoldsTree
@@ -175,7 +189,7 @@ starts H = refl
 
 pub kept_are_a_witness : KeptAreAWitness
 unfolding Run
-kept_are_a_witness H all a = run H (no_tree H) None all (starts H) a
+kept_are_a_witness H all a = let r = run H (no_tree H) None all (starts H) a in (r.0, r.1, r.2)
 
 -- ---- the laws of a witness, said of the calls
 none_some : (x : Tree) (xs : List Tree) → [] ≡ x ∷ xs → ⊥
@@ -204,14 +218,49 @@ all_of H D (s ∷ steps) (c ∷ rest) e a =
     (subst (IsTreeOfFirst H D) first (All-head (λ (z : Granted). IsTreeOfFirst H D z.tree) s steps a))
     (all_of H D steps rest more (All-tail (λ (z : Granted). IsTreeOfFirst H D z.tree) s steps a))
 
+-- an empty proof hashes nothing
+no_proof_strings : (H : List ℕ → List ℕ) (S : List ℕ → Type 0) (m n : ℕ) (r : List ℕ) → All S (proof_strings H m n true r [])
+unfolding proof_strings proof_strings_down
+no_proof_strings H S m n r = All-nil S
+
+-- the strings of the steps are among those of the calls
+of_proof : (H : List ℕ → List ℕ) (S : List ℕ → Type 0) (last : Tree) (s : Granted) (c : Cosignature H) → s.tree ≡ c.says.tree
+    → (s.proof ≡ c.call.proof) ⊎ (s.proof ≡ []) → All S (proof_strings H last.size c.says.tree.size true last.root c.call.proof)
+    → All S (proof_strings H last.size s.tree.size true last.root s.proof)
+of_proof H S last s c e (inl f) a =
+    subst (λ (p : List (List ℕ)). All S (proof_strings H last.size s.tree.size true last.root p)) (sym f)
+    (subst (λ (x : Tree). All S (proof_strings H last.size x.size true last.root c.call.proof)) (sym e) a)
+of_proof H S last s c e (inr f) a =
+    subst (λ (p : List (List ℕ)). All S (proof_strings H last.size s.tree.size true last.root p)) (sym f)
+    (no_proof_strings H S last.size s.tree.size last.root)
+
+of_calls : (H : List ℕ → List ℕ) (S : List ℕ → Type 0) (last : Tree) (steps : List Granted) (all : List (Cosignature H)) → AreOf H steps all
+    → All S (granted_strings H last (map granted_by all)) → All S (granted_strings H last steps)
+unfolding AreOf granted_strings
+of_calls H S last [] [] o a = a
+of_calls H S last [] (c ∷ rest) o a = absurd o
+of_calls H S last (s ∷ steps) [] o a = absurd o
+of_calls H S last (s ∷ steps) (c ∷ rest) o a =
+    let own = proof_strings H last.size c.says.tree.size true last.root c.call.proof in
+    let others = granted_strings H c.says.tree (map granted_by rest) in
+    let later : All S (granted_strings H s.tree (map granted_by rest)) =
+    subst (λ (x : Tree). All S (granted_strings H x (map granted_by rest))) (sym o.0) (second_of S own others a) in
+    All-append S (proof_strings H last.size s.tree.size true last.root s.proof) (granted_strings H s.tree steps)
+    (of_proof H S last s c o.0 o.1 (first_of S own others a)) (of_calls H S s.tree steps rest o.2 later)
+
 pub kept_go_back : KeptGoBack
+unfolding Run
 kept_go_back H sized all a D t =
-    let r = kept_are_a_witness H all a in
+    let r = run H (no_tree H) None all (starts H) a in
+    let S = IsHashedOver H (map granted_by all) D in
+    let strings = granted_strings H (no_tree H) (map granted_by all) in
     let u : IsTreeOf H D (newest_tree (no_tree H) r.0) = subst (IsTreeOf H D) (sym (newest_is H (no_tree H) r.0 all r.2)) t in
+    let own : All S (granted_strings H (no_tree H) r.0) =
+    of_calls H S (no_tree H) r.0 all r.3 (All-weaker (Contains strings) S (λ x z. inl z) strings (All-contains_itself strings)) in
     ⊎_elim
     (λ (each : All (λ (s : Granted). IsTreeOfFirst H D s.tree) r.0). inl (all_of H D r.0 all r.2 each))
-    (λ (pair : SomeCollide H). inr pair)
-    (cosigned_go_back H sized r.0 D r.1 u)
+    (λ (pair : CollideAmong H S). inr pair)
+    (all_back H sized S r.0 D r.1 own (λ n l x z. inr (n, l, z)) u)
 
 -- ---- order
 goes_up : (H : List ℕ → List ℕ) (last tree : Tree) (p : List (List ℕ)) → TreeGoesOn H last tree p → last.size ≤ tree.size

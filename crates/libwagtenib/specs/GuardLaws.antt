@@ -1,11 +1,12 @@
 -- The laws of many calls of the guard, which any number of processes make over one register. H is any hash function on byte lists with hashes of 32
 -- bytes. The library's is SHA-256.
-use Rattle.std.specs.Prelude.{◌≡◌, ◌⊎◌, ◌<◌, ⊤, All, ℕ, List, [], ◌∷◌, Contains, length, map, get_or, Option, Some, None}
-use Rattle.ct_guard.specs.History.{Passed, AreBeginnings}
-use Rattle.ct_guard.specs.NewestHead.{HeadStep, AreHeadSteps, NewestIsOf, IsHeadOfFirst}
+use Rattle.std.specs.Prelude.{◌≡◌, ◌⊎◌, ◌<◌, ⊤, All, ℕ, List, [], ◌∷◌, Contains, length, map, get_or, Option, Some, None, ◌≤◌, take}
+use Rattle.ct_guard.specs.History.{Passed, AreBeginnings, IsHashedForPassed}
+use Rattle.ct_guard.specs.NewestHead.{HeadStep, AreHeadSteps, NewestIsOf, IsHeadOfFirst, IsHashedForHeads}
 use Rattle.ct_monitor.specs.Heads.{IsHeadOfAll}
 use Rattle.ct_tree.specs.declared.head.Head.{Head}
-use Rattle.ct_verify.specs.Laws.{SomeCollide}
+use Rattle.ct_older_tree.specs.Hashed.{CollideAmong}
+use Rattle.ct_older_tree.specs.ListLaws.{IsHashedInAudit}
 use Rattle.libwagtenib.specs.Guard.{head_of_c, GuardsFirstHead, GuardsHead, GuardsReceipt, IsStateOf, IsOfNoHead, ReadsGuardState}
 use Rattle.libwagtenib.specs.declared.head.TreeHead.{TreeHead}
 
@@ -65,22 +66,22 @@ TakenAreSteps =
     → AreHeadSteps H last (head_steps_of calls)
 
 -- Take any such heads, each of which is that of some list of leaves (passed). Of every two of them the earlier one's list begins the later one's, or two
--- different strings with one hash are given.
+-- of the strings that are hashed collide.
 abbrev pub TakenAgree : Type 0
 TakenAgree =
     (H : List ℕ → List ℕ) → ((x : List ℕ) → length (H x) ≡ 32)
     → (last : Option Head) (held : Option (List ℕ)) → HoldsStateOf last held → (calls : List (HeadCall H)) → AreTaken H held calls
     → (passed : List Passed) → map passed_step passed ≡ head_steps_of calls
-    → All (λ (p : Passed). IsHeadOfAll H p.leaves p.head) passed → AreBeginnings passed ⊎ SomeCollide H
+    → All (λ (p : Passed). IsHeadOfAll H p.leaves p.head) passed → AreBeginnings passed ⊎ CollideAmong H (IsHashedForPassed H last passed)
 
--- Take any such heads, of which the newest is that of a list of leaves. Each of them that has leaves is that of a beginning of this list, or two different
--- strings with one hash are given. The roots of the others may be any.
+-- Take any such heads, of which the newest is that of a list of leaves. Each of them that has leaves is that of a beginning of this list, or two of the
+-- strings that are hashed collide. The roots of the others may be any.
 abbrev pub TakenGoBack : Type 0
 TakenGoBack =
     (H : List ℕ → List ℕ) → ((x : List ℕ) → length (H x) ≡ 32)
     → (last : Option Head) (held : Option (List ℕ)) → HoldsStateOf last held → (calls : List (HeadCall H)) → AreTaken H held calls
     → (D : List (List ℕ)) → NewestIsOf H D (head_steps_of calls)
-    → All (λ (s : HeadStep). IsHeadOfFirst H D s.head) (head_steps_of calls) ⊎ SomeCollide H
+    → All (λ (s : HeadStep). IsHeadOfFirst H D s.head) (head_steps_of calls) ⊎ CollideAmong H (IsHashedForHeads H last (head_steps_of calls) D)
 
 -- A call of `wagtenib_guard_receipt` returned 0.
 pub record ReceiptCall (H : List ℕ → List ℕ) : Type 0 where
@@ -90,15 +91,21 @@ pub record ReceiptCall (H : List ℕ → List ℕ) : Type 0 where
   pub path : List (List ℕ)
   pub returned : GuardsReceipt H 0 state leaf index path
 
+-- the string is hashed for these heads, or when a receipt's path is checked, or in the tree of so many leaves of D as its head has
+abbrev pub IsHashedForReceipt : (H : List ℕ → List ℕ) → Option Head → List (HeadCall H) → List (List ℕ) → ReceiptCall H → List ℕ → Type 0
+IsHashedForReceipt H last calls D r x =
+    IsHashedForHeads H last (head_steps_of calls) D x
+    ⊎ ((n : ℕ) × (n ≤ length D) × IsHashedInAudit H (take n D) r.leaf r.index r.path x)
+
 -- Take any such heads, of which the newest is that of a list of leaves, and any call that let a receipt through after one of them. The receipt's leaf is in
--- this list at its index, or two different strings with one hash are given.
+-- this list at its index, or two of the strings that are hashed collide.
 abbrev pub ReceiptsStandInNewest : Type 0
 ReceiptsStandInNewest =
     (H : List ℕ → List ℕ) → ((x : List ℕ) → length (H x) ≡ 32)
     → (last : Option Head) (held : Option (List ℕ)) → HoldsStateOf last held → (calls : List (HeadCall H)) → AreTaken H held calls
     → (D : List (List ℕ)) → NewestIsOf H D (head_steps_of calls)
     → (c : HeadCall H) → Contains calls c → (r : ReceiptCall H) → r.state ≡ c.signed
-    → ((r.index < length D) × (r.leaf ≡ get_or D r.index [])) ⊎ SomeCollide H
+    → ((r.index < length D) × (r.leaf ≡ get_or D r.index [])) ⊎ CollideAmong H (IsHashedForReceipt H last calls D r)
 
 -- The bytes of a leaf that was let through are the TreeHeadSignature of no head. So no signature of a receipt is one of a head.
 abbrev pub ReceiptsAreNoHeads : Type 0

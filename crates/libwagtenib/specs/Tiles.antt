@@ -5,7 +5,8 @@ use Rattle.ct_tree.specs.Tree.{mth, path, proof}
 use Rattle.ct_verify.specs.ConsistencyEvidence.{IsAcceptedFor, IsBeginning}
 use Rattle.ct_verify.specs.Evidence.{IsAudited}
 use Rattle.ct_verify.specs.InclusionEvidence.{IsAccepted}
-use Rattle.ct_verify.specs.Laws.{SomeCollide}
+use Rattle.ct_older_tree.specs.Hashed.{CollideAmong}
+use Rattle.ct_older_tree.specs.ListLaws.{IsHashedInAudit, IsHashedBetween}
 use Rattle.ct_tile_names.specs.Names.{IsTile, name_text}
 use Rattle.ct_tile_names.specs.declared.tile.Content.TheVariants.{Hashes}
 use Rattle.ct_tile_names.specs.declared.tile.Tile.{Tile}
@@ -87,13 +88,13 @@ RefusesContents reading contents code =
     ⊎ ((fault : HandedFault) × HasReading reading × (length contents ≤ length (tiles_of_reading reading))
     × (handed_fault (tiles_of_reading reading) contents ≡ Some fault) × (code ≡ handed_code fault)))
 
--- a leaf for which the verifier accepts this path is in its list, or two different strings with one hash are given
+-- a leaf for which the verifier accepts this path is in its list, or two of the strings that are hashed collide
 abbrev pub PathTellsLeaf : ℕ → List (List ℕ) → (List ℕ → List ℕ) → Type 0
-PathTellsLeaf m hashes H = (D : List (List ℕ)) (leaf : List ℕ) → IsAccepted H D leaf m hashes → IsAudited H D leaf m hashes ⊎ SomeCollide H
+PathTellsLeaf m hashes H = (D : List (List ℕ)) (leaf : List ℕ) → IsAccepted H D leaf m hashes → IsAudited H D leaf m hashes ⊎ CollideAmong H (IsHashedInAudit H D leaf m hashes)
 
--- of two lists for whose roots the verifier accepts this proof the first begins the second, or two different strings with one hash are given
+-- of two lists for whose roots the verifier accepts this proof the first begins the second, or two of the strings that are hashed collide
 abbrev pub ProofTellsBeginning : List (List ℕ) → (List ℕ → List ℕ) → Type 0
-ProofTellsBeginning hashes H = (E : List (List ℕ)) (D : List (List ℕ)) → IsAcceptedFor H E D hashes → IsBeginning E D ⊎ SomeCollide H
+ProofTellsBeginning hashes H = (E : List (List ℕ)) (D : List (List ℕ)) → IsAcceptedFor H E D hashes → IsBeginning E D ⊎ CollideAmong H (IsHashedBetween H E D hashes)
 
 -- of every hash function with digests of 32 bytes, and so of SHA-256
 abbrev pub ByEveryHash : ((List ℕ → List ℕ) → Type 0) → Type 0

@@ -1,9 +1,9 @@
 -- The laws of many calls of a witness, which any number of processes make over one register. H is any hash function on byte lists with hashes of 32 bytes. The
 -- library's is SHA-256.
 use Rattle.std.specs.Prelude.{◌≡◌, ◌⊎◌, ◌<◌, ◌≤◌, ◌^◌, ⊤, All, ℕ, List, [], ◌∷◌, Contains, length, map, take, Option, Some, None}
-use Rattle.ct_verify.specs.Laws.{SomeCollide}
+use Rattle.ct_older_tree.specs.Hashed.{CollideAmong}
 use Rattle.ct_witness.specs.declared.tree.Tree.{Tree}
-use Rattle.ct_witness.specs.Runs.{Granted, IsWitness, IsTreeOf, IsTreeOfFirst, no_tree}
+use Rattle.ct_witness.specs.Runs.{Granted, IsWitness, IsTreeOf, IsTreeOfFirst, IsHashedOver, no_tree}
 use Rattle.libwagtenib.specs.Witness.{Cosigned, Cosigns, CosignsFirst, IsMessageOf}
 
 -- A call is made before the first cosignature of the log with this origin, or over this state, the message of the last one.
@@ -78,12 +78,17 @@ KeptAreAWitness =
     (H : List ℕ → List ℕ) (all : List (Cosignature H)) → AreKept H None all
     → (steps : List Granted) × IsWitness H steps × (map granted_tree steps ≡ map cosigned_tree all)
 
--- If the newest tree of such cosignatures is that of a list, each of their trees is that of a beginning of it; or two different strings with one hash are given.
+-- the request that was granted, with the proof that the call was given
+abbrev pub granted_by : {H : List ℕ → List ℕ} → Cosignature H → Granted
+granted_by c = record { old = c.call.old; tree = c.says.tree; proof = c.call.proof }
+
+-- If the newest tree of such cosignatures is that of a list, each of their trees is that of a beginning of it; or two strings collide, which are hashed when the
+-- proofs of the calls are checked, or in the trees of the list's beginnings.
 abbrev pub KeptGoBack : Type 0
 KeptGoBack =
     (H : List ℕ → List ℕ) → ((x : List ℕ) → length (H x) ≡ 32) → (all : List (Cosignature H)) → AreKept H None all
     → (D : List (List ℕ)) → IsTreeOf H D (newest_cosigned (no_tree H) all)
-    → All (λ (c : Cosignature H). IsTreeOfFirst H D c.says.tree) all ⊎ SomeCollide H
+    → All (λ (c : Cosignature H). IsTreeOfFirst H D c.says.tree) all ⊎ CollideAmong H (IsHashedOver H (map granted_by all) D)
 
 -- each of these cosignatures is of the same log as the one before, not earlier than it, and of a tree with as many leaves or more
 unfoldable pub CosignedInOrder : {H : List ℕ → List ℕ} → Cosigned → List (Cosignature H) → Type 0

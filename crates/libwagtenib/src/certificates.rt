@@ -15,7 +15,7 @@ use ct_promise::{
 use std::alloc::Global;
 
 // The number of a fault of an element.
-fn number_of_der(fault: DerFault) -> u32
+pub(crate) fn number_of_der(fault: DerFault) -> u32
     ensures { result ≡ der_code fault }
 {
     match fault {
@@ -52,7 +52,7 @@ fn number_of(unfit: Unfit) -> u32
 }
 
 // The number of a field.
-fn number_of_place(place: Place) -> u32
+pub(crate) fn number_of_place(place: Place) -> u32
     ensures { result ≡ place_number place }
 {
     match place {

@@ -4,6 +4,8 @@
 pub const OK: u32 = 0;
 /// The index of the leaf is not below the size of the tree.
 pub const INDEX_OUT_OF_RANGE: u32 = 1;
+/// The hashes lead to another root.
+pub const ROOT_MISMATCH: u32 = 4;
 /// Not 0 < first < second.
 pub const SIZES_OUT_OF_RANGE: u32 = 7;
 /// An allocation was refused. Nothing was written.
@@ -12,6 +14,8 @@ pub const OUT_OF_MEMORY: u32 = 8;
 pub const NO_ROOM: u32 = 9;
 /// The origin isn't UTF-8, or has a line end. Nothing was written.
 pub const BAD_ORIGIN: u32 = 10;
+/// No entry has this type.
+pub const BAD_ENTRY_TYPE: u32 = 20;
 /// The head has fewer leaves than the last one.
 pub const SIZE_FALLS: u32 = 32;
 /// The head is another than the last one, and its timestamp is not later.
@@ -116,3 +120,35 @@ pub const SIGNED_BEHIND_LISTED: u32 = 121;
 pub const BEHIND_LISTED: u32 = 122;
 /// A later head is published.
 pub const BEHIND_PUBLISHED: u32 = 123;
+/// The verdict of a monitor: the waiting head is that of all leaves that were read.
+pub const ACCEPTED: u32 = 128;
+/// The waiting head has more leaves than were read.
+pub const PENDING: u32 = 129;
+/// The size and the root of a known head again.
+pub const AGAIN: u32 = 130;
+/// An older head with fewer leaves.
+pub const STALE: u32 = 131;
+/// Fewer leaves than a known head has, and not an earlier timestamp.
+pub const SHRUNK: u32 = 132;
+/// The known head with this size has another root.
+pub const FORKED: u32 = 133;
+/// More leaves than a known head has, and not a later timestamp.
+pub const HEAD_NOT_LATER: u32 = 134;
+/// The root of the waiting head is not that of the leaves that were read.
+pub const OTHER_ROOT: u32 = 135;
+/// The entries do not begin where those that were read end, or no head waits, or there are no two heads that a proof could join.
+pub const GAP: u32 = 136;
+/// The proof leads from the accepted head to the waiting one.
+pub const CONSISTENT: u32 = 137;
+/// The proof does not lead there.
+pub const INCONSISTENT: u32 = 138;
+/// The length of an entry's fingerprints is no multiple of 32.
+pub const PARTIAL_FINGERPRINT: u32 = 139;
+/// There are not as many subtrees as a tree of the head's size has.
+pub const OTHER_COUNT: u32 = 140;
+/// The lengths of the entries do not add up to the length of their bytes.
+pub const OTHER_LENGTHS: u32 = 141;
+/// The bytes are no list of watched names.
+pub const BAD_WATCHED: u32 = 144;
+/// The text is not UTF-8.
+pub const NOT_UTF8: u32 = 145;

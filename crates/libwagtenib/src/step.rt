@@ -41,7 +41,7 @@ fn answer_in(answer: Result<Answer, AllocError>, out: &mut [u8], length: &mut u6
 }
 
 // The origin that the bytes are.
-fn origin_of(bytes: &[u8]) -> Option<&str>
+pub(crate) fn origin_of(bytes: &[u8]) -> Option<&str>
     ensures { MatchOption result (IsOrigin bytes.now → ⊥) (λ text. (text.now ≡ bytes.now) × IsOrigin bytes.now) }
 {
     if bytes.is_empty() || bytes.contains(&b'\n') {

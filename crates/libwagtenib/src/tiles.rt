@@ -69,7 +69,7 @@ fn first_of(bytes: &[u8], length: u64) -> (&[u8], &[u8])
 }
 
 // The pieces of these lengths that bytes begin with.
-fn pieces_of(
+pub(crate) fn pieces_of(
     alloc: Global,
     mut bytes: &[u8],
     mut lengths: &[u64],

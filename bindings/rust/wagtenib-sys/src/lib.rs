@@ -76,6 +76,22 @@ pub mod code {
     pub const SIGNED_BEHIND_LISTED: u32 = 121;
     pub const BEHIND_LISTED: u32 = 122;
     pub const BEHIND_PUBLISHED: u32 = 123;
+    pub const PARTIAL_FINGERPRINT: u32 = 139;
+    pub const OTHER_COUNT: u32 = 140;
+    pub const OTHER_LENGTHS: u32 = 141;
+    pub const BAD_WATCHED: u32 = 144;
+    pub const NOT_UTF8: u32 = 145;
+    pub const ACCEPTED: u32 = 128;
+    pub const PENDING: u32 = 129;
+    pub const AGAIN: u32 = 130;
+    pub const STALE: u32 = 131;
+    pub const SHRUNK: u32 = 132;
+    pub const FORKED: u32 = 133;
+    pub const HEAD_NOT_LATER: u32 = 134;
+    pub const OTHER_ROOT: u32 = 135;
+    pub const GAP: u32 = 136;
+    pub const CONSISTENT: u32 = 137;
+    pub const INCONSISTENT: u32 = 138;
 }
 
 #[repr(C)]
@@ -134,13 +150,43 @@ pub struct wagtenib_node_found {
 
 #[repr(C)]
 #[derive(Clone, Copy, Debug, Default)]
+pub struct wagtenib_checkpoint {
+    pub tree_size: u64,
+    pub origin_length: u64,
+    pub root: [u8; 32],
+}
+
+#[repr(C)]
+#[derive(Clone, Copy, Debug, Default)]
 pub struct wagtenib_witnessed_tree {
     pub tree_size: u64,
     pub time: u64,
     pub root: [u8; 32],
 }
 
+#[repr(C)]
+#[derive(Clone, Copy, Debug, Default)]
+pub struct wagtenib_monitor_verdict {
+    pub leaves_accepted: u64,
+    pub leaves_read: u64,
+    pub leaves_wanted: u64,
+    pub known: wagtenib_head,
+    pub root: [u8; 32],
+    pub verdict: u32,
+    pub fault: u32,
+}
+
+#[repr(C)]
+#[derive(Clone, Copy, Debug, Default)]
+pub struct wagtenib_entry_report {
+    pub later_index: u64,
+    pub later_timestamp: u64,
+    pub faulty_index: u64,
+    pub fault: u32,
+}
+
 extern "C" {
+    pub fn wagtenib_version() -> u32;
     pub fn wagtenib_leaf_hash(leaf: *const u8, leaf_length: usize, out: *mut u8);
     pub fn wagtenib_verify_inclusion(leaf_hash: *const u8, leaf_index: u64, tree_size: u64, path: *const u8, path_length: usize, root: *const u8) -> u32;
     pub fn wagtenib_verify_consistency(first: u64, second: u64, first_root: *const u8, second_root: *const u8, path: *const u8, path_length: usize) -> u32;
@@ -169,10 +215,24 @@ extern "C" {
     pub fn wagtenib_root_of_tiles(tree_size: u64, contents: *const u8, contents_length: usize, lengths: *const u64, tiles: usize, root: *mut u8) -> u32;
     pub fn wagtenib_path_of_tiles(leaf_index: u64, tree_size: u64, contents: *const u8, contents_length: usize, lengths: *const u64, tiles: usize, path: *mut u8, room: usize, count: *mut u64) -> u32;
     pub fn wagtenib_proof_of_tiles(first: u64, second: u64, contents: *const u8, contents_length: usize, lengths: *const u64, tiles: usize, proof: *mut u8, room: usize, count: *mut u64) -> u32;
+    pub fn wagtenib_data_tile_leaves(tile: *const u8, tile_length: usize, entries: *mut u8, room: usize, length: *mut u64, faulty_index: *mut u64) -> u32;
     pub fn wagtenib_precertificate_entry(tbs: *const u8, tbs_length: usize, entry: *mut u8, room: usize, length: *mut u64, field: *mut u32) -> u32;
     pub fn wagtenib_promised_leaf(certificate: *const u8, certificate_length: usize, issuer: *const u8, issuer_length: usize, timestamp: u64, extensions: *const u8, extensions_length: usize, leaf: *mut u8, room: usize, length: *mut u64, field: *mut u32) -> u32;
     pub fn wagtenib_check_promise(certificate: *const u8, certificate_length: usize, issuer: *const u8, issuer_length: usize, timestamp: u64, extensions: *const u8, extensions_length: usize, leaf_index: u64, tree_size: u64, path: *const u8, path_length: usize, root: *const u8, field: *mut u32) -> u32;
+    pub fn wagtenib_certificate_names(entry_type: u32, certificate: *const u8, certificate_length: usize, names: *mut u8, room: usize, length: *mut u64, field: *mut u32) -> u32;
+    pub fn wagtenib_watched_names(entry_type: u32, certificate: *const u8, certificate_length: usize, watched: *const u8, watched_length: usize, found: *mut u8, room: usize, length: *mut u64, field: *mut u32) -> u32;
+    pub fn wagtenib_checkpoint_text(origin: *const u8, origin_length: usize, tree_size: u64, root: *const u8, text: *mut u8, room: usize, length: *mut u64) -> u32;
+    pub fn wagtenib_read_checkpoint(text: *const u8, text_length: usize, checkpoint: *mut wagtenib_checkpoint) -> u32;
+    pub fn wagtenib_tree_head_signature(head: *const wagtenib_head, signed_bytes: *mut u8);
+    pub fn wagtenib_cosignature_message(time: u64, text: *const u8, text_length: usize, message: *mut u8, room: usize, length: *mut u64) -> u32;
+    pub fn wagtenib_note_key_id(name: *const u8, name_length: usize, algorithm: u8, public_key: *const u8, public_key_length: usize, key_id: *mut u8);
+    pub fn wagtenib_log_id(public_key: *const u8, public_key_length: usize, log_id: *mut u8);
     pub fn wagtenib_witness_first(origin: *const u8, origin_length: usize, checkpoint: *const u8, checkpoint_length: usize, old: u64, proof: *const u8, proof_length: usize, time: u64, out: *mut u8, room: usize, length: *mut u64) -> u32;
     pub fn wagtenib_witness_cosign(state: *const u8, state_length: usize, checkpoint: *const u8, checkpoint_length: usize, old: u64, proof: *const u8, proof_length: usize, time: u64, out: *mut u8, room: usize, length: *mut u64) -> u32;
     pub fn wagtenib_witness_state(seen: *const u8, seen_length: usize, state: *const u8, state_length: usize, last: *mut wagtenib_witnessed_tree) -> u32;
+    pub fn wagtenib_monitor_begin(out: *mut u8, room: usize, length: *mut u64) -> u32;
+    pub fn wagtenib_monitor_start(head: *const wagtenib_head, subtrees: *const u8, count: usize, out: *mut u8, room: usize, length: *mut u64) -> u32;
+    pub fn wagtenib_monitor_head(state: *const u8, state_length: usize, head: *const wagtenib_head, verdict: *mut wagtenib_monitor_verdict, out: *mut u8, room: usize, length: *mut u64) -> u32;
+    pub fn wagtenib_monitor_entries(state: *const u8, state_length: usize, start: u64, leaves: *const u8, leaves_length: usize, lengths: *const u64, count: usize, verdict: *mut wagtenib_monitor_verdict, report: *mut wagtenib_entry_report, out: *mut u8, room: usize, length: *mut u64) -> u32;
+    pub fn wagtenib_monitor_proof(state: *const u8, state_length: usize, path: *const u8, path_length: usize, verdict: *mut wagtenib_monitor_verdict, out: *mut u8, room: usize, length: *mut u64) -> u32;
 }

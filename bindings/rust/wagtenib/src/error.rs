@@ -55,12 +55,12 @@ errors! {
     TimestampNotLater = TIMESTAMP_NOT_LATER, "the head differs from the last one, and its timestamp is not later";
     Fork = FORK, "the head has the size of the last one, and another root";
     TimestampTooFar = TIMESTAMP_TOO_FAR, "the head's timestamp is too far beyond the last one's";
-    BadState = BAD_STATE, "a state is not the TreeHeadSignature of a head (50 bytes)";
-    StateRolledBack = STATE_ROLLED_BACK, "the state's head is before that of a state that was seen";
+    BadState = BAD_STATE, "a state is not the bytes that a call gave: the guard's TreeHeadSignature, the witness's message, the step's line";
+    StateRolledBack = STATE_ROLLED_BACK, "the state is before one that was seen";
     LaterLeaf = LATER_LEAF, "the leaf's timestamp is later than the last head's";
     OtherIndex = OTHER_INDEX, "the leaf has extensions, and they are not its index alone";
     NotFirst = NOT_FIRST, "the head is neither that of the empty tree nor the named one";
-    BadOrigin = BAD_ORIGIN, "the origin is not UTF-8, or has a line end";
+    BadOrigin = BAD_ORIGIN, "the origin is empty, is not UTF-8, or has a line end";
     Edge = EDGE, "the partial tiles are not those of the state, or the edge is no list of contents";
     Entries = ENTRIES, "the partial data tile is not that of the state";
     ClockBack = CLOCK_BACK, "the timestamp of the step is not later than the state's";
@@ -104,6 +104,11 @@ errors! {
     SignedBehindListed = SIGNED_BEHIND_LISTED, "the store lists a later head than the last one that was signed";
     BehindListed = BEHIND_LISTED, "the store lists a later head than the lock's";
     BehindPublished = BEHIND_PUBLISHED, "a later head than the lock's is published";
+    PartialFingerprint = PARTIAL_FINGERPRINT, "the length of the issuers' fingerprints is no multiple of 32 bytes";
+    OtherCount = OTHER_COUNT, "there are not as many subtrees as a tree of the head's size has";
+    OtherLengths = OTHER_LENGTHS, "the lengths of the entries do not add up to that of their bytes";
+    BadWatched = BAD_WATCHED, "the bytes are no list of watched names";
+    NotUtf8 = NOT_UTF8, "the text is not UTF-8";
 }
 
 impl std::fmt::Display for Error {

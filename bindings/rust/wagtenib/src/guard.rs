@@ -25,7 +25,7 @@ pub struct TreeHead {
 }
 
 impl TreeHead {
-    fn in_c(&self) -> sys::wagtenib_head {
+    pub(crate) fn in_c(&self) -> sys::wagtenib_head {
         sys::wagtenib_head { tree_size: self.tree_size, timestamp: self.timestamp, root: self.root }
     }
 }

@@ -1,5 +1,5 @@
 use Rattle.std.proofs.Common.{◌≡◌, ◌∙◌, ℕ, List, sym, ap}
-use Rattle.ct_verify.proofs.Telling.{path_tells}
+use Rattle.ct_older_tree.proofs.ListProofs.{accepted_path_is_path}
 use Rattle.ct_tile_reader.specs.Needed.{path_tiles}
 use Rattle.ct_tile_reader.specs.Handed.{contents_in, handed_fault, AreTilesOf}
 use Rattle.ct_tile_reader.specs.declared.handed.HandedFault.TheVariants.{Memory}
@@ -18,4 +18,4 @@ returns-in_err-tiles-clause-never_refused g c =
 
 pub returns-clause-tells : goal.returns-clause-tells
 returns-clause-tells g c D leaf accepted =
-    path_tells g.H.NodeHash.digest g.met.H.NodeHash.length_digest D leaf c.args.m c.in_ok-path.path.items accepted
+    accepted_path_is_path g.H.NodeHash.digest g.met.H.NodeHash.length_digest D leaf c.args.m c.in_ok-path.path.items accepted

@@ -1,6 +1,6 @@
 use Rattle.std.proofs.Common.{◌≡◌, ◌∙◌, ℕ, List, sym, ap, subst}
 use Rattle.ct_verify.specs.Laws.{AreHashes}
-use Rattle.ct_verify.proofs.Telling.{proof_tells}
+use Rattle.ct_older_tree.proofs.ListProofs.{accepted_proof_is_of_beginning}
 use Rattle.ct_tile_reader.specs.Needed.{proof_tiles}
 use Rattle.ct_tile_reader.specs.Handed.{contents_in, handed_fault, AreTilesOf}
 use Rattle.ct_tile_reader.specs.declared.handed.HandedFault.TheVariants.{Memory}
@@ -23,4 +23,4 @@ returns-clause-hashes g c = subst AreHashes c.deref-2.ensures.value c.are_hashes
 pub returns-clause-tells : goal.returns-clause-tells
 returns-clause-tells g c E D accepted =
     let are = subst AreHashes c.deref-2.ensures.value c.are_hashes.ensures in
-    proof_tells g.H.NodeHash.digest g.met.H.NodeHash.length_digest E D c.in_ok-proof.proof.items are accepted
+    accepted_proof_is_of_beginning g.H.NodeHash.digest g.met.H.NodeHash.length_digest E D c.in_ok-proof.proof.items are accepted

@@ -1,0 +1,144 @@
+package wagtenib_test
+
+import (
+	"bytes"
+	"crypto/sha256"
+	"encoding/binary"
+	"errors"
+	"math/bits"
+	"slices"
+	"testing"
+
+	"golang.org/x/crypto/cryptobyte"
+
+	"wagtenib/bindings/go/wagtenib"
+)
+
+// subtreesOf holds the perfect subtrees of a state: a number of leaves, and the roots, largest first.
+type subtreesOf struct {
+	size  uint64
+	roots []wagtenib.Hash
+}
+
+// root returns the hash to which the subtrees lead (RFC 6962, section 2.1).
+func (s subtreesOf) root() wagtenib.Hash {
+	if len(s.roots) == 0 {
+		return sha256.Sum256(nil)
+	}
+	found := s.roots[len(s.roots)-1]
+	for _, left := range slices.Backward(s.roots[:len(s.roots)-1]) {
+		found = sha256.Sum256(slices.Concat([]byte{1}, left[:], found[:]))
+	}
+	return found
+}
+
+// readHead reads a head that may be missing: the byte 0, or the byte 1, the size, the timestamp and the root.
+func readHead(s *cryptobyte.String) (head *wagtenib.TreeHead, ok bool) {
+	var mark uint8
+	if !s.ReadUint8(&mark) || mark > 1 {
+		return nil, false
+	}
+	if mark == 0 {
+		return nil, true
+	}
+	head = &wagtenib.TreeHead{}
+	return head, s.ReadUint64(&head.TreeSize) && s.ReadUint64(&head.Timestamp) && s.CopyBytes(head.Root[:])
+}
+
+// readSubtrees reads a number of leaves, and the roots as bytes with their length in 8 bytes.
+func readSubtrees(s *cryptobyte.String) (found subtreesOf, ok bool) {
+	var length uint64
+	var text []byte
+	if !s.ReadUint64(&found.size) || !s.ReadUint64(&length) || length > uint64(len(*s)) || length%32 != 0 {
+		return found, false
+	}
+	if !s.ReadBytes(&text, int(length)) {
+		return found, false
+	}
+	for root := range slices.Chunk(text, 32) {
+		found.roots = append(found.roots, wagtenib.Hash(root))
+	}
+	return found, len(found.roots) == bits.OnesCount64(found.size)
+}
+
+// isState reports whether these bytes and their hash are a monitor's state: they have the version 1, two heads and two
+// lists of subtrees, and these fit one another.
+func isState(parts []byte) bool {
+	s := cryptobyte.String(parts)
+	var version uint8
+	if !s.ReadUint8(&version) || version != 1 {
+		return false
+	}
+	accepted, first := readHead(&s)
+	if !first {
+		return false
+	}
+	waiting, second := readHead(&s)
+	if !second {
+		return false
+	}
+	sure, third := readSubtrees(&s)
+	if !third {
+		return false
+	}
+	all, fourth := readSubtrees(&s)
+	if !fourth || !s.Empty() {
+		return false
+	}
+	if accepted == nil && sure.size != 0 {
+		return false
+	}
+	if accepted != nil && (accepted.TreeSize != sure.size || accepted.Root != sure.root()) {
+		return false
+	}
+	same := sure.size == all.size && slices.Equal(sure.roots, all.roots)
+	if waiting == nil {
+		return same
+	}
+	later := accepted == nil || accepted.TreeSize < waiting.TreeSize && accepted.Timestamp < waiting.Timestamp
+	return later && all.size < waiting.TreeSize && (sure.size < all.size || same)
+}
+
+// FuzzMonitorState reads the bytes of a state with their right hash. A state must be written again as it was read, and
+// everything else must be refused.
+func FuzzMonitorState(f *testing.F) {
+	log := &madeLog{}
+	for i := range 9 {
+		log.append(f, leafAt(uint64(10*i), "a certificate"))
+	}
+	add := func(state []byte, err error) []byte {
+		if err != nil {
+			f.Fatal(err)
+		}
+		f.Add(state[:len(state)-sha256.Size])
+		return state
+	}
+	state := add(wagtenib.MonitorBegin())
+	_, next, err := wagtenib.MonitorHead(state, wagtenib.TreeHead{TreeSize: 9, Timestamp: 99, Root: log.root(f, 9)})
+	state = add(next, err)
+	_, _, next, err = wagtenib.MonitorEntries(state, 0, log.leaves[:7])
+	state = add(next, err)
+	_, _, next, err = wagtenib.MonitorEntries(state, 7, log.leaves[7:])
+	add(next, err)
+	f.Add(binary.BigEndian.AppendUint64([]byte{1, 0, 0}, 0))
+	f.Fuzz(func(t *testing.T, parts []byte) {
+		sum := sha256.Sum256(parts)
+		state := append(bytes.Clone(parts), sum[:]...)
+		found, next, err := wagtenib.MonitorProof(state, nil)
+		if !isState(parts) {
+			if !errors.Is(err, wagtenib.ErrState) {
+				t.Fatalf("%x: %v, but it is no state", parts, err)
+			}
+			return
+		}
+		if err != nil || !bytes.Equal(next, state) {
+			t.Fatalf("%x: %v, and the state %x", parts, err, next)
+		}
+		if found.Verdict != wagtenib.VerdictGap && found.Verdict != wagtenib.VerdictInconsistent {
+			t.Fatalf("%x: an empty proof has the verdict %v", parts, found.Verdict)
+		}
+		if _, _, err := wagtenib.MonitorProof(parts, nil); !errors.Is(err, wagtenib.ErrState) {
+			t.Fatalf("%x is read without its hash: %v", parts, err)
+		}
+	})
+}

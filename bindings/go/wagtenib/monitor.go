@@ -1,0 +1,190 @@
+//go:build linux && (amd64 || arm64)
+
+package wagtenib
+
+// #cgo nocallback wagtenib_monitor_begin
+// #cgo noescape wagtenib_monitor_begin
+// #cgo nocallback wagtenib_monitor_start
+// #cgo noescape wagtenib_monitor_start
+// #cgo nocallback wagtenib_monitor_head
+// #cgo noescape wagtenib_monitor_head
+// #cgo nocallback wagtenib_monitor_entries
+// #cgo noescape wagtenib_monitor_entries
+// #cgo nocallback wagtenib_monitor_proof
+// #cgo noescape wagtenib_monitor_proof
+// #include "wagtenib.h"
+import "C"
+
+import (
+	"crypto/sha256"
+	"fmt"
+	"math/bits"
+	"slices"
+	"unsafe"
+)
+
+// maxMonitorState is the largest number of bytes of a monitor's state: the version, two heads, two times 64 hashes, and the hash of all of it.
+const maxMonitorState = 1 + 2*49 + 2*(16+64*HashSize) + HashSize
+
+// Verdict is a verdict of a monitor on an answer of a log.
+type Verdict uint32
+
+// The verdicts of a monitor.
+const (
+	VerdictAccepted     Verdict = C.WAGTENIB_ACCEPTED       // the waiting head is that of all leaves that were read, and is accepted
+	VerdictPending      Verdict = C.WAGTENIB_PENDING        // the waiting head has more leaves than were read
+	VerdictAgain        Verdict = C.WAGTENIB_AGAIN          // the size and the root of a known head again
+	VerdictStale        Verdict = C.WAGTENIB_STALE          // fewer leaves than a known head has, and an earlier timestamp
+	VerdictShrunk       Verdict = C.WAGTENIB_SHRUNK         // fewer leaves than a known head has, and not an earlier timestamp
+	VerdictForked       Verdict = C.WAGTENIB_FORKED         // the size of a known head, and another root
+	VerdictNotLater     Verdict = C.WAGTENIB_HEAD_NOT_LATER // more leaves than a known head has, and not a later timestamp
+	VerdictOtherRoot    Verdict = C.WAGTENIB_OTHER_ROOT     // the waiting head has another root than the leaves that were read
+	VerdictGap          Verdict = C.WAGTENIB_GAP            // the entries begin elsewhere, or no head waits, or there are no two heads for a proof
+	VerdictConsistent   Verdict = C.WAGTENIB_CONSISTENT     // the proof leads from the accepted head to the waiting one
+	VerdictInconsistent Verdict = C.WAGTENIB_INCONSISTENT   // the proof does not lead there
+)
+
+var verdictNames = map[Verdict]string{VerdictAccepted: "accepted", VerdictPending: "pending", VerdictAgain: "again", VerdictStale: "stale", VerdictShrunk: "shrunk",
+	VerdictForked: "fork", VerdictNotLater: "time-not-later", VerdictOtherRoot: "root-mismatch", VerdictGap: "gap", VerdictConsistent: "consistent",
+	VerdictInconsistent: "inconsistent"}
+
+// String returns the name of a verdict.
+func (v Verdict) String() string {
+	if name, ok := verdictNames[v]; ok {
+		return name
+	}
+	return fmt.Sprintf("verdict %d", uint32(v))
+}
+
+// Accuses reports whether a verdict speaks against the log.
+func (v Verdict) Accuses() bool {
+	switch v {
+	case VerdictShrunk, VerdictForked, VerdictNotLater, VerdictOtherRoot, VerdictInconsistent:
+		return true
+	}
+	return false
+}
+
+// Judgement holds a verdict of a monitor, and the numbers of the state after it.
+type Judgement struct {
+	Verdict  Verdict
+	Fault    error    // the fault of an inconsistent proof, otherwise nil
+	Known    TreeHead // the known head that VerdictForked and VerdictNotLater name
+	Root     Hash     // the root of the leaves that were read, for VerdictOtherRoot
+	Accepted uint64   // leaves of the accepted head
+	Read     uint64   // leaves that were read: the index of the next one that is wanted
+	Wanted   uint64   // leaves of the waiting head, or Read if no head waits
+}
+
+// LaterEntry holds an entry that is later than the head of its tree.
+type LaterEntry struct {
+	Index     uint64
+	Timestamp uint64 // milliseconds since 1970
+}
+
+// FaultyEntry holds an entry that is no leaf.
+type FaultyEntry struct {
+	Index uint64
+	Fault error // as of DecodeLeaf
+}
+
+// EntryReport holds the first entry that is later than the head that waited for it, and the first that is no leaf. Each is nil if there is none.
+type EntryReport struct {
+	Later  *LaterEntry
+	Faulty *FaultyEntry
+}
+
+// judged makes a call that writes a verdict and a state.
+func judged(call func(verdict *C.struct_wagtenib_monitor_verdict, out *C.uint8_t, room C.size_t, length *C.uint64_t) C.uint32_t) (Judgement, []byte, error) {
+	var verdict C.struct_wagtenib_monitor_verdict
+	state, code := output(maxMonitorState, func(out *C.uint8_t, room C.size_t, length *C.uint64_t) C.uint32_t {
+		return call(&verdict, out, room, length)
+	})
+	if err := result(code); err != nil {
+		return Judgement{}, nil, err
+	}
+	known := TreeHead{TreeSize: uint64(verdict.known.tree_size), Timestamp: uint64(verdict.known.timestamp), Root: *(*Hash)(unsafe.Pointer(&verdict.known.root))}
+	return Judgement{Verdict: Verdict(verdict.verdict), Fault: result(verdict.fault), Known: known, Root: *(*Hash)(unsafe.Pointer(&verdict.root)),
+		Accepted: uint64(verdict.leaves_accepted), Read: uint64(verdict.leaves_read), Wanted: uint64(verdict.leaves_wanted)}, state, nil
+}
+
+// MonitorBegin returns the state of a monitor that was handed nothing. The error is nil or ErrMemory. It must never be called because a state is missing.
+func MonitorBegin() (state []byte, err error) {
+	state, code := output(maxMonitorState, func(out *C.uint8_t, room C.size_t, length *C.uint64_t) C.uint32_t {
+		return C.wagtenib_monitor_begin(out, room, length)
+	})
+	return state, result(code)
+}
+
+// MonitorStart returns the state of a monitor that is told to trust a head: it counts as accepted, and reading goes on
+// from the leaf with the index head.TreeSize. The caller must have checked the head's signature. The subtrees are the
+// roots of the perfect subtrees of the head's leaves, largest first, as Push keeps them. LastSubtrees returns them.
+//
+// If the head is that of a list of leaves, each head that is accepted later is that of a beginning of one list, which
+// begins with these leaves (assuming no SHA-256 collision). Nothing is said of these leaves, because no one read them.
+//
+// The error is nil, ErrOtherCount, ErrRootMismatch or ErrMemory.
+func MonitorStart(head TreeHead, subtrees []Hash) (state []byte, err error) {
+	trusted := head.inC()
+	state, code := output(maxMonitorState, func(out *C.uint8_t, room C.size_t, length *C.uint64_t) C.uint32_t {
+		return C.wagtenib_monitor_start(&trusted, ofHashes(subtrees), C.size_t(len(subtrees)), out, room, length)
+	})
+	return state, result(code)
+}
+
+// LastSubtrees returns the roots of the perfect subtrees of a tree, largest first, from the leaf hash of its last leaf
+// and that leaf's audit path (RFC 6962, section 2.1.1). It checks nothing: MonitorStart does. The error is
+// ErrPathTooShort if the path has fewer hashes than the smallest subtree has levels, otherwise nil.
+func LastSubtrees(leafHash Hash, size uint64, path []Hash) ([]Hash, error) {
+	if size == 0 {
+		return nil, nil
+	}
+	levels := bits.TrailingZeros64(size)
+	if len(path) < levels {
+		return nil, ErrPathTooShort
+	}
+	smallest := leafHash
+	for _, left := range path[:levels] {
+		smallest = sha256.Sum256(slices.Concat([]byte{1}, left[:], smallest[:]))
+	}
+	subtrees := append(slices.Clone(path[levels:]), smallest)
+	slices.Reverse(subtrees[:len(subtrees)-1])
+	return subtrees, nil
+}
+
+// MonitorHead judges a tree head over a state. The head is compared with the accepted head and with the one that waits for its entries. If it is larger and later
+// than both, it waits from then on (unless another one waits already), and is compared with the leaves that were read.
+//
+// It returns the verdict and the next state. The error is nil, ErrState or ErrMemory. The caller must store the next state before it acts on the verdict.
+func MonitorHead(state []byte, head TreeHead) (found Judgement, next []byte, err error) {
+	judgedHead := head.inC()
+	return judged(func(verdict *C.struct_wagtenib_monitor_verdict, out *C.uint8_t, room C.size_t, length *C.uint64_t) C.uint32_t {
+		return C.wagtenib_monitor_head(ofBytes(state), C.size_t(len(state)), &judgedHead, verdict, out, room, length)
+	})
+}
+
+// MonitorEntries judges the leaves (MerkleTreeLeaf, RFC 6962, section 3.4) from the index start on. As many are read as the waiting head has, and that head is
+// compared with all leaves that were read. Entries that are not read are not in the report. The rest is as of MonitorHead.
+func MonitorEntries(state []byte, start uint64, leaves [][]byte) (found Judgement, report EntryReport, next []byte, err error) {
+	contents, lengths, count := joined(leaves)
+	var reported C.struct_wagtenib_entry_report
+	found, next, err = judged(func(verdict *C.struct_wagtenib_monitor_verdict, out *C.uint8_t, room C.size_t, length *C.uint64_t) C.uint32_t {
+		return C.wagtenib_monitor_entries(ofBytes(state), C.size_t(len(state)), C.uint64_t(start), ofBytes(contents), C.size_t(len(contents)), lengths, count, verdict,
+			&reported, out, room, length)
+	})
+	if reported.later_timestamp != 0 {
+		report.Later = &LaterEntry{Index: uint64(reported.later_index), Timestamp: uint64(reported.later_timestamp)}
+	}
+	if reported.fault != 0 {
+		report.Faulty = &FaultyEntry{Index: uint64(reported.faulty_index), Fault: result(reported.fault)}
+	}
+	return found, report, next, err
+}
+
+// MonitorProof judges a consistency proof (RFC 6962, section 2.1.2) from the accepted head to the waiting one. The state stays the same. The rest is as of
+// MonitorHead.
+func MonitorProof(state []byte, proof []Hash) (found Judgement, next []byte, err error) {
+	return judged(func(verdict *C.struct_wagtenib_monitor_verdict, out *C.uint8_t, room C.size_t, length *C.uint64_t) C.uint32_t {
+		return C.wagtenib_monitor_proof(ofBytes(state), C.size_t(len(state)), ofHashes(proof), C.size_t(len(proof)), verdict, out, room, length)
+	})
+}

@@ -1,0 +1,187 @@
+"""The claims of the README, each with its premises and the public contracts that prove it. checking.py makes a page below docs/checking/ of each."""
+import typing
+
+
+class Contract(typing.NamedTuple):
+    """A function of a file below crates/, the names of its clauses that the page shows (none: all), and what they say in plain words."""
+
+    file: str
+    function: str
+    clauses: list
+    words: str
+
+
+class Claim(typing.NamedTuple):
+    """A page: the name of its file, its title, the claim, its premises in order, and its contracts."""
+
+    page: str
+    title: str
+    sentence: str
+    premises: list
+    contracts: list
+
+
+COLLISION = "No premise says that SHA-256 has no collisions. Instead, the law ends in two different strings with one digest."
+NAMED = "No premise says that SHA-256 has no collisions. Instead, the law ends in two different strings with one digest, which were hashed when the proofs were checked or in the trees of the lists."
+HASHES = "The law holds for every hash function with digests of 32 bytes, and so for SHA-256."
+
+CLAIMS = [
+    Claim(
+        "log",
+        "The final log",
+        "Up to 16 front ends accept submissions, each in a thread of its own, and one sequencer takes them. However they interleave, the final log has the first"
+        " occurrences of a merge, in each front's order, of exactly the submissions that were accepted before the shutdown step. Each published head has MTH of all entries"
+        " up to then, and each reply is the one that a published state defines.",
+        [
+            "The caller uses the fronts and the sequencer of one `open` together (`IsOfHouse`). The type of a front has no other way to make one.",
+            "Before `finish`, the caller retired each front's last holder into `ends`, and asked `is_shut`, `is_settled` and `is_covered`. Each of them answered true.",
+            "`settle` and `take` may be refused for memory. Then nothing is lost, and the caller calls again.",
+        ],
+        [
+            Contract("ct_house/src/opening.rt", "open", ["fresh", "sequences"], "A new house has accepted nothing, and its log has one head of size 0."),
+            Contract("ct_house/src/front.rt", "submit", ["same", "answer"], "A ticket says that the submission is now the last one in this front's accepted list. A refusal gives back the same submission, and the list is as it was."),
+            Contract("ct_house/src/sequencer.rt", "shutdown", ["answer", "listed"], "The answer is the number of submissions that all fronts accepted before this step."),
+            Contract("ct_house/src/sequencer.rt", "take", ["taken", "listed", "in_time"], "The sequencer takes the next submissions of one front, in order, and settles them: the first with an identity becomes an entry."),
+            Contract("ct_house/src/sequencer.rt", "settle", ["settled", "all"], "After the shutdown, the sequencer settles everything that the fronts had accepted."),
+            Contract("ct_house/src/sequencer.rt", "publish", ["head", "in_time", "extends"], "The new head has the number of all entries, MTH of their leaves, and the time that the caller gave. The state before is a beginning of the new one."),
+            Contract("ct_house/src/front.rt", "ask", ["seen", "lawful", "answer"], "The reply to a query is the one that a published state defines: an audit path is PATH of it, a consistency proof is PROOF of it."),
+            Contract("ct_house/src/sequencer.rt", "finish", [], "The final log. `closes` is the headline: the settled submissions are a merge of the accepted lists, and the entries are the first of each identity."),
+        ],
+    ),
+    Claim(
+        "nodes",
+        "One list, however many nodes write it",
+        "Any number of nodes run one log over one lock and one object store. Start, kill and interleave them in any way, and let any of their commands be lost, repeated or late."
+        " Then there is one list of entries: the lock's state, each stored tile, each receipt and each head are those of this list, or two different strings with one digest are given.",
+        [
+            "The lock replaces a state only if it holds the expected one, and a reading is a state that it held (`MayHappen`).",
+            "A command takes effect only if a node gave it, and a node learns that it took effect only if it did (`MayHappen`).",
+            "An object that was stored can be read until it is deleted. A command to delete deletes only the object that it names (`MayHappen`).",
+            "Each step is the reply of `wagtenib_step`, and the objects stored for a state are those that `wagtenib_step_resume` replies for its line (`AreStepsMade`).",
+            "The first state is that of known entries (`IsFirstState`, `IsLog`).",
+            "For the heads: a guard allowed each head, one after the other, and a node asked for the newest one (`AreHeadSteps`, `NewestIsAsked`).",
+            "For identities: each step was preceded by a look into the index, and the index missed nothing that was added before.",
+            "Nothing is rolled back. The world of the law has no event that does it, so a restored lock is outside of the law.",
+            COLLISION,
+        ],
+        [
+            Contract("ct_node_log/src/laws.rt", "nodes", [], "There is one list of entries, and the lock, the tiles and the receipts are those of it."),
+            Contract("ct_node_log/src/laws.rt", "heads", [], "The heads that guards allowed are those of beginnings of that list."),
+            Contract("ct_node_log/src/laws.rt", "kept", [], "After garbage collection, every tile that a head needs can still be read, under its own name or as the beginning of a wider tile."),
+            Contract("ct_node_log/src/laws.rt", "no_identity_twice", [], "No identity is in the list twice after the known entries."),
+            Contract("libwagtenib/src/node_laws.rt", "nodes_by_calls_write_one_log", [], "The same for any sequence of calls of the library's functions, from any number of processes."),
+        ],
+    ),
+    Claim(
+        "guard",
+        "What the key signs",
+        "Take all heads that were signed over one register, by any number of processes, killed at any moment. If the newest of them is the head of a list of leaves, each of them that has leaves"
+        " is the head of a beginning of this list, and each signed receipt's leaf is in the list at its index. Otherwise two of the strings that were hashed have one digest.",
+        [
+            "A head is signed only after the register took its state in place of the one that the call was made with.",
+            "The key signs nothing else. (The receipt of a leaf and the signature of a head are never the same bytes: `receipts_are_no_heads`.)",
+            "The register is not rolled back.",
+            "For the first law, the newest head is that of some list of leaves. For the second, each head is that of some list.",
+            HASHES + " " + NAMED,
+        ],
+        [
+            Contract("libwagtenib/src/guard.rt", "wagtenib_guard_head", [], "What one call decides: the head may follow the last one, or the first reason why it may not."),
+            Contract("libwagtenib/src/guard.rt", "wagtenib_guard_first_head", [], "The first head is that of the empty tree, or the one that the operator names."),
+            Contract("libwagtenib/src/guard.rt", "wagtenib_guard_receipt", [], "A receipt is signed only if an audit path leads from its leaf to the last signed head."),
+            Contract("libwagtenib/src/guard_laws.rt", "signed_by_calls_go_back", [], "If the newest head is that of a list, all earlier ones are heads of its beginnings."),
+            Contract("libwagtenib/src/guard_laws.rt", "signed_by_calls_agree", [], "If each head is that of some list, these lists are beginnings of one list."),
+            Contract("libwagtenib/src/guard_laws.rt", "receipts_stand_in_the_newest", [], "The leaf of each receipt is in the newest head's list, at its index."),
+            Contract("libwagtenib/src/guard_laws.rt", "receipts_are_no_heads", [], "No receipt has the bytes of a head."),
+        ],
+    ),
+    Claim(
+        "witness",
+        "What a witness cosigns",
+        "All trees that a witness cosigned over one register are those of beginnings of one list. If enough of n witnesses cosigned each of two trees, the smaller tree's list is a beginning of the larger one's,"
+        " and no two clients can be shown two different leaves at one index under them."
+        " Otherwise two of the strings that were hashed have one digest.",
+        [
+            "A message is signed only after the register took it as the new state, in place of the one that the call was made with.",
+            "The register is not rolled back.",
+            "For the first two laws, the newest (or larger) tree is that of some list of leaves. The law of what clients are shown does not ask for a list.",
+            "For quorums: at most f of the n witnesses are faulty, j of them cosigned the one tree and k the other, and n + f < j + k.",
+            HASHES + " " + NAMED,
+        ],
+        [
+            Contract("libwagtenib/src/witness.rt", "wagtenib_witness_cosign", [], "What one call decides: the checkpoint may be cosigned after the last one, or the first reason why it may not."),
+            Contract("libwagtenib/src/witness_laws.rt", "cosigned_by_calls_go_back", [], "If the newest tree is that of a list, all earlier ones are those of its beginnings."),
+            Contract("libwagtenib/src/witness_laws.rt", "cosigned_by_calls_are_in_order", [], "All cosignatures are of one log, and neither their times nor their sizes fall."),
+            Contract("ct_witness/src/laws.rt", "quorums", ["agree"], "Two quorums that share an honest witness never cosign trees of two histories."),
+            Contract("ct_witness/src/laws.rt", "shown", ["quorums"], "Nor can two clients be shown two different leaves at one index under such trees."),
+        ],
+    ),
+    Claim(
+        "verifiers",
+        "What a proof is worth",
+        "An audit path is accepted exactly if it leads from the leaf to the root (RFC 9162, section 2.1.3.2), and a consistency proof exactly if it leads to both roots (section 2.1.4.2)."
+        " Every honest proof is accepted. Compared with a list of leaves that has the root, an accepted path shows that the leaf is in the list at its index. Under consistent heads no two clients are shown two different leaves at one index."
+        " Otherwise two of the strings that were hashed have one digest.",
+        [
+            "None for the verdicts.",
+            "For `explain`, the leaves that are given are those of the head.",
+            HASHES + " " + NAMED,
+        ],
+        [
+            Contract("ct_tree/src/laws.rt", "mth_of_leaves", [], "MTH is defined by the equations of RFC 6962, section 2.1."),
+            Contract("ct_tree/src/laws.rt", "path", [], "PATH is defined by the equations of section 2.1.1."),
+            Contract("ct_tree/src/laws.rt", "subproof", [], "PROOF and SUBPROOF are defined by the equations of section 2.1.2."),
+            Contract("ct_verify/src/laws.rt", "rebuild", [], "The root that an audit path gives, by the same equations."),
+            Contract("ct_verify/src/laws.rt", "both_roots", [], "The two roots that a consistency proof gives."),
+            Contract("ct_verify/src/inclusion.rt", "verify_inclusion", [], "The verdict on an audit path."),
+            Contract("ct_verify/src/consistency.rt", "verify_consistency", [], "The verdict on a consistency proof."),
+            Contract("ct_verify/src/laws.rt", "path", ["accepted"], "Honest paths are accepted."),
+            Contract("ct_verify/src/laws.rt", "proof", ["accepted"], "Honest proofs are accepted."),
+            Contract("ct_older_tree/src/lib.rt", "lists", [], "An accepted path shows the leaf in the list, an accepted proof that the old list is a beginning of the new one."),
+            Contract("ct_older_tree/src/lib.rt", "heads", [], "Under consistent heads no two clients are shown two different leaves at one index."),
+            Contract("ct_monitor/src/auditor.rt", "explain", [], "The auditor shows the leaf in the list, or gives the two strings."),
+        ],
+    ),
+    Claim(
+        "reader",
+        "What a reader makes of tiles",
+        "A reader of a tiled log asks which tiles a root, an audit path or a consistency proof needs, and fetches them. If they are the tiles of a list, the result is MTH, PATH or PROOF of this list.",
+        [
+            "The tiles that are given are those of a list. Whatever they are, the reader checks the result by the verifiers, which need no such premise.",
+        ],
+        [
+            Contract("libwagtenib/src/tiles.rt", "wagtenib_path_tiles", [], "The names of the tiles that an audit path needs."),
+            Contract("libwagtenib/src/tiles.rt", "wagtenib_root_of_tiles", [], "The root of these tiles."),
+            Contract("libwagtenib/src/tiles.rt", "wagtenib_path_of_tiles", [], "The audit path of these tiles."),
+            Contract("libwagtenib/src/tiles.rt", "wagtenib_proof_of_tiles", [], "The consistency proof of these tiles."),
+        ],
+    ),
+    Claim(
+        "names",
+        "Which names a certificate has",
+        "The names of a certificate are exactly those that the grammar of RFC 5280 gives its subjectAltName and its subject's common names. A watched name is found exactly if one of these names is the"
+        " watched name, or is below it, or is a wildcard that stands for it (RFC 9525, section 6.3).",
+        [
+            "None. Names in other fields (otherName, directoryName) are not names of this claim.",
+        ],
+        [
+            Contract("ct_names/src/reading.rt", "names_of_certificate", [], "The names of a certificate, or the first fault."),
+            Contract("ct_names/src/laws.rt", "certificates_are_read", [], "Every certificate of the grammar is read."),
+            Contract("ct_names/src/laws.rt", "read_certificates_are_there", [], "Nothing else is read."),
+            Contract("ct_names/src/laws.rt", "covering_is_by_labels", [], "A name covers a watched one by labels."),
+            Contract("ct_names/src/laws.rt", "names_stay_under_the_cut", [], "A precertificate has the names of its certificate."),
+        ],
+    ),
+    Claim(
+        "monitor",
+        "What a monitor accepts",
+        "A head is accepted only if its size and root are those of all leaves that the log handed out, and refused only for a defined reason. All heads that a monitor accepted, in any number of runs, are those of"
+        " beginnings of one list.",
+        [
+            "For the second, each run begins with the state that the run before left.",
+        ],
+        [
+            Contract("ct_monitor/src/keeping.rt", "Monitor::observe", [], "What one call decides."),
+            Contract("ct_monitor/src/laws.rt", "accepted_heads", [], "All accepted heads are those of beginnings of one list."),
+        ],
+    ),
+]

@@ -1,0 +1,44 @@
+package main
+
+import (
+	"os"
+	"path/filepath"
+	"strings"
+	"testing"
+
+	"golang.org/x/mod/sumdb/note"
+
+	"wagtenib/service/witness"
+)
+
+// TestAcceptedFolder checks that a run puts the head that it accepted into the folder, as the log signed it, and that a
+// witness reads it there. A later head that the entries do not have does not get there.
+func TestAcceptedFolder(t *testing.T) {
+	log := newTestLog(t, 300)
+	folder := t.TempDir()
+	run := append([]string{"run", "--once", "--quiet", "--listen=", "--from-start", "--unread", "none",
+		"--folder", filepath.Join(folder, "store"), "--accepted-folder", filepath.Join(folder, "accepted"),
+		"--name", "a.example"}, logWords(t, log)...)
+	if status, out, faults := ctwatch(t, run...); status != 0 {
+		t.Fatalf("run: status %d: %s%s", status, out, faults)
+	}
+	path := filepath.Join(folder, "accepted", strings.ReplaceAll(log.Origin, "/", "%2F"))
+	accepted := log.Checkpoint()
+	content, err := os.ReadFile(path)
+	must(t, err)
+	if string(content) != string(accepted) {
+		t.Errorf("the file has %q, and the log's checkpoint is %q", content, accepted)
+	}
+	keys := []note.Verifier{witness.OfRFC6962(log.Origin, log.PublicKey())}
+	size, root, err := witness.AcceptedBy(path, log.Origin, keys)
+	if err != nil || size != 300 || root != log.Root(300) {
+		t.Errorf("%d leaves with the root %x: %v", size, root, err)
+	}
+	log.PublishRoot(300, 2_000_000_000_000, [32]byte{1})
+	if status, out, faults := ctwatch(t, run...); status != statusAccused {
+		t.Errorf("a fork: status %d: %s%s", status, out, faults)
+	}
+	if content, err = os.ReadFile(path); err != nil || string(content) != string(accepted) {
+		t.Errorf("after a fork the file has %q: %v", content, err)
+	}
+}

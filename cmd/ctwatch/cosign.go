@@ -1,0 +1,95 @@
+package main
+
+import (
+	"context"
+	"crypto/tls"
+	"errors"
+	"fmt"
+	"io"
+	"net/http"
+	"time"
+
+	"wagtenib/internal/alert"
+	"wagtenib/internal/audit"
+	"wagtenib/internal/watch"
+	"wagtenib/internal/watchstore"
+	"wagtenib/service/stores"
+	"wagtenib/service/witness"
+)
+
+var _ = addCommand("cosign", "URL,KEY has a witness cosign the head of a tiled log that ctwatch run accepted last",
+	runCosign)
+
+// witnessWithin is the time that a witness has for an answer.
+const witnessWithin = 30 * time.Second
+
+// runCosign has a witness cosign the head of a tiled log whose leaves were all read, and writes the checkpoint with the
+// cosignature to a file, or prints it.
+func runCosign(ctx context.Context, words []string, out io.Writer) error {
+	s := &auditSettings{}
+	flags := flagsOf("cosign", "", out)
+	s.defineLogs(flags)
+	folder := folderFlag(flags)
+	into := flags.String("into", "", "`file` that gets the cosigned checkpoint; standard output if it is empty")
+	words, err := parseFlags(flags, words, 1, out)
+	if err != nil {
+		return err
+	}
+	one, err := witness.ReadOne(words[0])
+	if err != nil {
+		return fmt.Errorf("%w: a witness is its URL, a comma and its verifier key: %w", errUsage, err)
+	}
+	if len(s.logs.only) != 1 || !s.logs.only[0].IsTiled() {
+		return fmt.Errorf("%w: name one tiled log (write --log 'tiled+https://HOST/PATH KEY-FILE')", errUsage)
+	}
+	client, err := s.client()
+	if err != nil {
+		return err
+	}
+	head, err := acceptedHead(*folder, s.logs.only[0])
+	if err != nil {
+		return err
+	}
+	reader, err := watch.NewReader(s.logs.only[0], client)
+	if err != nil {
+		return err
+	}
+	asks := witness.Client{One: one, HTTP: &http.Client{Timeout: witnessWithin, CheckRedirect: noRedirect,
+		Transport: &http.Transport{Proxy: http.ProxyFromEnvironment,
+			TLSClientConfig: &tls.Config{MinVersion: tls.VersionTLS12}}}}
+	cosigned, err := audit.Cosign(ctx, reader, head, asks)
+	switch {
+	case errors.Is(err, audit.ErrWitnessSaw):
+		return &statusError{statusAccused, err.Error()}
+	case err != nil:
+		return &statusError{statusUnread, err.Error()}
+	case *into == "":
+		_, err = out.Write(cosigned)
+		return err
+	}
+	if err := stores.ShowFile(*into, cosigned); err != nil {
+		return err
+	}
+	_, err = fmt.Fprintf(out, "%d leaves are cosigned by %s\n", head.TreeSize, alert.Safe(one.Name))
+	return err
+}
+
+// noRedirect refuses a redirect: another host's answer is not the witness's.
+func noRedirect(*http.Request, []*http.Request) error { return http.ErrUseLastResponse }
+
+// acceptedHead returns the head of a log that was accepted last, from the store.
+func acceptedHead(folder string, log watch.Log) (head watch.Head, err error) {
+	store, err := watchstore.OpenToRead(folder)
+	if err != nil {
+		return head, err
+	}
+	state, err := store.Load(log.ID)
+	if err = errors.Join(err, store.Close()); err != nil {
+		return head, err
+	}
+	if len(state.Accepted.Signed) == 0 {
+		return head, fmt.Errorf("ctwatch: no head of %s is accepted yet (ctwatch run must have read it whole)",
+			alert.Safe(log.Name))
+	}
+	return state.Accepted, nil
+}

@@ -1,0 +1,70 @@
+package main
+
+import (
+	"context"
+	"fmt"
+	"io"
+	"time"
+
+	"wagtenib/internal/alert"
+	"wagtenib/internal/watchstore"
+)
+
+var _ = addCommand("health", "prints a line on how it goes, and ends with a status for cron", runHealth)
+
+// maxAccusations is how many alerts about logs that did wrong are listed.
+const maxAccusations = 20
+
+// runHealth prints how it goes with all logs and outputs. The status is 0 if all is well, statusAccused if there is
+// evidence against a log, statusUnread if a log was not read for too long, and statusFault if alerts could not be
+// sent.
+func runHealth(_ context.Context, words []string, out io.Writer) (err error) {
+	flags := flagsOf("health", "", out)
+	folder := folderFlag(flags)
+	silent := flags.Duration("silent-after", 24*time.Hour, "time after which a log that was not read is silent")
+	if _, err := parseFlags(flags, words, 0, out); err != nil {
+		return err
+	}
+	store, err := watchstore.OpenToRead(*folder)
+	if err != nil {
+		return err
+	}
+	defer func() {
+		if closed := store.Close(); err == nil {
+			err = closed
+		}
+	}()
+	health, err := store.Health(*silent)
+	if err != nil {
+		return err
+	}
+	if _, err := fmt.Fprintln(out, health); err != nil {
+		return err
+	}
+	accusations, err := store.Accusations(maxAccusations)
+	if err != nil {
+		return err
+	}
+	for _, one := range accusations {
+		if _, err := fmt.Fprintln(out, alert.Line(one)); err != nil {
+			return err
+		}
+	}
+	return healthStatus(health, *silent)
+}
+
+func healthStatus(health watchstore.Health, silent time.Duration) error {
+	switch {
+	case health.Evidence > 0:
+		return &statusError{statusAccused,
+			"ctwatch: there is evidence against a log (ctwatch evidence NUMBER FOLDER writes its files)"}
+	case health.Logs == 0 || time.Since(health.Reported) > silent:
+		return &statusError{statusUnread, fmt.Sprintf("ctwatch: no log was read for %v (is ctwatch run at work?)",
+			silent)}
+	case len(health.Silent) > 0:
+		return &statusError{statusUnread, "ctwatch: some logs cannot be read (the page of ctwatch run says why)"}
+	case len(health.Outputs) > 0:
+		return &statusError{statusFault, "ctwatch: some alerts could not be sent (the lines of ctwatch run say why)"}
+	}
+	return nil
+}

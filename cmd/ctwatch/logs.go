@@ -1,0 +1,204 @@
+package main
+
+import (
+	"context"
+	"crypto/sha256"
+	"encoding/base64"
+	"encoding/pem"
+	"errors"
+	"fmt"
+	"io"
+	"os"
+	"strings"
+	"sync"
+	"time"
+
+	"wagtenib/internal/logclient"
+	"wagtenib/internal/loglist"
+	"wagtenib/internal/watch"
+	"wagtenib/service/version"
+	"wagtenib/service/web"
+)
+
+// The bounds of what settings name.
+const (
+	maxKeyFile     = 64 << 10
+	usualMergeTime = 24 * time.Hour // the maximum merge delay of a log that is in no list (RFC 6962, section 3)
+	listPause      = time.Hour      // between two readings of the log list
+)
+
+// addLog reads a log: its address, its key, and perhaps its origin.
+func (s *settings) addLog(text string) error {
+	words := strings.Fields(text)
+	if len(words) < 2 || len(words) > 3 {
+		return errors.New("log needs an address and a public key, separated by a space (write " +
+			"[tiled+]https://HOST/PATH KEY-FILE)")
+	}
+	address, isTiled := strings.CutPrefix(words[0], "tiled+")
+	if _, err := logclient.New(address, logclient.Options{}); err != nil {
+		return err
+	}
+	key, err := readKey(words[1])
+	if err != nil {
+		return err
+	}
+	address = strings.TrimSuffix(address, "/")
+	_, host, _ := strings.Cut(address, "://")
+	log := watch.Log{ID: sha256.Sum256(key), Name: host, URL: address, PublicKey: key, MaxMergeDelay: usualMergeTime}
+	if isTiled {
+		log.Origin = host
+		if len(words) == 3 {
+			log.Origin = words[2]
+		}
+	} else if len(words) == 3 {
+		return errors.New("only a tiled log has an origin (write tiled+ before its address)")
+	}
+	for _, other := range s.logs.only {
+		if other.ID == log.ID {
+			return fmt.Errorf("%s and %s have the same key (write each log once)", other.URL, log.URL)
+		}
+	}
+	s.logs.only = append(s.logs.only, log)
+	return nil
+}
+
+// readKey returns a public key in DER: of a PEM file, or of base64.
+func readKey(word string) ([]byte, error) {
+	if der, err := base64.StdEncoding.DecodeString(word); err == nil && len(der) > 32 {
+		return der, nil
+	}
+	file, err := os.Open(word)
+	if err != nil {
+		return nil, fmt.Errorf("the log's key: %w (write a PEM file, or the key in base64)", err)
+	}
+	defer file.Close()
+	content, err := io.ReadAll(io.LimitReader(file, maxKeyFile))
+	if err != nil {
+		return nil, err
+	}
+	block, _ := pem.Decode(content)
+	if block == nil || block.Type != "PUBLIC KEY" {
+		return nil, fmt.Errorf("%s has no PUBLIC KEY in PEM (openssl pkey -pubin -in FILE shows one)", word)
+	}
+	return block.Bytes, nil
+}
+
+// follower follows the logs of the settings.
+type follower struct {
+	of     logSettings
+	list   *loglist.Source // nil if no list is followed
+	group  *watch.Group
+	lines  *web.Lines
+	listed listStatus
+}
+
+// listStatus is how it goes with the log list.
+type listStatus struct {
+	mutex   sync.Mutex
+	since   time.Time // when it was read last, or when ctwatch began
+	alerted time.Time // when an alert was stored last
+	fault   error     // why it cannot be read; nil if it can
+}
+
+// report takes what came of a reading of the list.
+func (l *listStatus) report(now time.Time, fault error) {
+	l.mutex.Lock()
+	defer l.mutex.Unlock()
+	l.fault = fault
+	if fault == nil {
+		l.since, l.alerted = now, time.Time{}
+	}
+}
+
+// silence returns the reason for an alert if the list could not be read for so long, and there was no alert for as long.
+func (l *listStatus) silence(now time.Time, after time.Duration) string {
+	l.mutex.Lock()
+	defer l.mutex.Unlock()
+	if l.fault == nil || now.Sub(l.since) < after || now.Sub(l.alerted) < after {
+		return ""
+	}
+	l.alerted = now
+	return fmt.Sprintf("it could not be read for %v: %v", now.Sub(l.since).Round(time.Minute), l.fault)
+}
+
+func newFollower(of logSettings, keeper watch.Keeper, lines *web.Lines) (*follower, error) {
+	agent, err := logclient.UserAgent("ctwatch", version.Number(), of.contact)
+	if err != nil {
+		return nil, fmt.Errorf("%w: %w", errUsage, err)
+	}
+	client := logclient.Options{UserAgent: agent}
+	policy, err := of.policy.policy()
+	if err != nil {
+		return nil, err
+	}
+	f := &follower{of: of, lines: lines, listed: listStatus{since: time.Now()}}
+	f.group = watch.NewGroup(keeper, watch.Options{FromStart: of.fromStart, Pause: of.pause, Client: client,
+		Policy: policy, Mirror: mirrors(of.mirror, client)})
+	if of.list == "" {
+		return f, nil
+	}
+	f.list = &loglist.Source{Place: of.list, Key: of.listKey, Client: client}
+	return f, nil
+}
+
+// run follows the logs until the context ends.
+func (f *follower) run(ctx context.Context) {
+	if f.list == nil {
+		f.group.Follow(ctx, f.of.only)
+		<-ctx.Done()
+	} else {
+		// Logs that the settings name must not wait for the list.
+		f.group.Follow(ctx, f.of.only)
+		// Follow returns only after the context has ended, and its error says nothing else.
+		_ = f.list.Follow(ctx, listPause, func(list loglist.List) {
+			for _, passed := range list.Passed {
+				f.lines.Warn("log-passed-over", "reason", passed)
+			}
+			logs := f.logsOf(list)
+			f.lines.Info("log-list", "logs", len(logs), "of", list.Time.Format(time.RFC3339))
+			f.group.Follow(ctx, logs)
+			f.listed.report(time.Now(), nil)
+		}, func(err error) {
+			f.lines.Error("log-list", "fault", err)
+			f.listed.report(time.Now(), err)
+		})
+	}
+	f.group.Wait()
+}
+
+// logsOf returns the logs of a list that are watched, and those of the settings.
+func (f *follower) logsOf(list loglist.List) []watch.Log {
+	logs := append([]watch.Log{}, f.of.only...)
+	known := map[watch.LogID]bool{}
+	for _, log := range logs {
+		known[log.ID] = true
+	}
+	for _, log := range list.InStates(loglist.WatchedStates...) {
+		if !known[log.ID] {
+			logs = append(logs, log)
+		}
+	}
+	return logs
+}
+
+// once reads each log up to its newest head. It returns the faults of logs, by their names.
+func (f *follower) once(ctx context.Context) (map[string]error, error) {
+	logs := f.of.only
+	var listFault error
+	if f.list != nil {
+		list, err := f.list.Read(ctx)
+		if err != nil {
+			listFault = fmt.Errorf("the log list cannot be read: %w", err)
+		} else {
+			logs = f.logsOf(list)
+		}
+	}
+	faults := map[string]error{}
+	results := f.group.Once(ctx, logs)
+	for _, log := range logs {
+		if err := results[log.ID]; err != nil {
+			faults[log.Name] = err
+		}
+	}
+	return faults, listFault
+}

@@ -1,0 +1,174 @@
+// Command ctwatch watches Certificate Transparency logs for the names of an owner, and alerts to each certificate for
+// them.
+//
+// `ctwatch run` follows logs until SIGTERM or SIGINT, which end it with status 0. The other commands read its store
+// (docs/WATCH.md).
+package main
+
+import (
+	"context"
+	"errors"
+	"flag"
+	"fmt"
+	"io"
+	"os"
+	"os/signal"
+	"slices"
+	"strings"
+	"syscall"
+
+	"wagtenib/internal/watchstore"
+	"wagtenib/service/settingsfile"
+	"wagtenib/service/version"
+)
+
+// The statuses with which ctwatch ends.
+const (
+	statusFault       = 1 // something failed: standard error says what
+	statusUsage       = 2 // the command line or the file of settings is refused
+	statusAccused     = 3 // a log did wrong, or the store is damaged: no start helps until somebody has looked
+	statusUnread      = 5 // a log or the log list could not be read
+	statusInUse       = 7 // another ctwatch run uses the store
+	statusFoundByOnce = 8 // ctwatch run --once stored an alert to a certificate
+)
+
+// errUsage reports a command line or a file of settings that is refused.
+var errUsage = errors.New("ctwatch")
+
+// statusError is an error with the status with which it ends ctwatch.
+type statusError struct {
+	status int
+	text   string
+}
+
+// Error returns what is wrong.
+func (e *statusError) Error() string { return e.text }
+
+// command is a command of ctwatch.
+type command struct {
+	help string
+	run  func(ctx context.Context, words []string, out io.Writer) error
+}
+
+// commands are the commands, by their names. Each file that has one adds it by addCommand.
+var commands = map[string]command{}
+
+// addCommand adds a command. It returns a value, so that it can be called for a variable of a package.
+func addCommand(name, help string, run func(ctx context.Context, words []string, out io.Writer) error) bool {
+	commands[name] = command{help, run}
+	return true
+}
+
+func main() {
+	// If nobody reads standard error any more, a write to it must fail and not end ctwatch.
+	signal.Notify(make(chan os.Signal, 1), syscall.SIGPIPE)
+	ctx, stop := signal.NotifyContext(context.Background(), syscall.SIGTERM, syscall.SIGINT)
+	status := run(ctx, os.Args[1:], os.Stdout, os.Stderr)
+	stop()
+	os.Exit(status)
+}
+
+// run runs a command, and returns the status of the program.
+func run(ctx context.Context, words []string, out, faults io.Writer) int {
+	if version.Asked(words) {
+		fmt.Fprint(out, version.Line("ctwatch"))
+		return 0
+	}
+	if len(words) == 0 || words[0] == "help" || words[0] == "--help" || words[0] == "-h" {
+		fmt.Fprint(out, page())
+		if len(words) == 0 {
+			return statusUsage
+		}
+		return 0
+	}
+	one, found := commands[words[0]]
+	if !found {
+		fmt.Fprintf(faults, "ctwatch: there is no command %q (ctwatch help lists them)\n", words[0])
+		return statusUsage
+	}
+	err := one.run(ctx, words[1:], out)
+	if err == nil || errors.Is(err, flag.ErrHelp) {
+		return 0
+	}
+	fmt.Fprintln(faults, err)
+	return statusOf(err)
+}
+
+// statusOf returns the status of an error.
+func statusOf(err error) int {
+	var known *statusError
+	switch {
+	case errors.As(err, &known):
+		return known.status
+	case errors.Is(err, errUsage):
+		return statusUsage
+	case errors.Is(err, watchstore.ErrDamaged), errors.Is(err, watchstore.ErrOther):
+		return statusAccused
+	case errors.Is(err, watchstore.ErrInUse):
+		return statusInUse
+	}
+	return statusFault
+}
+
+// page returns the help of the program.
+func page() string {
+	var text strings.Builder
+	text.WriteString("ctwatch watches Certificate Transparency logs, and alerts to each certificate for your " +
+		"names.\n\n")
+	var names []string
+	for name := range commands {
+		names = append(names, name)
+	}
+	slices.Sort(names)
+	for _, name := range names {
+		fmt.Fprintf(&text, "  ctwatch %-12s %s\n", name, commands[name].help)
+	}
+	text.WriteString("\nctwatch COMMAND --help lists the settings of a command. Begin with: ctwatch run --name " +
+		"example.org\n")
+	return text.String()
+}
+
+// flagsOf returns the flags of a command. Its help goes to out, and its faults are only returned.
+func flagsOf(name, help string, out io.Writer) *flag.FlagSet {
+	flags := settingsfile.Flags("ctwatch "+name, "ctwatch "+name+" "+help, out)
+	flags.SetOutput(io.Discard)
+	flags.Usage = func() {}
+	return flags
+}
+
+// parseFlags reads the flags of a command and its other words, of which there must be so many. Flags may follow words.
+func parseFlags(flags *flag.FlagSet, words []string, count int, out io.Writer) ([]string, error) {
+	var others []string
+	for {
+		if err := flags.Parse(words); errors.Is(err, flag.ErrHelp) {
+			fmt.Fprintf(out, "%s:\n", flags.Name())
+			flags.SetOutput(out)
+			flags.PrintDefaults()
+			return nil, err
+		} else if err != nil {
+			return nil, fmt.Errorf("%w: %s: %w", errUsage, flags.Name(), err)
+		}
+		if flags.NArg() == 0 {
+			break
+		}
+		others, words = append(others, flags.Arg(0)), flags.Args()[1:]
+	}
+	if len(others) != count {
+		return nil, fmt.Errorf("%w: %s needs %d words after its name, and has %d (%s --help lists what it takes)",
+			errUsage, flags.Name(), count, len(others), flags.Name())
+	}
+	return others, nil
+}
+
+// folderFlag adds the flag of the folder of the store.
+func folderFlag(flags *flag.FlagSet) *string {
+	return flags.String("folder", defaultFolder(), "`folder` of the store")
+}
+
+// defaultFolder returns the folder of the store if no setting names one: that of the systemd unit, or ct-watch.
+func defaultFolder() string {
+	if folder := os.Getenv("STATE_DIRECTORY"); folder != "" {
+		return folder
+	}
+	return "ct-watch"
+}

@@ -1,0 +1,35 @@
+package main
+
+import (
+	"context"
+	"fmt"
+	"io"
+
+	"wagtenib/internal/finding"
+)
+
+var _ = addCommand("names", "FILE checks a watch list, and prints what it covers", runNames)
+
+// runNames checks a watch list.
+func runNames(_ context.Context, words []string, out io.Writer) error {
+	flags := flagsOf("names", "", out)
+	ofCertspotter := flags.Bool("certspotter", false, "the file is a watch list of certspotter")
+	words, err := parseFlags(flags, words, 1, out)
+	if err != nil {
+		return err
+	}
+	parse := finding.ParseList
+	if *ofCertspotter {
+		parse = finding.ParseCertspotterList
+	}
+	names, err := readNames(words[0], parse)
+	if err != nil {
+		return fmt.Errorf("%w: %w", errUsage, err)
+	}
+	for _, name := range names {
+		if _, err := fmt.Fprintf(out, "%s\t%s\n", name, name.Covers()); err != nil {
+			return err
+		}
+	}
+	return nil
+}

@@ -1,0 +1,235 @@
+package main
+
+import (
+	"context"
+	_ "embed"
+	"encoding/pem"
+	"errors"
+	"fmt"
+	"html/template"
+	"net"
+	"net/http"
+	"strconv"
+	"time"
+
+	"github.com/prometheus/client_golang/prometheus"
+	"github.com/prometheus/client_golang/prometheus/promhttp"
+
+	"wagtenib/internal/alert"
+	"wagtenib/internal/finding"
+	"wagtenib/internal/watchstore"
+	"wagtenib/service/web"
+)
+
+//go:embed page.html
+var pageText string
+
+//go:embed page.css
+var pageStyle string
+
+var pageTemplate = template.Must(template.New("page").Funcs(template.FuncMap{
+	"day":  func(at time.Time) string { return orDash(at, time.DateOnly) },
+	"time": func(at time.Time) string { return orDash(at, "2006-01-02 15:04:05") },
+}).Parse(pageText))
+
+func orDash(at time.Time, layout string) string {
+	if at.IsZero() {
+		return "–"
+	}
+	return at.UTC().Format(layout)
+}
+
+// The bounds of the page.
+const (
+	maxRows    = 100
+	maxDays    = 60
+	maxHeader  = 16 << 10
+	pageTime   = 30 * time.Second
+	endingTime = 5 * time.Second
+)
+
+// pageServer serves the local page, metrics and health.
+type pageServer struct {
+	listener net.Listener
+	server   *http.Server
+	failed   chan error
+}
+
+// listen serves the page at the address of the settings. If there is none, nothing is served.
+func listen(of serveSettings, store *watchstore.Store, lines *web.Lines) (*pageServer, error) {
+	if of.listen == "" {
+		return &pageServer{}, nil
+	}
+	listener, err := net.Listen("tcp", of.listen)
+	if err != nil {
+		return nil, fmt.Errorf("%w (write another --listen, or --listen '' for no page)", err)
+	}
+	p := &pageServer{listener: listener, failed: make(chan error, 1)}
+	p.server = &http.Server{Handler: pageHandler(store, lines), ReadTimeout: pageTime, WriteTimeout: pageTime,
+		IdleTimeout: pageTime, MaxHeaderBytes: maxHeader}
+	go func() { p.failed <- p.server.Serve(listener) }()
+	return p, nil
+}
+
+// address returns where the page is, or "".
+func (p *pageServer) address() string {
+	if p.listener == nil {
+		return ""
+	}
+	return "http://" + p.listener.Addr().String() + "/"
+}
+
+// close ends the page.
+func (p *pageServer) close() error {
+	if p.server == nil {
+		return nil
+	}
+	ctx, cancel := context.WithTimeout(context.Background(), endingTime)
+	defer cancel()
+	err := p.server.Shutdown(ctx)
+	if failed := <-p.failed; !errors.Is(failed, http.ErrServerClosed) {
+		err = errors.Join(err, failed)
+	}
+	return err
+}
+
+// pageHandler returns the handler of the page, of metrics and of health.
+func pageHandler(store *watchstore.Store, lines *web.Lines) http.Handler {
+	h := &pages{store, lines}
+	mux := http.NewServeMux()
+	mux.HandleFunc("GET /{$}", h.search)
+	mux.HandleFunc("GET /logs", h.logs)
+	mux.HandleFunc("GET /alerts", h.alerts)
+	mux.HandleFunc("GET /certificate/{hash}", h.certificate)
+	mux.HandleFunc("GET /style.css", func(w http.ResponseWriter, _ *http.Request) {
+		w.Header().Set("Content-Type", "text/css; charset=utf-8")
+		h.write(w, []byte(pageStyle))
+	})
+	mux.HandleFunc("GET /healthz", h.health)
+	registry := prometheus.NewRegistry()
+	registry.MustRegister(newCollector(store))
+	mux.Handle("GET /metrics", promhttp.HandlerFor(registry, promhttp.HandlerOpts{}))
+	return http.HandlerFunc(func(w http.ResponseWriter, r *http.Request) {
+		// The page has no script, and nothing of another host. A certificate's text cannot add either.
+		w.Header().Set("Content-Security-Policy",
+			"default-src 'none'; style-src 'self'; form-action 'self'; frame-ancestors 'none'; base-uri 'none'")
+		w.Header().Set("X-Content-Type-Options", "nosniff")
+		w.Header().Set("Referrer-Policy", "no-referrer")
+		mux.ServeHTTP(w, r)
+	})
+}
+
+// pages are the handlers of the page.
+type pages struct {
+	store *watchstore.Store
+	lines *web.Lines
+}
+
+// content is what the template shows.
+type content struct {
+	Title     string
+	Query     string
+	Valid     bool
+	Fault     string
+	Found     []watchstore.Issuance
+	Older     int64
+	Days      []watchstore.Day
+	MostOfDay int64
+	Logs      []watchstore.LogStatus
+	Alerts    []string
+}
+
+func (h *pages) show(w http.ResponseWriter, c content, err error) {
+	if err != nil {
+		h.lines.Error("page", "fault", err)
+		http.Error(w, "the store cannot be read (the lines of ctwatch run say why)", http.StatusInternalServerError)
+		return
+	}
+	w.Header().Set("Content-Type", "text/html; charset=utf-8")
+	if err := pageTemplate.Execute(w, c); err != nil {
+		h.lines.Warn("page", "fault", err)
+	}
+}
+
+// write answers bytes. A client that went away is no fault.
+func (h *pages) write(w http.ResponseWriter, body []byte) {
+	if _, err := w.Write(body); err != nil {
+		h.lines.Warn("page", "fault", err)
+	}
+}
+
+// search shows the newest certificates, of a name if one is sought, and the timeline.
+func (h *pages) search(w http.ResponseWriter, r *http.Request) {
+	c := content{Title: "Certificates", Query: r.FormValue("name"), Valid: r.FormValue("valid") != ""}
+	query := watchstore.Query{Limit: maxRows}
+	if before, err := strconv.ParseInt(r.FormValue("before"), 10, 64); err == nil {
+		query.Before = before
+	}
+	if c.Valid {
+		query.ValidAt = time.Now()
+	}
+	if c.Query != "" {
+		name, err := finding.ParseName(c.Query)
+		if err != nil {
+			c.Fault = alert.Safe(err.Error())
+			w.WriteHeader(http.StatusBadRequest)
+			h.show(w, c, nil)
+			return
+		}
+		query.Name = &name
+	}
+	var err error
+	if c.Found, err = h.store.Find(query); err == nil {
+		c.Days, err = h.store.Timeline(maxDays)
+	}
+	if len(c.Found) == maxRows {
+		c.Older = c.Found[maxRows-1].ID
+	}
+	for _, day := range c.Days {
+		c.MostOfDay = max(c.MostOfDay, day.Count)
+	}
+	h.show(w, c, err)
+}
+
+// logs shows how it goes with each log.
+func (h *pages) logs(w http.ResponseWriter, _ *http.Request) {
+	c := content{Title: "Logs"}
+	var err error
+	c.Logs, err = h.store.LogStatuses()
+	h.show(w, c, err)
+}
+
+// alerts shows the newest alerts.
+func (h *pages) alerts(w http.ResponseWriter, _ *http.Request) {
+	c := content{Title: "Alerts"}
+	alerts, err := h.store.Alerts(maxRows)
+	for _, one := range alerts {
+		c.Alerts = append(c.Alerts, one.Time.Format("2006-01-02 15:04:05")+" "+alert.Line(one))
+	}
+	h.show(w, c, err)
+}
+
+// certificate answers a certificate in PEM.
+func (h *pages) certificate(w http.ResponseWriter, r *http.Request) {
+	der, err := h.store.Certificate(r.PathValue("hash"))
+	if err != nil {
+		http.Error(w, alert.Safe(err.Error()), http.StatusNotFound)
+		return
+	}
+	w.Header().Set("Content-Type", "application/x-pem-file")
+	w.Header().Set("Content-Disposition", `attachment; filename="certificate.pem"`)
+	h.write(w, pem.EncodeToMemory(&pem.Block{Type: "CERTIFICATE", Bytes: der}))
+}
+
+// health answers a line, and 503 if a log is silent for a day or alerts cannot be sent.
+func (h *pages) health(w http.ResponseWriter, _ *http.Request) {
+	health, err := h.store.Health(24 * time.Hour)
+	switch {
+	case err != nil:
+		http.Error(w, "the store cannot be read", http.StatusInternalServerError)
+	case len(health.Silent) > 0 || len(health.Outputs) > 0:
+		http.Error(w, health.String(), http.StatusServiceUnavailable)
+	default:
+		h.write(w, []byte(health.String()+"\n"))
+	}
+}

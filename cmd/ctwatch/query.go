@@ -1,0 +1,164 @@
+package main
+
+import (
+	"context"
+	"encoding/json"
+	"encoding/pem"
+	"errors"
+	"fmt"
+	"io"
+	"os"
+	"path/filepath"
+	"strconv"
+	"strings"
+	"time"
+
+	"wagtenib/internal/alert"
+	"wagtenib/internal/finding"
+	"wagtenib/internal/watchstore"
+)
+
+var (
+	_ = addCommand("query", "NAME lists the certificates in the store for a name", runQuery)
+	_ = addCommand("certificate", "HASH prints a certificate that is in the store, in PEM", runCertificate)
+	_ = addCommand("evidence", "NUMBER FOLDER writes the files of evidence against a log", runEvidence)
+)
+
+// batchOfQuery is how many certificates are read from the store at a time.
+const batchOfQuery = 500
+
+// runQuery prints the certificates in the store for a name, the newest first.
+func runQuery(_ context.Context, words []string, out io.Writer) error {
+	flags := flagsOf("query", "", out)
+	folder := folderFlag(flags)
+	isValid := flags.Bool("valid", false, "only certificates that are valid now")
+	asJSON := flags.Bool("json", false, "a line of JSON for each certificate")
+	limit := flags.Int("limit", 0, "at most so many; 0 for all")
+	words, err := parseFlags(flags, words, 1, out)
+	if err != nil {
+		return err
+	}
+	name, err := finding.ParseName(words[0])
+	if err != nil {
+		return fmt.Errorf("%w: %w", errUsage, err)
+	}
+	store, err := watchstore.OpenToRead(*folder)
+	if err != nil {
+		return err
+	}
+	query := watchstore.Query{Name: &name}
+	if *isValid {
+		query.ValidAt = time.Now()
+	}
+	return errors.Join(printFound(store, query, *limit, *asJSON, out), store.Close())
+}
+
+func printFound(store *watchstore.Store, query watchstore.Query, limit int, asJSON bool, out io.Writer) error {
+	printed := 0
+	for {
+		query.Limit = batchOfQuery
+		if limit > 0 {
+			query.Limit = min(batchOfQuery, limit-printed)
+		}
+		found, err := store.Find(query)
+		if err != nil || len(found) == 0 {
+			return err
+		}
+		for _, one := range found {
+			line := alert.Alert{Kind: alert.Found, ID: one.ID, Time: one.At, Certificate: one.Certificate}
+			if err := printOne(line, asJSON, out); err != nil {
+				return err
+			}
+			query.Before, printed = one.ID, printed+1
+		}
+		if limit > 0 && printed >= limit {
+			return nil
+		}
+	}
+}
+
+func printOne(line alert.Alert, asJSON bool, out io.Writer) error {
+	if asJSON {
+		return json.NewEncoder(out).Encode(line.Certificate)
+	}
+	_, err := fmt.Fprintln(out, alert.Describe(line.Certificate))
+	return err
+}
+
+// runCertificate prints a certificate in PEM.
+func runCertificate(_ context.Context, words []string, out io.Writer) error {
+	flags := flagsOf("certificate", "", out)
+	folder := folderFlag(flags)
+	words, err := parseFlags(flags, words, 1, out)
+	if err != nil {
+		return err
+	}
+	store, err := watchstore.OpenToRead(*folder)
+	if err != nil {
+		return err
+	}
+	der, err := store.Certificate(strings.ToLower(words[0]))
+	if err == nil {
+		err = pem.Encode(out, &pem.Block{Type: "CERTIFICATE", Bytes: der})
+	}
+	return errors.Join(err, store.Close())
+}
+
+// runEvidence writes the files of evidence into a folder, and prints what happened.
+func runEvidence(_ context.Context, words []string, out io.Writer) error {
+	flags := flagsOf("evidence", "", out)
+	folder := folderFlag(flags)
+	words, err := parseFlags(flags, words, 2, out)
+	if err != nil {
+		return err
+	}
+	number, err := strconv.ParseInt(words[0], 10, 64)
+	if err != nil {
+		return fmt.Errorf("%w: %q is no number of evidence (ctwatch health lists what there is)", errUsage, words[0])
+	}
+	store, err := watchstore.OpenToRead(*folder)
+	if err != nil {
+		return err
+	}
+	evidence, log, err := store.Evidence(number)
+	if err == nil {
+		err = writeFiles(words[1], evidence.Files)
+	}
+	if err == nil {
+		// The files are written, so somebody can look at them.
+		err = store.MarkSeen(number)
+	}
+	if err == nil {
+		fmt.Fprintf(out, "%s: %s, %s\n%s\n", alert.Safe(log), alert.Safe(evidence.Verdict),
+			evidence.Time.UTC().Format(time.RFC3339), alert.Safe(evidence.Text))
+	}
+	return errors.Join(err, store.Close())
+}
+
+// writeFiles writes files into a folder, which must be new or empty.
+func writeFiles(folder string, files map[string][]byte) error {
+	if err := os.MkdirAll(folder, 0o750); err != nil {
+		return err
+	}
+	root, err := os.OpenRoot(folder)
+	if err != nil {
+		return err
+	}
+	for name, content := range files {
+		// A name of evidence may have folders in it, but it must not lead out of this one.
+		if err := os.MkdirAll(filepath.Join(folder, filepath.Dir(filepath.Clean("/"+name))), 0o750); err != nil {
+			return errors.Join(err, root.Close())
+		}
+		file, err := root.OpenFile(name, os.O_CREATE|os.O_EXCL|os.O_WRONLY, 0o640)
+		if err != nil {
+			return errors.Join(fmt.Errorf("%w (write to a new folder)", err), root.Close())
+		}
+		if _, err = file.Write(content); err != nil {
+			return errors.Join(err, file.Close(), root.Close())
+		}
+		if err := file.Close(); err != nil {
+			return errors.Join(err, root.Close())
+		}
+	}
+	return root.Close()
+}

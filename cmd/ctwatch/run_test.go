@@ -1,0 +1,107 @@
+package main
+
+import (
+	"bytes"
+	"context"
+	"encoding/base64"
+	"encoding/json"
+	"encoding/pem"
+	"net/http/httptest"
+	"path/filepath"
+	"slices"
+	"strings"
+	"testing"
+	"time"
+
+	"wagtenib/internal/alert"
+	"wagtenib/internal/testcert"
+	"wagtenib/internal/testlog"
+)
+
+// served is a log of a test, which answers by both interfaces.
+type served struct {
+	*testlog.Log
+	address string
+}
+
+func serveLog(t *testing.T, origin string) served {
+	t.Helper()
+	log, err := testlog.New(origin)
+	must(t, err)
+	server := httptest.NewServer(log)
+	t.Cleanup(server.Close)
+	return served{log, server.URL}
+}
+
+// add adds the precertificate and the certificate, and publishes a head.
+func (s served) add(a *testcert.Authority, one testcert.Issued) {
+	issuer := a.IssuerKeyHash()
+	now := uint64(time.Now().UnixMilli())
+	s.Add(testlog.Entry{Timestamp: now, Certificate: one.TBS, IssuerKeyHash: issuer[:],
+		Precertificate: one.Precertificate.Raw},
+		testlog.Entry{Timestamp: now, Certificate: one.Certificate.Raw})
+	s.Publish(s.Size(), now+1)
+}
+
+// words returns the setting of the log.
+func (s served) setting(isTiled bool) string {
+	key := base64.StdEncoding.EncodeToString(s.PublicKey())
+	if isTiled {
+		return "tiled+" + s.address + " " + key + " " + s.Origin
+	}
+	return s.address + " " + key
+}
+
+func must(t testing.TB, err error) {
+	t.Helper()
+	if err != nil {
+		t.Fatal(err)
+	}
+}
+
+// ctwatch runs a command, and returns its status and what it wrote.
+func ctwatch(t *testing.T, words ...string) (status int, out, faults string) {
+	t.Helper()
+	var written, complained bytes.Buffer
+	status = run(context.Background(), words, &written, &complained)
+	return status, written.String(), complained.String()
+}
+
+// TestAlertsOnceOverLogs has a precertificate and its certificate in a tiled log and in two of RFC 6962: one alert
+// comes, with the host name, and no second one comes from a second run. The store then has the certificate, byte for
+// byte.
+func TestAlertsOnceOverLogs(t *testing.T) {
+	authority := testcert.NewAuthority(t)
+	one, other := authority.Issue("shop.example.org"), authority.Issue("other.net")
+	folder := filepath.Join(t.TempDir(), "store")
+	words := []string{"run", "--once", "--from-start", "--name", "example.org", "--folder", folder}
+	for i, origin := range []string{"a.example", "b.example", "c.example"} {
+		log := serveLog(t, origin)
+		log.add(authority, other)
+		log.add(authority, one)
+		words = append(words, "--log", log.setting(i == 0))
+	}
+	status, out, faults := ctwatch(t, words...)
+	if status != statusFoundByOnce || strings.Count(out, "\n") != 1 || !strings.Contains(out,
+		"FOUND example.org: shop.example.org") {
+		t.Fatalf("status %d: %s%s", status, out, faults)
+	}
+	if status, out, faults = ctwatch(t, words...); status != 0 || out != "" {
+		t.Errorf("the second run: status %d: %s%s", status, out, faults)
+	}
+	status, out, faults = ctwatch(t, "query", "example.org", "--valid", "--json", "--folder", folder)
+	var found alert.Certificate
+	if err := json.Unmarshal([]byte(out), &found); err != nil || status != 0 || len(found.Sightings) != 6 ||
+		!slices.Equal(found.Names, one.Certificate.DNSNames) {
+		t.Fatalf("status %d, %v: %s%s", status, err, out, faults)
+	}
+	status, out, faults = ctwatch(t, "certificate", found.SHA256, "--folder", folder)
+	block, _ := pem.Decode([]byte(out))
+	if status != 0 || block == nil || !slices.Equal(block.Bytes, one.Precertificate.Raw) &&
+		!slices.Equal(block.Bytes, one.Certificate.Raw) {
+		t.Errorf("status %d: %s%s", status, out, faults)
+	}
+	if status, out, faults = ctwatch(t, "health", "--folder", folder); status != 0 || !strings.Contains(out, "3 logs") {
+		t.Errorf("status %d: %s%s", status, out, faults)
+	}
+}

@@ -1,0 +1,238 @@
+package main
+
+import (
+	"encoding/hex"
+	"errors"
+	"flag"
+	"fmt"
+	"io"
+	"os"
+	"slices"
+	"strings"
+	"time"
+
+	"wagtenib/internal/finding"
+	"wagtenib/internal/watch"
+	"wagtenib/internal/watchstore"
+	"wagtenib/service/settingsfile"
+)
+
+// fileRules are those of the file of settings.
+var fileRules = settingsfile.Rules{
+	Only: []string{"config", "once"},
+	Several: []string{"name", "names", "certspotter-watchlist", "log", "mail", "webhook", "command", "expect-key",
+		"expect-issuer"},
+}
+
+// defaultList is the log list of browsers.
+const defaultList = "https://www.gstatic.com/ct/log_list/v3/log_list.json"
+
+// settings are the values of the command line and of the file of settings.
+type settings struct {
+	names    []finding.Name
+	folder   string
+	logs     logSettings
+	outputs  outputSettings
+	expected watchstore.Expected
+	unread   string
+	inBytes  bool
+	keepAll  bool
+	silent   time.Duration
+	serve    serveSettings
+}
+
+// logSettings say which logs are watched, and how.
+type logSettings struct {
+	list      string
+	listKey   []byte // PEM
+	only      []watch.Log
+	fromStart bool
+	pause     time.Duration
+	contact   string
+	once      bool
+	mirror    string
+	accepted  string
+	policy    policyFlags
+}
+
+// outputSettings say where alerts go.
+type outputSettings struct {
+	mail               []string
+	mailFrom, sendmail string
+	webhooks, commands []string
+	json               string
+	quiet              bool
+}
+
+// serveSettings say where the page is.
+type serveSettings struct {
+	listen string
+}
+
+// parse reads the command line, and the file that it names. If both have a setting, the command line counts; of
+// settings that may be given several times, those of both count.
+func parse(words []string, out io.Writer) (*settings, error) {
+	s := &settings{}
+	flags := flagsOf("run", "", out)
+	s.define(flags)
+	err := fileRules.Settle(flags, words, s.validate, errUsage)
+	if errors.Is(err, flag.ErrHelp) {
+		fmt.Fprint(out, "ctwatch run follows logs, and alerts to each certificate for the watched names.\n"+
+			"Each setting except --config and --once is a flag, or a line 'name value' in the file that --config "+
+			"names.\n\n")
+		flags.SetOutput(out)
+		flags.PrintDefaults()
+	}
+	if err != nil {
+		return nil, err
+	}
+	return s, nil
+}
+
+func (s *settings) define(flags *flag.FlagSet) {
+	flags.String("config", "", "`file` with a line 'name value' for each of these settings. A comment begins with #")
+	flags.Func("name", "watched `name`: example.org covers all names below it, =example.org only that name. May be "+
+		"given several times", s.addName)
+	flags.Func("names", "`file` with watched names, one a line (ctwatch names FILE checks it)",
+		s.addNames(finding.ParseList))
+	flags.Func("certspotter-watchlist", "`file` with watched names, as certspotter has it",
+		s.addNames(finding.ParseCertspotterList))
+	flags.StringVar(&s.folder, "folder", defaultFolder(), "`folder` of the store")
+	flags.StringVar(&s.logs.list, "log-list", "",
+		"`file or URL` of a log list (version 3), which is followed. The default is "+defaultList+", or none if --log "+
+			"is given")
+	flags.Func("log-list-key", "`file` with the public key in PEM that must have signed the log list", s.readListKey)
+	flags.Func("log", "a log: its `address`, a space, and its public key (a PEM file, or base64). tiled+https://.. is "+
+		"a tiled log; a third word is its origin if that is not its address", s.addLog)
+	flags.BoolVar(&s.logs.fromStart, "from-start", false,
+		"read a log that was never read from its first entry on, and not from its end")
+	flags.DurationVar(&s.logs.pause, "pause", time.Minute, "time between two readings of a log's tree head")
+	flags.StringVar(&s.logs.contact, "contact", "", "your mail `address` or URL, which logs see in the User-Agent")
+	flags.BoolVar(&s.logs.once, "once", false,
+		"read each log up to its newest head once, send what was found, and end: for cron")
+	flags.StringVar(&s.logs.mirror, "keep", "", "`folder` in which a copy of each tiled log is kept that can be served")
+	flags.StringVar(&s.logs.accepted, "accepted-folder", "",
+		"`folder` that gets the head of each tiled log that was accepted last, for a witness (ctwitness-serve --accepted-by)")
+	s.logs.policy.define(flags)
+	flags.Func("mail", "mail `address` for alerts. May be given several times", appendTo(&s.outputs.mail))
+	flags.StringVar(&s.outputs.mailFrom, "mail-from", "", "mail `address` of the sender; by default the first --mail")
+	flags.StringVar(&s.outputs.sendmail, "sendmail", "/usr/sbin/sendmail",
+		"`program` with the interface of sendmail, or smtp://HOST:PORT")
+	flags.Func("webhook", "`URL` to which each alert is posted as JSON. May be given several times",
+		appendTo(&s.outputs.webhooks))
+	flags.Func("command", "`program` and its arguments, separated by spaces, that is run for each alert without a "+
+		"shell. May be given several times", appendTo(&s.outputs.commands))
+	flags.StringVar(&s.outputs.json, "json", "",
+		"`file` to which each alert is appended as a line of JSON; - is standard output")
+	flags.BoolVar(&s.outputs.quiet, "quiet", false, "write no alert to standard output")
+	flags.Func("expect-key", "SHA-256 `hash` of a public key (SubjectPublicKeyInfo) whose certificates cause no "+
+		"alert. May be given several times", s.addKey)
+	flags.Func("expect-issuer", "`organization`, common name or whole name of a CA whose certificates cause no alert. "+
+		"May be given several times", appendTo(&s.expected.Issuers))
+	flags.StringVar(&s.unread, "unread", "all",
+		"certificates whose names cannot be read that cause an alert: all, `mentioned` (their bytes have a watched "+
+			"name) or none")
+	flags.BoolVar(&s.inBytes, "search-bytes", false,
+		"search the bytes of each certificate too, and not only its names. It finds many certificates of others")
+	flags.BoolVar(&s.keepAll, "keep-all", false,
+		"store every certificate of the logs, so that a name that is added later is found in all of them. For small "+
+			"logs")
+	flags.DurationVar(&s.silent, "silent-after", 24*time.Hour,
+		"time after which a log that cannot be read causes an alert")
+	flags.StringVar(&s.serve.listen, "listen", "127.0.0.1:8650",
+		"`address` of the local page, /metrics and /healthz. If it is empty, they are not served")
+}
+
+// appendTo returns what adds a value of a flag to a list.
+func appendTo(list *[]string) func(string) error {
+	return func(value string) error {
+		value = strings.TrimSpace(value)
+		if value == "" {
+			return errors.New("it is empty (write a value, or leave the setting out)")
+		}
+		*list = append(*list, value)
+		return nil
+	}
+}
+
+// validate checks which settings are missing or do not fit.
+func (s *settings) validate() error {
+	switch {
+	case len(s.names) == 0:
+		return errors.New("there is no watched name (write --name example.org, or --names FILE)")
+	case s.logs.pause < time.Second:
+		return errors.New("--pause must be at least 1s, so that logs are not asked too often")
+	case s.silent < time.Minute:
+		return errors.New("--silent-after must be at least 1m")
+	case s.folder == "":
+		return errors.New("--folder is empty (write the folder of the store)")
+	}
+	if !slices.Contains([]watchstore.Unread{watchstore.UnreadAll, watchstore.UnreadMentioned, watchstore.UnreadNone},
+		watchstore.Unread(s.unread)) {
+		return fmt.Errorf("--unread %q is none of all, mentioned and none", s.unread)
+	}
+	if s.logs.list == "" && len(s.logs.only) == 0 {
+		s.logs.list = defaultList
+	}
+	if s.logs.listKey != nil && s.logs.list == "" {
+		return errors.New("--log-list-key needs --log-list")
+	}
+	return nil
+}
+
+func (s *settings) addName(text string) error {
+	name, err := finding.ParseName(text)
+	if err != nil {
+		return err
+	}
+	s.add([]finding.Name{name})
+	return nil
+}
+
+// add adds names, each once.
+func (s *settings) add(names []finding.Name) {
+	for _, name := range names {
+		if !slices.Contains(s.names, name) {
+			s.names = append(s.names, name)
+		}
+	}
+}
+
+func (s *settings) addNames(parse func(io.Reader) ([]finding.Name, error)) func(string) error {
+	return func(path string) error {
+		names, err := readNames(path, parse)
+		if err != nil {
+			return err
+		}
+		s.add(names)
+		return nil
+	}
+}
+
+// readNames reads a watch list.
+func readNames(path string, parse func(io.Reader) ([]finding.Name, error)) ([]finding.Name, error) {
+	file, err := os.Open(path)
+	if err != nil {
+		return nil, err
+	}
+	defer file.Close()
+	names, err := parse(file)
+	if err != nil {
+		return nil, fmt.Errorf("%s: %w", path, err)
+	}
+	return names, nil
+}
+
+func (s *settings) readListKey(path string) (err error) {
+	s.logs.listKey, err = os.ReadFile(path)
+	return err
+}
+
+func (s *settings) addKey(text string) error {
+	digits := strings.ToLower(strings.ReplaceAll(strings.TrimSpace(text), ":", ""))
+	if digest, err := hex.DecodeString(digits); err != nil || len(digest) != 32 {
+		return fmt.Errorf("%.100q is no SHA-256 hash (write 64 hexadecimal digits, as an alert has them)", text)
+	}
+	s.expected.Keys = append(s.expected.Keys, digits)
+	return nil
+}

@@ -1,0 +1,6 @@
+pub mod Apart
+pub mod NoTexts
+pub mod Fits
+pub mod History
+pub mod Answered
+pub mod Starts

@@ -1,0 +1,48 @@
+-- A monitor that begins at a head that it is told to trust. H is any hash function on byte lists. The library's is SHA-256.
+use Rattle.std.specs.Prelude.{◌≡◌, ◌⊎◌, ◌++◌, ⊤, ℕ, List, [], length, count_ones, Some, None}
+use Rattle.ct_tree.specs.Peaks.{root_of_peaks}
+use Rattle.ct_tree.specs.declared.head.Head.{Head}
+use Rattle.ct_verify.specs.Laws.{SomeCollide}
+use Rattle.ct_monitor.specs.Heads.{IsHeadOfAll}
+use Rattle.ct_monitor.specs.Watched.{Watched}
+use Rattle.ct_monitor.specs.WatcherState.{WatcherState}
+use Rattle.ct_monitor_calls.specs.Laws.{MonitorCall, AreCalls, CallsHandOut}
+use Rattle.ct_monitor_calls.specs.StateText.{IsInBytes, IsMonitorState, monitor_state_text}
+use Rattle.ct_monitor_calls.specs.declared.starting.StartFault.{StartFault}
+use Rattle.ct_monitor_calls.specs.declared.starting.StartFault.TheVariants.{OtherCount, OtherRoot, Memory}
+
+-- the state that has accepted this head, whose leaves have these perfect subtrees, and has read no more leaves
+abbrev pub start_state : Head → List (List ℕ) → WatcherState
+start_state head subtrees = record { accepted = Some head; waiting = None; sure = (head.tree_size, subtrees); all = (head.tree_size, subtrees) }
+
+-- the bytes are this state; there are as many subtrees as a tree of the head's size has, and they lead to the head's root
+pub record IsMonitorStart (H : List ℕ → List ℕ) (head : Head) (subtrees : List (List ℕ)) (bytes : List ℕ) : Type 0 where
+  pub numbers : IsInBytes (start_state head subtrees)
+  pub count : length subtrees ≡ count_ones head.tree_size
+  pub root : head.root ≡ root_of_peaks H subtrees
+  pub text : bytes ≡ monitor_state_text H (start_state head subtrees)
+
+-- the reason why no state begins at this head with these subtrees: their number, or the root to which they lead; or a growth was refused
+abbrev pub RefusesStart : (List ℕ → List ℕ) → StartFault → Head → List (List ℕ) → Type 0
+RefusesStart H OtherCount head subtrees = length subtrees ≡ count_ones head.tree_size → ⊥
+RefusesStart H OtherRoot head subtrees = (length subtrees ≡ count_ones head.tree_size) × (head.root ≡ root_of_peaks H subtrees → ⊥)
+RefusesStart H Memory head subtrees = ⊤
+
+-- a log has handed out this head and its leaves D, and nothing else
+abbrev pub known_at_start : Head → List (List ℕ) → Watched
+known_at_start head D = record { accepted = Some head; sure = D; waiting = None; ahead = [] }
+
+-- the bytes of a start are a state, so they are read again
+abbrev pub StartsAreRead : Type 0
+StartsAreRead =
+    (H : List ℕ → List ℕ) (head : Head) (subtrees : List (List ℕ)) (bytes : List ℕ) → IsMonitorStart H head subtrees bytes
+    → IsMonitorState H (start_state head subtrees) bytes
+
+-- Take any calls, each over the state that the one before gave, the first over that of a start. Let the trusted head be that of the leaves D. Then each head that
+-- was accepted is that of a beginning of one list, which begins with D: the leaves that are accepted after the last call. Or two different strings have one hash.
+-- Nothing is said of a trusted head that is the head of no leaves.
+abbrev pub CallsAgreeFromStart : Type 0
+CallsAgreeFromStart =
+    (H : List ℕ → List ℕ) → ((x : List ℕ) → length (H x) ≡ 32) → (head : Head) (subtrees : List (List ℕ)) (first : List ℕ) (calls : List MonitorCall)
+    → IsMonitorStart H head subtrees first → AreCalls H first calls → (D : List (List ℕ)) → IsHeadOfAll H D head
+    → ((w : Watched) × (Y : List (List ℕ)) × (w.sure ≡ D ++ Y) × CallsHandOut H first calls (known_at_start head D) w) ⊎ SomeCollide H

@@ -1,0 +1,30 @@
+//! The results of calls.
+
+use crate::entries::{FaultyEntry, LaterEntry};
+use ct_monitor::Verdict;
+
+/// A verdict, and the state after it.
+#[derive(Drop)]
+pub struct Answer {
+    /// The verdict.
+    pub verdict: Verdict,
+    /// How many leaves the accepted head has.
+    pub leaves_accepted: u64,
+    /// How many leaves were read: the index of the next one that is wanted.
+    pub leaves_read: u64,
+    /// How many leaves the waiting head has. If no head waits, how many were read.
+    pub leaves_wanted: u64,
+    /// The bytes of the state.
+    pub state: Vec<u8>,
+}
+
+/// A verdict on entries, the state after it, and the report on the entries that were read.
+#[derive(Drop)]
+pub struct EntriesAnswer {
+    /// The verdict and the state.
+    pub answer: Answer,
+    /// The first entry that is later than the head that waited for it.
+    pub later: Option<LaterEntry>,
+    /// The first entry that is no leaf.
+    pub faulty: Option<FaultyEntry>,
+}

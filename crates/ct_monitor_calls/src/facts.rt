@@ -1,0 +1,63 @@
+//! The facts about a state that follow from its types. Each function does nothing, and its contract is a fact.
+
+ghost use Rattle.std.specs.Prelude.{◌≡◌, ◌<◌, ◌^◌, length};
+ghost use Rattle.ct_verify.specs.Laws.{AreHashes};
+ghost use Rattle.ct_codec.specs.Parts.{joined};
+ghost use Rattle.ct_monitor_calls.specs.StateText.{AreSubtreesInBytes, IsInBytes, IsNoneOrInBytes};
+
+use ct_monitor::{Peaks, Watcher};
+use ct_tree::{Head, Sha256Hash};
+
+// The bytes of a head.
+fn is_head(tree_size: u64, timestamp: u64, root: [u8; 32])
+    ensures tree_size { tree_size < 2 ^ 64 }
+    ensures timestamp { timestamp < 2 ^ 64 }
+    ensures root { length root ≡ 32 }
+{}
+
+// The bytes of a head that may be missing.
+fn is_maybe_head(head: Option<Head>)
+    ensures { IsNoneOrInBytes head }
+{
+    match head {
+        Some(head) => is_head(head.tree_size, head.timestamp, head.root),
+        None => {}
+    }
+}
+
+// A number has 64 bits.
+fn is_number(number: u64)
+    ensures { number < 2 ^ 64 }
+{}
+
+// A hash has 32 bytes.
+pub(crate) fn are_hashes(hashes: &[[u8; 32]])
+    ensures { AreHashes hashes.now }
+{}
+
+// The bytes of hashes are no more than memory can have.
+fn have_size(hashes: &[[u8; 32]])
+    ensures { length (joined hashes.now) < 2 ^ 64 }
+{
+    let bytes = hashes.as_flattened();
+    is_number(bytes.len() as u64);
+}
+
+// The bytes of subtrees.
+fn are_subtrees(peaks: &Peaks)
+    ensures { AreSubtreesInBytes peaks.now }
+{
+    is_number(peaks.size());
+    are_hashes(peaks.subtrees());
+    have_size(peaks.subtrees());
+}
+
+// The bytes of a state.
+pub(crate) fn is_in_bytes(watcher: &Watcher<Sha256Hash>)
+    ensures { IsInBytes watcher.now }
+{
+    is_maybe_head(watcher.accepted());
+    is_maybe_head(watcher.waiting());
+    are_subtrees(watcher.sure());
+    are_subtrees(watcher.all());
+}

@@ -1,3 +1,0 @@
-pub mod Replied
-pub mod Calls
-pub mod ByLine

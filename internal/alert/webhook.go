@@ -1,0 +1,87 @@
+package alert
+
+import (
+	"bytes"
+	"context"
+	"encoding/json"
+	"fmt"
+	"io"
+	"net/http"
+	"net/url"
+	"time"
+)
+
+// The bounds of a request of a webhook.
+const (
+	batchOfRequests = 50
+	webhookTime     = 30 * time.Second
+	maxAnswer       = 64 << 10
+)
+
+// Webhook posts each alert to a URL, as JSON. A status of 200 to 299 means that it was taken.
+type Webhook struct {
+	url    string
+	client *http.Client
+	agent  string
+}
+
+// NewWebhook returns an output that posts to this URL, with this User-Agent. Redirects are not followed: an alert
+// goes only to the host that the owner named.
+func NewWebhook(address, agent string) (*Webhook, error) {
+	parsed, err := url.Parse(address)
+	if err != nil || parsed.Host == "" || parsed.Scheme != "http" && parsed.Scheme != "https" {
+		return nil, fmt.Errorf("webhook %q is no URL (write https://HOST/PATH)", address)
+	}
+	client := &http.Client{Timeout: webhookTime, CheckRedirect: func(*http.Request,
+		[]*http.Request) error {
+		return http.ErrUseLastResponse
+	}}
+	return &Webhook{address, client, agent}, nil
+}
+
+// Name returns the name of this output, which no other output has. It has no password of the URL.
+func (w *Webhook) Name() string {
+	parsed, err := url.Parse(w.url)
+	if err != nil {
+		return "webhook"
+	}
+	parsed.RawQuery = ""
+	return "webhook " + parsed.Redacted()
+}
+
+// Batch returns how many alerts are posted before they are marked.
+func (w *Webhook) Batch() int { return batchOfRequests }
+
+// Send posts the alerts, one after the other.
+func (w *Webhook) Send(ctx context.Context, alerts []Alert) (sent, tried int, err error) {
+	for i, alert := range alerts {
+		if err := w.post(ctx, alert); err != nil {
+			return i, i + 1, err
+		}
+	}
+	return len(alerts), len(alerts), nil
+}
+
+func (w *Webhook) post(ctx context.Context, alert Alert) error {
+	body, err := json.Marshal(alert)
+	if err != nil {
+		return err
+	}
+	request, err := http.NewRequestWithContext(ctx, http.MethodPost, w.url, bytes.NewReader(body))
+	if err != nil {
+		return err
+	}
+	request.Header.Set("Content-Type", "application/json")
+	request.Header.Set("User-Agent", w.agent)
+	response, err := w.client.Do(request)
+	if err != nil {
+		return err
+	}
+	defer response.Body.Close()
+	// The connection can be used again only if the answer was read. If reading fails, the status counts all the same.
+	_, _ = io.Copy(io.Discard, io.LimitReader(response.Body, maxAnswer))
+	if response.StatusCode < 200 || response.StatusCode > 299 {
+		return fmt.Errorf("the webhook answered %s (it must answer 200 to 299)", response.Status)
+	}
+	return nil
+}

@@ -1,0 +1,239 @@
+package audit
+
+import (
+	"context"
+	"crypto/sha256"
+	"crypto/x509"
+	"encoding/json"
+	"errors"
+	"fmt"
+	"sync"
+
+	"golang.org/x/crypto/cryptobyte"
+
+	"wagtenib/bindings/go/wagtenib"
+	"wagtenib/internal/logclient"
+	"wagtenib/internal/signature"
+	"wagtenib/internal/watch"
+)
+
+// Outcome is what an audit of a timestamp comes to, from the best to the gravest.
+type Outcome int
+
+// The outcomes.
+const (
+	Included   Outcome = iota // the log has the very leaf that it promised
+	NotYet                    // the log does not have it, and may take longer
+	UnknownLog                // no log that was given has this key
+	NoAnswer                  // the log does not answer, or not with what it was asked for
+	Unreadable                // the certificate or the timestamp cannot be read
+	Never                     // the log broke its promise, or did not sign it
+)
+
+// String returns the name of an outcome.
+func (o Outcome) String() string {
+	return [...]string{"included", "not yet", "unknown log", "no answer", "unreadable", "never"}[o]
+}
+
+// Result is the outcome of one timestamp.
+type Result struct {
+	SCT      SCT
+	Log      watch.Log // zero for UnknownLog
+	Outcome  Outcome
+	Index    uint64 // of the leaf, for Included
+	TreeSize uint64 // leaves of the head that the log answered with
+	Text     string // what was found, in a sentence
+	Evidence *watch.Evidence
+}
+
+// Auditor audits the timestamps of logs.
+type Auditor struct {
+	logs    map[watch.LogID]watch.Log
+	options logclient.Options
+}
+
+// New returns an auditor of these logs.
+func New(logs []watch.Log, options logclient.Options) *Auditor {
+	a := &Auditor{map[watch.LogID]watch.Log{}, options}
+	for _, log := range logs {
+		a.logs[log.ID] = log
+	}
+	if a.options.Clock == nil {
+		a.options.Clock = logclient.MachineClock{}
+	}
+	return a
+}
+
+// Certificate audits the timestamps in a certificate, in DER, against their logs, all at once. The issuer is the
+// certificate of its issuer. The library makes the leaf that each timestamp promises, and decides whether the log's
+// path leads from it to the root that the log signed. The error is one of CertificateSCTs.
+func (a *Auditor) Certificate(ctx context.Context, certificate, issuer []byte) ([]Result, error) {
+	scts, err := CertificateSCTs(certificate)
+	if err != nil {
+		return nil, err
+	}
+	return a.each(ctx, scts, func(sct SCT) ([]byte, error) {
+		return wagtenib.PromisedLeaf(wagtenib.Promise{Certificate: certificate, Issuer: issuer, Timestamp: sct.Timestamp,
+			Extensions: sct.Extensions})
+	}), nil
+}
+
+// SCTs audits timestamps that one holds for a certificate that was submitted, in DER, against their logs, all at once.
+// A certificate with the poison extension is a precertificate, whose final issuer must be given. Otherwise the
+// certificate itself is the entry, and the issuer is not looked at. The error wraps ErrCertificate.
+func (a *Auditor) SCTs(ctx context.Context, scts []SCT, certificate, issuer []byte) ([]Result, error) {
+	_, tbs, isPrecertificate, err := extension(certificate, poison)
+	if err != nil {
+		return nil, err
+	}
+	content, header := certificate, []byte{0, 0}
+	if isPrecertificate {
+		if content, err = wagtenib.PrecertificateEntry(tbs); err != nil {
+			return nil, fmt.Errorf("%w: %w", ErrCertificate, err)
+		}
+		parsed, err := x509.ParseCertificate(issuer)
+		if err != nil {
+			return nil, fmt.Errorf("%w: the issuer of a precertificate must be given: %v", ErrCertificate, err)
+		}
+		key := sha256.Sum256(parsed.RawSubjectPublicKeyInfo)
+		header = append([]byte{0, 1}, key[:]...)
+	}
+	return a.each(ctx, scts, func(sct SCT) ([]byte, error) { return leafOf(sct, header, content) }), nil
+}
+
+// leafOf returns the MerkleTreeLeaf of an entry (RFC 6962, section 3.4): the header has its type, and the hash of its
+// issuer's key if it is of a precertificate.
+func leafOf(sct SCT, header, content []byte) ([]byte, error) {
+	leaf := cryptobyte.NewBuilder([]byte{0, 0})
+	leaf.AddUint64(sct.Timestamp)
+	leaf.AddBytes(header)
+	leaf.AddUint24LengthPrefixed(func(b *cryptobyte.Builder) { b.AddBytes(content) })
+	leaf.AddUint16LengthPrefixed(func(b *cryptobyte.Builder) { b.AddBytes(sct.Extensions) })
+	return leaf.Bytes()
+}
+
+// each audits timestamps at once, so that a log that is slow does not delay another one.
+func (a *Auditor) each(ctx context.Context, scts []SCT, leafOf func(SCT) ([]byte, error)) []Result {
+	results := make([]Result, len(scts))
+	var running sync.WaitGroup
+	for i, sct := range scts {
+		running.Add(1)
+		go func() {
+			defer running.Done()
+			results[i] = a.one(ctx, sct, leafOf)
+		}()
+	}
+	running.Wait()
+	return results
+}
+
+// one audits a timestamp.
+func (a *Auditor) one(ctx context.Context, sct SCT, leafOf func(SCT) ([]byte, error)) Result {
+	result := Result{SCT: sct}
+	says := func(outcome Outcome, form string, words ...any) Result {
+		result.Outcome, result.Text = outcome, fmt.Sprintf(form, words...)
+		return result
+	}
+	var ok bool
+	if result.Log, ok = a.logs[sct.LogID]; !ok {
+		return says(UnknownLog, "no log that was given has the ID %x", sct.LogID)
+	}
+	leaf, err := leafOf(sct)
+	if err != nil {
+		return says(Unreadable, "%v", err)
+	}
+	if err := signature.Verify(result.Log.PublicKey, leaf, sct.Signature); err != nil {
+		return says(Never, "the log's key did not sign the timestamp over this certificate: %v", err)
+	}
+	reader, err := watch.NewReader(result.Log, a.options)
+	if err != nil {
+		return says(NoAnswer, "%v", err)
+	}
+	head, err := reader.Head(ctx)
+	if errors.Is(err, signature.ErrSigner) {
+		return says(Never, "the log's key did not sign the head: %v", err)
+	}
+	if err != nil {
+		return says(NoAnswer, "%v", err)
+	}
+	result.TreeSize = head.TreeSize
+	found := promise{reader, sct, leaf, head}
+	outcome, index, text, files := found.judge(ctx)
+	result.Index = index
+	if files != nil {
+		evidence, err := watch.NewEvidence(result.Log, a.options.Clock.Now(), watch.VerdictPromise, text, files)
+		if err != nil {
+			return says(NoAnswer, "%v", err)
+		}
+		result.Evidence = &evidence
+	}
+	return says(outcome, "%s", text)
+}
+
+// promise is what a log promised by a timestamp that it signed, and the head that it answers with.
+type promise struct {
+	reader *watch.Reader
+	sct    SCT
+	leaf   []byte
+	head   watch.Head
+}
+
+// judge says whether the log keeps its promise. The files are those of evidence if it does not.
+func (p promise) judge(ctx context.Context) (outcome Outcome, index uint64, text string, files map[string][]byte) {
+	named, isNamed := p.sct.Index()
+	if p.reader.Log.IsTiled() && !isNamed {
+		return Never, 0, "the timestamp of a tiled log names no index (leaf_index)", nil
+	}
+	hash := wagtenib.LeafHash(p.leaf)
+	index, path, err := p.reader.Place(ctx, p.head, hash, named)
+	switch {
+	case errors.Is(err, watch.ErrAbsent):
+		delay := uint64(p.reader.Log.MaxMergeDelay.Milliseconds())
+		if p.head.Timestamp <= p.sct.Timestamp || p.head.Timestamp-p.sct.Timestamp <= delay {
+			return NotYet, 0, fmt.Sprintf("the leaf is not among %d", p.head.TreeSize), nil
+		}
+		text := fmt.Sprintf("the leaf is not among the %d of the head of %d, past the maximum merge delay of %v",
+			p.head.TreeSize, p.head.Timestamp, p.reader.Log.MaxMergeDelay)
+		return Never, 0, text, p.files()
+	case err != nil:
+		return NoAnswer, 0, err.Error(), nil
+	}
+	if err := wagtenib.VerifyInclusion(hash, index, p.head.TreeSize, path, p.head.Root); err != nil {
+		return p.judgeOther(ctx, index, err)
+	}
+	if isNamed && index != named {
+		return Never, index, fmt.Sprintf("the leaf is at %d, and the timestamp names %d", index, named), nil
+	}
+	return Included, index, fmt.Sprintf("the leaf is at %d of %d", index, p.head.TreeSize), nil
+}
+
+// judgeOther judges a leaf to which the log's path does not lead. Of a tiled log it shows that another leaf is at the
+// index.
+func (p promise) judgeOther(ctx context.Context, index uint64, why error) (Outcome, uint64, string, map[string][]byte) {
+	text := fmt.Sprintf("the log's path does not lead from the leaf at %d to the root of %d: %v", index, p.head.TreeSize,
+		why)
+	if !p.reader.Log.IsTiled() {
+		return Never, index, text, nil
+	}
+	other, err := p.reader.LeafHash(ctx, p.head, index)
+	if err != nil {
+		return NoAnswer, index, err.Error(), nil
+	}
+	_, path, err := p.reader.Place(ctx, p.head, other, index)
+	if err != nil {
+		return NoAnswer, index, err.Error(), nil
+	}
+	proof := watch.Inclusion{LeafIndex: index, TreeSize: p.head.TreeSize, LeafHash: other[:]}
+	for i := range path {
+		proof.AuditPath = append(proof.AuditPath, path[i][:])
+	}
+	files := p.files()
+	if files[watch.FileProof], err = json.Marshal(proof); err != nil {
+		return NoAnswer, index, err.Error(), nil
+	}
+	return Never, index, fmt.Sprintf("another leaf is at %d of %d", index, p.head.TreeSize), files
+}
+
+func (p promise) files() map[string][]byte {
+	return map[string][]byte{watch.FileLeaf: p.leaf, watch.FileSCT: p.sct.Raw, watch.FileHead: p.head.Signed}
+}

@@ -1,0 +1,218 @@
+// Package logclient reads Certificate Transparency logs over HTTP: tiled logs (C2SP static-ct-api) and logs of RFC
+// 6962.
+//
+// It believes nothing that it reads. It bounds the bytes and the time of every answer, and names the reason if it
+// refuses one. The caller must judge what it returns.
+package logclient
+
+import (
+	"context"
+	"errors"
+	"fmt"
+	"math/rand/v2"
+	"net"
+	"net/http"
+	"net/url"
+	"strings"
+	"sync"
+	"time"
+)
+
+// Limits bound what a log can cost. The zero value of a field means its default.
+type Limits struct {
+	Request  time.Duration // for one request and its whole answer; 2 minutes
+	Grace    time.Duration // after which an answer must keep the minimum pace; 10 seconds
+	Pace     int           // bytes a second that an answer must come by at least; 4,096
+	Attempts int           // requests for one answer, if the log is busy or fails; 8
+	Wait     time.Duration // the longest time between two attempts. A log that asks for a longer one is busy; 5 minutes
+	InFlight int           // requests at a time; 8
+	Buffer   int64         // bytes of entries that are read ahead, beside one whole answer; 32 MiB
+}
+
+func (l Limits) withDefaults() Limits {
+	set := func(value *time.Duration, otherwise time.Duration) {
+		if *value <= 0 {
+			*value = otherwise
+		}
+	}
+	set(&l.Request, 2*time.Minute)
+	set(&l.Grace, 10*time.Second)
+	set(&l.Wait, 5*time.Minute)
+	number := func(value *int, otherwise int) {
+		if *value <= 0 {
+			*value = otherwise
+		}
+	}
+	number(&l.Pace, 4096)
+	number(&l.Attempts, 8)
+	number(&l.InFlight, 8)
+	if l.Buffer <= 0 {
+		l.Buffer = 32 << 20
+	}
+	return l
+}
+
+// Options say how a log is read.
+type Options struct {
+	UserAgent string            // who asks, with a contact: see UserAgent
+	Transport http.RoundTripper // of the requests; nil for a pool of connections of this client's own
+	Clock     Clock             // for the waits between attempts; nil for the machine's clock
+	Limits    Limits
+}
+
+// Client reads one log. Its methods can be called by several goroutines at once.
+type Client struct {
+	base    *url.URL
+	http    *http.Client
+	agent   string
+	clock   Clock
+	limits  Limits
+	slots   chan struct{} // one for each request in flight
+	room    *room
+	refused refusals
+}
+
+// ErrAddress means that an address is not one of a log.
+var ErrAddress = errors.New("logclient: not a log's address")
+
+// UserAgent returns a text for Options.UserAgent: the program and its version, and the address by which its operator
+// can be reached, if there is one. The error is nil, or says that a text has characters that a header cannot have.
+func UserAgent(program, version, contact string) (string, error) {
+	agent := program + "/" + version
+	if contact != "" {
+		agent += " (+" + contact + ")"
+	}
+	for _, c := range agent {
+		if c < ' ' || c > '~' {
+			return "", fmt.Errorf("logclient: the contact %q must have printable ASCII characters only", contact)
+		}
+	}
+	return agent, nil
+}
+
+// New returns a client of the log at an address: the monitoring prefix of a tiled log, or the base of "ct/v1/". The
+// error is nil or wraps ErrAddress.
+func New(address string, options Options) (*Client, error) {
+	base, err := url.Parse(address)
+	if err != nil {
+		return nil, fmt.Errorf("%w: %v", ErrAddress, err)
+	}
+	if base.Scheme != "https" && base.Scheme != "http" || base.Host == "" || base.RawQuery != "" || base.Fragment != "" ||
+		base.User != nil {
+		return nil, fmt.Errorf("%w: %q (write https://HOST/PATH, without a user, a query or a fragment)", ErrAddress, address)
+	}
+	base.Path = strings.TrimSuffix(base.Path, "/")
+	limits := options.Limits.withDefaults()
+	c := &Client{base: base, agent: options.UserAgent, clock: options.Clock, limits: limits,
+		slots: make(chan struct{}, limits.InFlight), room: &room{free: limits.Buffer}}
+	if c.agent == "" {
+		c.agent = "wagtenib"
+	}
+	if c.clock == nil {
+		c.clock = MachineClock{}
+	}
+	transport := options.Transport
+	if transport == nil {
+		transport = newTransport(limits)
+	}
+	c.http = &http.Client{Transport: transport, CheckRedirect: c.checkRedirect}
+	return c, nil
+}
+
+// newTransport returns a pool of connections of one log's own: a log that is slow must not hold the connections of
+// another.
+func newTransport(limits Limits) *http.Transport {
+	dialer := net.Dialer{Timeout: 10 * time.Second, KeepAlive: 30 * time.Second}
+	return &http.Transport{
+		Proxy:                  http.ProxyFromEnvironment,
+		DialContext:            dialer.DialContext,
+		ForceAttemptHTTP2:      true,
+		TLSHandshakeTimeout:    10 * time.Second,
+		MaxIdleConnsPerHost:    limits.InFlight,
+		MaxConnsPerHost:        2 * limits.InFlight,
+		IdleConnTimeout:        90 * time.Second,
+		MaxResponseHeaderBytes: 64 << 10,
+	}
+}
+
+// maxRedirects is the number of redirects within the log's own host that one request follows.
+const maxRedirects = 3
+
+// checkRedirect follows a few redirects within the host of the log. Another host's answers are not the log's, whatever
+// they are.
+func (c *Client) checkRedirect(next *http.Request, before []*http.Request) error {
+	first := before[0].URL
+	switch {
+	case len(before) > maxRedirects:
+		return fmt.Errorf("%w: more than %d redirects", ErrRedirect, maxRedirects)
+	case next.URL.Hostname() != first.Hostname() || next.URL.Port() != first.Port() && next.URL.Scheme == first.Scheme:
+		return fmt.Errorf("%w: from %s to %s", ErrRedirect, first.Host, next.URL.Host)
+	case next.URL.Scheme != first.Scheme && next.URL.Scheme != "https":
+		return fmt.Errorf("%w: from https to %s", ErrRedirect, next.URL.Scheme)
+	}
+	return nil
+}
+
+// A Clock tells the time, and waits between the attempts of a request.
+type Clock interface {
+	Now() time.Time
+	// Wait returns nil after a time, or the error of the context as soon as that ends.
+	Wait(ctx context.Context, d time.Duration) error
+}
+
+// MachineClock is the clock of this machine.
+type MachineClock struct{}
+
+// Now returns the time.
+func (MachineClock) Now() time.Time { return time.Now() }
+
+// Wait returns nil after a time, or the error of the context.
+func (MachineClock) Wait(ctx context.Context, d time.Duration) error {
+	timer := time.NewTimer(d)
+	defer timer.Stop()
+	select {
+	case <-timer.C:
+		return nil
+	case <-ctx.Done():
+		return context.Cause(ctx)
+	}
+}
+
+// refusals counts how often a log was busy. A log that refuses a request now and then is asked on at once by the other
+// requests. After several refusals without an answer between them, no request is made until the time that the log
+// names.
+type refusals struct {
+	mutex sync.Mutex
+	inRow int
+	until time.Time
+}
+
+// refusalsInRow is the number of refusals after which all requests wait.
+const refusalsInRow = 3
+
+func (r *refusals) answered() {
+	r.mutex.Lock()
+	defer r.mutex.Unlock()
+	r.inRow = 0
+}
+
+func (r *refusals) add(until time.Time) {
+	r.mutex.Lock()
+	defer r.mutex.Unlock()
+	if r.inRow++; r.inRow >= refusalsInRow && until.After(r.until) {
+		r.until = until
+	}
+}
+
+// wait returns how long a request must wait.
+func (r *refusals) wait(now time.Time) time.Duration {
+	r.mutex.Lock()
+	defer r.mutex.Unlock()
+	return r.until.Sub(now)
+}
+
+// jittered returns a random time between half of d and d, so that requests that failed together are not made again
+// together.
+func jittered(d time.Duration) time.Duration {
+	return d/2 + rand.N(d/2+1)
+}

@@ -1,0 +1,306 @@
+package logclient_test
+
+import (
+	"compress/gzip"
+	"context"
+	"errors"
+	"fmt"
+	"net/http"
+	"net/http/httptest"
+	"slices"
+	"strings"
+	"sync"
+	"sync/atomic"
+	"testing"
+	"time"
+
+	"wagtenib/internal/logclient"
+	"wagtenib/internal/testlog"
+)
+
+// clock is a clock whose waits pass at once, and move it. It notes them.
+type clock struct {
+	mutex sync.Mutex
+	now   time.Time
+	waits []time.Duration
+}
+
+func newClock() *clock { return &clock{now: time.Date(2027, 3, 1, 12, 0, 0, 0, time.UTC)} }
+
+func (c *clock) Now() time.Time {
+	c.mutex.Lock()
+	defer c.mutex.Unlock()
+	return c.now
+}
+
+func (c *clock) Wait(ctx context.Context, d time.Duration) error {
+	c.mutex.Lock()
+	defer c.mutex.Unlock()
+	c.now = c.now.Add(max(d, 0))
+	c.waits = append(c.waits, d)
+	return ctx.Err()
+}
+
+// client returns a client of a server whose answers are a handler's.
+func client(t testing.TB, handler http.Handler, options logclient.Options) *logclient.Client {
+	t.Helper()
+	server := httptest.NewServer(handler)
+	t.Cleanup(server.Close)
+	c, err := logclient.New(server.URL, options)
+	if err != nil {
+		t.Fatal(err)
+	}
+	return c
+}
+
+// newLog returns a log with so many entries and a head over them.
+func newLog(t testing.TB, count uint64) *testlog.Log {
+	t.Helper()
+	log, err := testlog.New("log.example/2027")
+	if err != nil {
+		t.Fatal(err)
+	}
+	for i := range count {
+		log.Add(testlog.Entry{Timestamp: 1000 + i, Certificate: []byte{0x30, 3, byte(i >> 16), byte(i >> 8), byte(i)}})
+	}
+	log.Publish(count, 1000+count)
+	return log
+}
+
+// quick are limits by which an answer that is too slow ends soon.
+var quick = logclient.Limits{Request: 400 * time.Millisecond, Grace: 100 * time.Millisecond, Attempts: 2}
+
+// until writes the same bytes again and again, as long as the client stays.
+func until(w http.ResponseWriter, r *http.Request, content string, pause time.Duration) {
+	for r.Context().Err() == nil {
+		if _, err := w.Write([]byte(content)); err != nil {
+			return
+		}
+		w.(http.Flusher).Flush()
+		select {
+		case <-r.Context().Done():
+		case <-time.After(pause): // (this is the server's pace, not what the test waits for)
+		}
+	}
+}
+
+// Answers that a log must not give are refused by name, within a bound of time.
+func TestRefusesByName(t *testing.T) {
+	elsewhere := httptest.NewServer(http.HandlerFunc(func(http.ResponseWriter,
+		*http.Request) {
+		t.Error("the other host was asked")
+	}))
+	defer elsewhere.Close()
+	for what, of := range map[string]struct {
+		answer func(w http.ResponseWriter, r *http.Request)
+		due    error
+	}{
+		"not found": {func(w http.ResponseWriter, r *http.Request) { http.NotFound(w, r) }, logclient.ErrNotFound},
+		"gone": {func(w http.ResponseWriter, _ *http.Request) { w.WriteHeader(http.StatusGone) },
+			logclient.ErrNotFound},
+		"forbidden": {func(w http.ResponseWriter, _ *http.Request) { w.WriteHeader(http.StatusForbidden) },
+			logclient.ErrStatus},
+		"no content": {func(w http.ResponseWriter, _ *http.Request) { w.WriteHeader(http.StatusNoContent) },
+			logclient.ErrStatus},
+		"fails": {func(w http.ResponseWriter, _ *http.Request) { w.WriteHeader(http.StatusBadGateway) },
+			logclient.ErrStatus},
+		"busy": {func(w http.ResponseWriter, _ *http.Request) { w.WriteHeader(http.StatusServiceUnavailable) },
+			logclient.ErrBusy},
+		"another host": {func(w http.ResponseWriter, r *http.Request) {
+			http.Redirect(w, r, elsewhere.URL,
+				http.StatusFound)
+		}, logclient.ErrRedirect},
+		"a file": {func(w http.ResponseWriter, r *http.Request) {
+			http.Redirect(w, r, "file:///etc/passwd", http.StatusFound)
+		}, logclient.ErrRedirect},
+		"in a circle": {func(w http.ResponseWriter, r *http.Request) {
+			http.Redirect(w, r, "/checkpoint",
+				http.StatusFound)
+		}, logclient.ErrRedirect},
+		"endless": {func(w http.ResponseWriter, r *http.Request) { until(w, r, strings.Repeat("a", 1<<16), 0) },
+			logclient.ErrTooLarge},
+		"drips": {func(w http.ResponseWriter, r *http.Request) { until(w, r, "a", 20*time.Millisecond) },
+			logclient.ErrTooSlow},
+		"says nothing": {func(_ http.ResponseWriter, r *http.Request) { <-r.Context().Done() }, logclient.ErrTooSlow},
+		"breaks off":   {func(http.ResponseWriter, *http.Request) { panic(http.ErrAbortHandler) }, logclient.ErrUnreachable},
+		"is cut off":   {func(w http.ResponseWriter, _ *http.Request) { cutOff(w) }, logclient.ErrUnreachable},
+		"a long length": {func(w http.ResponseWriter, _ *http.Request) { w.Header().Set("Content-Length", "1000000000000") },
+			logclient.ErrTooLarge},
+		"a gzip bomb": {bomb, logclient.ErrTooLarge},
+	} {
+		t.Run(what, func(t *testing.T) {
+			limits := logclient.Limits{Attempts: 2}
+			if of.due == logclient.ErrTooSlow {
+				limits = quick
+			}
+			c := client(t, http.HandlerFunc(of.answer), logclient.Options{Clock: newClock(), Limits: limits})
+			if content, err := c.Checkpoint(context.Background()); !errors.Is(err, of.due) || content != nil {
+				t.Errorf("%d bytes, %v, and %v is due", len(content), err, of.due)
+			}
+		})
+	}
+}
+
+func cutOff(w http.ResponseWriter) {
+	w.Header().Set("Content-Length", "100")
+	if _, err := w.Write([]byte("half")); err == nil {
+		panic(http.ErrAbortHandler)
+	}
+}
+
+// bomb answers with a few bytes that are gigabytes after decompression.
+func bomb(w http.ResponseWriter, r *http.Request) {
+	w.Header().Set("Content-Encoding", "gzip")
+	packed := gzip.NewWriter(w)
+	zeros := make([]byte, 1<<20)
+	for i := 0; i < 1<<12 && r.Context().Err() == nil; i++ {
+		if _, err := packed.Write(zeros); err != nil {
+			return
+		}
+	}
+}
+
+// A page in the place of an answer to a call is refused by name.
+func TestRefusesPages(t *testing.T) {
+	for _, page := range []string{"<!DOCTYPE html><title>Welcome</title>", "", "[]", "null", `{"entries":`,
+		`{"entries":[]}`, `{"consistency":["AAAA"]}`, `{"audit_path":[]}`} {
+		c := client(t, http.HandlerFunc(func(w http.ResponseWriter, _ *http.Request) { fmt.Fprint(w, page) }),
+			logclient.Options{})
+		ctx := context.Background()
+		for call, err := range map[string]error{
+			"get-entries":       c.Entries(ctx, 0, 5, func(logclient.Page, bool) error { return nil }),
+			"get-proof-by-hash": third(c.ProofByHash(ctx, [32]byte{}, 5)),
+		} {
+			if !errors.Is(err, logclient.ErrNonsense) {
+				t.Errorf("%s with %q: %v", call, page, err)
+			}
+		}
+		if _, err := c.STH(ctx); !errors.Is(err, logclient.ErrNonsense) && !strings.HasSuffix(page, "}") {
+			t.Errorf("get-sth with %q: %v", page, err)
+		}
+		if _, err := c.Consistency(ctx, 1, 2); !errors.Is(err, logclient.ErrNonsense) && !strings.HasSuffix(page, "]}") {
+			t.Errorf("get-sth-consistency with %q: %v", page, err)
+		}
+	}
+}
+
+func third[A, B any](_ A, _ B, err error) error { return err }
+
+// Each request says who asks.
+func TestSaysWhoAsks(t *testing.T) {
+	agent, err := logclient.UserAgent("ctwatch", "1.2.3", "mailto:owner@example.org")
+	if err != nil {
+		t.Fatal(err)
+	}
+	seen := ""
+	c := client(t, http.HandlerFunc(func(_ http.ResponseWriter, r *http.Request) { seen = r.UserAgent() }),
+		logclient.Options{UserAgent: agent})
+	if _, err := c.Checkpoint(context.Background()); err != nil || seen != "ctwatch/1.2.3 (+mailto:owner@example.org)" {
+		t.Errorf("the log sees %q, %v", seen, err)
+	}
+	if _, err := logclient.UserAgent("ctwatch", "1", "a\r\nHost: b"); err == nil {
+		t.Error("a contact with a line end is taken")
+	}
+}
+
+// The wait that a busy log names is kept: in seconds, or as a date. A failure that passes is tried again.
+func TestWaitsAsTheLogSays(t *testing.T) {
+	for what, of := range map[string]struct {
+		status int
+		retry  string
+		least  time.Duration
+	}{
+		"seconds":              {http.StatusTooManyRequests, "7", 7 * time.Second},
+		"a date":               {http.StatusServiceUnavailable, "Mon, 01 Mar 2027 12:00:30 GMT", 30 * time.Second},
+		"a date in the past":   {http.StatusServiceUnavailable, "Mon, 01 Mar 2027 11:00:00 GMT", 0},
+		"nothing":              {http.StatusTooManyRequests, "", 0},
+		"nonsense":             {http.StatusTooManyRequests, "soon", 0},
+		"a gateway that fails": {http.StatusBadGateway, "", 0},
+	} {
+		t.Run(what, func(t *testing.T) {
+			at, asked := newClock(), 0
+			c := client(t, http.HandlerFunc(func(w http.ResponseWriter, _ *http.Request) {
+				if asked++; asked == 1 {
+					w.Header().Set("Retry-After", of.retry)
+					w.WriteHeader(of.status)
+					return
+				}
+				fmt.Fprint(w, "the checkpoint")
+			}), logclient.Options{Clock: at})
+			content, err := c.Checkpoint(context.Background())
+			if string(content) != "the checkpoint" || err != nil || len(at.waits) != 1 || at.waits[0] < of.least ||
+				at.waits[0] > of.least+time.Second {
+				t.Errorf("%q, %v after waits of %v", content, err, at.waits)
+			}
+		})
+	}
+}
+
+// A log that asks for a long wait is not asked again, and the error says until when.
+func TestLeavesABusyLogAlone(t *testing.T) {
+	at := newClock()
+	c := client(t, http.HandlerFunc(func(w http.ResponseWriter, _ *http.Request) {
+		w.Header().Set("Retry-After", "7200")
+		w.WriteHeader(http.StatusTooManyRequests)
+	}), logclient.Options{Clock: at})
+	_, err := c.Checkpoint(context.Background())
+	var busy *logclient.BusyError
+	if !errors.As(err, &busy) || !busy.Until.Equal(at.now.Add(2*time.Hour)) || len(at.waits) != 0 {
+		t.Errorf("%v after waits of %v", err, at.waits)
+	}
+}
+
+// All 30,000 entries are read in one run from a server that refuses one request in five, in order, by either kind of
+// log.
+func TestReadsBehindRefusals(t *testing.T) {
+	const size = 30_000
+	log := newLog(t, size)
+	var asked, refused atomic.Int64
+	log.Intercept(func(w http.ResponseWriter, _ *http.Request) bool {
+		if asked.Add(1)%5 != 0 {
+			return false
+		}
+		refused.Add(1)
+		w.Header().Set("Retry-After", "1")
+		w.WriteHeader(http.StatusTooManyRequests)
+		return true
+	})
+	at := newClock()
+	c := client(t, log, logclient.Options{Clock: at})
+	next := uint64(0)
+	err := c.Entries(context.Background(), 0, size, func(page logclient.Page, _ bool) error {
+		for i, entry := range page.Entries {
+			due := testlog.Entry{Timestamp: 1000 + next, Certificate: []byte{0x30, 3, byte(next >> 16), byte(next >> 8),
+				byte(next)}}
+			if page.Start+uint64(i) != next || !slices.Equal(entry.LeafInput, due.MerkleLeaf(next)) {
+				return fmt.Errorf("entry %d is %x", next, entry.LeafInput)
+			}
+			next++
+		}
+		return nil
+	})
+	if err != nil || next != size || refused.Load() < 20 {
+		t.Errorf("%d entries behind %d refusals: %v", next, refused.Load(), err)
+	}
+	refusedByCalls := refused.Load()
+	tiles := uint64(0)
+	err = c.DataTiles(context.Background(), 0, size, func(tile logclient.DataTile, _ bool) error {
+		if tile.Index != tiles {
+			return fmt.Errorf("tile %d comes after %d", tile.Index, tiles)
+		}
+		tiles++
+		return nil
+	})
+	if err != nil || tiles != 118 || refused.Load()-refusedByCalls < 20 {
+		t.Errorf("%d tiles behind %d refusals: %v", tiles, refused.Load()-refusedByCalls, err)
+	}
+	kept := int64(0)
+	for _, wait := range at.waits {
+		if wait >= time.Second {
+			kept++
+		}
+	}
+	if kept < refused.Load() {
+		t.Errorf("%d waits of a second, and the log refused %d requests", kept, refused.Load())
+	}
+}

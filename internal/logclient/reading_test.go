@@ -1,0 +1,202 @@
+package logclient_test
+
+import (
+	"bytes"
+	"context"
+	"crypto/sha256"
+	"encoding/hex"
+	"errors"
+	"fmt"
+	"net/http"
+	"strconv"
+	"strings"
+	"sync/atomic"
+	"testing"
+
+	"golang.org/x/mod/sumdb/tlog"
+
+	"wagtenib/internal/logclient"
+)
+
+// A log that gives few entries an answer, or cuts answers at its own pages, is read whole.
+func TestReadsSmallPages(t *testing.T) {
+	for _, size := range []int{1, 7, 32, 255, 1000} {
+		log := newLog(t, 1000)
+		log.Page = size
+		c := client(t, log, logclient.Options{})
+		for _, from := range []uint64{0, 1, 255, 256, 700, 999, 1000} {
+			next := from
+			err := c.Entries(context.Background(), from, 1000, func(page logclient.Page, _ bool) error {
+				if page.Start != next {
+					return fmt.Errorf("entry %d comes after %d", page.Start, next)
+				}
+				next += uint64(len(page.Entries))
+				return nil
+			})
+			if err != nil || next != 1000 {
+				t.Errorf("pages of %d from %d on: %d, %v", size, from, next, err)
+			}
+		}
+	}
+}
+
+// With little room to read ahead, tiles are asked for again in their turn: they come in order and whole, and the room
+// is given back.
+func TestReadsWithLittleRoom(t *testing.T) {
+	const tile = 1 << 20
+	var asked atomic.Int64
+	c := client(t, http.HandlerFunc(func(w http.ResponseWriter, r *http.Request) {
+		asked.Add(1)
+		number, err := strconv.Atoi(strings.TrimPrefix(r.URL.Path, "/tile/data/"))
+		if err == nil {
+			_, err = w.Write(bytes.Repeat([]byte{byte(number)}, tile))
+		}
+		if err != nil && r.Context().Err() == nil {
+			t.Error(err)
+		}
+	}), logclient.Options{Limits: logclient.Limits{Buffer: 2*tile + tile/2}})
+	for round := range 2 {
+		next := uint64(0)
+		err := c.DataTiles(context.Background(), 0, 40*256, func(of logclient.DataTile, _ bool) error {
+			if of.Index != next || !bytes.Equal(of.Bytes, bytes.Repeat([]byte{byte(next)}, tile)) {
+				return fmt.Errorf("tile %d has %d bytes, and tile %d is next", of.Index, len(of.Bytes), next)
+			}
+			next++
+			return nil
+		})
+		if err != nil || next != 40 {
+			t.Errorf("round %d: %d tiles, %v", round, next, err)
+		}
+	}
+	if asked.Load() <= 80 {
+		t.Errorf("%d requests: the room was never too little", asked.Load())
+	}
+}
+
+// What a failure comes after is handed over, in order; nothing after it is.
+func TestStopsAtAFailure(t *testing.T) {
+	log := newLog(t, 2000)
+	log.Intercept(func(w http.ResponseWriter, r *http.Request) bool {
+		if r.URL.Path == "/tile/data/005" {
+			w.WriteHeader(http.StatusForbidden)
+			return true
+		}
+		return false
+	})
+	c := client(t, log, logclient.Options{})
+	next := uint64(0)
+	err := c.DataTiles(context.Background(), 0, 2000, func(logclient.DataTile, bool) error {
+		next++
+		return nil
+	})
+	if !errors.Is(err, logclient.ErrStatus) || next != 5 {
+		t.Errorf("%d tiles, %v", next, err)
+	}
+	own := errors.New("enough")
+	if err := c.DataTiles(context.Background(), 0, 1000, func(logclient.DataTile, bool) error { return own }); err != own {
+		t.Errorf("%v, and the caller's error is due", err)
+	}
+}
+
+// The name of each data tile is that of tlog, and its width.
+func TestDataTileName(t *testing.T) {
+	for _, size := range []uint64{1, 255, 256, 257, 1_000_000, 256_000_000_001} {
+		for _, index := range []uint64{0, 1, 3, 999, 1000, 3905, 999_999, 1_000_000, 1_000_000_000} {
+			if index*256 >= size {
+				continue
+			}
+			width := int(min(256, size-index*256))
+			due := strings.Replace(tlog.Tile{H: 8, L: -1, N: int64(index), W: width}.Path(), "tile/8/", "tile/", 1)
+			if name, found := logclient.DataTileName(index, size); name != due || found != width {
+				t.Errorf("tile %d of %d is %s with %d entries, and %s with %d is due", index, size, name, found, due, width)
+			}
+		}
+	}
+}
+
+// After a partial tile is gone, it is cut from the full one.
+func TestReadsFullTileForPartial(t *testing.T) {
+	log := newLog(t, 600)
+	log.Intercept(func(w http.ResponseWriter, r *http.Request) bool {
+		if strings.Contains(r.URL.Path, ".p/") {
+			http.NotFound(w, r)
+			return true
+		}
+		return false
+	})
+	c := client(t, log, logclient.Options{})
+	full, err := c.HashTile(context.Background(), "tile/0/001")
+	if err != nil || len(full) != 8192 {
+		t.Fatalf("%d bytes, %v", len(full), err)
+	}
+	part, err := c.HashTile(context.Background(), "tile/0/001.p/77")
+	if err != nil || !bytes.Equal(part, full[:77*32]) {
+		t.Errorf("%d bytes, %v", len(part), err)
+	}
+	if _, err := c.HashTile(context.Background(), "tile/0/002"); !errors.Is(err, logclient.ErrNotFound) {
+		t.Errorf("a tile that is not there: %v", err)
+	}
+	widths := []int{}
+	err = c.DataTiles(context.Background(), 256, 500, func(tile logclient.DataTile, _ bool) error {
+		widths = append(widths, tile.Width)
+		return nil
+	})
+	if err != nil || len(widths) != 1 || widths[0] != 244 {
+		t.Errorf("tiles of %v entries, %v", widths, err)
+	}
+}
+
+// A tile of another length, and an issuer with another hash, are refused.
+func TestRefusesOtherBytes(t *testing.T) {
+	c := client(t, http.HandlerFunc(func(w http.ResponseWriter, _ *http.Request) { fmt.Fprint(w, "issuer") }),
+		logclient.Options{})
+	if _, err := c.HashTile(context.Background(), "tile/0/000"); !errors.Is(err, logclient.ErrNonsense) {
+		t.Errorf("a short tile: %v", err)
+	}
+	if _, err := c.Issuer(context.Background(), [32]byte{1}); !errors.Is(err, logclient.ErrNonsense) {
+		t.Errorf("another issuer: %v", err)
+	}
+	// (the hash was computed by sha256sum)
+	fingerprint, err := hex.DecodeString("535c6f8eb511f5d966a1b0725df92ebf27514faba945cbbd698e23ac72c41757")
+	if err != nil {
+		t.Fatal(err)
+	}
+	if content, err := c.Issuer(context.Background(), [sha256.Size]byte(fingerprint)); err != nil ||
+		string(content) != "issuer" {
+		t.Errorf("the issuer is %q, %v", content, err)
+	}
+}
+
+// The roots of a log are returned as it has them (RFC 6962, section 4.7).
+func TestRoots(t *testing.T) {
+	c := client(t, http.HandlerFunc(func(w http.ResponseWriter, r *http.Request) {
+		if r.URL.Path != "/ct/v1/get-roots" {
+			http.NotFound(w, r)
+			return
+		}
+		fmt.Fprint(w, `{"certificates":["cm9vdA==","b3RoZXI="]}`) // (as base64 writes "root" and "other")
+	}), logclient.Options{})
+	roots, err := c.Roots(context.Background())
+	if err != nil || len(roots) != 2 || string(roots[0]) != "root" || string(roots[1]) != "other" {
+		t.Errorf("%q, %v", roots, err)
+	}
+	page := client(t, http.HandlerFunc(func(w http.ResponseWriter, _ *http.Request) { fmt.Fprint(w, "<html>") }),
+		logclient.Options{})
+	if _, err := page.Roots(context.Background()); !errors.Is(err, logclient.ErrNonsense) {
+		t.Errorf("a page: %v", err)
+	}
+}
+
+// A redirect within the log's own host is followed, with the same bounds.
+func TestFollowsItsOwnRedirects(t *testing.T) {
+	c := client(t, http.HandlerFunc(func(w http.ResponseWriter, r *http.Request) {
+		if r.URL.Path == "/checkpoint" {
+			http.Redirect(w, r, "/moved/checkpoint", http.StatusMovedPermanently)
+			return
+		}
+		fmt.Fprint(w, r.URL.Path)
+	}), logclient.Options{})
+	if content, err := c.Checkpoint(context.Background()); err != nil || string(content) != "/moved/checkpoint" {
+		t.Errorf("%q, %v", content, err)
+	}
+}

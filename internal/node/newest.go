@@ -1,0 +1,131 @@
+package node
+
+import (
+	"context"
+	"errors"
+	"fmt"
+	"strings"
+	"time"
+
+	"wagtenib/service/stores"
+)
+
+const (
+	// maxUnread is for how long a lock that does not answer is waited for, if a published head is known.
+	maxUnread = 2 * time.Second
+	// maxMoves is how often the newest head is looked for again if it was deleted meanwhile.
+	maxMoves = 50
+)
+
+// Newest returns the newest published head, whichever node published it, and no other. If the lock cannot be read, it
+// returns the newest one that this node knows. The error is stores.ErrAbsent if none is published.
+func (n *Node) Newest(ctx context.Context) (Head, error) {
+	seen := n.seenHead()
+	for try := 0; ; try++ {
+		published, err := n.readPublished(ctx, seen != nil)
+		if err != nil && seen != nil {
+			return *seen, nil
+		}
+		if err != nil {
+			return Head{}, fmt.Errorf("node: the lock: %w", err)
+		}
+		if seen = n.seenHead(); seen != nil && !seen.published().Before(published) {
+			return *seen, nil
+		}
+		head, err := n.headAt(ctx, published)
+		if err == nil {
+			n.see(head)
+		}
+		// It was deleted if a later one is published by now.
+		if !errors.Is(err, stores.ErrAbsent) || try == maxMoves {
+			return head, err
+		}
+		if again, failed := n.readPublished(ctx, false); failed != nil || again == published {
+			return head, err
+		}
+	}
+}
+
+// Known returns the newest published head that this node knows, without looking for a newer one, or nil.
+func (n *Node) Known() *Head { return n.seenHead() }
+
+// seenHead returns the newest published head that this node knows, or nil.
+func (n *Node) seenHead() *Head {
+	read := n.read.Load()
+	if now := n.Snapshot(); now != nil && (read == nil || read.before(now.Head)) {
+		return &now.Head
+	}
+	return read
+}
+
+// see keeps a published head that was read.
+func (n *Node) see(head Head) {
+	for {
+		before := n.read.Load()
+		if before != nil && !before.before(head) || n.read.CompareAndSwap(before, &head) {
+			return
+		}
+	}
+}
+
+// readPublished reads how far the log is published.
+func (n *Node) readPublished(ctx context.Context, isBrief bool) (stores.Published, error) {
+	if isBrief {
+		var cancel context.CancelFunc
+		ctx, cancel = n.config.Machine.Clock.Within(ctx, maxUnread)
+		defer cancel()
+	}
+	return n.config.Stores.Lock.Published(ctx)
+}
+
+// headAt reads the head that is published. If no head has that timestamp, it is the newest one of that size, whose
+// timestamp is published now.
+func (n *Node) headAt(ctx context.Context, published stores.Published) (Head, error) {
+	name := headName(published.Size, published.Moment)
+	head, err := Head{}, error(stores.ErrAbsent)
+	if published.Moment > 0 {
+		head, err = n.readHead(ctx, name)
+	}
+	if errors.Is(err, stores.ErrAbsent) {
+		if name, err = n.newestOf(ctx, published.Size); err == nil {
+			head, err = n.readHead(ctx, name)
+		}
+	}
+	switch {
+	case err != nil:
+		return Head{}, err
+	case headName(head.Size, head.Moment) != name:
+		return Head{}, fmt.Errorf("%w: %s has the head of %d entries at %d ms", ErrDamaged, name, head.Size,
+			head.Moment)
+	case head.published().Before(published):
+		return Head{}, fmt.Errorf("%w: the published head of %d entries at %d ms is missing", ErrDamaged,
+			published.Size, published.Moment)
+	}
+	return head, nil
+}
+
+// newestOf returns the name of the newest head of a size.
+func (n *Node) newestOf(ctx context.Context, size uint64) (string, error) {
+	newest, prefix := "", fmt.Sprintf("%s%020d-", headsPrefix, size)
+	for after := prefix; ; after = newest {
+		names, err := n.config.Stores.Objects.List(ctx, headsPrefix, after, stores.MostListed)
+		if err != nil {
+			return "", fmt.Errorf("node: the heads: %w", err)
+		}
+		ours := 0
+		for ; ours < len(names) && strings.HasPrefix(names[ours], prefix); ours++ {
+			newest = names[ours]
+		}
+		if ours < stores.MostListed {
+			break
+		}
+	}
+	if newest == "" {
+		return "", fmt.Errorf("node: no head of %d entries is published: %w", size, stores.ErrAbsent)
+	}
+	return newest, nil
+}
+
+// Signature returns the DigitallySigned over the TreeHeadSignature (RFC 6962, section 3.5) of a head, which its note
+// has.
+func (n *Node) Signature(head Head) ([]byte, error) { return n.signatureOf(head.Note) }

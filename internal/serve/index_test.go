@@ -1,0 +1,85 @@
+package serve_test
+
+import (
+	"os"
+	"strings"
+	"testing"
+
+	"wagtenib/internal/node"
+	"wagtenib/internal/serve"
+	"wagtenib/service/stores"
+)
+
+// An index of another log is refused by its id, and the log's own one is not.
+func TestIndexByItsID(t *testing.T) {
+	t.Parallel()
+	p, got := newPlace(t), &answers{}
+	l := started(t, p.config())
+	ends(t, l)
+	other := newPlace(t)
+	l = started(t, other.config())
+	ends(t, l)
+	config := p.config()
+	config.Stores.Index = other.config().Stores.Index
+	_, err := serve.Open(limited(t), config)
+	wants(t, err, node.ErrIndex)
+	if names, err := p.config().Stores.Objects.List(limited(t), "places/", "", stores.MostListed); err != nil ||
+		len(names) != 1 {
+		t.Errorf("%v %v", names, err)
+	}
+	l = started(t, p.config())
+	got.submit(t, l, 0, 3)
+	ends(t, l)
+	// Two nodes with an index of their own each made a first start at once.
+	must(t, p.config().Stores.Objects.Put(limited(t), "places/00000000000000010000000000000002", []byte("another\n")))
+	_, err = serve.Open(limited(t), p.config())
+	wants(t, err, node.ErrIndex)
+	if !strings.Contains(err.Error(), "places/00000000000000010000000000000002") || !strings.Contains(err.Error(),
+		"delete") {
+		t.Errorf("%v does not name what must be deleted", err)
+	}
+	wants(t, serve.RebuildIndex(limited(t), p.config().Stores, func(uint64) {}), node.ErrIndex)
+}
+
+// A lost index is built again from the tiles, the newest entries first, and knows each entry and each leaf.
+func TestRebuildIndex(t *testing.T) {
+	t.Parallel()
+	p, got := newPlace(t), &answers{}
+	l := started(t, p.config())
+	got.submit(t, l, 0, 600)
+	ends(t, l)
+	must(t, os.Remove(p.path("places")))
+	_, err := serve.Open(limited(t), p.config())
+	wants(t, err, node.ErrIndex)
+	var told []uint64
+	must(t, serve.RebuildIndex(limited(t), p.config().Stores, func(left uint64) { told = append(told, left) }))
+	if len(told) != 3 || told[0] != 512 || told[1] != 256 || told[2] != 0 {
+		t.Errorf("it tells %v", told)
+	}
+	l = started(t, p.config())
+	got.submit(t, l, 0, 610)
+	if f := l.Figures(); f.Repeats != 600 || f.Entries != 610 {
+		t.Errorf("%+v", f)
+	}
+	for _, n := range []int{0, 300, 599} {
+		place, err := l.Submit(limited(t), entryOf(n))
+		must(t, err)
+		if index, err := l.IndexOf(limited(t), leafHash(entryOf(n), place)); err != nil || index != place.LeafIndex {
+			t.Errorf("%d: %v, %d", n, err, index)
+		}
+	}
+	if leaves := p.right(got); leaves != 610 {
+		t.Errorf("%d entries", leaves)
+	}
+}
+
+// An index is not built from a damaged tile.
+func TestRebuildIndexOfDamagedTiles(t *testing.T) {
+	t.Parallel()
+	p, got := newPlace(t), &answers{}
+	l := started(t, p.config())
+	got.submit(t, l, 0, 300)
+	ends(t, l)
+	must(t, damages["bent"](p.object("tile/data/000")))
+	wants(t, serve.RebuildIndex(limited(t), p.config().Stores, func(uint64) {}), node.ErrDamaged)
+}

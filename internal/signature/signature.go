@@ -1,0 +1,173 @@
+// Package signature verifies what a Certificate Transparency log signs: tree heads, checkpoints and timestamps.
+//
+// The bytes under a signature are made by the proved library. That a signature is the key's is decided by crypto/ecdsa
+// and crypto/rsa, and is not proved.
+package signature
+
+import (
+	"crypto"
+	"crypto/ecdsa"
+	"crypto/rsa"
+	"crypto/sha256"
+	"crypto/x509"
+	"encoding/binary"
+	"encoding/json"
+	"errors"
+	"fmt"
+	"strings"
+
+	"golang.org/x/mod/sumdb/note"
+
+	"wagtenib/bindings/go/wagtenib"
+)
+
+// The reasons for which a signed text is refused. Each is found by errors.Is.
+var (
+	// ErrKey means that a public key is not one that a log may have (RFC 6962, section 2.1.4).
+	ErrKey = errors.New("signature: not a log's key: it must be a SubjectPublicKeyInfo of ECDSA or RSA, in DER")
+	// ErrForm means that a text is not a signed tree head, whoever may have signed it.
+	ErrForm = errors.New("signature: not a signed tree head")
+	// ErrSigner means that a text is a signed tree head, and the log's key did not sign it.
+	ErrSigner = errors.New("signature: not signed with the log's key")
+)
+
+// The numbers of algorithms in a DigitallySigned (RFC 5246, section 7.4.1.4.1), and of the key in a note's signature
+// (C2SP static-ct-api, "Checkpoints").
+const (
+	hashSHA256     = 4
+	algorithmRSA   = 1
+	algorithmECDSA = 3
+
+	noteAlgorithm = 5
+)
+
+// minRSABits is the size of the smallest RSA key of a log (RFC 6962, section 2.1.4).
+const minRSABits = 2048
+
+// ParseKey reads a log's public key, a SubjectPublicKeyInfo in DER. The error is nil or wraps ErrKey.
+func ParseKey(der []byte) (crypto.PublicKey, error) {
+	key, err := x509.ParsePKIXPublicKey(der)
+	if err != nil {
+		return nil, fmt.Errorf("%w: %v", ErrKey, err)
+	}
+	switch key := key.(type) {
+	case *ecdsa.PublicKey:
+		return key, nil
+	case *rsa.PublicKey:
+		if bits := key.N.BitLen(); bits < minRSABits {
+			return nil, fmt.Errorf("%w: RSA of %d bits, and %d is the least", ErrKey, bits, minRSABits)
+		}
+		return key, nil
+	}
+	return nil, fmt.Errorf("%w: it is a %T", ErrKey, key)
+}
+
+// Verify checks a DigitallySigned (RFC 5246, section 4.7) over a message with a log's key, a SubjectPublicKeyInfo in
+// DER. The hash must be SHA-256. The error is nil, or wraps ErrKey or ErrSigner.
+func Verify(publicKey, message, digitallySigned []byte) error {
+	key, err := ParseKey(publicKey)
+	if err != nil {
+		return err
+	}
+	const header = 4
+	if len(digitallySigned) < header || int(binary.BigEndian.Uint16(digitallySigned[2:])) != len(digitallySigned)-header {
+		return fmt.Errorf("%w: no DigitallySigned", ErrSigner)
+	}
+	hash, algorithm, signed := digitallySigned[0], digitallySigned[1], digitallySigned[header:]
+	if hash != hashSHA256 {
+		return fmt.Errorf("%w: the hash has the number %d, and SHA-256 is %d", ErrSigner, hash, hashSHA256)
+	}
+	digest := sha256.Sum256(message)
+	switch key := key.(type) {
+	case *ecdsa.PublicKey:
+		if algorithm == algorithmECDSA && ecdsa.VerifyASN1(key, digest[:], signed) {
+			return nil
+		}
+	case *rsa.PublicKey:
+		if algorithm == algorithmRSA && rsa.VerifyPKCS1v15(key, crypto.SHA256, digest[:], signed) == nil {
+			return nil
+		}
+	}
+	return ErrSigner
+}
+
+// logVerifier verifies an RFC6962NoteSignature (C2SP static-ct-api, "Checkpoints"). It keeps the timestamp of the
+// signature that it found right.
+type logVerifier struct {
+	origin    string
+	publicKey []byte
+	id        uint32
+	head      *wagtenib.TreeHead
+}
+
+func (v logVerifier) Name() string    { return v.origin }
+func (v logVerifier) KeyHash() uint32 { return v.id }
+
+// Verify checks one signature over the text of a checkpoint: 8 bytes of a timestamp, and after them a DigitallySigned.
+func (v logVerifier) Verify(text, signed []byte) bool {
+	checkpoint, err := wagtenib.ReadCheckpoint(string(text))
+	const timestamp = 8
+	if err != nil || checkpoint.Origin != v.origin || len(signed) <= timestamp {
+		return false
+	}
+	head := wagtenib.TreeHead{TreeSize: checkpoint.TreeSize, Root: checkpoint.Root,
+		Timestamp: binary.BigEndian.Uint64(signed)}
+	message := wagtenib.TreeHeadSignature(head)
+	if Verify(v.publicKey, message[:], signed[timestamp:]) != nil {
+		return false
+	}
+	*v.head = head
+	return true
+}
+
+// OpenCheckpoint reads a tiled log's checkpoint, a signed note (C2SP signed-note, tlog-checkpoint, static-ct-api), and
+// verifies the log's signature. The signatures of others are not looked at. It returns the tree head. The error is nil,
+// or wraps ErrForm or ErrSigner.
+func OpenCheckpoint(signed []byte, origin string, publicKey []byte) (wagtenib.TreeHead, error) {
+	logID := wagtenib.LogID(publicKey)
+	id := wagtenib.NoteKeyID(origin, noteAlgorithm, logID[:])
+	var head wagtenib.TreeHead
+	verifier := logVerifier{origin, publicKey, binary.BigEndian.Uint32(id[:]), &head}
+	_, err := note.Open(signed, note.VerifierList(verifier))
+	var unverified *note.UnverifiedNoteError
+	var invalid *note.InvalidSignatureError
+	switch {
+	case err == nil:
+		return head, nil
+	case errors.As(err, &invalid):
+		return wagtenib.TreeHead{}, fmt.Errorf("%w: checkpoint of %q", ErrSigner, origin)
+	case errors.As(err, &unverified):
+		found, _, _ := strings.Cut(unverified.Note.Text, "\n")
+		if _, err := wagtenib.ReadCheckpoint(unverified.Note.Text); err != nil {
+			return wagtenib.TreeHead{}, fmt.Errorf("%w: %v", ErrForm, err)
+		}
+		return wagtenib.TreeHead{}, fmt.Errorf("%w: checkpoint of %.100q, and %q is expected", ErrSigner, found, origin)
+	}
+	return wagtenib.TreeHead{}, fmt.Errorf("%w: no signed note", ErrForm)
+}
+
+// STH holds the answer to get-sth (RFC 6962, section 4.3).
+type STH struct {
+	TreeSize  uint64 `json:"tree_size"`
+	Timestamp uint64 `json:"timestamp"` // milliseconds since 1970
+	Root      []byte `json:"sha256_root_hash"`
+	Signature []byte `json:"tree_head_signature"`
+}
+
+// OpenSTH reads the answer to get-sth (RFC 6962, section 4.3) and verifies its signature. The error is nil, or wraps
+// ErrForm or ErrSigner.
+func OpenSTH(answer, publicKey []byte) (wagtenib.TreeHead, error) {
+	var sth STH
+	if err := json.Unmarshal(answer, &sth); err != nil {
+		return wagtenib.TreeHead{}, fmt.Errorf("%w: %v", ErrForm, err)
+	}
+	if len(sth.Root) != wagtenib.HashSize || len(sth.Signature) == 0 {
+		return wagtenib.TreeHead{}, fmt.Errorf("%w: get-sth must have a root of 32 bytes and a signature", ErrForm)
+	}
+	head := wagtenib.TreeHead{TreeSize: sth.TreeSize, Timestamp: sth.Timestamp, Root: wagtenib.Hash(sth.Root)}
+	message := wagtenib.TreeHeadSignature(head)
+	if err := Verify(publicKey, message[:], sth.Signature); err != nil {
+		return wagtenib.TreeHead{}, err
+	}
+	return head, nil
+}

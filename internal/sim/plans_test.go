@@ -1,0 +1,62 @@
+package sim_test
+
+import (
+	"testing"
+	"time"
+
+	"wagtenib/internal/sim"
+)
+
+// numbers returns the numbers from first on, so many.
+func numbers(first, many int) (all []int) {
+	for n := range many {
+		all = append(all, first+n)
+	}
+	return all
+}
+
+// TestResumedStepReplacesWrongPlace has the index give an entry the place of another one, and kills the node before it replaces that place. The node that resumes
+// the step must replace it. Otherwise the entry is logged a third time, when it is submitted again.
+func TestResumedStepReplacesWrongPlace(t *testing.T) {
+	for which := range 4 {
+		plan := sim.Plan{
+			Seed: int64(which), Machines: 1,
+			Faults: []sim.Fault{
+				{At: 60, On: "lock: read", Kind: sim.IndexWrong, Count: which},
+				{At: 61, On: "index: replace", Kind: sim.KilledBefore},
+			},
+			Clients: []sim.Client{
+				{Numbers: numbers(0, 4), Burst: true},
+				{Begins: 6 * time.Second, Numbers: numbers(0, 4)},
+				{Begins: 20 * time.Second, Numbers: numbers(0, 4)},
+			},
+		}
+		result := sim.Run(plan, proved, false)
+		if result.Violation != nil {
+			t.Errorf("%v\n%s", result.Violation, sim.Explain(plan, proved))
+		}
+		if result.Counts[sim.IndexWrong] != 1 || result.Counts[sim.KilledBefore] != 1 {
+			t.Errorf("place %d: the faults happened %d and %d times and not once each", which, result.Counts[sim.IndexWrong], result.Counts[sim.KilledBefore])
+		}
+	}
+}
+
+// TestJanitorDeletes has a log grow beyond a tile, with two nodes and their janitors. They must delete the partial tiles below the full one, and heads.
+func TestJanitorDeletes(t *testing.T) {
+	plan := sim.Plan{
+		Seed: 1, Machines: 2, Janitors: true,
+		Clients: []sim.Client{
+			{Numbers: numbers(0, 8)},
+			{Begins: 2 * time.Second, Numbers: numbers(100, 260), Burst: true},
+			{Begins: 9 * time.Second, Machine: 1, Numbers: numbers(500, 4)},
+			{Begins: 25 * time.Second, Machine: 1, Numbers: numbers(0, 8)},
+		},
+	}
+	result := sim.Run(plan, proved, false)
+	if result.Violation != nil {
+		t.Errorf("%v\n%s", result.Violation, sim.Explain(plan, proved))
+	}
+	if s := result.Stats; s.Partials < 8 || s.OldHeads < 8 || s.Reread == 0 || s.Repeats < 8 {
+		t.Errorf("of more than 8 partial tiles and heads, %d and %d were deleted, %d tiles were read again, and %d entries were answered again", s.Partials, s.OldHeads, s.Reread, s.Repeats)
+	}
+}

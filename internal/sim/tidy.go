@@ -1,0 +1,183 @@
+package sim
+
+import (
+	"bytes"
+	"fmt"
+	"strconv"
+	"strings"
+	"time"
+
+	"wagtenib/internal/janitor"
+)
+
+// keep is for how long what is not needed any more stays in a history with janitors.
+var keep = janitor.Keep{
+	Every: 500 * time.Millisecond, Tiles: 2 * time.Second, Heads: 8 * time.Second, Staged: 3 * time.Second,
+	Thin: time.Second, Apart: 500 * time.Millisecond, Reread: 5 * time.Second, Call: 2 * time.Second,
+}
+
+// tidyWithin is how long the janitors may take, after all faults have ended, until nothing is left that nobody needs.
+const tidyWithin = 90 * time.Second
+
+// readWithin is how long a janitor may take from reading a full tile to deleting the last of its partial ones.
+const readWithin = 10 * time.Second
+
+// tidies runs the janitor of a machine's node, in its process.
+func (m *machine) tidies() {
+	w, n := m.w, m.node
+	j, err := janitor.New(janitor.Config{
+		Objects: objects{m}, Clock: clock{m}, Decider: w.proved.Decider, Keep: keep,
+		Newest: func() (janitor.Newest, bool) {
+			s := n.Snapshot()
+			if s == nil || n.Fault() != nil {
+				return janitor.Newest{}, false
+			}
+			return janitor.Newest{Head: s.Head.Head, Stepping: n.Stepping()}, true
+		},
+		Random: func() (uint64, error) { return w.random.Uint64(), nil },
+	})
+	if err != nil {
+		w.judge.breaks("no panic", "%v", err)
+		return
+	}
+	m.janitor = j
+	w.spawn(m.process, func() { _ = j.Run(w.background()) })
+}
+
+// standing is a head that was put, and when.
+type standing struct {
+	size, moment uint64
+	at           time.Duration
+}
+
+// deletes judges a name that is deleted: a staged batch that is not the newest state's, an object that has a wrong content, a partial tile whose full one is
+// there, or a head after which a later one was put.
+func (j *judge) deletes(name string) {
+	j.stats.Deleted++
+	if strings.HasPrefix(name, "staging/") {
+		if now := cells(j.w.stores.text); now != nil && name == "staging/"+now.name && !j.w.excuses.tiles {
+			j.breaks("the newest staged batch stays", "%s is deleted", name)
+		}
+		return
+	}
+	stored, isThere := j.w.stores.objects[name]
+	full, _, isPartial := strings.Cut(name, ".p/")
+	switch {
+	case isPartial:
+		j.stats.Partials++
+	case strings.HasPrefix(name, "heads/"):
+		j.stats.OldHeads++
+	}
+	if put, ok := j.tiles[full]; ok && isPartial && isThere && !j.w.excuses.tiles && j.w.now > j.w.bentAt+readWithin && !bytes.Equal(put.last(), j.w.stores.objects[full]) {
+		j.breaks("what is left of a damaged tile stays", "%s is deleted, and %s is missing or bent", name, full)
+	}
+	if put, ok := j.tiles[name]; j.w.excuses.missing || ok && isThere && !bytes.Equal(put.last(), stored) || !isThere {
+		return
+	}
+	why := "it is no partial tile and no head"
+	if strings.HasPrefix(name, "heads/") {
+		why = j.keepsHead(name)
+	} else if isPartial {
+		why = j.keepsPartial(name)
+	}
+	if why != "" {
+		j.breaks("published objects stay", "%s is deleted: %s", name, why)
+	}
+}
+
+// keepsHead says why a head must stay, or nothing.
+func (j *judge) keepsHead(name string) string {
+	var size, moment uint64
+	if _, err := fmt.Sscanf(name, "heads/%020d-%020d", &size, &moment); err != nil {
+		return err.Error()
+	}
+	why := "no later head stood long enough"
+	for _, later := range j.standing {
+		if later.moment <= moment {
+			continue
+		}
+		if later.at <= j.w.now-keep.Heads {
+			return ""
+		}
+		if later.at <= j.w.now-keep.Thin && j.hasNeighbour(moment) {
+			why = ""
+		}
+	}
+	return why
+}
+
+// hasNeighbour reports whether the store has a head that came less than Apart before a timestamp.
+func (j *judge) hasNeighbour(moment uint64) bool {
+	for _, before := range j.standing {
+		if before.moment < moment && moment < before.moment+uint64(keep.Apart.Milliseconds()) {
+			if _, ok := j.w.stores.objects[fmt.Sprintf("heads/%020d-%020d", before.size, before.moment)]; ok {
+				return true
+			}
+		}
+	}
+	return false
+}
+
+// keepsPartial says why a partial tile must stay, or nothing.
+func (j *judge) keepsPartial(name string) string {
+	full, _, _ := strings.Cut(name, ".p/")
+	content, ok := j.w.stores.objects[full]
+	if !ok || !bytes.HasPrefix(content, j.w.stores.objects[name]) {
+		return full + " does not begin with it"
+	}
+	of := strings.Split(strings.TrimPrefix(full, "tile/"), "/")
+	level, err := strconv.Atoi(strings.Replace(of[0], "data", "0", 1))
+	number, failed := strconv.Atoi(of[len(of)-1])
+	if err != nil || failed != nil {
+		return "it is no tile of a small log"
+	}
+	for _, head := range j.standing {
+		if head.size>>(8*(level+1)) > uint64(number) && head.at <= j.w.now-keep.Tiles {
+			return ""
+		}
+	}
+	return "no head with the full tile stood long enough"
+}
+
+// garbage returns the name of an object that nobody needs any more, or nothing.
+func (j *judge) garbage() string {
+	newest := cells(j.w.stores.text)
+	for _, name := range j.w.stores.list("", "") {
+		full, _, isPartial := strings.Cut(name, ".p/")
+		_, hasFull := j.w.stores.objects[full]
+		switch {
+		case isPartial && hasFull:
+			return name
+		case strings.HasPrefix(name, "heads/") && j.isOld(name):
+			return name
+		case strings.HasPrefix(name, "staging/"):
+			// A swap may still need a batch that was made of the newest state. The newest state's own may be needed as well, and the one before it is deleted by
+			// the next step or listing.
+			if parts := name[len("staging/"):]; newest != nil && parts != newest.name && parts[16:32] != newest.name[:16] {
+				return name
+			}
+		}
+	}
+	return ""
+}
+
+// isOld reports whether a head must be gone by now: another one stood for twice as long as heads stay, and some passes.
+func (j *judge) isOld(name string) bool {
+	for _, later := range j.standing {
+		if name < fmt.Sprintf("heads/%020d-%020d", later.size, later.moment) && later.at <= j.w.now-2*keep.Heads-10*keep.Every {
+			return true
+		}
+	}
+	return false
+}
+
+// tidied judges whether the janitors delete all that nobody needs, after all faults have ended.
+func (w *world) tidied() {
+	left := ""
+	if !w.wait(tidyWithin, func() bool {
+		left = w.judge.garbage()
+		return left == ""
+	}) {
+		w.judge.breaks("garbage is deleted", "%s is left after %v", left, tidyWithin)
+	}
+}

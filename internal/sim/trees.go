@@ -1,0 +1,217 @@
+package sim
+
+import (
+	"bytes"
+	"fmt"
+	"slices"
+	"strings"
+
+	"github.com/transparency-dev/merkle/compact"
+	"github.com/transparency-dev/merkle/rfc6962"
+
+	"wagtenib/service/signer"
+)
+
+// ranges makes the judge's trees.
+var ranges = &compact.RangeFactory{Hash: rfc6962.DefaultHasher.HashChildren}
+
+// puts has all contents that were put of one tile, the last one at the end, and the leaves of those that were read as a data tile.
+type puts struct {
+	contents [][]byte
+	read     map[int][]leaf
+}
+
+func (p *puts) last() []byte { return p.contents[len(p.contents)-1] }
+
+// keepTile keeps what is put of a tile. After a rollback, the tile of another tree may get a name that a tile had before.
+func (j *judge) keepTile(name string, content []byte) {
+	p, ok := j.tiles[name]
+	if !ok {
+		p = &puts{read: map[int][]leaf{}}
+		j.tiles[name] = p
+	}
+	if !ok || !bytes.Equal(p.last(), content) {
+		p.contents = append(p.contents, content)
+	}
+}
+
+// leavesAt reads the content of a data tile that was put as the number says, once.
+func (p *puts) leavesAt(which int) ([]leaf, error) {
+	if leaves, ok := p.read[which]; ok {
+		return leaves, nil
+	}
+	leaves, err := readTile(p.contents[which])
+	if err == nil {
+		p.read[which] = leaves
+	}
+	return leaves, err
+}
+
+// tile returns what was put of a tile, and the numbers of the contents that may be a head's: the one in the store; or if the store lost or bent something, the
+// last one that was put; or all, the last one first, if the tile of another tree may have got the name.
+func (j *judge) tile(prefix string, n, width uint64, name string) (of *puts, may []int, ok bool) {
+	tile := fmt.Sprintf("%s%03d", prefix, n)
+	if width < 256 {
+		tile += fmt.Sprintf(".p/%d", width)
+	}
+	of, put := j.tiles[tile]
+	stored, isThere := j.w.stores.objects[tile]
+	switch {
+	case j.w.excuses.missing && put:
+		last := len(of.contents) - 1
+		for may = []int{last}; j.w.excuses.tiles && last > 0; may = append(may, last) {
+			last--
+		}
+		return of, may, true
+	case !isThere && put && width < 256:
+		// A janitor may have deleted it: it is the beginning of the full tile.
+		full, _, _ := strings.Cut(tile, ".p/")
+		for last := len(of.contents) - 1; last >= 0; last-- {
+			if bytes.HasPrefix(j.w.stores.objects[full], of.contents[last]) {
+				return of, []int{last}, true
+			}
+		}
+		j.breaks("a head's tree is in the store", "%s: %s is missing, and %s does not begin with it", name, tile, full)
+		return nil, nil, false
+	case !isThere || !put:
+		j.breaks("a head's tree is in the store", "%s: %s is missing", name, tile)
+		return nil, nil, false
+	}
+	which := slices.IndexFunc(of.contents, func(content []byte) bool { return bytes.Equal(content, stored) })
+	if which < 0 {
+		j.breaks("a head's tree is in the store", "%s: %s has a content that was never put", name, tile)
+		return nil, nil, false
+	}
+	return of, []int{which}, true
+}
+
+// treeOf reads the tiles of a head's tree, compares them with the list, and returns the leaves that come after it.
+func (j *judge) treeOf(head signer.Head, name string) (added []leaf, ok bool) {
+	for first := uint64(0); first < head.Size; first += 256 {
+		width := min(head.Size-first, 256)
+		leaves, ok := j.tileOf(head, first, width, added, name)
+		if !ok {
+			return nil, false
+		}
+		for i, one := range leaves {
+			index := int(first) + i
+			if index >= len(j.leaves) {
+				added = append(added, one)
+			} else if !bytes.Equal(one.tile, j.leaves[index].tile) {
+				j.breaks("one growing list", "%s: entry %d is another one than before", name, index)
+				return nil, false
+			}
+		}
+	}
+	return added, true
+}
+
+// tileOf returns the leaves of one data tile of a head's tree, which the tile of their hashes must have. Added are the leaves after the list in the tiles before.
+func (j *judge) tileOf(head signer.Head, first, width uint64, added []leaf, name string) ([]leaf, bool) {
+	data, may, ok := j.tile("tile/data/", first/256, width, name)
+	if !ok {
+		return nil, false
+	}
+	which := may[0]
+	for _, other := range may {
+		// More than one may be the head's only if stores were rolled back.
+		if leaves, err := data.leavesAt(other); len(may) > 1 && err == nil && j.isOf(head, first, leaves, added) {
+			which = other
+			break
+		}
+	}
+	leaves, err := data.leavesAt(which)
+	if err != nil || uint64(len(leaves)) != width {
+		j.breaks("a tile is whole", "%s: the data tile of %d entries from %d on: %v", name, width, first, err)
+		return nil, false
+	}
+	hashes, may, ok := j.tile("tile/0/", first/256, width, name)
+	if !ok {
+		return nil, false
+	}
+	var expected []byte
+	for i := range leaves {
+		expected = append(expected, leaves[i].hash...)
+	}
+	if !slices.ContainsFunc(may, func(which int) bool { return bytes.Equal(hashes.contents[which], expected) }) {
+		j.breaks("a tile is whole", "%s: the tile of the hashes of %d entries from %d on is of other ones", name, width, first)
+		return nil, false
+	}
+	return leaves, true
+}
+
+// isOf reports whether the leaves of a data tile are a head's: they agree with the list, and the last ones lead to the root.
+func (j *judge) isOf(head signer.Head, first uint64, leaves, added []leaf) bool {
+	known := min(max(len(j.leaves)-int(first), 0), len(leaves))
+	for i := range known {
+		if !bytes.Equal(leaves[i].tile, j.leaves[int(first)+i].tile) {
+			return false
+		}
+	}
+	isLast := first+uint64(len(leaves)) == head.Size && known < len(leaves)
+	return !isLast || j.rootOf(slices.Concat(added, leaves[known:])) == head.Root
+}
+
+// rootOf returns the root of the list with more leaves.
+func (j *judge) rootOf(added []leaf) (root [32]byte) {
+	if len(added) == 0 {
+		return j.roots[len(j.leaves)]
+	}
+	tree, err := ranges.NewRange(0, uint64(len(j.leaves)), slices.Clone(j.tree.Hashes()))
+	for _, one := range added {
+		if err == nil {
+			err = tree.Append(one.hash, nil)
+		}
+	}
+	if err == nil {
+		var hash []byte
+		if hash, err = tree.GetRootHash(nil); err == nil {
+			return [32]byte(hash)
+		}
+	}
+	j.breaks("one growing list", "no tree of %d entries: %v", len(j.leaves)+len(added), err)
+	return root
+}
+
+// isLists judges whether a head is of the tree whose tiles are in the store, and whether that tree's leaves begin with the list.
+func (j *judge) isLists(head signer.Head, name, rule string) {
+	if j.w.excuses.signed {
+		return
+	}
+	added, ok := j.treeOf(head, name)
+	if !ok {
+		return
+	}
+	root := j.roots[min(head.Size, uint64(len(j.leaves)))]
+	if len(added) > 0 {
+		root = j.rootOf(added)
+	}
+	if root != head.Root {
+		j.breaks(rule, "%s has the root %x and not %x", name, head.Root[:4], root[:4])
+	}
+}
+
+// grow adds leaves to the list.
+func (j *judge) grow(added []leaf, name string) {
+	for _, one := range added {
+		index := len(j.leaves)
+		if before, ok := j.identities[one.identity]; ok && !j.w.excuses.allows(one.identity) {
+			j.breaks("one entry an identity", "%s: entry %d is the same as entry %d", name, index, before)
+		} else if !ok {
+			j.identities[one.identity] = index
+		}
+		j.leaves = append(j.leaves, one)
+		root, err := [32]byte{}, j.tree.Append(one.hash, nil)
+		if err == nil {
+			var hash []byte
+			if hash, err = j.tree.GetRootHash(nil); err == nil {
+				root = [32]byte(hash)
+			}
+		}
+		if err != nil {
+			j.breaks("one growing list", "%s: %v", name, err)
+		}
+		j.roots = append(j.roots, root)
+	}
+	j.stats.Entries = len(j.leaves)
+}

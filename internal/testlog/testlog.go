@@ -1,0 +1,414 @@
+// Package testlog has a Certificate Transparency log for tests of what reads logs. It answers the calls of RFC 6962 and
+// those of a tiled log (C2SP static-ct-api), and can be made to lie.
+//
+// It shares no code with what it tests: its trees are those of golang.org/x/mod/sumdb/tlog, and it writes each format
+// by its specification.
+package testlog
+
+import (
+	"crypto/ecdsa"
+	"crypto/elliptic"
+	"crypto/rand"
+	"crypto/sha256"
+	"crypto/x509"
+	"encoding/base64"
+	"encoding/binary"
+	"encoding/hex"
+	"encoding/json"
+	"fmt"
+	"net/http"
+	"strconv"
+	"strings"
+	"sync"
+
+	"golang.org/x/mod/sumdb/tlog"
+)
+
+// Entry is what is in the log for one submission.
+type Entry struct {
+	Timestamp      uint64 // milliseconds since 1970
+	Certificate    []byte // DER: a certificate, or the TBSCertificate of a precertificate
+	IssuerKeyHash  []byte // of a precertificate, 32 bytes; nil for a certificate
+	Precertificate []byte // DER, of a precertificate
+	Chain          [][]byte
+	Leaf           []byte // in place of the MerkleTreeLeaf that follows from the rest, if it is not nil
+	Index          *uint64
+}
+
+// Log is a log. Its methods can be called while it answers requests.
+type Log struct {
+	Origin string
+	Key    *ecdsa.PrivateKey
+	// Page is the number of entries of an answer to get-entries at most; 256 if it is 0.
+	Page int
+
+	mutex     sync.Mutex
+	before    func(w http.ResponseWriter, r *http.Request) bool
+	entries   []Entry
+	hashes    []tlog.Hash
+	issuers   map[string][]byte
+	published published
+	requests  map[string]int
+}
+
+// published is the head that the log answers with, and how many entries it covers.
+type published struct {
+	checkpoint, sth []byte
+	size            uint64
+}
+
+// New returns an empty log with a new key of P-256.
+func New(origin string) (*Log, error) {
+	key, err := ecdsa.GenerateKey(elliptic.P256(), rand.Reader)
+	if err != nil {
+		return nil, err
+	}
+	return &Log{Origin: origin, Key: key, issuers: map[string][]byte{}, requests: map[string]int{}}, nil
+}
+
+// PublicKey returns the log's key, a SubjectPublicKeyInfo in DER.
+func (l *Log) PublicKey() []byte {
+	der, err := x509.MarshalPKIXPublicKey(&l.Key.PublicKey)
+	if err != nil {
+		panic(err) // (a key of P-256 can always be written)
+	}
+	return der
+}
+
+// Fork returns a log with the same key and the first entries of this one.
+func (l *Log) Fork(size uint64) *Log {
+	l.mutex.Lock()
+	defer l.mutex.Unlock()
+	other := &Log{Origin: l.Origin, Key: l.Key, Page: l.Page, issuers: map[string][]byte{}, requests: map[string]int{}}
+	other.Add(l.entries[:size]...)
+	return other
+}
+
+// vector returns bytes with their length before them, of so many bytes.
+func vector(length int, content []byte) []byte {
+	size := binary.BigEndian.AppendUint64(nil, uint64(len(content)))
+	return append(size[8-length:], content...)
+}
+
+// timestamped returns a TimestampedEntry (RFC 6962, section 3.4) with the extension leaf_index.
+func (e Entry) timestamped(index uint64) []byte {
+	content := binary.BigEndian.AppendUint64(nil, e.Timestamp)
+	kind := uint16(0)
+	if e.IssuerKeyHash != nil {
+		kind = 1
+	}
+	content = append(binary.BigEndian.AppendUint16(content, kind), e.IssuerKeyHash...)
+	content = append(content, vector(3, e.Certificate)...)
+	return append(content, vector(2, Extensions(e.indexOr(index)))...)
+}
+
+func (e Entry) indexOr(index uint64) uint64 {
+	if e.Index != nil {
+		return *e.Index
+	}
+	return index
+}
+
+// Extensions returns the CtExtensions with the leaf_index (C2SP static-ct-api), without their length.
+func Extensions(index uint64) []byte {
+	return append([]byte{0, 0, 5}, binary.BigEndian.AppendUint64(nil, index)[3:]...)
+}
+
+// MerkleLeaf returns the MerkleTreeLeaf of an entry at an index (RFC 6962, section 3.4).
+func (e Entry) MerkleLeaf(index uint64) []byte {
+	if e.Leaf != nil {
+		return e.Leaf
+	}
+	return append([]byte{0, 0}, e.timestamped(index)...)
+}
+
+// tileLeaf returns the TileLeaf of an entry (C2SP static-ct-api, "Log Entries").
+func (e Entry) tileLeaf(index uint64) []byte {
+	content := e.timestamped(index)
+	if e.Leaf != nil {
+		content = append([]byte(nil), e.Leaf[2:]...)
+	}
+	if e.IssuerKeyHash != nil {
+		content = append(content, vector(3, e.Precertificate)...)
+	}
+	var chain []byte
+	for _, issuer := range e.Chain {
+		fingerprint := sha256.Sum256(issuer)
+		chain = append(chain, fingerprint[:]...)
+	}
+	return append(content, vector(2, chain)...)
+}
+
+// extraData returns the extra_data of an entry (RFC 6962, section 4.6).
+func (e Entry) extraData() []byte {
+	var chain, content []byte
+	for _, issuer := range e.Chain {
+		chain = append(chain, vector(3, issuer)...)
+	}
+	if e.IssuerKeyHash != nil {
+		content = vector(3, e.Precertificate)
+	}
+	return append(content, vector(3, chain)...)
+}
+
+// Add appends entries, which no head covers yet.
+func (l *Log) Add(entries ...Entry) {
+	l.mutex.Lock()
+	defer l.mutex.Unlock()
+	for _, e := range entries {
+		index := int64(len(l.entries))
+		stored, err := tlog.StoredHashes(index, e.MerkleLeaf(uint64(index)), l.reader())
+		if err != nil {
+			panic(err) // (the hashes are in memory)
+		}
+		l.hashes = append(l.hashes, stored...)
+		l.entries = append(l.entries, e)
+		for _, issuer := range e.Chain {
+			fingerprint := sha256.Sum256(issuer)
+			l.issuers[hex.EncodeToString(fingerprint[:])] = issuer
+		}
+	}
+}
+
+func (l *Log) reader() tlog.HashReader {
+	return tlog.HashReaderFunc(func(indexes []int64) ([]tlog.Hash, error) {
+		found := make([]tlog.Hash, len(indexes))
+		for i, index := range indexes {
+			found[i] = l.hashes[index]
+		}
+		return found, nil
+	})
+}
+
+// Size returns the number of entries.
+func (l *Log) Size() uint64 {
+	l.mutex.Lock()
+	defer l.mutex.Unlock()
+	return uint64(len(l.entries))
+}
+
+// Root returns the root of the first entries.
+func (l *Log) Root(size uint64) [32]byte {
+	l.mutex.Lock()
+	defer l.mutex.Unlock()
+	return l.root(size)
+}
+
+func (l *Log) root(size uint64) [32]byte {
+	if size == 0 {
+		return sha256.Sum256(nil)
+	}
+	root, err := tlog.TreeHash(int64(size), l.reader())
+	if err != nil {
+		panic(err) // (the hashes are in memory)
+	}
+	return root
+}
+
+// Publish signs a head over the first `size` entries, and answers with it from now on.
+func (l *Log) Publish(size, timestamp uint64) { l.PublishRoot(size, timestamp, l.Root(size)) }
+
+// PublishRoot signs a head with any root, and answers with it from now on.
+func (l *Log) PublishRoot(size, timestamp uint64, root [32]byte) {
+	l.mutex.Lock()
+	defer l.mutex.Unlock()
+	signed := l.sign(TreeHead(size, timestamp, root))
+	l.published.size = size
+	l.published.checkpoint = []byte(fmt.Sprintf("%s\n%d\n%s\n\n%s", l.Origin, size,
+		base64.StdEncoding.EncodeToString(root[:]),
+		l.line(timestamp, signed)))
+	sth, err := json.Marshal(map[string]any{"tree_size": size, "timestamp": timestamp, "sha256_root_hash": root[:],
+		"tree_head_signature": signed})
+	if err != nil {
+		panic(err) // (the values are numbers and bytes)
+	}
+	l.published.sth = sth
+}
+
+// Checkpoint returns the checkpoint that is published.
+func (l *Log) Checkpoint() []byte {
+	l.mutex.Lock()
+	defer l.mutex.Unlock()
+	return append([]byte(nil), l.published.checkpoint...)
+}
+
+// SetCheckpoint has the log answer with these bytes as its checkpoint.
+func (l *Log) SetCheckpoint(content []byte) {
+	l.mutex.Lock()
+	defer l.mutex.Unlock()
+	l.published.checkpoint = content
+}
+
+// TreeHead returns the bytes under the signature of a head (RFC 6962, section 3.5).
+func TreeHead(size, timestamp uint64, root [32]byte) []byte {
+	message := binary.BigEndian.AppendUint64([]byte{0, 1}, timestamp)
+	return append(binary.BigEndian.AppendUint64(message, size), root[:]...)
+}
+
+// sign returns a DigitallySigned of ECDSA with SHA-256.
+func (l *Log) sign(message []byte) []byte {
+	digest := sha256.Sum256(message)
+	signed, err := ecdsa.SignASN1(rand.Reader, l.Key, digest[:])
+	if err != nil {
+		panic(err) // (the key is whole)
+	}
+	return append([]byte{4, 3}, vector(2, signed)...)
+}
+
+// line returns the RFC6962NoteSignature line of a checkpoint (C2SP static-ct-api).
+func (l *Log) line(timestamp uint64, signed []byte) string {
+	id := sha256.Sum256(l.PublicKey())
+	key := sha256.Sum256(append([]byte(l.Origin+"\n\x05"), id[:]...))
+	content := binary.BigEndian.AppendUint64(key[:4:4], timestamp)
+	return "— " + l.Origin + " " + base64.StdEncoding.EncodeToString(append(content, signed...)) + "\n"
+}
+
+// SCT returns the signed certificate timestamp of an entry as it is in a certificate's list (RFC 6962, sections 3.2 and
+// 3.3), without its length.
+func (l *Log) SCT(e Entry, index uint64) []byte {
+	id := sha256.Sum256(l.PublicKey())
+	sct := append([]byte{0}, id[:]...)
+	sct = binary.BigEndian.AppendUint64(sct, e.Timestamp)
+	sct = append(sct, vector(2, Extensions(e.indexOr(index)))...)
+	return append(sct, l.sign(e.MerkleLeaf(index))...)
+}
+
+// Requests returns how often a path was asked for.
+func (l *Log) Requests(path string) int {
+	l.mutex.Lock()
+	defer l.mutex.Unlock()
+	return l.requests[path]
+}
+
+// Intercept has a function called before each answer from now on, which returns true if it has answered. It may be nil.
+func (l *Log) Intercept(before func(w http.ResponseWriter, r *http.Request) bool) {
+	l.mutex.Lock()
+	defer l.mutex.Unlock()
+	l.before = before
+}
+
+// ServeHTTP answers a request of either kind of log.
+func (l *Log) ServeHTTP(w http.ResponseWriter, r *http.Request) {
+	l.mutex.Lock()
+	l.requests[r.URL.Path]++
+	before := l.before
+	l.mutex.Unlock()
+	if before != nil && before(w, r) {
+		return
+	}
+	l.mutex.Lock()
+	content, ok := l.answer(strings.TrimPrefix(r.URL.Path, "/"), func(name string) uint64 {
+		n, err := strconv.ParseUint(r.URL.Query().Get(name), 10, 63)
+		if err != nil {
+			return 1<<63 - 1
+		}
+		return n
+	}, r.URL.Query().Get("hash"))
+	l.mutex.Unlock()
+	if !ok {
+		http.NotFound(w, r)
+		return
+	}
+	// (a client that is gone is no fault of the log)
+	_, _ = w.Write(content)
+}
+
+func (l *Log) answer(path string, number func(string) uint64, hash string) (content []byte, ok bool) {
+	switch name := strings.TrimPrefix(path, "ct/v1/"); {
+	case path == "checkpoint":
+		return l.published.checkpoint, l.published.checkpoint != nil
+	case strings.HasPrefix(path, "issuer/"):
+		issuer, ok := l.issuers[strings.TrimPrefix(path, "issuer/")]
+		return issuer, ok
+	case strings.HasPrefix(path, "tile/"):
+		return l.tile(path)
+	case name == "get-sth":
+		return l.published.sth, l.published.sth != nil
+	case name == "get-entries":
+		return l.getEntries(number("start"), number("end"))
+	case name == "get-sth-consistency":
+		return l.consistency(number("first"), number("second"))
+	case name == "get-proof-by-hash":
+		return l.proofByHash(hash, number("tree_size"))
+	}
+	return nil, false
+}
+
+// tile returns a tile, full or partial, of what the newest head covers.
+func (l *Log) tile(path string) ([]byte, bool) {
+	name := strings.Replace(path, "tile/", "tile/8/", 1)
+	of, err := tlog.ParseTilePath(name)
+	if err != nil {
+		return nil, false
+	}
+	level := max(of.L, 0)
+	if end := uint64(of.N)*256 + uint64(of.W); end > l.published.size>>(8*level) {
+		return nil, false
+	}
+	if of.L >= 0 {
+		content, err := tlog.ReadTileData(of, l.reader())
+		return content, err == nil
+	}
+	var content []byte
+	for i := range of.W {
+		index := uint64(of.N)*256 + uint64(i)
+		content = append(content, l.entries[index].tileLeaf(index)...)
+	}
+	return content, true
+}
+
+func (l *Log) getEntries(start, end uint64) ([]byte, bool) {
+	if start >= l.published.size || end < start {
+		return nil, false
+	}
+	page := uint64(l.Page)
+	if page == 0 {
+		page = 256
+	}
+	var entries []map[string][]byte
+	for index := start; index <= end && index < l.published.size && index < start+page; index++ {
+		entries = append(entries, map[string][]byte{"leaf_input": l.entries[index].MerkleLeaf(index),
+			"extra_data": l.entries[index].extraData()})
+	}
+	content, err := json.Marshal(map[string]any{"entries": entries})
+	return content, err == nil
+}
+
+func (l *Log) consistency(first, second uint64) ([]byte, bool) {
+	if first < 1 || first >= second || second > uint64(len(l.entries)) {
+		return nil, false
+	}
+	proof, err := tlog.ProveTree(int64(second), int64(first), l.reader())
+	if err != nil {
+		return nil, false
+	}
+	content, err := json.Marshal(map[string]any{"consistency": bytesOf(proof)})
+	return content, err == nil
+}
+
+func bytesOf(hashes []tlog.Hash) [][]byte {
+	found := [][]byte{}
+	for i := range hashes {
+		found = append(found, hashes[i][:])
+	}
+	return found
+}
+
+func (l *Log) proofByHash(hash string, size uint64) ([]byte, bool) {
+	if size < 1 || size > uint64(len(l.entries)) {
+		return nil, false
+	}
+	for index := range size {
+		found := l.hashes[tlog.StoredHashIndex(0, int64(index))]
+		if base64.StdEncoding.EncodeToString(found[:]) != hash {
+			continue
+		}
+		proof, err := tlog.ProveRecord(int64(size), int64(index), l.reader())
+		if err != nil {
+			return nil, false
+		}
+		content, err := json.Marshal(map[string]any{"leaf_index": index, "audit_path": bytesOf(proof)})
+		return content, err == nil
+	}
+	return nil, false
+}

@@ -1,0 +1,372 @@
+package watch
+
+import (
+	"bytes"
+	"context"
+	"crypto/sha256"
+	"errors"
+	"fmt"
+	"time"
+
+	"wagtenib/bindings/go/wagtenib"
+	"wagtenib/internal/logclient"
+	"wagtenib/internal/signature"
+)
+
+// ErrState means that the state that was kept of a log is damaged.
+var ErrState = errors.New("watch: the state of the log is damaged: restore the store from a copy, or remove the log " +
+	"from it to begin anew")
+
+// Options say how logs are followed.
+type Options struct {
+	FromStart bool              // a log that was never read is read from its first entry on, and not from its end
+	Pause     time.Duration     // between two passes over a log; one minute if it is 0
+	Limit     time.Duration     // of one pass, after which the next one continues; one hour if it is 0
+	Client    logclient.Options // how each log is asked
+	// Policy returns nil if a tiled log's head meets a policy, such as a quorum of witnesses, and otherwise a
+	// *PolicyError. A head that does not is not judged further. It may be nil.
+	Policy func(head Head) error
+	// Mirror returns what keeps a tiled log so that it can be served. It may be nil, and may return nil.
+	Mirror func(log Log) (Mirror, error)
+}
+
+// A Mirror keeps a tiled log so that it can be served.
+type Mirror interface {
+	// Stage keeps a data tile that was read, and whose head is not accepted yet.
+	Stage(tile logclient.DataTile) error
+	// Accept keeps the log up to a head that was accepted.
+	Accept(ctx context.Context, head Head) error
+}
+
+// Follower follows one log. Its methods must be called by one goroutine at a time.
+type Follower struct {
+	log      Log
+	source   source
+	keeper   Keeper
+	options  Options
+	clock    logclient.Clock
+	mirror   Mirror
+	state    *State // nil if it must be loaded
+	careful  bool   // each data tile is compared with the hash tiles before it is kept
+	accused  accusations
+	progress progress
+}
+
+// progress is how it goes with the log, and when that was reported last.
+type progress struct {
+	Status
+	reported time.Time
+}
+
+// reportEach is the time between two reports during one pass. A first pass over a large log takes hours.
+const reportEach = 10 * time.Second
+
+// accusations are what was accused since the program began.
+type accusations struct {
+	seen  map[[sha256.Size]byte]bool
+	count map[string]int
+}
+
+// maxAccusations is the number of accusations of one log by one verdict. A dishonest log must not fill
+// the disk of its monitor.
+const maxAccusations = 16
+
+// NewFollower returns a follower of a log. The error says what is wrong with the log's address or key, or why its
+// mirror cannot be opened.
+func NewFollower(log Log, keeper Keeper, options Options) (*Follower, error) {
+	if _, err := signature.ParseKey(log.PublicKey); err != nil {
+		return nil, fmt.Errorf("watch: %s: %w", log.Name, err)
+	}
+	if LogID(wagtenib.LogID(log.PublicKey)) != log.ID {
+		return nil, fmt.Errorf("watch: %s: the log's ID is not the hash of its key (RFC 6962, section 3.2)", log.Name)
+	}
+	client, err := logclient.New(log.URL, options.Client)
+	if err != nil {
+		return nil, fmt.Errorf("watch: %s: %w", log.Name, err)
+	}
+	f := &Follower{log: log, source: newSource(log, client), keeper: keeper, options: options, clock: options.Client.Clock,
+		accused: accusations{map[[sha256.Size]byte]bool{}, map[string]int{}}, progress: progress{Status: Status{Log: log}}}
+	if f.clock == nil {
+		f.clock = logclient.MachineClock{}
+	}
+	if options.Mirror != nil && log.IsTiled() {
+		if f.mirror, err = options.Mirror(log); err != nil {
+			return nil, fmt.Errorf("watch: %s: %w", log.Name, err)
+		}
+		if f.mirror != nil && !options.FromStart {
+			return nil, fmt.Errorf("watch: %s: a mirror begins with the first entry: follow the log from its start", log.Name)
+		}
+	}
+	return f, nil
+}
+
+// Pass reads the log's newest head, and all entries up to it. It returns nil if the head is accepted. Otherwise it
+// returns an *AccusedError, or the reason why it cannot go on now; the next pass continues from what was kept. It
+// reports the status of the log in each case.
+func (f *Follower) Pass(ctx context.Context) error {
+	err := f.pass(ctx)
+	var accused *AccusedError
+	if err != nil && !errors.As(err, &accused) {
+		// (a call of the Keeper may have failed, so what is kept is read again)
+		f.state = nil
+	}
+	f.progress.Fault = err
+	f.report()
+	return err
+}
+
+// report reports how it goes with the log.
+func (f *Follower) report() {
+	f.progress.reported = f.clock.Now()
+	f.keeper.Report(f.progress.Status)
+}
+
+func (f *Follower) pass(ctx context.Context) error {
+	if err := f.load(); err != nil {
+		return err
+	}
+	head, err := f.source.head(ctx)
+	if err != nil {
+		return f.noHead(head, err)
+	}
+	f.progress.Answered, f.progress.Head = f.clock.Now(), head.TreeHead
+	if err := f.judgePolicy(head); err != nil {
+		return err
+	}
+	if f.state.Monitor == nil {
+		if err := f.begin(ctx, head); err != nil {
+			return err
+		}
+	}
+	old := f.judgeAge(head)
+	var accused *AccusedError
+	if old != nil && !errors.As(old, &accused) {
+		return old
+	}
+	if err := f.follow(ctx, head); err != nil {
+		return err
+	}
+	if f.mirror != nil && len(f.state.Accepted.Signed) > 0 {
+		if err := f.mirror.Accept(ctx, f.state.Accepted); err != nil {
+			return fmt.Errorf("watch: %s: mirror: %w", f.log.Name, err)
+		}
+	}
+	return old
+}
+
+// follow judges a head, and reads what waits. If another head waited, the new one is judged again after that one is
+// accepted.
+func (f *Follower) follow(ctx context.Context, head Head) error {
+	for {
+		waited := f.isWaiting()
+		if err := f.judgeHead(head); err != nil {
+			return err
+		}
+		if !f.isWaiting() {
+			return nil
+		}
+		if err := f.readWaiting(ctx); err != nil {
+			return err
+		}
+		if !waited {
+			return nil
+		}
+	}
+}
+
+func (f *Follower) isWaiting() bool { return len(f.state.Waiting.Signed) > 0 }
+
+// load reads what is kept of the log.
+func (f *Follower) load() error {
+	if f.state != nil {
+		return nil
+	}
+	state, err := f.keeper.Load(f.log.ID)
+	if err != nil {
+		return fmt.Errorf("watch: %s: %w", f.log.Name, err)
+	}
+	f.state = &state
+	f.progress.Read, f.progress.Accepted = state.Read, state.Accepted.TreeSize
+	return nil
+}
+
+// keep has entries searched and stored together with the next state.
+func (f *Follower) keep(next State, entries []Entry) error {
+	if err := f.keeper.Keep(f.log, next, entries); err != nil {
+		return fmt.Errorf("watch: %s: %w", f.log.Name, err)
+	}
+	f.state = &next
+	f.progress.Read, f.progress.Accepted = next.Read, next.Accepted.TreeSize
+	if now := f.clock.Now(); len(entries) > 0 {
+		f.progress.Answered = now
+		if now.Sub(f.progress.reported) >= reportEach {
+			f.report()
+		}
+	}
+	return nil
+}
+
+// accuse stores evidence together with the next state, and returns it as an error. What was accused before is only
+// returned.
+func (f *Follower) accuse(next State, verdict, text string, files map[string][]byte) error {
+	evidence, err := NewEvidence(f.log, f.clock.Now(), verdict, text, files)
+	if err != nil {
+		return err
+	}
+	key := evidence.Key()
+	if f.accused.seen[key] || f.accused.count[verdict] >= maxAccusations {
+		if !bytes.Equal(next.Monitor, f.state.Monitor) {
+			if err := f.keep(next, nil); err != nil {
+				return err
+			}
+		}
+		return &AccusedError{verdict, text}
+	}
+	if err := f.keeper.Accuse(f.log, next, evidence); err != nil {
+		return fmt.Errorf("watch: %s: %w", f.log.Name, err)
+	}
+	f.accused.seen[key] = true
+	f.accused.count[verdict]++
+	f.state = &next
+	f.progress.Read, f.progress.Accepted = next.Read, next.Accepted.TreeSize
+	return &AccusedError{verdict, text}
+}
+
+// noHead returns why there is no head. A head that the log's key did not sign is evidence: somebody answers in the
+// log's place, or the log uses another key.
+func (f *Follower) noHead(head Head, err error) error {
+	if errors.Is(err, signature.ErrSigner) {
+		return f.accuse(*f.state, VerdictSigner, "the log's address answered with a head that the log's key did not sign",
+			map[string][]byte{FileHead: head.Signed})
+	}
+	return fmt.Errorf("watch: %s: %w", f.log.Name, err)
+}
+
+// judgePolicy accuses a log whose head does not meet the policy: a log that shows it a history of its own cannot have
+// it cosigned.
+func (f *Follower) judgePolicy(head Head) error {
+	if f.options.Policy == nil || !f.log.IsTiled() {
+		return nil
+	}
+	err := f.options.Policy(head)
+	var missed *PolicyError
+	if !errors.As(err, &missed) {
+		return err
+	}
+	files := map[string][]byte{FileHead: head.Signed}
+	for name, content := range missed.Files {
+		files[name] = content
+	}
+	return f.accuse(*f.state, VerdictFewCosigned, missed.Text, files)
+}
+
+// begin makes the first state: that before the first entry, or that after the newest head.
+func (f *Follower) begin(ctx context.Context, head Head) error {
+	if f.options.FromStart {
+		monitor, err := wagtenib.MonitorBegin()
+		if err != nil {
+			return err
+		}
+		return f.keep(State{Monitor: monitor}, nil)
+	}
+	subtrees, err := f.source.subtrees(ctx, head.TreeHead)
+	if err != nil {
+		return fmt.Errorf("watch: %s: %w", f.log.Name, err)
+	}
+	monitor, err := wagtenib.MonitorStart(head.TreeHead, subtrees)
+	if err != nil {
+		return fmt.Errorf("watch: %s: %w: the right edge of the tree: %v", f.log.Name, errDamaged, err)
+	}
+	return f.keep(State{Monitor: monitor, Accepted: head, Read: head.TreeSize, Start: head.TreeSize}, nil)
+}
+
+// frozenStates are the states of a log list in which a log needs no new heads.
+var frozenStates = map[string]bool{"readonly": true, "retired": true, "rejected": true}
+
+// judgeAge accuses a log whose newest head is older than its maximum merge delay. RFC 6962, section 3.5, requires a
+// newer one on demand.
+func (f *Follower) judgeAge(head Head) error {
+	if f.log.MaxMergeDelay <= 0 || frozenStates[f.log.State] {
+		return nil
+	}
+	age := f.clock.Now().Sub(time.UnixMilli(int64(min(head.Timestamp, 1<<62))))
+	if age <= f.log.MaxMergeDelay {
+		return nil
+	}
+	text := fmt.Sprintf("the newest head is %v old by this machine's clock, and the maximum merge delay is %v",
+		age.Round(time.Second), f.log.MaxMergeDelay)
+	return f.accuse(*f.state, VerdictOldHead, text, map[string][]byte{FileHead: head.Signed})
+}
+
+// judgeHead judges a head, and keeps the state before it acts on the verdict.
+func (f *Follower) judgeHead(head Head) error {
+	found, monitor, err := wagtenib.MonitorHead(f.state.Monitor, head.TreeHead)
+	if err != nil {
+		return f.stateError(err)
+	}
+	next := *f.state
+	next.Monitor, next.Read = monitor, found.Read
+	switch found.Verdict {
+	case wagtenib.VerdictPending:
+		if !f.isWaiting() {
+			next.Waiting = head
+			return f.keep(next, nil)
+		}
+		return nil
+	case wagtenib.VerdictAccepted:
+		if f.isWaiting() {
+			head = f.state.Waiting
+		}
+		next.Accepted, next.Waiting = head, Head{}
+		return f.keep(next, nil)
+	case wagtenib.VerdictAgain:
+		if accepted := f.state.Accepted; head.TreeSize == accepted.TreeSize && head.Timestamp > accepted.Timestamp &&
+			len(accepted.Signed) > 0 {
+			next.Accepted = head
+			return f.keep(next, nil)
+		}
+		return nil
+	case wagtenib.VerdictStale:
+		return nil
+	}
+	return f.accuseHead(next, head, found)
+}
+
+// accuseHead accuses a log by a head and the one that was known before.
+func (f *Follower) accuseHead(next State, head Head, found wagtenib.Judgement) error {
+	known := f.state.Accepted
+	if f.isWaiting() && (found.Known == f.state.Waiting.TreeHead || found.Verdict == wagtenib.VerdictShrunk &&
+		head.TreeSize >= known.TreeSize) {
+		known = f.state.Waiting
+	}
+	files := map[string][]byte{FileHead: head.Signed}
+	if len(known.Signed) > 0 {
+		files[FileFirst] = known.Signed
+	}
+	switch found.Verdict {
+	case wagtenib.VerdictForked:
+		return f.accuse(next, VerdictFork, fmt.Sprintf("the log signed two roots of %d leaves: %x and %x", head.TreeSize,
+			known.Root, head.Root), files)
+	case wagtenib.VerdictShrunk:
+		return f.accuse(next, VerdictShrunk, fmt.Sprintf("the log signed %d leaves at %d, and %d leaves at %d before",
+			head.TreeSize, head.Timestamp, known.TreeSize, known.Timestamp), files)
+	case wagtenib.VerdictNotLater:
+		return f.accuse(next, VerdictNotLater, fmt.Sprintf("the log signed %d leaves at %d, and %d leaves at %d, which is "+
+			"not earlier",
+			head.TreeSize, head.Timestamp, known.TreeSize, known.Timestamp), files)
+	case wagtenib.VerdictOtherRoot:
+		next.Waiting = Head{}
+		return f.accuse(next, VerdictOtherRoot,
+			fmt.Sprintf("the %d leaves that were read have the root %x, and the log signed %x", head.TreeSize, found.Root,
+				head.Root), files)
+	}
+	return fmt.Errorf("watch: %s: the library has an unexpected verdict on a head: %v", f.log.Name, found.Verdict)
+}
+
+// stateError returns the error of a call over the state.
+func (f *Follower) stateError(err error) error {
+	if errors.Is(err, wagtenib.ErrState) {
+		err = ErrState
+	}
+	return fmt.Errorf("watch: %s: %w", f.log.Name, err)
+}

@@ -1,0 +1,328 @@
+package watch_test
+
+import (
+	"context"
+	"errors"
+	"fmt"
+	"net/http"
+	"slices"
+	"strings"
+	"testing"
+	"time"
+
+	"wagtenib/internal/logclient"
+	"wagtenib/internal/testlog"
+	"wagtenib/internal/watch"
+)
+
+// await returns the next status for which a condition holds.
+func await(t *testing.T, k *keeper, what string, holds func(watch.Status) bool) watch.Status {
+	t.Helper()
+	late := time.After(within)
+	for {
+		select {
+		case status := <-k.reported:
+			if holds(status) {
+				return status
+			}
+		case <-late:
+			t.Fatalf("%s was not reported within %v", what, within)
+		}
+	}
+}
+
+// One log of ten drips a byte a second. The other nine are read whole and followed while the tenth has not ended one
+// answer.
+func TestSlowLogDelaysNoOther(t *testing.T) {
+	k := newKeeper()
+	group := watch.NewGroup(k, watch.Options{FromStart: true, Pause: time.Millisecond})
+	ctx, cancel := context.WithCancel(context.Background())
+	defer cancel()
+	var logs []watch.Log
+	served := map[watch.LogID]*testlog.Log{}
+	asked := make(chan struct{}, 100)
+	for i := range 10 {
+		log := newLog(t, 1000)
+		if i == 3 {
+			log.Intercept(func(w http.ResponseWriter, r *http.Request) bool {
+				asked <- struct{}{}
+				for r.Context().Err() == nil {
+					if _, err := w.Write([]byte("a")); err != nil {
+						return true
+					}
+					w.(http.Flusher).Flush()
+					select {
+					case <-r.Context().Done():
+					case <-time.After(time.Second): // (the pace of the server that drips)
+					}
+				}
+				return true
+			})
+		}
+		of := serve(t, log, kinds[i%2])
+		of.Name = fmt.Sprint(i)
+		logs = append(logs, of)
+		if i != 3 {
+			served[of.ID] = log
+		}
+	}
+	group.Follow(ctx, logs)
+	<-asked
+	for _, size := range []uint64{1000, 1700} {
+		accepted := map[watch.LogID]bool{}
+		for len(accepted) < 9 {
+			status := await(t, k, "nine accepted logs", func(s watch.Status) bool {
+				return s.Fault == nil &&
+					s.Accepted == size
+			})
+			accepted[status.Log.ID] = true
+		}
+		for _, log := range served {
+			if size == 1000 {
+				grow(log, 700)
+			}
+		}
+	}
+	if k.hasStatus(logs[3].ID) {
+		t.Error("the log that drips has ended an answer, so this test has seen nothing")
+	}
+	cancel()
+	group.Wait()
+	for id := range served {
+		wantsEntries(t, k, id, count(0, 1700))
+	}
+}
+
+// What a log answers in place of its head or of its entries, and what the reason must say for each.
+var nonsense = map[string]struct {
+	answer        func(w http.ResponseWriter, r *http.Request)
+	head, entries string
+}{
+	"HTML": {func(w http.ResponseWriter, _ *http.Request) { fmt.Fprint(w, "<html><p>404\n\nNot found</p>") }, "not ",
+		"answer"},
+	"nothing": {func(http.ResponseWriter, *http.Request) {}, "not ", "answer"},
+	"a redirect": {func(w http.ResponseWriter, r *http.Request) {
+		http.Redirect(w, r, "http://localhost:1/", http.StatusFound)
+	}, "redirects", "redirects"},
+	"no such page": {func(w http.ResponseWriter, r *http.Request) { http.NotFound(w, r) }, "does not have",
+		"does not have"},
+	"endless": {endless, "too many bytes", "too "},
+	"a drip":  {drip, "too slow", "too slow"},
+}
+
+func endless(w http.ResponseWriter, r *http.Request) {
+	content := []byte(strings.Repeat("entries", 1<<16))
+	for r.Context().Err() == nil {
+		if _, err := w.Write(content); err != nil {
+			return
+		}
+	}
+}
+
+func drip(w http.ResponseWriter, r *http.Request) {
+	for r.Context().Err() == nil {
+		if _, err := w.Write([]byte("a")); err != nil {
+			return
+		}
+		w.(http.Flusher).Flush()
+		select {
+		case <-r.Context().Done():
+		case <-time.After(20 * time.Millisecond): // (the pace of the server)
+		}
+	}
+}
+
+// A log that answers nonsense is reported with the reason, is accused of nothing, and is followed again after it has
+// come back.
+func TestNonsenseIsNamed(t *testing.T) {
+	limits := logclient.Limits{Request: 2 * time.Second, Grace: 100 * time.Millisecond, Attempts: 2}
+	for _, kind := range kinds {
+		for what, of := range nonsense {
+			for _, part := range []string{"head", "entries"} {
+				t.Run(kind+" "+part+" "+what, func(t *testing.T) {
+					s := newScene(t, kind, 0)
+					s.follower = follower(t, s.of, s.keeper, watch.Options{FromStart: true, Client: logclient.Options{Clock: s.clock,
+						Limits: limits}})
+					grow(s.log, 20)
+					s.log.Intercept(func(w http.ResponseWriter, r *http.Request) bool {
+						isHead := strings.HasSuffix(r.URL.Path, "checkpoint") || strings.HasSuffix(r.URL.Path, "get-sth")
+						if isHead != (part == "head") {
+							return false
+						}
+						of.answer(w, r)
+						return true
+					})
+					due := of.head
+					if part == "entries" {
+						due = of.entries
+					}
+					if err := s.follower.Pass(context.Background()); err == nil || !strings.Contains(err.Error(), due) {
+						t.Errorf("the pass ends with %v, and %q is due", err, due)
+					}
+					if status := s.keeper.statuses[s.of.ID]; status.Fault == nil || status.Accepted != 300 {
+						t.Errorf("the status is %+v", status)
+					}
+					wantsVerdicts(t, s.keeper, s.of.ID)
+					s.log.Intercept(nil)
+					if err := s.follower.Pass(context.Background()); err != nil {
+						t.Error(err)
+					}
+					wantsEntries(t, s.keeper, s.of.ID, count(0, 320))
+				})
+			}
+		}
+	}
+}
+
+// Logs come and go: one that is gone is followed no longer, one that is new is followed, and one with another address
+// is read there.
+func TestFollowsAListThatChanges(t *testing.T) {
+	k := newKeeper()
+	group := watch.NewGroup(k, watch.Options{FromStart: true, Pause: time.Millisecond})
+	ctx, cancel := context.WithCancel(context.Background())
+	defer cancel()
+	first, second, third := newLog(t, 10), newLog(t, 20), newLog(t, 30)
+	a, b, c := serve(t, first, "tiled"), serve(t, second, "RFC 6962"), serve(t, third, "tiled")
+	group.Follow(ctx, []watch.Log{a, b})
+	sees := func(log watch.Log, size uint64) {
+		t.Helper()
+		await(t, k, log.URL, func(s watch.Status) bool {
+			return s.Log.URL == log.URL && s.Accepted == size &&
+				s.Fault == nil
+		})
+	}
+	sees(a, 10)
+	sees(b, 20)
+	moved := serve(t, second, "RFC 6962")
+	group.Follow(ctx, []watch.Log{moved, c})
+	sees(moved, 20)
+	sees(c, 30)
+	before := first.Requests("/checkpoint")
+	grow(third, 5)
+	sees(c, 35)
+	if after := first.Requests("/checkpoint"); after > before+1 {
+		t.Errorf("the log that is gone was asked %d times", after-before)
+	}
+	wrong := c
+	wrong.URL = "nowhere"
+	group.Follow(ctx, []watch.Log{moved, wrong})
+	await(t, k, "the wrong address", func(s watch.Status) bool {
+		return s.Log.URL == "nowhere" &&
+			errors.Is(s.Fault, logclient.ErrAddress)
+	})
+	cancel()
+	group.Wait()
+	wantsEntries(t, k, b.ID, count(0, 20))
+}
+
+// One pass over all logs says for each how it went, and a log that is listed twice is read once.
+func TestOnce(t *testing.T) {
+	k := newKeeper()
+	group := watch.NewGroup(k, watch.Options{FromStart: true, Client: logclient.Options{Clock: newClock(begun)}})
+	good, away := newLog(t, 500), newLog(t, 1)
+	a, b := serve(t, good, "tiled"), serve(t, away, "tiled")
+	away.Intercept(func(w http.ResponseWriter, _ *http.Request) bool {
+		w.WriteHeader(http.StatusServiceUnavailable)
+		return true
+	})
+	results := group.Once(context.Background(), []watch.Log{a, b, a})
+	if len(results) != 2 || results[a.ID] != nil || !errors.Is(results[b.ID], logclient.ErrBusy) {
+		t.Errorf("%v", results)
+	}
+	wantsEntries(t, k, a.ID, count(0, 500))
+	// The time limit of one pass ends it, and the next one continues.
+	slow := newLog(t, 3000)
+	of := serve(t, slow, "tiled")
+	slow.Intercept(func(_ http.ResponseWriter, r *http.Request) bool {
+		if r.URL.Path != "/tile/data/007" {
+			return false
+		}
+		<-r.Context().Done()
+		return true
+	})
+	limited := watch.NewGroup(k, watch.Options{FromStart: true, Limit: 300 * time.Millisecond})
+	if results := limited.Once(context.Background(), []watch.Log{of}); !errors.Is(results[of.ID],
+		context.DeadlineExceeded) {
+		t.Errorf("%v", results)
+	}
+	if found := k.indexes(of.ID); !slices.Equal(found, count(0, 7*256)) {
+		t.Errorf("%d entries were kept", len(found))
+	}
+	slow.Intercept(nil)
+	if results := limited.Once(context.Background(), []watch.Log{of}); results[of.ID] != nil {
+		t.Errorf("%v", results)
+	}
+	wantsEntries(t, k, of.ID, count(0, 3000))
+}
+
+// A log with 30,000 entries that refuses one request in five is followed to its head in one pass.
+func TestFollowsBehindRefusals(t *testing.T) {
+	for _, kind := range kinds {
+		log := newLog(t, 30_000)
+		asked := make(chan int, 1)
+		asked <- 0
+		log.Intercept(func(w http.ResponseWriter, _ *http.Request) bool {
+			n := <-asked + 1
+			asked <- n
+			if n%5 != 0 {
+				return false
+			}
+			w.Header().Set("Retry-After", "1")
+			w.WriteHeader(http.StatusTooManyRequests)
+			return true
+		})
+		of := serve(t, log, kind)
+		k := newKeeper()
+		f := follower(t, of, k, watch.Options{FromStart: true, Client: logclient.Options{Clock: newClock(begun)}})
+		if err := f.Pass(context.Background()); err != nil {
+			t.Fatal(err)
+		}
+		wantsEntries(t, k, of.ID, count(0, 30_000))
+		if n := <-asked; n < 100 {
+			t.Errorf("%d requests were made", n)
+		}
+	}
+}
+
+// waits is a clock that notes each wait, and ends the run after a number of them.
+type waits struct {
+	clock
+	seen chan time.Duration
+}
+
+func (w *waits) Wait(ctx context.Context, d time.Duration) error {
+	select {
+	case w.seen <- d:
+	case <-ctx.Done():
+	}
+	return w.clock.Wait(ctx, d)
+}
+
+// A log that is busy is not asked before the time that it names, and never left for longer than a day.
+func TestLeavesABusyLogAlone(t *testing.T) {
+	for named, due := range map[string]time.Duration{"7200": 2 * time.Hour, "86400000": 24 * time.Hour} {
+		log := newLog(t, 1)
+		log.Intercept(func(w http.ResponseWriter, _ *http.Request) bool {
+			w.Header().Set("Retry-After", named)
+			w.WriteHeader(http.StatusTooManyRequests)
+			return true
+		})
+		of := serve(t, log, "tiled")
+		at := &waits{seen: make(chan time.Duration)}
+		at.now.Store(begun)
+		k := newKeeper()
+		group := watch.NewGroup(k, watch.Options{Pause: time.Minute, Client: logclient.Options{Clock: at}})
+		ctx, cancel := context.WithCancel(context.Background())
+		group.Follow(ctx, []watch.Log{of})
+		if pause := <-at.seen; pause < due-time.Minute || pause > due+time.Minute {
+			t.Errorf("after %s the log is asked again after %v", named, pause)
+		}
+		var busy *logclient.BusyError
+		status := await(t, k, "the first status", func(watch.Status) bool { return true })
+		if !errors.As(status.Fault, &busy) || busy.Status != http.StatusTooManyRequests {
+			t.Errorf("the status has the fault %v", status.Fault)
+		}
+		cancel()
+		group.Wait()
+	}
+}

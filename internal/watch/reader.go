@@ -1,0 +1,94 @@
+package watch
+
+import (
+	"context"
+	"errors"
+	"fmt"
+
+	"golang.org/x/mod/sumdb/tlog"
+
+	"wagtenib/bindings/go/wagtenib"
+	"wagtenib/internal/logclient"
+	"wagtenib/internal/signature"
+)
+
+// ErrAbsent means that a log does not have an entry in the tree of its head.
+var ErrAbsent = errors.New("watch: the log does not have the entry")
+
+// Reader reads single answers of one log, of either kind, for audits.
+type Reader struct {
+	Log    Log
+	source source
+}
+
+// NewReader returns a reader of a log. The error says what is wrong with the log's address or key.
+func NewReader(log Log, options logclient.Options) (*Reader, error) {
+	if _, err := signature.ParseKey(log.PublicKey); err != nil {
+		return nil, fmt.Errorf("watch: %s: %w", log.Name, err)
+	}
+	client, err := logclient.New(log.URL, options)
+	if err != nil {
+		return nil, fmt.Errorf("watch: %s: %w", log.Name, err)
+	}
+	return &Reader{log, newSource(log, client)}, nil
+}
+
+// Head returns the log's newest head, whose signature it verifies. The error wraps signature.ErrForm or
+// signature.ErrSigner, or is one of package logclient.
+func (r *Reader) Head(ctx context.Context) (Head, error) { return r.source.head(ctx) }
+
+// Consistency returns the log's proof from the first leaves to the second. It is not checked.
+func (r *Reader) Consistency(ctx context.Context, first, second uint64) ([]wagtenib.Hash, error) {
+	return r.source.consistency(ctx, first, second)
+}
+
+// Place returns the index and the audit path of a leaf in a head's tree. They are not checked. A tiled log has the leaf
+// at the index that its timestamp names, or nowhere; the other kind of log knows leaves by their hashes. The error
+// wraps ErrAbsent if the log does not have the leaf.
+func (r *Reader) Place(ctx context.Context, head Head, leafHash wagtenib.Hash, named uint64) (index uint64,
+	path []wagtenib.Hash, err error) {
+	if of, ok := r.source.(*calls); ok {
+		index, path, err = of.client.ProofByHash(ctx, leafHash, head.TreeSize)
+		if errors.Is(err, logclient.ErrNotFound) || errors.Is(err, logclient.ErrBadRequest) {
+			err = fmt.Errorf("%w: %w", ErrAbsent, err)
+		}
+		return index, path, err
+	}
+	if named >= head.TreeSize {
+		return 0, nil, fmt.Errorf("%w: index %d of %d", ErrAbsent, named, head.TreeSize)
+	}
+	path, err = r.source.inclusion(ctx, named, head.TreeSize, leafHash)
+	return named, path, err
+}
+
+// LeafHash returns the hash of the leaf at an index of a tiled log's tree, which is compared with the head's root. The
+// error wraps ErrAbsent for the other kind of log.
+func (r *Reader) LeafHash(ctx context.Context, head Head, index uint64) (wagtenib.Hash, error) {
+	of, ok := r.source.(*tiles)
+	if !ok || index >= head.TreeSize {
+		return wagtenib.Hash{}, ErrAbsent
+	}
+	found, err := of.hashes(ctx, head.TreeHead).ReadHashes([]int64{tlog.StoredHashIndex(0, int64(index))})
+	if err != nil {
+		return wagtenib.Hash{}, fmt.Errorf("%w: %v", errDamaged, err)
+	}
+	return wagtenib.Hash(found[0]), nil
+}
+
+// Root returns the root of the first leaves of a tiled log's tree, which is compared with the head's root. The error
+// wraps ErrAbsent for the other kind of log.
+func (r *Reader) Root(ctx context.Context, head Head, size uint64) (wagtenib.Hash, error) {
+	of, ok := r.source.(*tiles)
+	if !ok || size < 1 || size > head.TreeSize {
+		return wagtenib.Hash{}, ErrAbsent
+	}
+	root, err := tlog.TreeHash(int64(size), of.hashes(ctx, head.TreeHead))
+	if err != nil {
+		return wagtenib.Hash{}, fmt.Errorf("%w: %v", errDamaged, err)
+	}
+	return wagtenib.Hash(root), nil
+}
+
+// OpenHead reads a head of the log that was kept or seen elsewhere: a checkpoint, or an answer to get-sth. The error
+// wraps signature.ErrForm or signature.ErrSigner.
+func (r *Reader) OpenHead(signed []byte) (Head, error) { return openHead(r.Log, signed) }

@@ -1,0 +1,294 @@
+package watch
+
+import (
+	"context"
+	"encoding/json"
+	"errors"
+	"fmt"
+
+	"golang.org/x/mod/sumdb/tlog"
+
+	"wagtenib/bindings/go/wagtenib"
+	"wagtenib/internal/logclient"
+)
+
+// The size of a batch. The Keeper stores each batch in one step, so larger ones are faster to read, and smaller ones
+// are found sooner. A batch is larger than one tile or page only if more of them have come already.
+const (
+	maxBatch      = 4096     // entries
+	maxBatchBytes = 16 << 20 // bytes
+)
+
+// proofFrom is the number of new entries from which on a consistency proof is asked for before they are read. Fewer
+// entries are read as fast as a proof.
+const proofFrom = 1024
+
+// readWaiting reads the entries up to the head that waits.
+func (f *Follower) readWaiting(ctx context.Context) error {
+	if err := f.judgeProof(ctx); err != nil {
+		return err
+	}
+	var due batch
+	var own error
+	flush := func() error {
+		if len(due.entries) == 0 {
+			return nil
+		}
+		full := due
+		due = batch{}
+		own = f.take(ctx, full)
+		return own
+	}
+	err := f.source.entries(ctx, f.state.Read, f.state.Waiting.TreeSize, func(b batch, more bool) error {
+		due.add(b)
+		if more && len(due.entries) < maxBatch && due.bytes < maxBatchBytes {
+			return nil
+		}
+		return flush()
+	})
+	if own == nil {
+		// (what came before a failure is kept)
+		if err := flush(); err != nil {
+			return err
+		}
+	}
+	switch {
+	case own != nil:
+		return own
+	case err != nil:
+		return fmt.Errorf("watch: %s: %w", f.log.Name, err)
+	case f.isWaiting():
+		return fmt.Errorf("watch: %s: %w: the log gave %d entries, and its head has %d", f.log.Name, errDamaged,
+			f.state.Read, f.state.Waiting.TreeSize)
+	}
+	return nil
+}
+
+// judgeProof judges a consistency proof from the accepted head to the waiting one. It shows a rewritten history
+// before the entries are read.
+func (f *Follower) judgeProof(ctx context.Context) error {
+	first, second := f.state.Accepted, f.state.Waiting
+	if first.TreeSize == 0 || f.state.Read != first.TreeSize || second.TreeSize-first.TreeSize < proofFrom {
+		return nil
+	}
+	proof, err := f.source.consistency(ctx, first.TreeSize, second.TreeSize)
+	if err != nil {
+		// A log must not keep its entries from being searched by giving no proof. The entries decide without it.
+		return ctx.Err()
+	}
+	found, monitor, err := wagtenib.MonitorProof(f.state.Monitor, proof)
+	if err != nil {
+		return f.stateError(err)
+	}
+	if found.Verdict != wagtenib.VerdictInconsistent {
+		return nil
+	}
+	content, err := json.Marshal(Consistency{bytesOf(proof)})
+	if err != nil {
+		return err
+	}
+	next := *f.state
+	next.Monitor = monitor
+	text := fmt.Sprintf("the log's proof does not lead from its head of %d leaves to its head of %d: %v", first.TreeSize,
+		second.TreeSize, found.Fault)
+	files := map[string][]byte{FileFirst: first.Signed, FileHead: second.Signed, FileProof: content}
+	var accused *AccusedError
+	if err := f.accuse(next, VerdictInconsistent, text, files); !errors.As(err, &accused) {
+		return err
+	}
+	// (the entries decide: their root is another one too, if the history was rewritten)
+	return nil
+}
+
+// stage gives a batch's tiles to the mirror. A full disk of the mirror must not keep entries from being searched, so a
+// fault is not returned: Accept reads a tile again that is not staged, and returns the fault if it is still there.
+func (f *Follower) stage(b batch) {
+	if f.mirror == nil {
+		return
+	}
+	for _, tile := range b.tiles {
+		if f.mirror.Stage(tile) != nil {
+			return
+		}
+	}
+}
+
+// take judges entries, and keeps them with the next state. The evidence against the log is kept before the entries,
+// which are read again if that fails.
+func (f *Follower) take(ctx context.Context, b batch) error {
+	if f.careful {
+		if err := f.compare(ctx, b); err != nil {
+			return err
+		}
+	}
+	found, report, monitor, err := wagtenib.MonitorEntries(f.state.Monitor, b.start, b.leaves())
+	if err != nil {
+		return f.stateError(err)
+	}
+	if found.Verdict == wagtenib.VerdictGap {
+		return fmt.Errorf("watch: %s: %w: entries from %d on, and %d is next", f.log.Name, errDamaged, b.start, f.state.Read)
+	}
+	if err := f.judgeEntries(ctx, b, report); err != nil {
+		return err
+	}
+	f.stage(b)
+	next := *f.state
+	next.Monitor, next.Read = monitor, found.Read
+	switch found.Verdict {
+	case wagtenib.VerdictPending:
+		return f.keep(next, b.entries)
+	case wagtenib.VerdictAccepted:
+		next.Accepted, next.Waiting = f.state.Waiting, Head{}
+		if err := f.keep(next, b.entries); err != nil {
+			return err
+		}
+		f.careful = false
+		return nil
+	}
+	// The leaves have another root. They are searched all the same: a log must not hide an entry in this way. The next
+	// reading begins at the accepted head.
+	if err := f.keep(*f.state, b.entries); err != nil {
+		return err
+	}
+	f.careful = f.log.IsTiled()
+	next.Waiting = Head{}
+	waiting := f.state.Waiting
+	text := fmt.Sprintf("the %d leaves that were read have the root %x, and the log signed %x", waiting.TreeSize,
+		found.Root, waiting.Root)
+	files := map[string][]byte{FileHead: waiting.Signed}
+	if len(f.state.Accepted.Signed) > 0 {
+		files[FileFirst] = f.state.Accepted.Signed
+	}
+	return f.accuse(next, VerdictOtherRoot, text, files)
+}
+
+// judgeEntries accuses the log of entries that it must not have, of each kind once in a batch.
+func (f *Follower) judgeEntries(ctx context.Context, b batch, report wagtenib.EntryReport) error {
+	if report.Later != nil {
+		text := fmt.Sprintf("entry %d has the timestamp %d, and the head that covers it has %d", report.Later.Index,
+			report.Later.Timestamp, f.state.Waiting.Timestamp)
+		if err := f.accuseEntry(ctx, b, report.Later.Index, VerdictLaterEntry, text); err != nil {
+			return err
+		}
+	}
+	if report.Faulty != nil {
+		text := fmt.Sprintf("entry %d is no leaf: %v", report.Faulty.Index, report.Faulty.Fault)
+		if err := f.accuseEntry(ctx, b, report.Faulty.Index, VerdictNoLeaf, text); err != nil {
+			return err
+		}
+	}
+	if b.otherIndex != nil {
+		text := fmt.Sprintf("entry %d does not name its own index only", *b.otherIndex)
+		if err := f.accuseEntry(ctx, b, *b.otherIndex, VerdictWrongIndex, text); err != nil {
+			return err
+		}
+	}
+	if index, ok := f.firstLate(b); ok {
+		entry := b.entries[index-b.start]
+		text := fmt.Sprintf("entry %d has the timestamp %d, and is not among the %d leaves of the head that was signed at "+
+			"%d, past the maximum merge delay of %v",
+			index, entry.Timestamp, f.state.Accepted.TreeSize, f.state.Accepted.Timestamp, f.log.MaxMergeDelay)
+		return f.accuseEntry(ctx, b, index, VerdictLateMerge, text)
+	}
+	return nil
+}
+
+// firstLate returns the first entry that the accepted head must have, and has not: that head was signed after the
+// entry's maximum merge delay.
+func (f *Follower) firstLate(b batch) (index uint64, ok bool) {
+	delay, head := uint64(f.log.MaxMergeDelay.Milliseconds()), f.state.Accepted
+	if delay == 0 || len(head.Signed) == 0 {
+		return 0, false
+	}
+	for _, entry := range b.entries {
+		if entry.Fault == nil && entry.Index < f.state.Waiting.TreeSize && entry.Timestamp < head.Timestamp &&
+			head.Timestamp-entry.Timestamp > delay {
+			return entry.Index, true
+		}
+	}
+	return 0, false
+}
+
+// accuseEntry accuses the log by an entry, with its audit path if the log gives one that leads to the head that waits.
+// The state stays the same. It returns nil if the entry was accused, so that the reading continues.
+func (f *Follower) accuseEntry(ctx context.Context, b batch, index uint64, verdict, text string) error {
+	if f.accused.count[verdict] >= maxAccusations {
+		return nil
+	}
+	leaf, head := b.entries[index-b.start].Leaf, f.state.Waiting
+	files := map[string][]byte{FileHead: head.Signed, FileLeaf: leaf}
+	if verdict == VerdictLateMerge {
+		files[FileFirst] = f.state.Accepted.Signed
+	}
+	hash := wagtenib.LeafHash(leaf)
+	path, err := f.source.inclusion(ctx, index, head.TreeSize, hash)
+	if err == nil {
+		err = wagtenib.VerifyInclusion(hash, index, head.TreeSize, path, head.Root)
+	}
+	if err != nil {
+		text += fmt.Sprintf(" (there is no audit path: %v)", err)
+	} else if files[FileProof], err = json.Marshal(Inclusion{index, head.TreeSize, hash[:], bytesOf(path)}); err != nil {
+		return err
+	}
+	var accused *AccusedError
+	if err := f.accuse(*f.state, verdict, text, files); !errors.As(err, &accused) {
+		return err
+	}
+	return nil
+}
+
+// compare compares each leaf of a batch with the log's hash tiles, which are compared with the root of the head. It is
+// done after leaves had another root, to name the tile.
+func (f *Follower) compare(ctx context.Context, b batch) error {
+	of, ok := f.source.(*tiles)
+	if !ok {
+		return nil
+	}
+	head := f.state.Waiting
+	indexes := make([]int64, len(b.entries))
+	for i := range indexes {
+		indexes[i] = tlog.StoredHashIndex(0, int64(b.start)+int64(i))
+	}
+	hashes, err := of.hashes(ctx, head.TreeHead).ReadHashes(indexes)
+	if err != nil {
+		// Without hash tiles that lead to the root no data tile can be named. The entries are read to the end all the same: a
+		// log must not keep them from being searched.
+		f.careful = false
+		return ctx.Err()
+	}
+	for i, entry := range b.entries {
+		if wagtenib.LeafHash(entry.Leaf) == wagtenib.Hash(hashes[i]) {
+			continue
+		}
+		return f.accuseTile(ctx, of, b, entry, wagtenib.Hash(hashes[i]))
+	}
+	return nil
+}
+
+// accuseTile accuses the log of a data tile with an entry that has another hash than the log's tree.
+func (f *Follower) accuseTile(ctx context.Context, of *tiles, b batch, entry Entry, hash wagtenib.Hash) error {
+	head := f.state.Waiting
+	path, err := of.inclusion(ctx, entry.Index, head.TreeSize, hash)
+	if err != nil {
+		return fmt.Errorf("watch: %s: %w", f.log.Name, err)
+	}
+	proof, err := json.Marshal(Inclusion{entry.Index, head.TreeSize, hash[:], bytesOf(path)})
+	if err != nil {
+		return err
+	}
+	files := map[string][]byte{FileHead: head.Signed, FileProof: proof, FileLeaf: entry.Leaf}
+	for _, tile := range b.tiles {
+		if tile.Index == entry.Index/logclient.TileWidth {
+			files[FileTile] = tile.Bytes
+		}
+	}
+	// The leaves are searched, although they are not the log's: what a log hands out can show what it hides. The next
+	// reading goes to the end, so that a newer head is taken.
+	f.careful = false
+	if err := f.keep(*f.state, b.entries); err != nil {
+		return err
+	}
+	text := fmt.Sprintf("entry %d of a data tile is not the one of the tree of %d leaves that the log signed",
+		entry.Index, head.TreeSize)
+	return f.accuse(*f.state, VerdictDamagedTile, text, files)
+}

@@ -1,0 +1,188 @@
+package watch
+
+import (
+	"bytes"
+	"context"
+	"encoding/binary"
+	"fmt"
+	"strings"
+
+	"golang.org/x/mod/sumdb/tlog"
+
+	"wagtenib/bindings/go/wagtenib"
+	"wagtenib/internal/logclient"
+	"wagtenib/internal/signature"
+)
+
+// maxTreeSize is the largest number of leaves of a head that is taken. The index of a leaf of a tiled log has 40 bits
+// (C2SP static-ct-api), and no log of RFC 6962 comes near.
+const maxTreeSize = 1 << 48
+
+// openHead reads a log's signed head, of either kind, and verifies its signature. If it is refused, the bytes are in
+// the head all the same.
+func openHead(log Log, signed []byte) (Head, error) {
+	var head wagtenib.TreeHead
+	var err error
+	if log.IsTiled() {
+		head, err = signature.OpenCheckpoint(signed, log.Origin, log.PublicKey)
+	} else {
+		head, err = signature.OpenSTH(signed, log.PublicKey)
+	}
+	if err == nil && head.TreeSize > maxTreeSize {
+		err = fmt.Errorf("%w: %d leaves, and a log can have at most %d", signature.ErrForm, head.TreeSize,
+			uint64(maxTreeSize))
+	}
+	return Head{TreeHead: head, Signed: signed}, err
+}
+
+// tiles reads a tiled log (C2SP static-ct-api, tlog-tiles).
+type tiles struct {
+	log    Log
+	client *logclient.Client
+}
+
+func (t *tiles) head(ctx context.Context) (Head, error) {
+	checkpoint, err := t.client.Checkpoint(ctx)
+	if err != nil {
+		return Head{}, err
+	}
+	return openHead(t.log, checkpoint)
+}
+
+// entries reads whole data tiles: the first batch may begin before `start`, and what is before it is cut.
+func (t *tiles) entries(ctx context.Context, start, size uint64, use func(b batch, more bool) error) error {
+	return t.client.DataTiles(ctx, start, size, func(tile logclient.DataTile, more bool) error {
+		entries, err := readDataTile(tile)
+		if err != nil {
+			return err
+		}
+		first := tile.Index * logclient.TileWidth
+		b := batch{start: max(first, start), tiles: []logclient.DataTile{tile}, bytes: len(tile.Bytes)}
+		for i, of := range entries {
+			index := first + uint64(i)
+			if index < start {
+				continue
+			}
+			if b.otherIndex == nil && !bytes.Equal(of.Extensions, leafIndex(index)) {
+				b.otherIndex = &index
+			}
+			b.entries = append(b.entries, Entry{Index: index, Timestamp: of.Timestamp, Type: of.Type, Leaf: of.Leaf,
+				Certificate: of.Certificate, Precertificate: of.Precertificate, Fingerprints: of.Issuers})
+		}
+		return use(b, more)
+	})
+}
+
+// readDataTile reads a data tile, which must have as many entries as its name says at least. Those after them are left
+// out.
+func readDataTile(tile logclient.DataTile) ([]wagtenib.TileEntry, error) {
+	entries, err := wagtenib.DataTileLeaves(tile.Bytes)
+	if err != nil {
+		return nil, fmt.Errorf("%s: %w: %v", tile.Name, errDamaged, err)
+	}
+	if len(entries) < tile.Width {
+		return nil, fmt.Errorf("%s: %w: %d entries, and %d are expected", tile.Name, errDamaged, len(entries), tile.Width)
+	}
+	return entries[:tile.Width], nil
+}
+
+// leafIndex returns the CtExtensions that name an index and nothing else (C2SP static-ct-api), without their length.
+func leafIndex(index uint64) []byte {
+	return append([]byte{0, 0, 5}, binary.BigEndian.AppendUint64(nil, index)[3:]...)
+}
+
+// read reads tiles by their names.
+func (t *tiles) read(ctx context.Context, names []string) ([][]byte, error) {
+	contents := make([][]byte, len(names))
+	for i, name := range names {
+		content, err := t.client.HashTile(ctx, name)
+		if err != nil {
+			return nil, err
+		}
+		contents[i] = content
+	}
+	return contents, nil
+}
+
+func (t *tiles) consistency(ctx context.Context, first, second uint64) ([]wagtenib.Hash, error) {
+	names, err := wagtenib.ProofTiles(first, second)
+	if err != nil {
+		return nil, err
+	}
+	contents, err := t.read(ctx, names)
+	if err != nil {
+		return nil, err
+	}
+	return wagtenib.ProofOfTiles(first, second, contents)
+}
+
+func (t *tiles) inclusion(ctx context.Context, index, size uint64, _ wagtenib.Hash) ([]wagtenib.Hash, error) {
+	names, err := wagtenib.PathTiles(index, size)
+	if err != nil {
+		return nil, err
+	}
+	contents, err := t.read(ctx, names)
+	if err != nil {
+		return nil, err
+	}
+	return wagtenib.PathOfTiles(index, size, contents)
+}
+
+// subtrees takes the roots out of the path of the last leaf. Both come from tiles that are compared with the root.
+func (t *tiles) subtrees(ctx context.Context, head wagtenib.TreeHead) ([]wagtenib.Hash, error) {
+	if head.TreeSize == 0 {
+		return nil, nil
+	}
+	last := head.TreeSize - 1
+	leaf, err := t.hashes(ctx, head).ReadHashes([]int64{tlog.StoredHashIndex(0, int64(last))})
+	if err != nil {
+		return nil, fmt.Errorf("%w: the tiles at the right edge of the tree: %v", errDamaged, err)
+	}
+	path, err := t.inclusion(ctx, last, head.TreeSize, wagtenib.Hash(leaf[0]))
+	if err != nil {
+		return nil, err
+	}
+	return wagtenib.LastSubtrees(wagtenib.Hash(leaf[0]), head.TreeSize, path)
+}
+
+// hashes returns a reader of the hashes of a head's tree. It compares each with the root.
+func (t *tiles) hashes(ctx context.Context, head wagtenib.TreeHead) tlog.HashReader {
+	tree := tlog.Tree{N: int64(head.TreeSize), Hash: tlog.Hash(head.Root)}
+	return tlog.TileHashReader(tree, &tileReader{ctx, t.client, map[string][]byte{}})
+}
+
+// maxTilesKept is the number of hash tiles that a reader keeps, of 8 KiB each.
+const maxTilesKept = 256
+
+// tileReader reads tiles for tlog. It keeps some of them.
+type tileReader struct {
+	ctx    context.Context
+	client *logclient.Client
+	read   map[string][]byte
+}
+
+// Height returns the height of a tile (C2SP tlog-tiles).
+func (*tileReader) Height() int { return 8 }
+
+// SaveTiles does nothing: what was read is kept by ReadTiles.
+func (*tileReader) SaveTiles([]tlog.Tile, [][]byte) {}
+
+// ReadTiles reads tiles.
+func (r *tileReader) ReadTiles(wanted []tlog.Tile) (contents [][]byte, err error) {
+	for _, tile := range wanted {
+		// (tlog writes the height into the name, and C2SP leaves it out)
+		name := "tile/" + strings.TrimPrefix(tile.Path(), "tile/8/")
+		content, ok := r.read[name]
+		if !ok {
+			if content, err = r.client.HashTile(r.ctx, name); err != nil {
+				return nil, err
+			}
+			if len(r.read) >= maxTilesKept {
+				clear(r.read)
+			}
+			r.read[name] = content
+		}
+		contents = append(contents, content)
+	}
+	return contents, nil
+}

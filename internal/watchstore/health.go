@@ -1,0 +1,74 @@
+package watchstore
+
+import (
+	"fmt"
+	"strings"
+	"time"
+
+	"wagtenib/internal/alert"
+)
+
+// Health is how it goes with a whole ctwatch, as its store knows.
+type Health struct {
+	Logs     int      // all logs that were watched
+	Silent   []string // the names of those of which nothing could be read for too long
+	Evidence int64    // how much evidence against logs nobody has looked at
+	Waiting  int64    // alerts that were not sent to an output whose last sending failed
+	Outputs  []string // the names of those outputs
+	Reported time.Time
+}
+
+// Health returns how it goes. A log that was not read for so long is silent. A log that ctwatch follows no longer
+// counts only until a time of the same length after its last report.
+func (s *Store) Health(silentAfter time.Duration) (Health, error) {
+	var h Health
+	logs, err := s.LogStatuses()
+	if err != nil {
+		return h, err
+	}
+	now := s.options.Now()
+	for _, log := range logs {
+		if log.Reported.After(h.Reported) {
+			h.Reported = log.Reported
+		}
+	}
+	for _, log := range logs {
+		if h.Reported.Sub(log.Reported) >= silentAfter {
+			continue
+		}
+		h.Logs++
+		if log.Silence(now) >= silentAfter {
+			h.Silent = append(h.Silent, log.Name)
+		}
+	}
+	outputs, err := s.Outputs()
+	if err != nil {
+		return h, err
+	}
+	for _, output := range outputs {
+		if output.Fault != "" {
+			h.Waiting, h.Outputs = h.Waiting+output.Waiting, append(h.Outputs, output.Name)
+		}
+	}
+	counts, err := s.Counts()
+	h.Evidence = counts.NewEvidence
+	return h, err
+}
+
+// String returns the health as one line.
+func (h Health) String() string {
+	parts := []string{alert.Count(int64(h.Logs), "log")}
+	if len(h.Silent) > 0 {
+		parts = append(parts, fmt.Sprintf("%d SILENT: %s", len(h.Silent), strings.Join(h.Silent, ", ")))
+	}
+	if h.Evidence > 0 {
+		parts = append(parts, fmt.Sprintf("%d EVIDENCE against logs", h.Evidence))
+	}
+	if len(h.Outputs) > 0 {
+		parts = append(parts, fmt.Sprintf("%s NOT SENT: %s", alert.Count(h.Waiting, "alert"), strings.Join(h.Outputs, ", ")))
+	}
+	if len(parts) == 1 {
+		parts = append(parts, "all are read, and all alerts are sent")
+	}
+	return strings.Join(parts, "; ")
+}

@@ -1,0 +1,117 @@
+package watchstore_test
+
+import (
+	"crypto/sha256"
+	"encoding/hex"
+	"slices"
+	"testing"
+
+	"wagtenib/bindings/go/wagtenib"
+	"wagtenib/internal/alert"
+	"wagtenib/internal/finding"
+	"wagtenib/internal/testcert"
+	"wagtenib/internal/watch"
+	"wagtenib/internal/watchstore"
+)
+
+// entriesOf returns the entries of both in a log, the precertificate first.
+func entriesOf(one testcert.Issued, first uint64) []watch.Entry {
+	return []watch.Entry{
+		{Index: first, Timestamp: 1_770_000_000_000, Type: wagtenib.PrecertEntry, Certificate: one.TBS,
+			Precertificate: one.Precertificate.Raw},
+		{Index: first + 1, Timestamp: 1_770_000_001_000, Type: wagtenib.X509Entry, Certificate: one.Certificate.Raw},
+	}
+}
+
+func must(t testing.TB, err error) {
+	t.Helper()
+	if err != nil {
+		t.Fatal(err)
+	}
+}
+
+// logOf returns a log of this number.
+func logOf(number byte) watch.Log {
+	return watch.Log{ID: watch.LogID{number}, Name: "log " + string('a'+rune(number)), URL: "https://log.example"}
+}
+
+// searcher returns a searcher for names, which must be right ones.
+func searcher(names ...string) *finding.Searcher {
+	var watched []finding.Name
+	for _, name := range names {
+		one, err := finding.ParseName(name)
+		if err != nil {
+			panic(err)
+		}
+		watched = append(watched, one)
+	}
+	return finding.NewSearcher(watched)
+}
+
+func open(t testing.TB, folder string, options watchstore.Options) *watchstore.Store {
+	t.Helper()
+	store, err := watchstore.Open(folder, options)
+	must(t, err)
+	t.Cleanup(func() {
+		if err := store.Close(); err != nil {
+			t.Error(err)
+		}
+	})
+	return store
+}
+
+// TestAlertsOnceForAnIssuance keeps a precertificate and its certificate in three logs: there is one alert, with the
+// host name, and with what crypto/x509 reads in the certificate.
+func TestAlertsOnceForAnIssuance(t *testing.T) {
+	one := testcert.NewAuthority(t).Issue("shop.example.org", "www.other.net")
+	store := open(t, t.TempDir(), watchstore.Options{Searcher: searcher("example.org")})
+	must(t, store.UseOutputs([]string{"test"}))
+	for number := byte(0); number < 3; number++ {
+		must(t, store.Keep(logOf(number), watch.State{Read: 9}, entriesOf(one, 7)))
+	}
+	alerts, err := store.Next("test", 10)
+	must(t, err)
+	if len(alerts) != 1 {
+		t.Fatalf("%d alerts, and not 1", len(alerts))
+	}
+	c := alerts[0].Certificate
+	key := sha256.Sum256(one.Certificate.RawSubjectPublicKeyInfo)
+	kept := sha256.Sum256(one.Precertificate.Raw)
+	if len(c.Matches) != 1 || c.Matches[0].Name != "example.org" || !c.Matches[0].Proved ||
+		!slices.Equal(c.Matches[0].Hosts, one.Certificate.DNSNames[:1]) {
+		t.Errorf("matches %+v", c.Matches)
+	}
+	if !slices.Equal(c.Names, one.Certificate.DNSNames) || c.NameCount != len(one.Certificate.DNSNames) {
+		t.Errorf("names %q", c.Names)
+	}
+	if c.Fields.Issuer != one.Certificate.Issuer.ToRDNSequence().String() ||
+		c.Fields.SerialNumber != hex.EncodeToString(one.Certificate.SerialNumber.Bytes()) {
+		t.Errorf("issuer %q, serial number %q", c.Fields.Issuer, c.Fields.SerialNumber)
+	}
+	if !c.Fields.NotBefore.Equal(one.Certificate.NotBefore) || !c.Fields.NotAfter.Equal(one.Certificate.NotAfter) {
+		t.Errorf("valid %v to %v", c.Fields.NotBefore, c.Fields.NotAfter)
+	}
+	if c.Fields.KeySHA256 != hex.EncodeToString(key[:]) || c.SHA256 != hex.EncodeToString(kept[:]) {
+		t.Errorf("key %s, certificate %s", c.Fields.KeySHA256, c.SHA256)
+	}
+	if len(c.Sightings) != 6 || c.Sightings[0].Index != 7 || c.Sightings[0].Type != "precertificate" ||
+		alerts[0].Kind != alert.Found {
+		t.Errorf("sightings %+v", c.Sightings)
+	}
+	der, err := store.Certificate(c.SHA256)
+	if err != nil || !slices.Equal(der, one.Precertificate.Raw) {
+		t.Errorf("the certificate is not kept: %v", err)
+	}
+}
+
+// TestAlertsToOtherNames: a certificate of others causes no alert, and is not kept.
+func TestAlertsToOtherNames(t *testing.T) {
+	store := open(t, t.TempDir(), watchstore.Options{Searcher: searcher("example.org")})
+	must(t, store.UseOutputs([]string{"test"}))
+	other := testcert.NewAuthority(t).Issue("notexample.org", "example.org.evil.net")
+	must(t, store.Keep(logOf(0), watch.State{}, entriesOf(other, 0)))
+	counts, err := store.Counts()
+	if err != nil || counts.Issuances != 0 || counts.Alerts != 0 {
+		t.Errorf("%+v %v", counts, err)
+	}
+}

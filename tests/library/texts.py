@@ -1,0 +1,151 @@
+#!/usr/bin/env python3
+"""Compares the texts that libwagtenib writes and reads, as gcc makes it of dist/, with hashlib, base64 and struct, and with examples of the formats' own pages.
+
+    texts.py [--calls 2000] [--seed 1]
+
+The examples are those of C2SP tlog-checkpoint, tlog-cosignature and golang.org/x/mod/sumdb/note. The version must be the same in the file VERSION, in
+include/wagtenib.h and in the library. Each refusal must come at least once. Without gcc for this processor it says so.
+"""
+import argparse
+import base64
+import collections
+import hashlib
+import pathlib
+import platform
+import random
+import re
+import shutil
+import struct
+import sys
+
+ROOT = pathlib.Path(__file__).resolve().parents[2]
+sys.path[:0] = [str(ROOT / "bindings" / "python")]
+# (the folder above is on the path only now)
+import wagtenib  # noqa: E402
+from wagtenib import _library  # noqa: E402
+
+# C2SP tlog-checkpoint, "Note text", and tlog-cosignature, "cosignature/v1".
+EXAMPLE = b"example.com/behind-the-sofa\n20852163\nCsUYapGGPo4dkMgIAUqom/Xajj7h2fB2MPA3j2jxq2I=\n"
+MESSAGE = b"cosignature/v1\ntime 1679315147\n" + EXAMPLE
+# golang.org/x/mod/sumdb/note: the verifier key of its page, whose second part is the key's number.
+KEY = "PeterNeumann+c74f20a3+ARpc2QcUPDhMQegwxbzhKqiBfsVkmqq/LDE4izWy10TW"
+ORIGINS = [b"log.example/1", b"l", "l\u00f6g.example".encode(), b"a b+c", b""]
+NO_ORIGINS = [b"", b"a\nb", b"\n", b"\xff", b"a\xc3"]
+MOST = (1 << 64) - 1
+# How a text is damaged.
+DAMAGES = [
+    lambda text: text[:-1],
+    lambda text: text.replace(b"\n", b"\n0", 1),
+    lambda text: text.replace(b"\n", b"\n+", 1),
+    lambda text: text + b"an extension line\n",
+    lambda text: b"\n" + text,
+    lambda text: text.replace(b"l", b"\xff", 1),
+    lambda text: text.replace(b"\n", b"\r\n"),
+    lambda text: text.replace(b"=", b""),
+    lambda text: re.sub(rb"\n(\d+)\n", rb"\n1\g<1>00000000000000000000\n", text),
+    lambda text: re.sub(rb"(.)=\n", lambda found: bytes([found[1][0] + 1]) + b"=\n", text),
+    lambda text: b"",
+]
+
+
+def fail(why):
+    sys.exit(f"tests/library/texts.py: {why}")
+
+
+def same(what, got, due):
+    if got != due:
+        fail(f"{what} gave {got!r}, and is to give {due!r}")
+
+
+def outcome(call, *words):
+    """The result of a call, or the name of its fault."""
+    try:
+        return call(*words)
+    except wagtenib.Error as fault:
+        return fault.name
+
+
+def text_of(origin, size, root):
+    """The text of a checkpoint (C2SP tlog-checkpoint)."""
+    return b"%s\n%d\n%s\n" % (origin, size, base64.b64encode(root))
+
+
+def read_by_model(text):
+    """The checkpoint of a text, if the text is the one that is written for it."""
+    found = re.fullmatch(rb"([^\n]+)\n([0-9]+)\n([A-Za-z0-9+/]{43}=)\n", text)
+    try:
+        text.decode()
+    except UnicodeDecodeError:
+        return "NO_CHECKPOINT"
+    if not found or int(found[2]) > MOST or text_of(found[1], int(found[2]), base64.b64decode(found[3])) != text:
+        return "NO_CHECKPOINT"
+    return wagtenib.Checkpoint(found[1], int(found[2]), base64.b64decode(found[3]))
+
+
+def examples():
+    """The examples of the formats' pages."""
+    root = base64.b64decode("CsUYapGGPo4dkMgIAUqom/Xajj7h2fB2MPA3j2jxq2I=")
+    checkpoint = wagtenib.Checkpoint(b"example.com/behind-the-sofa", 20852163, root)
+    same("the example of a checkpoint", wagtenib.read_checkpoint(EXAMPLE), checkpoint)
+    same("the example's checkpoint", wagtenib.checkpoint_text(checkpoint), EXAMPLE)
+    same("the example's message", wagtenib.cosignature_message(1679315147, EXAMPLE), MESSAGE)
+    name, number, coded = KEY.split("+", 2)
+    key = base64.b64decode(coded)
+    same("the example of a key", wagtenib.note_key_id(name.encode(), key[0], key[1:]).hex(), number)
+
+
+def versions():
+    """The version, in three places."""
+    first, second, third = map(int, (ROOT / "VERSION").read_text().strip().split("."))
+    header = re.search(r"^#define WAGTENIB_VERSION (\d+)$", (ROOT / "include" / "wagtenib.h").read_text(), re.M)
+    due = 1_000_000 * first + 1_000 * second + third
+    same("include/wagtenib.h", int(header[1]), due)
+    same("wagtenib_version", wagtenib.version(), due)
+
+
+def compare(source, tried):
+    """Compares one call of each function."""
+    origin, root = source.choice(ORIGINS), source.randbytes(32)
+    size = source.choice([0, 1, MOST, source.randrange(1 << 64), source.randrange(100)])
+    timestamp, time = source.randrange(1 << 64), source.choice([0, 1, MOST, source.randrange(1 << 64)])
+    text = text_of(origin, size, root)
+    given = source.choice(NO_ORIGINS) if source.random() < 0.2 else origin
+    is_origin = given and given not in NO_ORIGINS
+    written = outcome(wagtenib.checkpoint_text, wagtenib.Checkpoint(given, size, root))
+    same(f"a checkpoint of {given!r}", written, text if is_origin else "BAD_ORIGIN")
+    read = source.choice(DAMAGES)(text) if source.random() < 0.5 else text
+    due = read_by_model(read)
+    same(f"reading {read!r}", outcome(wagtenib.read_checkpoint, read), due)
+    same("a TreeHeadSignature", wagtenib.tree_head_signature(wagtenib.TreeHead(size, timestamp, root)), struct.pack(">BBQQ32s", 0, 1, timestamp, size, root))
+    try:
+        read.decode()
+        message = b"cosignature/v1\ntime %d\n%s" % (time, read)
+    except UnicodeDecodeError:
+        message = "NOT_UTF8"
+    same(f"a message over {read!r}", outcome(wagtenib.cosignature_message, time, read), message)
+    key, algorithm = source.randbytes(source.choice([0, 32, 91])), source.randrange(256)
+    same("a key's number", wagtenib.note_key_id(origin, algorithm, key), hashlib.sha256(origin + b"\n" + bytes([algorithm]) + key).digest()[:4])
+    same("a LogID", wagtenib.log_id(key), hashlib.sha256(key).digest())
+    tried.update(name for name in (written, due, message) if isinstance(name, str))
+
+
+def main():
+    parser = argparse.ArgumentParser()
+    parser.add_argument("--calls", type=int, default=2000)
+    parser.add_argument("--seed", type=int, default=1)
+    words = parser.parse_args()
+    if not shutil.which("gcc") or platform.machine() not in _library.PROCESSORS:
+        print("tests/library/texts.py: nothing was compared, for want of gcc for a processor of dist/")
+        return
+    examples()
+    versions()
+    source, tried = random.Random(words.seed), collections.Counter()
+    for _ in range(words.calls):
+        compare(source, tried)
+    if missing := {"BAD_ORIGIN", "NO_CHECKPOINT", "NOT_UTF8"} - set(tried):
+        fail(f"{words.calls} calls were never refused as {sorted(missing)}")
+    print(f"tests/library/texts.py: the formats' examples, and {words.calls} random texts, {sum(tried.values())} refusals among them, are as hashlib and base64 have them")
+
+
+if __name__ == "__main__":
+    main()

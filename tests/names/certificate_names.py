@@ -1,0 +1,144 @@
+"""The names of certificates, and whether one of them is a watched name: a plain and slow model, which shares no code with the library."""
+import ipaddress
+import re
+
+LENGTHS = {0x81: 1, 0x82: 2, 0x83: 3, 0x84: 4}
+COMMON_NAME, ALT_NAMES = bytes([85, 4, 3]), bytes([85, 29, 17])
+WIDTHS = {30: 2, 28: 4}
+# The kinds of names of subjectAltName that are looked for, by their tag (RFC 5280, section 4.2.1.6).
+KINDS = {0x81: "mail", 0x82: "dns", 0x86: "uri", 0x87: "address"}
+
+
+class Unread(Exception):
+    """The first fault that reading meets, and the field of the certificate in which it is."""
+
+
+def element(data, field):
+    """The tag and the content of the DER element that bytes begin with, and what follows (X.690, sections 8.1 and 10.1)."""
+    if not data:
+        raise Unread("truncated", field)
+    if data[0] & 31 == 31:
+        raise Unread("long-tag", field)
+    if len(data) < 2:
+        raise Unread("truncated", field)
+    size, start = data[1], 2
+    if size == 0x80:
+        raise Unread("indefinite-length", field)
+    if size > 0x80:
+        if size not in LENGTHS:
+            raise Unread("long-length", field)
+        start += LENGTHS[size]
+        if len(data) < start:
+            raise Unread("truncated", field)
+        size = int.from_bytes(data[2:start], "big")
+        if size < 128 or size < 1 << 8 * (start - 3):
+            raise Unread("padded-length", field)
+    if len(data) < start + size:
+        raise Unread("truncated", field)
+    return data[0], data[start : start + size], data[start + size :]
+
+
+def expected(tag, data, field):
+    """The content of the element of this tag that bytes begin with, and what follows."""
+    found, content, rest = element(data, field)
+    if found != tag:
+        raise Unread("other-tag", field)
+    return content, rest
+
+
+def only(tag, data, field):
+    """The content of the element of this tag that bytes are."""
+    content, rest = expected(tag, data, field)
+    if rest:
+        raise Unread("trailing", field)
+    return content
+
+
+def past(tag, data, field):
+    """What follows the element of this tag, where bytes begin with one."""
+    return expected(tag, data, field)[1] if data[:1] == bytes([tag]) else data
+
+
+def common_names(subject):
+    """The common names of a subject's content (RFC 5280, section 4.1.2.4), a byte a character, 255 for those above."""
+    while subject:
+        attributes, subject = expected(49, subject, "subject")
+        while attributes:
+            pair, attributes = expected(48, attributes, "subject")
+            identifier, value = expected(6, pair, "subject")
+            tag, text, rest = element(value, "subject")
+            if rest:
+                raise Unread("trailing", "subject")
+            if identifier == COMMON_NAME:
+                if tag > 31:
+                    raise Unread("other-tag", "subject")
+                width = WIDTHS.get(tag, 1)
+                yield bytes(min(int.from_bytes(text[i : i + width], "big"), 255) for i in range(0, len(text) - width + 1, width))
+
+
+def alt_names(extensions):
+    """The names of subjectAltName in the list of extensions, each with its kind."""
+    while extensions:
+        extension, extensions = expected(48, extensions, "extensions")
+        identifier, rest = expected(6, extension, "extensions")
+        value = only(4, past(1, rest, "extensions"), "extensions")
+        names = only(48, value, "alt-names") if identifier == ALT_NAMES else b""
+        while names:
+            tag, text, names = element(names, "alt-names")
+            if tag in (0xA1, 0xA2, 0xA6, 0xA7):
+                raise Unread("other-tag", "alt-names")
+            if tag in KINDS:
+                yield KINDS[tag], text
+
+
+def names_of(data, bare):
+    """The names of subjectAltName, each with its kind, and the common names of a certificate, or of a TBSCertificate alone (RFC 5280, section 4.1)."""
+    if bare:
+        rest = only(48, data, "tbs")
+    else:
+        rest, behind = expected(48, only(48, data, "certificate"), "tbs")
+        only(3, expected(48, behind, "outer-algorithm")[1], "signature")
+    rest = past(0xA0, rest, "version")
+    for tag, field in ((2, "serial"), (48, "algorithm"), (48, "issuer"), (48, "validity")):
+        rest = expected(tag, rest, field)[1]
+    subject, rest = expected(48, rest, "subject")
+    rest = expected(48, rest, "key")[1]
+    rest = past(0x82, past(0x81, rest, "issuer-id"), "subject-id")
+    extensions = only(48, only(0xA3, rest, "extensions"), "extensions") if rest else b""
+    common = list(common_names(subject))
+    return list(alt_names(extensions)), common
+
+
+def holds_for(name, watched):
+    """Whether a certificate's name is told for a watched one, which has no dot at its end (RFC 9525, section 6.3)."""
+    name, below = name.lower().removesuffix(b"."), watched.startswith(b".")
+    watched = watched[below:].lower()
+    if name == watched or below and name.endswith(b"." + watched):
+        return True
+    return name[:2] == b"*." and b"." in watched and name[2:] == watched.partition(b".")[2]
+
+
+def host_of(kind, name):
+    """The host in a name of subjectAltName, where it has one."""
+    if kind == "dns":
+        return name
+    if kind == "mail":
+        return name.rpartition(b"@")[2] if b"@" in name else None
+    authority = re.match(rb"[^:]*://([^/?#]*)", name) if kind == "uri" else None
+    return authority and authority[1].rpartition(b"@")[2].partition(b":")[0]
+
+
+def address_text(name):
+    """An address's text (RFC 5952), where it has four octets or sixteen."""
+    if len(name) == 16 and name[:12] == bytes(10) + b"\xff\xff":
+        return "::ffff:" + str(ipaddress.IPv4Address(name[12:]))
+    return str(ipaddress.ip_address(name)) if len(name) in (4, 16) else None
+
+
+def is_told(kind, name, watched):
+    """Whether a name of subjectAltName is told for a watched one, which has no dot at its end."""
+    if kind == "address":
+        text = address_text(name)
+        return text is not None and text.encode() == watched
+    host = host_of(kind, name)
+    return host is not None and holds_for(host, watched)
