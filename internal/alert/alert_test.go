@@ -2,6 +2,7 @@ package alert_test
 
 import (
 	"bytes"
+	"cmp"
 	"context"
 	"encoding/json"
 	"errors"
@@ -204,14 +205,19 @@ func TestCommandThatFails(t *testing.T) {
 		!strings.Contains(err.Error(), "no disk") {
 		t.Errorf("%d sent, %d tried: %v", sent, tried, err)
 	}
-	path = program(t, t.TempDir(), "tell", `[ "$CTWATCH_ISSUER" != no ]`)
-	output, err = alert.NewCommand([]string{path})
+	// Those after the tenth run until Send has taken the tenth's status.
+	folder := t.TempDir()
+	path = program(t, folder, "tell", `case "$CTWATCH_ISSUER" in
+no) echo $$ > "$1/failing"; exit 1;;
+after) until [ -s "$1/failing" ] && read -r failing < "$1/failing" && ! kill -0 "$failing" 2> "$1/gone"; do sleep 0.01; done;;
+esac`)
+	output, err = alert.NewCommand([]string{path, folder})
 	must(t, err)
 	var some []alert.Alert
 	for i := range 20 {
-		some = append(some, certificateOf(map[bool]string{true: "no", false: "yes"}[i == 9]))
+		some = append(some, certificateOf(map[int]string{-1: "before", 0: "no", 1: "after"}[cmp.Compare(i, 9)]))
 	}
-	if sent, tried, err = output.Send(context.Background(), some); sent != 9 || tried < 10 || tried > 14 || err == nil {
+	if sent, tried, err = output.Send(context.Background(), some); sent != 9 || tried < 10 || tried == 20 || err == nil {
 		t.Errorf("the tenth of 20 fails: %d sent, %d tried: %v", sent, tried, err)
 	}
 	if _, err := alert.NewCommand([]string{"/does/not/exist"}); err == nil || !strings.Contains(err.Error(),
