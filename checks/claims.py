@@ -21,8 +21,7 @@ class Claim(typing.NamedTuple):
     contracts: list
 
 
-COLLISION = "No premise says that SHA-256 has no collisions. Instead, the law ends in two different strings with one digest."
-NAMED = "No premise says that SHA-256 has no collisions. Instead, the law ends in two different strings with one digest, which were hashed when the proofs were checked or in the trees of the lists."
+COLLISION = "No premise says that SHA-256 has no collisions. Instead, the law ends in two different strings with one digest, which were hashed when the proofs were checked or in the trees of the lists."
 HASHES = "The law holds for every hash function with digests of 32 bytes, and so for SHA-256."
 
 CLAIMS = [
@@ -52,22 +51,25 @@ CLAIMS = [
         "nodes",
         "One list, however many nodes write it",
         "Any number of nodes run one log over one lock and one object store. Start, kill and interleave them in any way, and let any of their commands be lost, repeated or late."
-        " Then there is one list of entries: the lock's state, each stored tile, each receipt and each head are those of this list, or two different strings with one digest are given.",
+        " Take the entries that were known, and after them those that each step added whose state the lock took. The lock's state, each stored tile, each receipt and each head are"
+        " those of this list. Otherwise two of the strings that were hashed have one digest.",
         [
             "The lock replaces a state only if it holds the expected one, and a reading is a state that it held (`MayHappen`).",
             "A command takes effect only if a node gave it, and a node learns that it took effect only if it did (`MayHappen`).",
             "An object that was stored can be read until it is deleted. A command to delete deletes only the object that it names (`MayHappen`).",
             "Each step is the reply of `wagtenib_step`, and the objects stored for a state are those that `wagtenib_step_resume` replies for its line (`AreStepsMade`).",
+            "S has each string that was hashed for these replies: the tiles that were handed in, the staged batches, and the bytes that were read (`IsMadeOfLine`, `IsResumed`).",
             "The first state is that of known entries (`IsFirstState`, `IsLog`).",
             "For the heads: a guard allowed each head, one after the other, and a node asked for the newest one (`AreHeadSteps`, `NewestIsAsked`).",
             "For identities: each step was preceded by a look into the index, and the index missed nothing that was added before.",
             "Nothing is rolled back. The world of the law has no event that does it, so a restored lock is outside of the law.",
-            COLLISION,
+            "No premise says that SHA-256 has no collisions. Instead, the law ends in two different strings with one digest. Each of them is in S, or is hashed for a line of the log"
+            " while it grows: over its partial tiles, or its partial data tile (`IsHashedBySteps`).",
         ],
         [
-            Contract("ct_node_log/src/laws.rt", "nodes", [], "There is one list of entries, and the lock, the tiles and the receipts are those of it."),
+            Contract("ct_node_log/src/laws.rt", "nodes", [], "The list of the known entries and of those that the steps added: the lock, the tiles and the receipts are those of it."),
             Contract("ct_node_log/src/laws.rt", "heads", [], "The heads that guards allowed are those of beginnings of that list."),
-            Contract("ct_node_log/src/laws.rt", "kept", [], "After garbage collection, every tile that a head needs can still be read, under its own name or as the beginning of a wider tile."),
+            Contract("ct_node_log/src/laws.rt", "kept", [], "After garbage collection, every tile that a head needs can still be read, under its own name or as the beginning of the full tile."),
             Contract("ct_node_log/src/laws.rt", "no_identity_twice", [], "No identity is in the list twice after the known entries."),
             Contract("libwagtenib/src/node_laws.rt", "nodes_by_calls_write_one_log", [], "The same for any sequence of calls of the library's functions, from any number of processes."),
         ],
@@ -82,7 +84,7 @@ CLAIMS = [
             "The key signs nothing else. (The receipt of a leaf and the signature of a head are never the same bytes: `receipts_are_no_heads`.)",
             "The register is not rolled back.",
             "For the first law, the newest head is that of some list of leaves. For the second, each head is that of some list.",
-            HASHES + " " + NAMED,
+            HASHES + " " + COLLISION,
         ],
         [
             Contract("libwagtenib/src/guard.rt", "wagtenib_guard_head", [], "What one call decides: the head may follow the last one, or the first reason why it may not."),
@@ -105,7 +107,7 @@ CLAIMS = [
             "The register is not rolled back.",
             "For the first two laws, the newest (or larger) tree is that of some list of leaves. The law of what clients are shown does not ask for a list.",
             "For quorums: at most f of the n witnesses are faulty, j of them cosigned the one tree and k the other, and n + f < j + k.",
-            HASHES + " " + NAMED,
+            HASHES + " " + COLLISION,
         ],
         [
             Contract("libwagtenib/src/witness.rt", "wagtenib_witness_cosign", [], "What one call decides: the checkpoint may be cosigned after the last one, or the first reason why it may not."),
@@ -124,7 +126,7 @@ CLAIMS = [
         [
             "None for the verdicts.",
             "For `explain`, the leaves that are given are those of the head.",
-            HASHES + " " + NAMED,
+            HASHES + " " + COLLISION,
         ],
         [
             Contract("ct_tree/src/laws.rt", "mth_of_leaves", [], "MTH is defined by the equations of RFC 6962, section 2.1."),

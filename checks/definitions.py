@@ -1,17 +1,32 @@
 #!/usr/bin/env python3
-"""Each definition of specs/ says in words what it is, no word is defined in two crates, and docs/CHECKING.md is as checking.py makes it.
+"""Each definition of specs/ says in words what it is, no word is defined in two crates, each collision is one of strings that are named, and the pages
+that checking.py makes are up to date.
 
     definitions.py [--write]
 
-It reads the specs/ of each crate that isn't for tests alone, and prints each file that doesn't begin with a comment that says what it is about, each
-definition without a comment, each word that two crates define, and where docs/CHECKING.md is another page than is made; it ends with status 1 where
-there is one. With --write it writes that page.
+It reads the specs/ of each crate that is not for tests alone, and the contracts of its sources. It prints
+
+- each file that does not begin with a comment that says what it is about,
+- each definition without a comment,
+- each word that two crates define,
+- each definition or contract that says only that some two strings collide: for SHA-256 that is true by counting, so a law must say which two strings they
+  are (`Collides`), or among which strings they are (`CollideAmong`),
+- and each page that differs from the one that is made.
+
+If it prints anything, it ends with status 1. With --write it writes the pages.
 """
+import re
 import sys
 
 import checking
-from source import crates, is_for_tests
-from specs import specs
+from source import CRATES, crates, is_for_tests
+from specs import START, body_below, specs
+
+# Two strings of which a definition says that they exist, and two of which it says that they have one digest.
+EXIST = re.compile(r"\(([\w ]+) : List ℕ\) ×")
+ONE_DIGEST = re.compile(r"\bCollides \S+ (\w+) (\w+)|\b(?:H|sha256) (\w+) ≡ (?:H|sha256) (\w+)")
+# The one definition that may say it: it goes on to say that S has both strings.
+AMONG = "CollideAmong"
 
 
 def wordless(files):
@@ -35,9 +50,37 @@ def defined_twice(files):
             yield f"{word} is defined in {' and '.join(owners)}"
 
 
+def some_collide(text):
+    """Whether a definition or contract says that two strings exist which have one digest, and does not say which they are."""
+    found = {name for names in EXIST.findall(text) for name in names.split()}
+    pairs = [{name for name in pair if name} for pair in ONE_DIGEST.findall(text)]
+    return any(pair <= found for pair in pairs)
+
+
+def statements(crate):
+    """Each definition of a crate's specs/ and each contract of its sources: where it is, its name, and its text."""
+    for path in sorted((CRATES / crate / "specs").glob("*.antt")):
+        lines = path.read_text().splitlines()
+        for at, line in enumerate(lines):
+            start = START.match(line)
+            if start:
+                yield path, start.group(2), "\n".join(body_below(lines, at))
+    for path in sorted((CRATES / crate / "src").rglob("*.rt")):
+        for clause in path.read_text().split("ensures ")[1:]:
+            yield path, "a contract", clause.split("ghost use ")[0]
+
+
+def unnamed_collisions(of_crates):
+    """Each statement that says only that some two strings collide."""
+    for crate in of_crates:
+        for path, name, text in statements(crate):
+            if name != AMONG and some_collide(text):
+                yield f"{name} ({path.relative_to(CRATES.parent)}) says that some two strings collide, and not which (write Collides or {AMONG})"
+
+
 def main():
     files = {crate: specs(crate) for crate in crates() if not is_for_tests(crate)}
-    found = [*wordless(files), *defined_twice(files), *checking.check(sys.argv[1:] == ["--write"])]
+    found = [*wordless(files), *defined_twice(files), *unnamed_collisions(files), *checking.check(sys.argv[1:] == ["--write"])]
     for fault in found:
         print(fault)
     sys.exit(1 if found else 0)

@@ -1,7 +1,8 @@
 #!/usr/bin/env python3
 """Tries what scripts do around proofs, over a made-up repository and an `rt` that is a script: gate.py and build.py where they are ended, and gate.py
 without git; wrong_bodies.py behind a gate that was killed, and where it is ended; architecture.py where a crate stands over one of a later room;
-prove.py where a crate is changed during its proof; which crates build.py begins with; documents.py beside sockets and the folder of a log.
+prove.py where a crate is changed during its proof; which crates build.py begins with; documents.py beside sockets and the folder of a log; definitions.py
+over statements of collisions.
 
 It prints nothing where all is as it has to be; else it says what isn't, and ends with status 1.
 """
@@ -21,6 +22,7 @@ ROOT = pathlib.Path(__file__).resolve().parent.parent
 sys.path.insert(1, str(ROOT / "checks"))
 
 import architecture  # noqa: E402
+import definitions  # noqa: E402
 import documents  # noqa: E402
 import gate  # noqa: E402
 import wrong_bodies  # noqa: E402
@@ -296,7 +298,21 @@ def try_sockets(folder):
     hold("a copy does without", found, ["ct-log", "socket"])
 
 
+def try_collisions():
+    """A statement that some two strings collide is found, and none that says which they are, or among which they are."""
+    for text, found in (
+        ("SomeCollide H = (a b : List ℕ) × Collides H a b", True),
+        ("Law = A ⊎ ((x : List ℕ) × (y : List ℕ) × (¬ (x ≡ y)) × (H x ≡ H y))", True),
+        ("Law = (c a b : List ℕ) × (H a ≡ c) × Collides sha256 b a", True),
+        ("Law = (a : List ℕ) × Collides H a s.bundle.items", False),
+        ("Law = (H : List ℕ → List ℕ) (a b : List ℕ) → H a ≡ H b → a ≢ b → Collides H a b", False),
+        ("Law = (D E : List ℕ) × (D ≡ E) ⊎ CollideAmong H (λ s. IsHashedIn H D s)", False),
+    ):
+        hold(f"that some two strings collide is found in {text}", definitions.some_collide(text), found)
+
+
 def main():
+    try_collisions()
     for case in (try_gate, try_counted, try_programs, try_left, try_rooms, try_ended, try_prove, try_build, try_order):
         with tempfile.TemporaryDirectory() as folder:
             case(Repository(pathlib.Path(folder)))

@@ -4,23 +4,24 @@ use Rattle.ct_tree.specs.Tree.{hash_leaf, mth_of_leaves}
 use Rattle.ct_tree.specs.declared.head.Head.{Head}
 use Rattle.ct_verify.specs.Verdict.{AcceptsInclusion, RefusesInclusion}
 use Rattle.ct_verify.specs.Evidence.{IsAudited}
-use Rattle.ct_verify.specs.Laws.{SomeCollide}
+use Rattle.ct_older_tree.proofs.ListProofs.{accepted_path_is_path}
+use Rattle.ct_older_tree.specs.Hashed.{CollideAmong}
+use Rattle.ct_older_tree.specs.ListLaws.{IsHashedInAudit}
 use Rattle.ct_verify.specs.declared.fault.ProofFault.{ProofFault}
 use Rattle.ct_verify.proofs.Equations.{path_not_refused}
 use Rattle.ct_verify.proofs.Explaining.{path_holds}
-use Rattle.ct_verify.proofs.Telling.{path_tells}
 use Rattle.ct_growth.specs.Believed.{IsHeadOver}
 
 module _ (H : List ℕ → List ℕ) (long : (x : List ℕ) → length (H x) ≡ 32) where
-  -- what is accepted at the head of a list is the list's, or two strings collide
+  -- what is accepted at the head of a list is the list's, or two of the strings that are hashed collide
   pub stands_there : (head : Head) (D : List (List ℕ)) (leaf signed : List ℕ) (i : ℕ) (path : List (List ℕ)) → IsHeadOver H D head
       → AcceptsInclusion H (hash_leaf H leaf) i head.tree_size path head.root → signed ≡ leaf
-      → ((i < length D) × (signed ≡ get_or D i [])) ⊎ SomeCollide H
+      → ((i < length D) × (signed ≡ get_or D i [])) ⊎ CollideAmong H (IsHashedInAudit H D leaf i path)
   stands_there head D leaf signed i path over accepted same =
       ⊎_elim
       (λ (told : IsAudited H D leaf i path). inl (told.0, same ∙ told.1))
-      (λ (found : SomeCollide H). inr found)
-      (path_tells H long D leaf i path
+      (λ (found : CollideAmong H (IsHashedInAudit H D leaf i path)). inr found)
+      (accepted_path_is_path H long D leaf i path
       (subst (λ (root : List ℕ). AcceptsInclusion H (hash_leaf H leaf) i (length D) path root) over.1
       (subst (λ (n : ℕ). AcceptsInclusion H (hash_leaf H leaf) i n path head.root) over.0 accepted)))
 

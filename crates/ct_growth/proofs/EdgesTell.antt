@@ -1,4 +1,4 @@
--- Partial tiles that are believed for the head of a list are its right edge, or two different strings have one hash.
+-- Partial tiles that are believed for the head of a list are its right edge, or two of the strings that are hashed collide. S says of which strings that is.
 use Rattle.std.proofs.Common.{◌≡◌, ◌⊎◌, ◌∙◌, ℕ, zero, suc, ◌*◌, ◌/◌, ◌%◌, ◌^◌, ◌<◌, ◌≤◌, List, [], ◌∷◌, ◌++◌, length, take, drop, map, All, sym, refl, ap, subst, arith, inl, inr, ⊎_elim, length-drop, length-append}
 use Rattle.std.proofs.lemmas.List.{map_push, length-map}
 use Rattle.std.proofs.lemmas.List.Elements.{All-nil, All-cons, All-head, All-tail, All-push, All-append, All-take, All-drop}
@@ -7,9 +7,12 @@ use Rattle.ct_tiles.specs.Tiles.{chunk_roots, behind, hashes, edge, lone_root}
 use Rattle.ct_tiles.proofs.EdgeRoot.{root_step, length-lone_root, root_at_top, starts_alone}
 use Rattle.ct_tiles.proofs.Words.{level_has_length}
 use Rattle.ct_verify.proofs.Shown.{parts}
-use Rattle.ct_verify.specs.Laws.{AreHashes, SomeCollide}
-use Rattle.ct_growth.specs.Believed.{tile_widths, carried_over, edge_root, BelievedEdgesTell, EdgesAreBelieved}
-use Rattle.ct_growth.proofs.Roots.{has_32, root_32, roots_tell, length-lone, lone_32, lone_tells}
+use Rattle.ct_verify.specs.Laws.{AreHashes}
+use Rattle.ct_older_tree.specs.Hashed.{CollideAmong}
+use Rattle.ct_growth.specs.EdgeStrings.{IsHashedOverTiles, IsHashedInEdge}
+use Rattle.ct_growth.specs.EdgeStrings.IsHashedOverTiles.{top, here, higher}
+use Rattle.ct_growth.specs.Believed.{tile_widths, carried_over, edge_root, BelievedEdgesTell, EdgesAreBelieved, IsHashedInEdgeOf}
+use Rattle.ct_growth.proofs.Roots.{has_32, root_32, roots_tell, length-lone, lone_32, lone_tells, HasAbove}
 
 -- ---- the right edge of a list
 pub carried-push : (H : List ℕ → List ℕ) (tiles : List (List (List ℕ))) (tile c : List (List ℕ))
@@ -109,45 +112,59 @@ module _ (H : List ℕ → List ℕ) (long : (x : List ℕ) → length (H x) ≡
       carried_32 S (lone_root H (s ++ c)) (All-tail AreHashes s S a)
       (lone_32 H long (s ++ c) (All-append has_32 s c (All-head AreHashes s S a) b))
 
-  carried_tells : (S T : List (List (List ℕ))) (c d : List (List ℕ)) → map length S ≡ map length T → length c ≡ length d
-      → All AreHashes S → All AreHashes T → AreHashes c → AreHashes d → carried_over H S c ≡ carried_over H T d
-      → ((S ≡ T) × (c ≡ d)) ⊎ SomeCollide H
-  unfolding carried_over
-  carried_tells [] [] c d shape l p q a b e = inl (refl, e)
-  carried_tells [] (t ∷ T) c d shape l p q a b e = absurd (omega (arith, ap length shape))
-  carried_tells (s ∷ S) [] c d shape l p q a b e = absurd (omega (arith, ap length shape))
-  carried_tells (s ∷ S) (t ∷ T) c d shape l p q a b e =
-      let w = same_shape s t S T shape in
-      let both = length-both s t c d w.0 l in
-      let u = All-append has_32 s c (All-head AreHashes s S p) a in
-      let v = All-append has_32 t d (All-head AreHashes t T q) b in
-      ⊎_elim
-      (λ (above : (S ≡ T) × (lone_root H (s ++ c) ≡ lone_root H (t ++ d))).
-      ⊎_elim
-      (λ (here : s ++ c ≡ t ++ d).
-      let z = parts s t c d w.0 here in
-      inl (ap (λ (x : List (List ℕ)). x ∷ S) z.0 ∙ ap (λ (x : List (List (List ℕ))). t ∷ x) above.0, z.1))
-      (λ (found : SomeCollide H). inr found)
-      (lone_tells H long (s ++ c) (t ++ d) both u v above.1))
-      (λ (found : SomeCollide H). inr found)
-      (carried_tells S T (lone_root H (s ++ c)) (lone_root H (t ++ d)) w.1 (length-lone H long (s ++ c) (t ++ d) both)
-      (All-tail AreHashes s S p) (All-tail AreHashes t T q) (lone_32 H long (s ++ c) u) (lone_32 H long (t ++ d) v) e)
+  module _ (S : List ℕ → Type 0) where
+    -- S has the strings that are hashed over tiles
+    abbrev HasOver : List (List (List ℕ)) → List (List ℕ) → Type 0
+    HasOver T c = (s : List ℕ) → IsHashedOverTiles H T c s → S s
 
-  tiles_tell : (S T : List (List (List ℕ))) → map length S ≡ map length T → All AreHashes S → All AreHashes T → edge_root H S ≡ edge_root H T
-      → (S ≡ T) ⊎ SomeCollide H
-  tiles_tell S T shape p q e =
-      let none = All-nil has_32 in
-      ⊎_elim
-      (λ (same : carried_over H S [] ≡ carried_over H T []).
-      ⊎_elim
-      (λ (all : (S ≡ T) × ([] ≡ [])). inl all.0)
-      (λ (found : SomeCollide H). inr found)
-      (carried_tells S T [] [] shape refl p q none none same))
-      (λ (found : SomeCollide H). inr found)
-      (roots_tell H long (carried_over H S []) (carried_over H T []) (length-carried S T [] [] shape refl) (carried_32 S [] p none) (carried_32 T [] q none) e)
+    carried_tells : (R T : List (List (List ℕ))) (c d : List (List ℕ)) → map length R ≡ map length T → length c ≡ length d
+        → All AreHashes R → All AreHashes T → AreHashes c → AreHashes d → HasOver R c → HasOver T d → carried_over H R c ≡ carried_over H T d
+        → ((R ≡ T) × (c ≡ d)) ⊎ CollideAmong H S
+    unfolding carried_over
+    carried_tells [] [] c d shape l p q a b f g e = inl (refl, e)
+    carried_tells [] (t ∷ T) c d shape l p q a b f g e = absurd (omega (arith, ap length shape))
+    carried_tells (r ∷ R) [] c d shape l p q a b f g e = absurd (omega (arith, ap length shape))
+    carried_tells (r ∷ R) (t ∷ T) c d shape l p q a b f g e =
+        let w = same_shape r t R T shape in
+        let both = length-both r t c d w.0 l in
+        let u = All-append has_32 r c (All-head AreHashes r R p) a in
+        let v = All-append has_32 t d (All-head AreHashes t T q) b in
+        ⊎_elim
+        (λ (above : (R ≡ T) × (lone_root H (r ++ c) ≡ lone_root H (t ++ d))).
+        ⊎_elim
+        (λ (same : r ++ c ≡ t ++ d).
+        let z = parts r t c d w.0 same in
+        inl (ap (λ (x : List (List ℕ)). x ∷ R) z.0 ∙ ap (λ (x : List (List (List ℕ))). t ∷ x) above.0, z.1))
+        (λ (found : CollideAmong H S). inr found)
+        (lone_tells H long S (r ++ c) (t ++ d) both u v (λ s h. f s (here r R c s h)) (λ s h. g s (here t T d s h)) above.1))
+        (λ (found : CollideAmong H S). inr found)
+        (carried_tells R T (lone_root H (r ++ c)) (lone_root H (t ++ d)) w.1 (length-lone H long (r ++ c) (t ++ d) both)
+        (All-tail AreHashes r R p) (All-tail AreHashes t T q) (lone_32 H long (r ++ c) u) (lone_32 H long (t ++ d) v)
+        (λ s h. f s (higher r R c s h)) (λ s h. g s (higher t T d s h)) e)
+
+    -- the strings above what the tiles carry on
+    over_top : (T : List (List (List ℕ))) (c : List (List ℕ)) → HasOver T c → HasAbove H long S (carried_over H T c)
+    unfolding carried_over
+    over_top [] c f = λ s h. f s (top c s h)
+    over_top (t ∷ T) c f = over_top T (lone_root H (t ++ c)) (λ s h. f s (higher t T c s h))
+
+    tiles_tell : (R T : List (List (List ℕ))) → map length R ≡ map length T → All AreHashes R → All AreHashes T → HasOver R [] → HasOver T []
+        → edge_root H R ≡ edge_root H T → (R ≡ T) ⊎ CollideAmong H S
+    tiles_tell R T shape p q f g e =
+        let none = All-nil has_32 in
+        ⊎_elim
+        (λ (same : carried_over H R [] ≡ carried_over H T []).
+        ⊎_elim
+        (λ (all : (R ≡ T) × ([] ≡ [])). inl all.0)
+        (λ (found : CollideAmong H S). inr found)
+        (carried_tells R T [] [] shape refl p q none none f g same))
+        (λ (found : CollideAmong H S). inr found)
+        (roots_tell H long S (carried_over H R []) (carried_over H T []) (length-carried R T [] [] shape refl) (carried_32 R [] p none) (carried_32 T [] q none)
+        (over_top R [] f) (over_top T [] g) e)
 
 pub believed_edges_tell : BelievedEdgesTell
 believed_edges_tell H long head D tiles over believed =
+    let S : List ℕ → Type 0 = λ s. IsHashedInEdge H tiles s ⊎ IsHashedInEdgeOf H D s in
     let leaves = map (hash_leaf H) D in
     let n : length leaves ≡ length D = length-map D (hash_leaf H) in
     let few : length leaves < 2 ^ 64 = omega (arith, n, over.2) in
@@ -156,9 +173,9 @@ believed_edges_tell H long head D tiles over believed =
     believed.widths ∙ ap (tile_widths 8) size ∙ sym (edge_widths H 8 leaves) in
     ⊎_elim
     (λ (same : tiles ≡ edge H 256 8 leaves). inl (record { size = size; tiles = same }))
-    (λ (found : SomeCollide H). inr found)
-    (tiles_tell H long tiles (edge H 256 8 leaves) shape believed.hashes (edge_32 H long 8 leaves (leaves_32 H long D))
-    (believed.root ∙ over.1 ∙ sym (true_root H leaves few)))
+    (λ (found : CollideAmong H S). inr found)
+    (tiles_tell H long S tiles (edge H 256 8 leaves) shape believed.hashes (edge_32 H long 8 leaves (leaves_32 H long D))
+    (λ s h. inl h) (λ s h. inr h) (believed.root ∙ over.1 ∙ sym (true_root H leaves few)))
 
 pub edges_are_believed : EdgesAreBelieved
 edges_are_believed H long head D tiles over is =

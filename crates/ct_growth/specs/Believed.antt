@@ -4,8 +4,10 @@ use Rattle.std.specs.Prelude.{◌≡◌, ◌⊎◌, ℕ, zero, suc, ◌/◌, ◌
 use Rattle.ct_tree.specs.Tree.{hash_leaf, mth, mth_of_leaves}
 use Rattle.ct_tree.specs.declared.head.Head.{Head}
 use Rattle.ct_tiles.specs.Edge.{IsEdge}
-use Rattle.ct_tiles.specs.Tiles.{lone_root}
-use Rattle.ct_verify.specs.Laws.{AreHashes, SomeCollide}
+use Rattle.ct_tiles.specs.Tiles.{edge, lone_root}
+use Rattle.ct_verify.specs.Laws.{AreHashes}
+use Rattle.ct_older_tree.specs.Hashed.{CollideAmong}
+use Rattle.ct_growth.specs.EdgeStrings.{IsHashedInEdge}
 use Rattle.ct_growth.specs.declared.believed.EdgeFault.{EdgeFault}
 use Rattle.ct_growth.specs.declared.believed.EdgeFault.TheVariants.{OtherWidths, OtherRoot, Memory}
 use Rattle.ct_growth.specs.declared.growth.State.{State}
@@ -53,11 +55,17 @@ StopsBelief H head tiles Memory = HaveWidths head.tree_size tiles
 abbrev pub IsHeadOver : (List ℕ → List ℕ) → List (List ℕ) → Head → Type 0
 IsHeadOver H D head = (head.tree_size ≡ length D) × (head.root ≡ mth_of_leaves H D) × (length D < 2 ^ 64)
 
--- partial tiles that are believed for the head of a list are the right edge of that list, or two different strings with one hash are given
+-- the strings that are hashed when the root is computed from the right edge of the tree of the leaves D
+abbrev pub IsHashedInEdgeOf : (List ℕ → List ℕ) → List (List ℕ) → List ℕ → Type 0
+IsHashedInEdgeOf H D s = IsHashedInEdge H (edge H 256 8 (map (hash_leaf H) D)) s
+
+-- Partial tiles that are believed for the head of a list are the right edge of that list; or two of the strings collide that are hashed when the root is
+-- computed from these tiles, and from the list's right edge.
 abbrev pub BelievedEdgesTell : Type 0
 BelievedEdgesTell =
     (H : List ℕ → List ℕ) → ((x : List ℕ) → length (H x) ≡ 32) → (head : Head) (D : List (List ℕ)) (tiles : List (List (List ℕ)))
-    → IsHeadOver H D head → AreBelieved H head tiles → IsEdge H (head.tree_size, tiles) (map (hash_leaf H) D) ⊎ SomeCollide H
+    → IsHeadOver H D head → AreBelieved H head tiles → IsEdge H (head.tree_size, tiles) (map (hash_leaf H) D)
+    ⊎ CollideAmong H (λ s. IsHashedInEdge H tiles s ⊎ IsHashedInEdgeOf H D s)
 
 -- the right edge of a list is believed for the list's head
 abbrev pub EdgesAreBelieved : Type 0

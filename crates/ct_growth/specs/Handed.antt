@@ -1,9 +1,12 @@
 -- Many sequencers over one register that holds the log's head, each of them handed the right edge by whoever keeps it. H is any hash
 -- function on byte lists with hashes of 32 bytes.
-use Rattle.std.specs.Prelude.{◌≡◌, ◌⊎◌, ⊤, true, false, ℕ, List, [], ◌∷◌, length, map, take}
+use Rattle.std.specs.Prelude.{◌≡◌, ◌⊎◌, ⊤, true, false, ℕ, ◌≤◌, if◌then◌else◌, List, [], ◌∷◌, ◌++◌, length, map, take}
+use Rattle.ct_codec.specs.Submitted.{entry_of}
 use Rattle.ct_tree.specs.declared.head.Head.{Head}
-use Rattle.ct_verify.specs.Laws.{SomeCollide}
-use Rattle.ct_growth.specs.Believed.{BelievesState, IsHeadOver}
+use Rattle.ct_older_tree.specs.Hashed.{CollideAmong}
+use Rattle.ct_growth.specs.Believed.{BelievesState, IsHeadOver, IsHashedInEdgeOf}
+use Rattle.ct_growth.specs.EdgeStrings.{IsHashedInEdge}
+use Rattle.ct_growth.specs.Leaves.{indexed_leaves}
 use Rattle.ct_growth.specs.History.{Attempt, IsMade, taken, CarryOn}
 
 -- An attempt that was handed its right edge: the head that was read (head), the partial tiles that were handed in (tiles), and the attempt
@@ -30,10 +33,26 @@ AreHandedAttempts H held (b ∷ rest) =
 abbrev pub attempts_of : List HandedAttempt → List Attempt
 attempts_of attempts = map (λ b. b.attempt) attempts
 
--- There is one list of leaves, which begins with those that were known, that all the steps carry on whose heads the register took; or two
--- different strings with one hash are given.
+-- the leaves after these attempts: those that were known, and after them those of each attempt whose head the register took
+unfoldable pub leaves_after : List (List ℕ) → List HandedAttempt → List (List ℕ)
+leaves_after known [] = known
+leaves_after known (b ∷ rest) =
+    leaves_after (if b.attempt.took then known ++ indexed_leaves b.attempt.now (length known) (map entry_of b.attempt.batch) else known) rest
+
+-- the strings that are hashed when roots are computed from the tiles that were handed in
+unfoldable pub IsHashedInTiles : (List ℕ → List ℕ) → List HandedAttempt → List ℕ → Type 0
+IsHashedInTiles H [] s = ⊥
+IsHashedInTiles H (b ∷ rest) s = IsHashedInEdge H b.tiles s ⊎ IsHashedInTiles H rest s
+
+-- the strings that are hashed when roots are computed from the right edges of the beginnings of a list of leaves
+abbrev pub IsHashedInEdgesOf : (List ℕ → List ℕ) → List (List ℕ) → List ℕ → Type 0
+IsHashedInEdgesOf H D s = (n : ℕ) × (n ≤ length D) × IsHashedInEdgeOf H (take n D) s
+
+-- Let D be the leaves that were known, and after them those of each attempt whose head the register took. All steps of these attempts carry on D; or two
+-- strings collide that are hashed when roots are computed from the tiles that were handed in, or from the right edges of the beginnings of D.
 abbrev pub HandedSequencersAgree : Type 0
 HandedSequencersAgree =
     (H : List ℕ → List ℕ) → ((x : List ℕ) → length (H x) ≡ 32) → (held : Head) (known : List (List ℕ)) (attempts : List HandedAttempt)
-    → IsHeadOver H known held → AreHandedAttempts H held attempts
-    → ((D : List (List ℕ)) × (known ≡ take (length known) D) × CarryOn H held.timestamp D (taken (attempts_of attempts))) ⊎ SomeCollide H
+    → IsHeadOver H known held → AreHandedAttempts H held attempts → (D : List (List ℕ)) → D ≡ leaves_after known attempts
+    → ((known ≡ take (length known) D) × CarryOn H held.timestamp D (taken (attempts_of attempts)))
+    ⊎ CollideAmong H (λ s. IsHashedInTiles H attempts s ⊎ IsHashedInEdgesOf H D s)

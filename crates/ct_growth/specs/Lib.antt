@@ -1,6 +1,7 @@
 pub mod Leaves
 pub mod Growths
 pub mod History
+pub mod EdgeStrings
 pub mod Believed
 pub mod Handed
 pub mod Identities

@@ -96,7 +96,7 @@ fn root_of_tiles<H: NodeHash>(
 impl State {
     /// The state of which this is the head, with the partial tiles, level 0 first, that whoever keeps them handed in: they are
     /// believed where their widths are those of the head's size, and the head's root comes of them. So they are the right edge of
-    /// the head's tree, or two different strings with one digest are given ([`crate::laws::edges`]).
+    /// the head's tree, or two of the strings that are hashed collide ([`crate::laws::edges`]).
     ///
     /// Hashes at most 8 times 256 nodes, and takes memory for one level at a time.
     ///

@@ -4,7 +4,8 @@ ghost use Rattle.std.specs.Prelude.{◌≡◌, ◌⊎◌, ◌<◌, ◌^◌, ℕ,
 ghost use Rattle.ct_codec.specs.Submitted.{entry_of};
 ghost use Rattle.ct_codec.specs.declared.refusal.Refusal.TheVariants as Refusal;
 ghost use Rattle.ct_verify.specs.Evidence.{IsAudited};
-ghost use Rattle.ct_verify.specs.Laws.{SomeCollide};
+ghost use Rattle.ct_older_tree.specs.Hashed.{CollideAmong};
+ghost use Rattle.ct_older_tree.specs.ListLaws.{IsHashedInAudit};
 ghost use Rattle.ct_growth.specs.Believed.{IsHeadOver};
 ghost use Rattle.ct_growth.specs.Claims.{claimed_leaf, IsAnsweredAt, StopsClaim};
 ghost use Rattle.ct_growth.specs.declared.claim.ClaimFault.TheVariants.{ProofRefused, Refused};
@@ -61,8 +62,8 @@ impl From<Refusal> for ClaimFault {
 /// the leaf up, leads from that entry's leaf at the claimed index to the head's root (RFC 9162, section 2.1.3.2). The leaf is that of
 /// the submission at the claimed moment, and its one extension names the claimed index (C2SP static-ct-api).
 ///
-/// So where the head is that of a list of leaves, the bytes to be signed are the leaf at that index, or two different strings with one
-/// digest are given. A claim that is true is answered by that leaf's audit path.
+/// So if the head is that of a list of leaves, the bytes to be signed are the leaf at that index; or two strings collide that are hashed
+/// when the path is checked, or in the tree of the list. A claim that is true is answered by that leaf's audit path.
 ///
 /// Takes memory for the bytes to be signed, and hashes them and at most two nodes for each element of the path.
 ///
@@ -80,7 +81,7 @@ pub fn answer_repeat<H: NodeHash>(
     ensures answered { MatchResult result (IsAnsweredAt H.digest head.now (entry_of submission.now) claim path.now)
         (StopsClaim H.digest head.now (entry_of submission.now) claim path.now) }
     ensures no_lie { IfOk result (λ r. (D : List (List ℕ)) → IsHeadOver H.digest D head.now
-        → ((r.leaf_index < length D) × (r.signed.items ≡ get_or D r.leaf_index [])) ⊎ SomeCollide H.digest) }
+        → ((r.leaf_index < length D) × (r.signed.items ≡ get_or D r.leaf_index [])) ⊎ CollideAmong H.digest (IsHashedInAudit H.digest D r.signed.items claim.leaf_index path.now)) }
     ensures no_truth_refused { IfErr result (λ fault. (D : List (List ℕ)) → IsHeadOver H.digest D head.now → claim.leaf_index < 2 ^ 40
         → IsAudited H.digest D (claimed_leaf (entry_of submission.now) claim) claim.leaf_index path.now → fault ≡ Refused Refusal.Memory) }
 {

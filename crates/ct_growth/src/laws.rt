@@ -14,9 +14,10 @@ pub fn sequencers()
     ensures { SequencersAgree }
 {}
 
-/// The same where the register holds heads alone, and each sequencer was handed the right edge by whoever keeps it, and believed it
-/// ([`crate::State::believed`]): all that was written and promised is of one list of leaves, or two different strings with one
-/// digest are given.
+/// The same if the register holds heads alone, and each sequencer was handed the right edge by whoever keeps it, and believed it
+/// ([`crate::State::believed`]). The list is the leaves that were known, and after them those of each step whose head the register took.
+/// All that was written and promised by these steps is of this list; or two strings collide that are hashed when roots are computed from
+/// the tiles that were handed in, or from the right edges of the beginnings of the list.
 #[tactic(auto, using(crate::proofs::HandedAgree::handed_sequencers_agree))]
 pub fn sequencers_over_heads()
     ensures { HandedSequencersAgree }
@@ -28,8 +29,9 @@ pub fn receipts()
     ensures { ReceiptsAreLeaves }
 {}
 
-/// Partial tiles that are believed for the head of a list of leaves are the right edge of that list, or two different strings with one
-/// digest are given. The right edge of a list is believed for its head.
+/// Partial tiles that are believed for the head of a list of leaves are the right edge of that list; or two of the strings collide that
+/// are hashed when the root is computed from these tiles, and from the right edge of the list. The right edge of a list is believed for
+/// its head.
 #[tactic(auto, using(crate::proofs::EdgesTell::believed_edges_tell, crate::proofs::EdgesTell::edges_are_believed))]
 pub fn edges()
     ensures tell { BelievedEdgesTell }

@@ -109,7 +109,7 @@ bundles_are_resumed H line objects bytes (Err Bundle) b d (inr none) = absurd (n
 bundles_are_resumed H line objects bytes (Err Memory) b d a = refl
 
 pub bundles_tell : BundlesTell
-bundles_tell H line a b p q other = (a, b, (other, p ∙ sym q))
+bundles_tell H line a b p q other = (other, p ∙ sym q)
 
 pub read-less : (o : List ℕ × List ℕ) (rest more : List ℕ) → rest ≡ bundled_text o ++ more → length more < length rest
 read-less (n, c) rest more e =

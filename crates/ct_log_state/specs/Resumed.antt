@@ -2,7 +2,7 @@
 use Rattle.std.specs.Prelude.{◌≡◌, ◌≢◌, ◌⊎◌, ℕ, List, map, Result, Ok, Err, Vec}
 use Rattle.std.specs.Global.{Global}
 use Rattle.ct_log_state.specs.declared.line.StateLine.{StateLine}
-use Rattle.ct_verify.specs.Laws.{SomeCollide}
+use Rattle.ct_verify.specs.Evidence.{Collides}
 use Rattle.ct_log_state.specs.Bundle.{IsBundleOf}
 use Rattle.ct_log_state.specs.declared.bundle.Object.{Object}
 use Rattle.ct_log_state.specs.declared.rolling_out.ResumeFault.{ResumeFault}
@@ -42,7 +42,7 @@ BundlesAreResumed =
     (H : List ℕ → List ℕ) (line : StateLine) (objects : List (List ℕ × List ℕ)) (bytes : List ℕ) (r : Result (Vec Object Global) ResumeFault)
     → IsBundleOf objects bytes → line.bundle ≡ H bytes → AnswersResume H line bytes r → GivesObjects objects r
 
--- Two different bundles that are rolled out for one line are two different strings with one hash.
+-- If two bundles that differ are rolled out for one line, these two strings collide.
 abbrev pub BundlesTell : Type 0
 BundlesTell =
-    (H : List ℕ → List ℕ) (line : StateLine) (a b : List ℕ) → H a ≡ line.bundle → H b ≡ line.bundle → a ≢ b → SomeCollide H
+    (H : List ℕ → List ℕ) (line : StateLine) (a b : List ℕ) → H a ≡ line.bundle → H b ≡ line.bundle → a ≢ b → Collides H a b

@@ -10,8 +10,8 @@ pub fn state_lines()
     ensures one_line { StateLinesAreLines }
 {}
 
-/// A bundle is rolled out as the objects that it was made of. Two different ones that are rolled out for one line are two different
-/// strings with one digest.
+/// A bundle is rolled out as the objects that it was made of. If two bundles that differ are rolled out for one line, these two strings
+/// collide.
 #[tactic(auto, using(crate::proofs::Bundles::bundles_are_resumed, crate::proofs::Bundles::bundles_tell))]
 pub fn bundles()
     ensures resumed { BundlesAreResumed }

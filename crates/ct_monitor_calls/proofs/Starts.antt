@@ -1,19 +1,21 @@
 -- A start at a head that is trusted.
 use Rattle.std.proofs.Common.{◌≡◌, ◌⊎◌, ◌∙◌, ◌*◌, ◌/◌, ◌≤◌, ◌++◌, ℕ, zero, suc, List, [], ◌∷◌, length, map, take, drop, count_ones, sym, refl, ap, subst, arith, inl, inr, ⊎_elim, append-nil}
 use Rattle.std.proofs.lemmas.List.{length-map, nil_from_length}
-use Rattle.std.proofs.lemmas.List.Elements.{All-nil, All-cons, All-head, All-tail, All-append, All-take, All-drop}
+use Rattle.std.proofs.lemmas.List.Elements.{All-nil, All-cons, All-head, All-tail, All-append, All-take, All-drop, All-weaker, All-contains_itself}
 use Rattle.ct_tree.specs.Levels.{level}
 use Rattle.ct_tree.specs.Peaks.{peaks, root_of_peaks}
 use Rattle.ct_tree.specs.Stack.{Stands}
 use Rattle.ct_tree.specs.Tree.{hash_leaf, hash_node}
 use Rattle.ct_tree.specs.declared.head.Head.{Head}
 use Rattle.ct_tree.proofs.Peaks.{peaks-nil, peaks-step, length_pairs, root_of_peaks-peaks}
-use Rattle.ct_verify.proofs.Shown.{left_nodes}
-use Rattle.ct_verify.specs.Laws.{AreHashes, SomeCollide}
+use Rattle.std.specs.Prelude.{All, Contains}
+use Rattle.ct_older_tree.proofs.Agreeing.{left_nodes}
+use Rattle.ct_older_tree.specs.Hashed.{CollideAmong}
+use Rattle.ct_verify.specs.Laws.{AreHashes}
 use Rattle.ct_monitor.specs.Heads.{IsHeadOfAll}
 use Rattle.ct_monitor.specs.WatcherState.{Keeps}
 use Rattle.ct_monitor_calls.specs.Laws.{KeepsInBytes}
-use Rattle.ct_monitor_calls.specs.Starts.{IsMonitorStart, StartsAreRead, CallsAgreeFromStart, start_state, known_at_start}
+use Rattle.ct_monitor_calls.specs.Starts.{IsMonitorStart, StartsAreRead, CallsAgreeFromStart, IsHashedForStart, joining_strings, start_state, known_at_start}
 use Rattle.ct_monitor_calls.proofs.Fits.{count_at}
 use Rattle.ct_monitor_calls.proofs.History.{show}
 
@@ -50,30 +52,39 @@ module _ (H : List ℕ → List ℕ) (long : (x : List ℕ) → length (H x) ≡
       subst AreHashes (sym (peaks-step H D))
       (All-append Has32 (peaks H E) (drop even D) (peaks_32 d E (omega (arith, size, p)) (level_32 (take even D) (All-take Has32 even D a))) (All-drop Has32 even D a))
 
-  -- subtrees that lead to one root are the same, if there are as many
-  peaks_tell : (p q : List (List ℕ)) → length p ≡ length q → AreHashes p → AreHashes q → root_of_peaks H p ≡ root_of_peaks H q → (p ≡ q) ⊎ SomeCollide H
-  unfolding root_of_peaks
-  peaks_tell [] [] l a b e = inl refl
-  peaks_tell [] (y ∷ q) l a b e = absurd (omega (arith, l))
-  peaks_tell (x ∷ p) [] l a b e = absurd (omega (arith, l))
-  peaks_tell (x ∷ []) (y ∷ []) l a b e = inl (ap (λ (z : List ℕ). z ∷ []) e)
-  peaks_tell (x ∷ []) (y ∷ z ∷ q) l a b e = absurd (omega (arith, l))
-  peaks_tell (x ∷ w ∷ p) (y ∷ []) l a b e = absurd (omega (arith, l))
-  peaks_tell (x ∷ w ∷ p) (y ∷ z ∷ q) l a b e =
-      ⊎_elim
-      (λ (same : (x ≡ y) × (root_of_peaks H (w ∷ p) ≡ root_of_peaks H (z ∷ q))).
-      ⊎_elim
-      (λ (rest : w ∷ p ≡ z ∷ q). inl (ap (λ (h : List ℕ). h ∷ w ∷ p) same.0 ∙ ap (λ (t : List (List ℕ)). y ∷ t) rest))
-      (λ (found : SomeCollide H). inr found)
-      (peaks_tell (w ∷ p) (z ∷ q) (omega (arith, l)) (All-tail Has32 x (w ∷ p) a) (All-tail Has32 y (z ∷ q) b) same.1))
-      (λ (found : SomeCollide H). inr found)
-      (left_nodes H x (root_of_peaks H (w ∷ p)) y (root_of_peaks H (z ∷ q)) (All-head Has32 x (w ∷ p) a ∙ sym (All-head Has32 y (z ∷ q) b)) e)
+  module _ (S : List ℕ → Type 0) where
+    -- subtrees that lead to one root are the same, if there are as many; or two strings collide that are hashed when they are joined
+    peaks_tell : (p q : List (List ℕ)) → length p ≡ length q → AreHashes p → AreHashes q → All S (joining_strings H p) → All S (joining_strings H q)
+        → root_of_peaks H p ≡ root_of_peaks H q → (p ≡ q) ⊎ CollideAmong H S
+    unfolding root_of_peaks joining_strings
+    peaks_tell [] [] l a b f g e = inl refl
+    peaks_tell [] (y ∷ q) l a b f g e = absurd (omega (arith, l))
+    peaks_tell (x ∷ p) [] l a b f g e = absurd (omega (arith, l))
+    peaks_tell (x ∷ []) (y ∷ []) l a b f g e = inl (ap (λ (z : List ℕ). z ∷ []) e)
+    peaks_tell (x ∷ []) (y ∷ z ∷ q) l a b f g e = absurd (omega (arith, l))
+    peaks_tell (x ∷ w ∷ p) (y ∷ []) l a b f g e = absurd (omega (arith, l))
+    peaks_tell (x ∷ w ∷ p) (y ∷ z ∷ q) l a b f g e =
+        let one : List ℕ = 1 ∷ x ++ root_of_peaks H (w ∷ p) in
+        let other : List ℕ = 1 ∷ y ++ root_of_peaks H (z ∷ q) in
+        ⊎_elim
+        (λ (same : (x ≡ y) × (root_of_peaks H (w ∷ p) ≡ root_of_peaks H (z ∷ q))).
+        ⊎_elim
+        (λ (rest : w ∷ p ≡ z ∷ q). inl (ap (λ (h : List ℕ). h ∷ w ∷ p) same.0 ∙ ap (λ (t : List (List ℕ)). y ∷ t) rest))
+        (λ (found : CollideAmong H S). inr found)
+        (peaks_tell (w ∷ p) (z ∷ q) (omega (arith, l)) (All-tail Has32 x (w ∷ p) a) (All-tail Has32 y (z ∷ q) b)
+        (All-tail S one (joining_strings H (w ∷ p)) f) (All-tail S other (joining_strings H (z ∷ q)) g) same.1))
+        (λ (found : CollideAmong H S). inr found)
+        (left_nodes H S x (root_of_peaks H (w ∷ p)) y (root_of_peaks H (z ∷ q)) (All-head Has32 x (w ∷ p) a ∙ sym (All-head Has32 y (z ∷ q) b))
+        (All-head S one (joining_strings H (w ∷ p)) f) (All-head S other (joining_strings H (z ∷ q)) g) e)
 
   -- the state of a start keeps the leaves of the head
   start_keeps : (head : Head) (subtrees : List (List ℕ)) (bytes : List ℕ) (D : List (List ℕ)) → IsMonitorStart H head subtrees bytes → IsHeadOfAll H D head
-      → KeepsInBytes H bytes (known_at_start head D) ⊎ SomeCollide H
+      → KeepsInBytes H bytes (known_at_start head D) ⊎ CollideAmong H (IsHashedForStart H subtrees D)
   start_keeps head subtrees bytes D start is =
       let leaves = map (hash_leaf H) D in
+      let S : List ℕ → Type 0 = IsHashedForStart H subtrees D in
+      let own : List (List ℕ) = joining_strings H subtrees in
+      let others : List (List ℕ) = joining_strings H (peaks H leaves) in
       let n : length leaves ≡ length D = length-map D (hash_leaf H) in
       let size : head.tree_size ≡ length leaves = is.0 ∙ sym n in
       let count : length subtrees ≡ length (peaks H leaves) = start.count ∙ ap count_ones size ∙ sym (count_at H (length leaves) leaves (omega arith)) in
@@ -88,8 +99,10 @@ module _ (H : List ℕ → List ℕ) (long : (x : List ℕ) → length (H x) ≡
         all = subst (λ (l : List (List ℕ)). Stands H (head.tree_size, subtrees) (map (hash_leaf H) l)) (sym (append-nil D)) stands;
       } in
       inl (start_state head subtrees, starts_are_read H head subtrees bytes start, keeps))
-      (λ (found : SomeCollide H). inr found)
-      (peaks_tell subtrees (peaks H leaves) count start.numbers.sure.roots (peaks_32 (length leaves) leaves (omega arith) (leaves_32 D)) root)
+      (λ (found : CollideAmong H S). inr found)
+      (peaks_tell S subtrees (peaks H leaves) count start.numbers.sure.roots (peaks_32 (length leaves) leaves (omega arith) (leaves_32 D))
+      (All-weaker (Contains own) S (λ s h. inl h) own (All-contains_itself own))
+      (All-weaker (Contains others) S (λ s h. inr h) others (All-contains_itself others)) root)
 
 pub calls_agree_from_start : CallsAgreeFromStart
 calls_agree_from_start H long head subtrees first calls start are D is =
@@ -97,5 +110,5 @@ calls_agree_from_start H long head subtrees first calls start are D is =
     (λ (kept : KeepsInBytes H first (known_at_start head D)).
     let shown = show H long first calls (known_at_start head D) (is, refl) kept are in
     inl (shown.last, shown.grows.0, shown.grows.1, (shown.hands, shown.stands, shown.all, shown.read)))
-    (λ (found : SomeCollide H). inr found)
+    (λ (found : CollideAmong H (IsHashedForStart H subtrees D)). inr found)
     (start_keeps H long head subtrees first D start is)

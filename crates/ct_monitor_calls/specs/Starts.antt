@@ -1,8 +1,9 @@
 -- A monitor that begins at a head that it is told to trust. H is any hash function on byte lists. The library's is SHA-256.
-use Rattle.std.specs.Prelude.{◌≡◌, ◌⊎◌, ◌++◌, ⊤, ℕ, List, [], length, count_ones, Some, None}
-use Rattle.ct_tree.specs.Peaks.{root_of_peaks}
+use Rattle.std.specs.Prelude.{◌≡◌, ◌⊎◌, ◌++◌, ⊤, ℕ, List, [], ◌∷◌, Contains, length, map, count_ones, Some, None}
+use Rattle.ct_tree.specs.Peaks.{peaks, root_of_peaks}
+use Rattle.ct_tree.specs.Tree.{hash_leaf}
 use Rattle.ct_tree.specs.declared.head.Head.{Head}
-use Rattle.ct_verify.specs.Laws.{SomeCollide}
+use Rattle.ct_older_tree.specs.Hashed.{CollideAmong}
 use Rattle.ct_monitor.specs.Heads.{IsHeadOfAll}
 use Rattle.ct_monitor.specs.Watched.{Watched}
 use Rattle.ct_monitor.specs.WatcherState.{WatcherState}
@@ -38,11 +39,23 @@ StartsAreRead =
     (H : List ℕ → List ℕ) (head : Head) (subtrees : List (List ℕ)) (bytes : List ℕ) → IsMonitorStart H head subtrees bytes
     → IsMonitorState H (start_state head subtrees) bytes
 
+-- the strings that are hashed when subtrees are joined to one root: 01 || left || right of each node above them
+unfoldable pub joining_strings : (List ℕ → List ℕ) → List (List ℕ) → List (List ℕ)
+joining_strings H [] = []
+joining_strings H (x ∷ []) = []
+joining_strings H (x ∷ y ∷ rest) = (1 ∷ x ++ root_of_peaks H (y ∷ rest)) ∷ joining_strings H (y ∷ rest)
+
+-- the strings that are hashed when these subtrees are joined, and when those of the leaves D are
+abbrev pub IsHashedForStart : (List ℕ → List ℕ) → List (List ℕ) → List (List ℕ) → List ℕ → Type 0
+IsHashedForStart H subtrees D s =
+    Contains (joining_strings H subtrees) s ⊎ Contains (joining_strings H (peaks H (map (hash_leaf H) D))) s
+
 -- Take any calls, each over the state that the one before gave, the first over that of a start. Let the trusted head be that of the leaves D. Then each head that
--- was accepted is that of a beginning of one list, which begins with D: the leaves that are accepted after the last call. Or two different strings have one hash.
--- Nothing is said of a trusted head that is the head of no leaves.
+-- was accepted is that of a beginning of one list, which begins with D: the leaves that are accepted after the last call. Or two of the strings collide that are
+-- hashed when the start's subtrees are joined, and when those of D are. Nothing is said of a trusted head that is the head of no leaves.
 abbrev pub CallsAgreeFromStart : Type 0
 CallsAgreeFromStart =
     (H : List ℕ → List ℕ) → ((x : List ℕ) → length (H x) ≡ 32) → (head : Head) (subtrees : List (List ℕ)) (first : List ℕ) (calls : List MonitorCall)
     → IsMonitorStart H head subtrees first → AreCalls H first calls → (D : List (List ℕ)) → IsHeadOfAll H D head
-    → ((w : Watched) × (Y : List (List ℕ)) × (w.sure ≡ D ++ Y) × CallsHandOut H first calls (known_at_start head D) w) ⊎ SomeCollide H
+    → ((w : Watched) × (Y : List (List ℕ)) × (w.sure ≡ D ++ Y) × CallsHandOut H first calls (known_at_start head D) w)
+    ⊎ CollideAmong H (IsHashedForStart H subtrees D)

@@ -4,7 +4,7 @@ use Rattle.ct_node.specs.declared.state.State.{State}
 use Rattle.ct_node.specs.declared.node.Node.{Node}
 use Rattle.ct_node.specs.declared.node.Node.TheVariants.{Reading, Looking, Stepping, Staging, Swapping, Promising, Deleting, Putting, Placing, Heading, Answering}
 use Rattle.ct_node.specs.Worlds.{Has, Object, World, beginning, Happening, Comes, Makes, Puts, Goes, Told, comes, happens, MayHappen, LeadTo, IsFirstState}
-use Rattle.ct_node.specs.Sweeps.{IsWider, SweptWorld, swept_beginning, SweptHappening, Beside, TileGoes, HeadGoes, objects_behind, heads_behind, happens_swept, AreLeft, MayHappenSwept, LeadToSwept, StandsInstead, IsStillRead, SweepsKeep}
+use Rattle.ct_node.specs.Sweeps.{IsFullFor, SweptWorld, swept_beginning, SweptHappening, Beside, TileGoes, HeadGoes, objects_behind, heads_behind, happens_swept, AreLeft, MayHappenSwept, LeadToSwept, StandsInstead, IsStillRead, SweepsKeep}
 use Rattle.ct_node.proofs.Sound.{heads_are_whole}
 
 -- ---- histories, at their end
@@ -150,30 +150,30 @@ module _ (count : State → ℕ) (tile : Object → List ℕ × ℕ) (b : State)
       }
 
   -- ---- a tile goes
-  -- it is the tile, or a wider one
+  -- it is the tile, or the full one
   abbrev Reads : List ℕ × ℕ → List ℕ × ℕ → Type 0
-  Reads n m = (m ≡ n) ⊎ IsWider n m
+  Reads n m = (m ≡ n) ⊎ IsFullFor n m
 
-  wider : (n m k : List ℕ × ℕ) → IsWider n m → IsWider m k → IsWider n k
-  wider n m k h g = (h.0 ∙ g.0, omega (arith, h.1, g.1))
+  full : (n m k : List ℕ × ℕ) → IsFullFor n m → IsFullFor m k → IsFullFor n k
+  full n m k h g = (h.0 ∙ g.0, omega (arith, h.1, g.1), g.2)
 
-  reads_wider : (n m k : List ℕ × ℕ) → Reads n m → IsWider m k → IsWider n k
-  reads_wider n m k (inl e) h = subst (λ z. IsWider z k) e h
-  reads_wider n m k (inr f) h = wider n m k f h
+  reads_full : (n m k : List ℕ × ℕ) → Reads n m → IsFullFor m k → IsFullFor n k
+  reads_full n m k (inl e) h = subst (λ z. IsFullFor z k) e h
+  reads_full n m k (inr f) h = full n m k f h
 
-  wider_reads : (n m k : List ℕ × ℕ) → IsWider n m → Reads m k → IsWider n k
-  wider_reads n m k h (inl e) = subst (λ z. IsWider n z) (sym e) h
-  wider_reads n m k h (inr f) = wider n m k h f
+  full_reads : (n m k : List ℕ × ℕ) → IsFullFor n m → Reads m k → IsFullFor n k
+  full_reads n m k h (inl e) = subst (λ z. IsFullFor n z) (sym e) h
+  full_reads n m k h (inr f) = full n m k h f
 
-  -- what stands for the wider one is left
+  -- what stands for the full one is left
   stands_on : (w : SweptWorld) (n : List ℕ × ℕ) (p : Object) (left : List Object) → Left w → MayHappenSwept count tile w (TileGoes n p left)
-      → (z : Object) × Has z left × IsWider n (tile z)
+      → (z : Object) × Has z left × IsFullFor n (tile z)
   stands_on w n p left a m =
       let s = a.objects p m.0 in
-      let wide : IsWider n (tile s.0) = wider_reads n (tile p) (tile s.0) m.1 s.2 in
+      let wide : IsFullFor n (tile s.0) = full_reads n (tile p) (tile s.0) m.1 s.2 in
       ⊎_elim
       (λ (stays : Has s.0 left). (s.0, stays, wide))
-      (λ (gone : tile s.0 ≡ n). let same : IsWider n n = subst (λ z. IsWider n z) gone wide in absurd (omega (arith, same.1)))
+      (λ (gone : tile s.0 ≡ n). let same : IsFullFor n n = subst (λ z. IsFullFor n z) gone wide in absurd (omega (arith, same.1)))
       (m.2.0 s.0 s.1)
 
   tile_goes : (w : SweptWorld) (n : List ℕ × ℕ) (p : Object) (left : List Object) → Left w → MayHappenSwept count tile w (TileGoes n p left)
@@ -188,7 +188,7 @@ module _ (count : State → ℕ) (tile : Object → List ℕ × ℕ) (b : State)
             ⊎_elim
             (λ (stays : Has s.0 left). (s.0, stays, s.2))
             (λ (gone : tile s.0 ≡ n).
-            (other.0, other.1, inr (reads_wider (tile o) n (tile other.0) (subst (λ z. Reads (tile o) z) gone s.2) other.2)))
+            (other.0, other.1, inr (reads_full (tile o) n (tile other.0) (subst (λ z. Reads (tile o) z) gone s.2) other.2)))
             (m.2.0 s.0 s.1);
         heads = a.heads;
         put = λ o i. a.put o (m.2.1 o i);

@@ -4,9 +4,10 @@ use Rattle.ct_node.specs.declared.state.State.{State}
 use Rattle.ct_node.specs.declared.node.Node.TheVariants.{Heading}
 use Rattle.ct_node.specs.Worlds.{Has, Object, World, Happening, Comes, Puts, beginning, happens, MayHappen, LeadTo, IsFirstState}
 
--- Of each object is known the tile that it is of, by the whole one's name, and how wide it is. The second one is wider, of the same tile.
-abbrev pub IsWider : List ℕ × ℕ → List ℕ × ℕ → Type 0
-IsWider one other = (one.0 ≡ other.0) × (one.1 < other.1)
+-- Of each object the tile is known, by the name of the full tile, and how many hashes or entries it has. The second one is the full tile, with 256 of them, and
+-- the first one a part of it (C2SP tlog-tiles, "Partial Tiles").
+abbrev pub IsFullFor : List ℕ × ℕ → List ℕ × ℕ → Type 0
+IsFullFor one other = (one.0 ≡ other.0) × (one.1 < other.1) × (other.1 ≡ 256)
 
 -- All that was ever put (world), and of that the objects (objects) and the heads (heads) that still stand.
 pub record SweptWorld : Type 0 where
@@ -44,11 +45,11 @@ happens_swept w (HeadGoes l m left) = record w { heads = left }
 abbrev pub AreLeft : {A : Type 0} → (A → Type 0) → List A → List A → Type 0
 AreLeft {A} Gone stood left = ((x : A) → Has x stood → Has x left ⊎ Gone x) × ((x : A) → Has x left → Has x stood)
 
--- What may happen, where tile gives the tile of each object. All that may happen without deletions. A tile is deleted only where a wider one was put, whether
--- that one stands still or not; a head only where a later one was put.
+-- What may happen, where tile gives the tile of each object. All that may happen without deletions. A partial tile is deleted only if the full one was put,
+-- whether that one still stands or not; a head only if a later one was put.
 abbrev pub MayHappenSwept : (State → ℕ) → (Object → List ℕ × ℕ) → SweptWorld → SweptHappening → Type 0
 MayHappenSwept count tile w (Beside h) = MayHappen count w.world h
-MayHappenSwept count tile w (TileGoes n p left) = Has p w.world.objects × IsWider n (tile p) × AreLeft (λ x. tile x ≡ n) w.objects left
+MayHappenSwept count tile w (TileGoes n p left) = Has p w.world.objects × IsFullFor n (tile p) × AreLeft (λ x. tile x ≡ n) w.objects left
 MayHappenSwept count tile w (HeadGoes l m left) = Has m w.world.heads × (l.moment < m.moment) × AreLeft (λ x. x.moment ≡ l.moment) w.heads left
 
 -- these happened, one after the other, and led from the one to the other
@@ -56,11 +57,11 @@ unfoldable pub LeadToSwept : (State → ℕ) → (Object → List ℕ × ℕ) �
 LeadToSwept count tile w [] v = w ≡ v
 LeadToSwept count tile w (h ∷ hs) v = MayHappenSwept count tile w h × LeadToSwept count tile (happens_swept w h) hs v
 
--- an object stands that is this tile, or a wider one
+-- an object stands that is this tile, or the full one of which it is a part
 abbrev pub StandsInstead : (Object → List ℕ × ℕ) → SweptWorld → List ℕ × ℕ → Type 0
-StandsInstead tile w n = (p : Object) × Has p w.objects × ((tile p ≡ n) ⊎ IsWider n (tile p))
+StandsInstead tile w n = (p : Object) × Has p w.objects × ((tile p ≡ n) ⊎ IsFullFor n (tile p))
 
--- What deletions keep. For each object that was ever put one stands that is its tile, or a wider one (objects), so for each of a state that a head which
+-- What deletions keep. For each object that was ever put one stands that is its tile, or the full tile (objects), so for each of a state that a head which
 -- was ever put stands for (covered). For each head that was ever put one stands that is no earlier (heads). What stands was put (put, stood).
 pub record IsStillRead (count : State → ℕ) (tile : Object → List ℕ × ℕ) (w : SweptWorld) : Type 0 where
   pub objects : (o : Object) → Has o w.world.objects → StandsInstead tile w (tile o)

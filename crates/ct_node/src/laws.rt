@@ -27,9 +27,9 @@ pub fn worlds()
     ensures others { StatesAddOthers }
 {}
 
-/// Where what stands under a name is deleted only once an object with a wider name was put, and a head only once a later one was: whoever deletes, and
-/// whatever becomes of the nodes' commands, for each object that was ever put one stands under its name or a wider one, so for each of a state that a
-/// head stands for; for each head that was ever put one stands that is no earlier; and [`worlds`] holds of all that was put.
+/// If partial tiles are deleted only after the full one was put, and heads only after a later one was: whoever deletes, and whatever becomes of the nodes'
+/// commands, for each object that was ever put its tile or the full one stands, so for each of a state that a head stands for; for each head that was
+/// ever put one stands that is no earlier; and [`worlds`] holds of all that was put.
 #[tactic(auto, using(crate::proofs::Swept::sweeps_keep))]
 pub fn sweeps()
     ensures { SweepsKeep }

@@ -12,19 +12,18 @@ use Rattle.ct_log_state.specs.declared.line.StateLine.{StateLine}
 use Rattle.ct_monitor.specs.Heads.{IsHeadOfAll}
 use Rattle.ct_older_tree.proofs.Agreeing.{collide_more}
 use Rattle.ct_older_tree.specs.Hashed.{CollideAmong, IsHashedIn, IsHashedInLog}
-use Rattle.ct_verify.specs.Laws.{SomeCollide}
 use Rattle.ct_node.specs.declared.state.State.{State}
 use Rattle.ct_node.specs.declared.node.Node.TheVariants.{Heading}
-use Rattle.ct_node.specs.Worlds.{Has, Object, World, AskedAreTaken}
+use Rattle.ct_node.specs.Worlds.{Has, Made, Object, World, AskedAreTaken}
 use Rattle.ct_step.specs.Entries.{tree_leaves}
-use Rattle.ct_step.specs.Lines.{LineAttempt, IsStepOf}
+use Rattle.ct_step.specs.Lines.{LineAttempt, IsHashedBySteps, IsStepOf}
 use Rattle.ct_step.specs.Steps.{IsLog, line_head}
 use Rattle.ct_node_log.specs.Logs.{IsOf, StandsOf, NodesWriteOneLog}
 use Rattle.ct_node_log.specs.Heads.{NewestIsAsked, HeadsLetThroughAreOf, GuardedHeadsAreOfOneLog}
 
 -- ---- the line of such a state is that of a beginning of the entries
 
-module _ (H : List ℕ → List ℕ) (line : State → StateLine) (b : State) (known E : List Tiled) where
+module _ (H : List ℕ → List ℕ) (line : State → StateLine) (step : Made → LineAttempt) (made : List Made) (b : State) (known E : List Tiled) where
   abbrev IsLineOf : StateLine → Type 0
   IsLineOf x = (x.tree_size ≤ length E) × IsLog H (take x.tree_size E) x
 
@@ -34,9 +33,9 @@ module _ (H : List ℕ → List ℕ) (line : State → StateLine) (b : State) (k
       let same : known ≡ take (line b).tree_size E = starts ∙ ap (λ (n : ℕ). take n E) (sym is.size) in
       (omega (arith, is.size, long, length-take (length known) E), subst (λ (K : List Tiled). IsLog H K (line b)) same is)
 
-  line_of : known ≡ take (length known) E → IsLog H known (line b) → (l : State) → IsOf H line b E l → IsLineOf (line l)
+  line_of : known ≡ take (length known) E → IsLog H known (line b) → (l : State) → IsOf H line step made b E l → IsLineOf (line l)
   line_of starts is l (inl first) = subst IsLineOf (ap line (sym first)) (first_line starts is)
-  line_of starts is l (inr of) = subst IsLineOf of.1 (of.2.size, of.2.log)
+  line_of starts is l (inr of) = subst IsLineOf of.3 (of.4.size, of.4.log)
 
   leaves_long : length (tree_leaves E) ≡ length E
   leaves_long = length-map E leaf_of
@@ -93,15 +92,14 @@ module _ (H : List ℕ → List ℕ) (line : State → StateLine) (b : State) (k
       (back H sized last steps (take n.0 (tree_leaves E)) through n.2)
 
 pub guarded_heads_are_of_one_log : NodesWriteOneLog → AskedAreTaken → HeadsGoBack → GuardedHeadsAreOfOneLog
-guarded_heads_are_of_one_log agree taken back H sized line plan known count b hs w begins leads is made =
+guarded_heads_are_of_one_log agree taken back H sized S line step plan known count b hs w begins leads is made E all =
     ⊎_elim
-    (λ (r : (E : List Tiled) × (known ≡ take (length known) E) × StandsOf H line b plan E w).
+    (λ (r : (known ≡ take (length known) E) × StandsOf H line step b plan E w).
     inl (
       r.0,
       r.1,
-      r.2,
-      heads_of H line b known r.0 back sized w
-          (λ l sent. line_of H line b known r.0 r.1 is l (r.2.past l (taken count b hs w begins leads l sent))),
+      heads_of H line step w.made b known E back sized w
+          (λ l sent. line_of H line step w.made b known E r.0 is l (r.1.past l (taken count b hs w begins leads l sent))),
     ))
-    (λ (pair : SomeCollide H). inr pair)
-    (agree H line plan known count b hs w begins leads is made)
+    (λ (pair : CollideAmong H (IsHashedBySteps H S E)). inr pair)
+    (agree H S line step plan known count b hs w begins leads is made E all)

@@ -8,15 +8,16 @@ use Rattle.ct_log_state.specs.declared.line.StateLine.{StateLine}
 use Rattle.ct_tile_names.specs.Answers.{NamesDiffer}
 use Rattle.ct_tile_names.specs.Names.{IsTile, name_text}
 use Rattle.ct_tile_names.specs.declared.tile.Tile.{Tile}
-use Rattle.ct_verify.specs.Laws.{SomeCollide}
+use Rattle.ct_older_tree.specs.Hashed.{CollideAmong}
 use Rattle.ct_node.specs.declared.state.State.{State}
-use Rattle.ct_node.specs.Worlds.{Has, Object, HeadsAreWhole}
-use Rattle.ct_node.specs.Sweeps.{IsWider, SweptWorld, StandsInstead, SweepsKeep}
+use Rattle.ct_node.specs.Worlds.{Has, Made, Object, HeadsAreWhole}
+use Rattle.ct_node.specs.Sweeps.{IsFullFor, SweptWorld, StandsInstead, SweepsKeep}
 use Rattle.ct_node_log.specs.Kept.{whole_name, tile_and_width, AreNamed, BeginsWithAll, IsReadable, CanBeRead, NodesKeepTiles}
+use Rattle.ct_step.specs.Lines.{LineAttempt, IsHashedBySteps}
 use Rattle.ct_node_log.specs.Logs.{StandsOf, NodesWriteOneLog}
 use Rattle.ct_node_log.specs.Names.{tile_parts, IsTileOfEntries}
 
--- ---- wider tiles
+-- ---- tiles of one name
 abbrev widened : Tile → ℕ → Tile
 widened t width = record t { width = width }
 
@@ -58,17 +59,17 @@ module _ (H : List ℕ → List ℕ) (E : List Tiled) (differ : NamesDiffer) whe
       ∙ begins_with s.width t.width xs le
       ∙ sym small
 
-  module _ (line : State → StateLine) (b : State) (plan : Object → List ℕ × List ℕ) (of : Object → Tile) (w : SweptWorld)
-      (stands : StandsOf H line b plan E w.world) (named : AreNamed of plan w.world) (put : (o : Object) → Has o w.objects → Has o w.world.objects) where
+  module _ (line : State → StateLine) (step : Made → LineAttempt) (b : State) (plan : Object → List ℕ × List ℕ) (of : Object → Tile) (w : SweptWorld)
+      (stands : StandsOf H line step b plan E w.world) (named : AreNamed of plan w.world) (put : (o : Object) → Has o w.objects → Has o w.world.objects) where
     -- no less wide, of one whole tile
     abbrev IsAsWide : Object → Object → Type 0
-    IsAsWide o p = (whole_name (of p) ≡ whole_name (of o)) × ((of o).width ≤ (of p).width)
+    IsAsWide o p = (whole_name (of p) ≡ whole_name (of o)) × ((of o).width ≤ (of p).width) × (((of p).width ≡ (of o).width) ⊎ ((of p).width ≡ 256))
 
-    as_wide : (o p : Object) → (tile_and_width of p ≡ tile_and_width of o) ⊎ IsWider (tile_and_width of o) (tile_and_width of p) → IsAsWide o p
+    as_wide : (o p : Object) → (tile_and_width of p ≡ tile_and_width of o) ⊎ IsFullFor (tile_and_width of o) (tile_and_width of p) → IsAsWide o p
     as_wide o p (inl e) =
         let width : (of p).width ≡ (of o).width = ap (λ (z : List ℕ × ℕ). z.1) e in
-        (ap (λ (z : List ℕ × ℕ). z.0) e, omega (arith, width))
-    as_wide o p (inr h) = (sym h.0, omega (arith, h.1))
+        (ap (λ (z : List ℕ × ℕ). z.0) e, omega (arith, width), inl width)
+    as_wide o p (inr h) = (sym h.0, omega (arith, h.1), inr h.2)
 
     reads : (o : Object) → Has o w.world.objects → StandsInstead (tile_and_width of) w (tile_and_width of o) → IsReadable of plan w o
     reads o h s =
@@ -80,27 +81,27 @@ module _ (H : List ℕ → List ℕ) (E : List Tiled) (differ : NamesDiffer) whe
           s.1,
           same,
           wide.1,
+          wide.2,
           wider_begins (plan o) (plan p) (of o) (of p) (named o h).0 (named o h).1 (named p there).0 (named p there).1 same wide.1 (stands.tiles o h)
               (stands.tiles p there),
         )
 
 pub nodes_keep_tiles : NodesWriteOneLog → SweepsKeep → HeadsAreWhole → NamesDiffer → NodesKeepTiles
-nodes_keep_tiles agree keep whole differ H line plan of known count b hs w begins leads is steps named =
+nodes_keep_tiles agree keep whole differ H S line step plan of known count b hs w begins leads is steps named E all =
     let k = keep count (tile_and_width of) b hs w begins leads in
     let past = k.0.0 in
     ⊎_elim
-    (λ (r : (E : List Tiled) × (known ≡ take (length known) E) × StandsOf H line b plan E w.world).
+    (λ (r : (known ≡ take (length known) E) × StandsOf H line step b plan E w.world).
     let one : (o : Object) → Has o w.world.objects → IsReadable of plan w o =
-    λ o h. reads H r.0 differ line b plan of w r.2 named k.1.put o h (k.1.objects o h) in
+    λ o h. reads H E differ line step b plan of w r.1 named k.1.put o h (k.1.objects o h) in
     inl (
       r.0,
       r.1,
-      r.2,
       record {
         objects = one;
         covered = λ l m head taken order i c. one (record { state = m; index = i }) (whole count b past w.world begins k.0.1 l m head taken order i c);
         heads = k.1.heads;
       },
     ))
-    (λ (pair : SomeCollide H). inr pair)
-    (agree H line plan known count b past w.world begins k.0.1 is steps)
+    (λ (pair : CollideAmong H (IsHashedBySteps H S E)). inr pair)
+    (agree H S line step plan known count b past w.world begins k.0.1 is steps E all)

@@ -7,12 +7,13 @@ use Rattle.hex.proofs.HexLemmas.{decode_of-encode_lower}
 use Rattle.ct_data_tiles.specs.TileLeaf.{Tiled}
 use Rattle.ct_tile_names.specs.Names.{name_text}
 use Rattle.ct_tile_names.specs.declared.tile.Tile.{Tile}
-use Rattle.ct_verify.specs.Laws.{SomeCollide}
+use Rattle.ct_older_tree.proofs.Agreeing.{collide_more, one_hash}
+use Rattle.ct_older_tree.specs.Hashed.{CollideAmong}
 use Rattle.ct_node.specs.Worlds.{Has, Object, World}
-use Rattle.ct_node_log.specs.Logs.{StandsOf, NodesWriteOneLog}
+use Rattle.ct_step.specs.Lines.{IsHashedBySteps}
+use Rattle.ct_node_log.specs.Logs.{StandsOf, NodesWriteOneLog, log_of_past}
 use Rattle.ct_node_log.specs.Names.{IsTileOfEntries}
-use Rattle.ct_node_log.specs.Public.{issuer_name, IsIssuer, IsPublic, PublicNamesHaveOneContent}
-use Rattle.ct_node_log.proofs.OneLog.{same_or_other}
+use Rattle.ct_node_log.specs.Public.{issuer_name, IsContentOf, IsIssuer, IsPublic, PublicNamesHaveOneContent}
 
 -- ---- names
 abbrev first_byte : List ℕ → ℕ
@@ -49,7 +50,7 @@ module _ (H : List ℕ → List ℕ) where
         let t = tiles o.0 o.1 in
         no_tile t.0 y.1 (sym t.2 ∙ sym (ap (λ (z : List ℕ × List ℕ). z.0) o.2) ∙ e ∙ are y i)
 
-    one : (x y : List ℕ × List ℕ) → IsPublic plan w issuers x → IsPublic plan w issuers y → x.0 ≡ y.0 → (x.1 ≡ y.1) ⊎ SomeCollide H
+    one : (x y : List ℕ × List ℕ) → IsPublic plan w issuers x → IsPublic plan w issuers y → x.0 ≡ y.0 → (x.1 ≡ y.1) ⊎ CollideAmong H (IsContentOf issuers)
     one x y (inl o) (inl p) e =
         inl (
         ap (λ (z : List ℕ × List ℕ). z.1) o.2
@@ -58,12 +59,18 @@ module _ (H : List ℕ → List ℕ) where
         )
     one x y (inl o) (inr j) e = absurd (put_and_issuer x y o j e)
     one x y (inr i) (inl p) e = absurd (put_and_issuer y x p i (sym e))
-    one x y (inr i) (inr j) e = same_or_other H x.1 y.1 (one_digest bytes x.1 y.1 (sym (are x i) ∙ e ∙ are y j))
+    one x y (inr i) (inr j) e =
+        one_hash H (IsContentOf issuers) x.1 y.1 (x, i, refl) (y, j, refl) (one_digest bytes x.1 y.1 (sym (are x i) ∙ e ∙ are y j))
 
 pub public_names_have_one_content : NodesWriteOneLog → PublicNamesHaveOneContent
-public_names_have_one_content agree H bytes line plan known count b hs w begins leads is steps issuers are x y px py e =
+public_names_have_one_content agree H bytes S line step plan known count b hs w begins leads is steps issuers are x y px py e =
+    let E : List Tiled = log_of_past step known w.past in
+    let T : List ℕ → Type 0 = λ s. IsContentOf issuers s ⊎ IsHashedBySteps H S E s in
     ⊎_elim
-    (λ (r : (E : List Tiled) × (known ≡ take (length known) E) × StandsOf H line b plan E w).
-    one H bytes plan w issuers are r.0 r.2.tiles r.2.names x y px py e)
-    (λ (pair : SomeCollide H). inr pair)
-    (agree H line plan known count b hs w begins leads is steps)
+    (λ (r : (known ≡ take (length known) E) × StandsOf H line step b plan E w).
+    ⊎_elim
+    (λ (same : x.1 ≡ y.1). inl same)
+    (λ (pair : CollideAmong H (IsContentOf issuers)). inr (collide_more H (IsContentOf issuers) T (λ s h. inl h) pair))
+    (one H bytes plan w issuers are E r.1.tiles r.1.names x y px py e))
+    (λ (pair : CollideAmong H (IsHashedBySteps H S E)). inr (collide_more H (IsHashedBySteps H S E) T (λ s h. inr h) pair))
+    (agree H S line step plan known count b hs w begins leads is steps E refl)

@@ -6,13 +6,13 @@ use Rattle.ct_data_tiles.specs.TileLeaf.{Tiled}
 use Rattle.ct_guard.specs.NewestHead.{HeadStep, AreHeadSteps, IsHeadOfFirst, IsHashedForHeads}
 use Rattle.ct_log_state.specs.declared.line.StateLine.{StateLine}
 use Rattle.ct_older_tree.specs.Hashed.{CollideAmong}
-use Rattle.ct_verify.specs.Laws.{SomeCollide}
 use Rattle.ct_node.specs.declared.state.State.{State}
 use Rattle.ct_node.specs.declared.node.Node.TheVariants.{Heading}
-use Rattle.ct_node.specs.Worlds.{Has, Object, World, Happening, beginning, IsFirstState, LeadTo}
+use Rattle.ct_node.specs.Worlds.{Has, Made, Object, World, Happening, beginning, IsFirstState, LeadTo}
 use Rattle.ct_step.specs.Entries.{tree_leaves}
+use Rattle.ct_step.specs.Lines.{LineAttempt, IsHashedBySteps}
 use Rattle.ct_step.specs.Steps.{IsLog, line_head}
-use Rattle.ct_node_log.specs.Logs.{AreStepsMade, StandsOf}
+use Rattle.ct_node_log.specs.Logs.{AreStepsMade, StandsOf, log_of_past}
 
 -- some node was given the command to have the head of a state signed and put, and this head is the one that the state's line names
 abbrev pub IsAsked : (State → StateLine) → World → Head → Type 0
@@ -31,11 +31,12 @@ HeadsLetThroughAreOf H line E w =
     (last : Option Head) (steps : List HeadStep) → AreHeadSteps H last steps → NewestIsAsked line w steps
     → All (λ s. IsHeadOfFirst H (tree_leaves E) s.head) steps ⊎ CollideAmong H (IsHashedForHeads H last steps (tree_leaves E))
 
--- Whatever happens, there is one list of entries, which begins with those that were known, that all is of that stands, and so are heads that guards let
--- through; or two different strings with one hash are given.
+-- Whatever happens, let E be the log that the register took, and let S have the strings that nodes hashed when they made steps and resumed them. All that is in
+-- the stores is of E, and so are the heads that guards let through; or two strings collide that S has, or that are hashed for the log's lines.
 abbrev pub GuardedHeadsAreOfOneLog : Type 0
 GuardedHeadsAreOfOneLog =
-    (H : List ℕ → List ℕ) → ((x : List ℕ) → length (H x) ≡ 32) → (line : State → StateLine) (plan : Object → List ℕ × List ℕ) (known : List Tiled)
+    (H : List ℕ → List ℕ) → ((x : List ℕ) → length (H x) ≡ 32) → (S : List (List ℕ)) (line : State → StateLine) (step : Made → LineAttempt)
+    (plan : Object → List ℕ × List ℕ) (known : List Tiled)
     (count : State → ℕ) (b : State) (hs : List Happening) (w : World) → IsFirstState count b → LeadTo count (beginning b) hs w → IsLog H known (line b)
-    → AreStepsMade H line count plan w.made
-    → ((E : List Tiled) × (known ≡ take (length known) E) × StandsOf H line b plan E w × HeadsLetThroughAreOf H line E w) ⊎ SomeCollide H
+    → AreStepsMade H S line step count plan w.made → (E : List Tiled) → E ≡ log_of_past step known w.past
+    → ((known ≡ take (length known) E) × StandsOf H line step b plan E w × HeadsLetThroughAreOf H line E w) ⊎ CollideAmong H (IsHashedBySteps H S E)

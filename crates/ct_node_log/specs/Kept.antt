@@ -4,12 +4,13 @@ use Rattle.ct_data_tiles.specs.TileLeaf.{Tiled}
 use Rattle.ct_log_state.specs.declared.line.StateLine.{StateLine}
 use Rattle.ct_tile_names.specs.Names.{IsTile, name_text}
 use Rattle.ct_tile_names.specs.declared.tile.Tile.{Tile}
-use Rattle.ct_verify.specs.Laws.{SomeCollide}
+use Rattle.ct_older_tree.specs.Hashed.{CollideAmong}
 use Rattle.ct_node.specs.declared.state.State.{State}
-use Rattle.ct_node.specs.Worlds.{Has, Object, World, IsFirstState}
+use Rattle.ct_node.specs.Worlds.{Has, Made, Object, World, IsFirstState}
 use Rattle.ct_node.specs.Sweeps.{SweptWorld, SweptHappening, swept_beginning, LeadToSwept}
+use Rattle.ct_step.specs.Lines.{LineAttempt, IsHashedBySteps}
 use Rattle.ct_step.specs.Steps.{IsLog}
-use Rattle.ct_node_log.specs.Logs.{AreStepsMade, StandsOf}
+use Rattle.ct_node_log.specs.Logs.{AreStepsMade, StandsOf, log_of_past}
 
 -- the tile that is whole where the one is partial, by its name
 abbrev pub whole_name : Tile → List ℕ
@@ -27,10 +28,11 @@ AreNamed of plan w = (o : Object) → Has o w.objects → IsTile (of o) × ((pla
 abbrev pub BeginsWithAll : List ℕ × List ℕ → List ℕ × List ℕ → Type 0
 BeginsWithAll o p = take (length p.1) o.1 ≡ p.1
 
--- of the object there stands one that begins with all of it, under its name, or that of the wider tile of its content and index
+-- of the object there stands one that begins with all of it, under its own name, or under that of the full tile of its content and index
 abbrev pub IsReadable : (Object → Tile) → (Object → List ℕ × List ℕ) → SweptWorld → Object → Type 0
 IsReadable of plan w o =
-    (p : Object) × Has p w.objects × (of p ≡ record (of o) { width = (of p).width }) × ((of o).width ≤ (of p).width) × BeginsWithAll (plan p) (plan o)
+    (p : Object) × Has p w.objects × (of p ≡ record (of o) { width = (of p).width }) × ((of o).width ≤ (of p).width)
+    × (((of p).width ≡ (of o).width) ⊎ ((of p).width ≡ 256)) × BeginsWithAll (plan p) (plan o)
 
 -- What can be read: all objects that were ever put (objects), so all of each state that a head stands for (covered); and a head that is no earlier than any
 -- that was ever put (heads).
@@ -40,11 +42,13 @@ pub record CanBeRead (count : State → ℕ) (of : Object → Tile) (plan : Obje
       → IsReadable of plan w (record { state = m; index = i })
   pub heads : (l : State) → Has l w.world.heads → (m : State) × Has m w.heads × (l.moment ≤ m.moment)
 
--- Whatever becomes of the nodes' commands, where tiles are deleted only once a wider one was put, and heads only once a later one was: there is one list of
--- entries, which begins with those that were known, that all is of that was put, and it can be read; or two different strings with one hash are given.
+-- Whatever becomes of the nodes' commands, let E be the log that the register took, and let S have the strings that nodes hashed when they made steps and resumed
+-- them. If partial tiles are deleted only after the full one was put, and heads only after a later one was, all that was put is of E, and it can be read; or two strings
+-- collide that S has, or that are hashed for the log's lines.
 abbrev pub NodesKeepTiles : Type 0
 NodesKeepTiles =
-    (H : List ℕ → List ℕ) (line : State → StateLine) (plan : Object → List ℕ × List ℕ) (of : Object → Tile) (known : List Tiled) (count : State → ℕ)
-    (b : State) (hs : List SweptHappening) (w : SweptWorld) → IsFirstState count b → LeadToSwept count (tile_and_width of) (swept_beginning b) hs w
-    → IsLog H known (line b) → AreStepsMade H line count plan w.world.made → AreNamed of plan w.world
-    → ((E : List Tiled) × (known ≡ take (length known) E) × StandsOf H line b plan E w.world × CanBeRead count of plan w) ⊎ SomeCollide H
+    (H : List ℕ → List ℕ) (S : List (List ℕ)) (line : State → StateLine) (step : Made → LineAttempt) (plan : Object → List ℕ × List ℕ) (of : Object → Tile)
+    (known : List Tiled) (count : State → ℕ) (b : State) (hs : List SweptHappening) (w : SweptWorld) → IsFirstState count b → LeadToSwept count (tile_and_width of) (swept_beginning b) hs w
+    → IsLog H known (line b) → AreStepsMade H S line step count plan w.world.made → AreNamed of plan w.world
+    → (E : List Tiled) → E ≡ log_of_past step known w.world.past
+    → ((known ≡ take (length known) E) × StandsOf H line step b plan E w.world × CanBeRead count of plan w) ⊎ CollideAmong H (IsHashedBySteps H S E)

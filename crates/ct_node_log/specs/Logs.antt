@@ -1,49 +1,62 @@
 -- The log that any number of nodes write: what stands is of one list of entries. H is any hash function on byte lists.
-use Rattle.std.specs.Prelude.{◌≡◌, ◌⊎◌, ℕ, ◌<◌, List, map, Ok, Vec, length, take}
+use Rattle.std.specs.Prelude.{◌≡◌, ◌⊎◌, ℕ, ◌<◌, List, [], ◌∷◌, ◌++◌, Contains, map, Ok, Vec, length, take}
 use Rattle.ct_data_tiles.specs.TileLeaf.{Tiled}
 use Rattle.ct_log_state.specs.declared.line.StateLine.{StateLine}
-use Rattle.ct_verify.specs.Laws.{SomeCollide}
+use Rattle.ct_older_tree.specs.Hashed.{CollideAmong}
 use Rattle.ct_node.specs.declared.state.State.{State}
 use Rattle.ct_node.specs.Worlds.{Has, Made, Object, World, Happening, beginning, IsFirstState, LeadTo}
 use Rattle.std.specs.Global.{Global}
 use Rattle.ct_log_state.specs.Resumed.{AnswersResume, object_parts}
 use Rattle.ct_log_state.specs.declared.bundle.Object.{Object as Found}
-use Rattle.ct_step.specs.Lines.{LineAttempt, IsMadeOfLine, IsStepOf}
-use Rattle.ct_step.specs.Steps.{IsLog}
+use Rattle.ct_step.specs.Lines.{LineAttempt, IsHashedBySteps, IsMadeOfLine, IsStepOf}
+use Rattle.ct_step.specs.Steps.{new_entries, IsLog}
 use Rattle.ct_node_log.specs.Names.{IsTileOfEntries}
 
--- What is put of a state are objects that `resume` gave of its line and of some bytes, wherever these came from. `line` gives the line of a state,
--- count how many objects are put of it, and plan each by its index, as a name and a content.
-abbrev pub IsResumed : (List ℕ → List ℕ) → (State → StateLine) → (State → ℕ) → (Object → List ℕ × List ℕ) → State → Type 0
-IsResumed H line count plan l =
-    (bytes : List ℕ) × (found : Vec Found Global) × AnswersResume H (line l) bytes (Ok found)
+-- What is put of a state are objects that `resume` gave of its line and of some bytes, wherever these came from; S has these bytes, since they were hashed.
+-- `line` gives the line of a state, count how many objects are put of it, and plan each by its index, as a name and a content.
+abbrev pub IsResumed : (List ℕ → List ℕ) → List (List ℕ) → (State → StateLine) → (State → ℕ) → (Object → List ℕ × List ℕ) → State → Type 0
+IsResumed H S line count plan l =
+    (bytes : List ℕ) × (found : Vec Found Global) × Contains S bytes × AnswersResume H (line l) bytes (Ok found)
     × ((i : ℕ) → i < count l → Has (plan (record { state = l; index = i })) (map object_parts found.items))
 
--- the attempt is this step, from the line of the one state to that of the other, and `take_step`'s
-abbrev pub IsAttempt : (List ℕ → List ℕ) → (State → StateLine) → Made → LineAttempt → Type 0
-IsAttempt H line m a = (a.seen ≡ line m.seen) × (a.step.line ≡ line m.new) × IsMadeOfLine H a
+-- the attempt is this step, from the line of the one state to that of the other, and `take_step`'s; S has the strings that its maker hashed
+abbrev pub IsAttempt : (List ℕ → List ℕ) → List (List ℕ) → (State → StateLine) → Made → LineAttempt → Type 0
+IsAttempt H S line m a = (a.seen ≡ line m.seen) × (a.step.line ≡ line m.new) × IsMadeOfLine H S a
 
 -- each step that was made is `take_step`'s, and what is put of its state `resume`'s
-abbrev pub AreStepsMade : (List ℕ → List ℕ) → (State → StateLine) → (State → ℕ) → (Object → List ℕ × List ℕ) → List Made → Type 0
-AreStepsMade H line count plan made = (m : Made) → Has m made → (a : LineAttempt) × IsAttempt H line m a × IsResumed H line count plan m.new
+abbrev pub AreStepsMade : (List ℕ → List ℕ) → List (List ℕ) → (State → StateLine) → (Made → LineAttempt) → (State → ℕ) → (Object → List ℕ × List ℕ) → List Made → Type 0
+AreStepsMade H S line step count plan made = (m : Made) → Has m made → IsAttempt H S line m (step m) × IsResumed H S line count plan m.new
 
--- the state l is of the entries E: it is the first one, or that of a step all of which is of E
-abbrev pub IsOf : (List ℕ → List ℕ) → (State → StateLine) → State → List Tiled → State → Type 0
-IsOf H line b E l = (l ≡ b) ⊎ ((a : LineAttempt) × (a.step.line ≡ line l) × IsStepOf H E a)
+-- the log that the register took: the entries that were known, and after them those that each step added by which the register came to its next state; the newest
+-- state is first
+unfoldable pub log_of_past : (Made → LineAttempt) → List Tiled → List State → List Tiled
+log_of_past step known [] = known
+log_of_past step known (l ∷ []) = known
+log_of_past step known (l ∷ k ∷ rest) =
+    let E = log_of_past step known (k ∷ rest) in
+    let a = step (record { seen = k; new = l }) in
+    E ++ new_entries E a.batch a.now
+
+-- the state l is of the entries E: it is the first one, or that of a step that was made, all of which is of E; so the receipt at an index is that of the
+-- submission at this index of the step's batch
+abbrev pub IsOf : (List ℕ → List ℕ) → (State → StateLine) → (Made → LineAttempt) → List Made → State → List Tiled → State → Type 0
+IsOf H line step made b E l =
+    (l ≡ b) ⊎ ((m : Made) × Has m made × (m.new ≡ l) × ((step m).step.line ≡ line l) × IsStepOf H E (step m))
 
 -- What stands is of the entries E: each state that the register took (past); each whose waiting were answered, and its head stands (answered);
 -- each whose waiting were answered by a promise (promised). All that was ever put are tiles of E (tiles), and under one name one content (names).
-pub record StandsOf (H : List ℕ → List ℕ) (line : State → StateLine) (b : State) (plan : Object → List ℕ × List ℕ) (E : List Tiled) (w : World) : Type 0 where
-  pub past : (l : State) → Has l w.past → IsOf H line b E l
-  pub answered : (l : State) → Has l w.answered → Has l w.heads × IsOf H line b E l
-  pub promised : (l : State) → Has l w.promised → IsOf H line b E l
+pub record StandsOf (H : List ℕ → List ℕ) (line : State → StateLine) (step : Made → LineAttempt) (b : State) (plan : Object → List ℕ × List ℕ) (E : List Tiled) (w : World) : Type 0 where
+  pub past : (l : State) → Has l w.past → IsOf H line step w.made b E l
+  pub answered : (l : State) → Has l w.answered → Has l w.heads × IsOf H line step w.made b E l
+  pub promised : (l : State) → Has l w.promised → IsOf H line step w.made b E l
   pub tiles : (o : Object) → Has o w.objects → IsTileOfEntries H E (plan o)
   pub names : (o p : Object) → Has o w.objects → Has p w.objects → (plan o).0 ≡ (plan p).0 → (plan o).1 ≡ (plan p).1
 
--- Whatever happens, there is one list of entries, which begins with those that were known, that all is of that stands; or two different strings
--- with one hash are given.
+-- Whatever happens, let E be the log that the register took, and let S have the strings that nodes hashed when they made steps and resumed them. E begins with
+-- the entries that were known, and all that is in the stores is of E; or two strings collide that S has, or that are hashed for the log's lines.
 abbrev pub NodesWriteOneLog : Type 0
 NodesWriteOneLog =
-    (H : List ℕ → List ℕ) (line : State → StateLine) (plan : Object → List ℕ × List ℕ) (known : List Tiled) (count : State → ℕ) (b : State)
-    (hs : List Happening) (w : World) → IsFirstState count b → LeadTo count (beginning b) hs w → IsLog H known (line b)
-    → AreStepsMade H line count plan w.made → ((E : List Tiled) × (known ≡ take (length known) E) × StandsOf H line b plan E w) ⊎ SomeCollide H
+    (H : List ℕ → List ℕ) (S : List (List ℕ)) (line : State → StateLine) (step : Made → LineAttempt) (plan : Object → List ℕ × List ℕ) (known : List Tiled)
+    (count : State → ℕ) (b : State) (hs : List Happening) (w : World) → IsFirstState count b → LeadTo count (beginning b) hs w → IsLog H known (line b)
+    → AreStepsMade H S line step count plan w.made → (E : List Tiled) → E ≡ log_of_past step known w.past
+    → ((known ≡ take (length known) E) × StandsOf H line step b plan E w) ⊎ CollideAmong H (IsHashedBySteps H S E)

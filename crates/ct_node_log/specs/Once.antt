@@ -4,14 +4,14 @@ use Rattle.ct_codec.specs.Submitted.{identity_of}
 use Rattle.ct_data_tiles.specs.TileLeaf.{Tiled}
 use Rattle.ct_growth.specs.Identities.{identity_of_leaf, AreApart, AreNewFrom}
 use Rattle.ct_log_state.specs.declared.line.StateLine.{StateLine}
-use Rattle.ct_verify.specs.Laws.{SomeCollide}
+use Rattle.ct_older_tree.specs.Hashed.{CollideAmong}
 use Rattle.ct_node.specs.declared.state.State.{State}
 use Rattle.ct_node.specs.Worlds.{Has, Made, World, Happening, beginning, IsFirstState, LeadTo}
 use Rattle.ct_node.specs.LookUps.{AllLookUp}
 use Rattle.ct_step.specs.Entries.{tree_leaves}
-use Rattle.ct_step.specs.Lines.{LineAttempt}
+use Rattle.ct_step.specs.Lines.{LineAttempt, IsHashedBySteps}
 use Rattle.ct_step.specs.Steps.{IsLog}
-use Rattle.ct_node_log.specs.Logs.{IsAttempt}
+use Rattle.ct_node_log.specs.Logs.{IsAttempt, log_of_past}
 
 -- the identities of a log's entries
 abbrev pub entry_identities : List Tiled → List (List ℕ)
@@ -22,15 +22,17 @@ abbrev pub batch_identities : LineAttempt → List (List ℕ)
 batch_identities a = map (λ e. identity_of e.0) a.batch
 
 -- each step that was made is `take_step`'s, of a batch with the identities that its state adds, each of them once
-abbrev pub AreStepsAdding : (List ℕ → List ℕ) → (State → StateLine) → (State → List (List ℕ)) → List Made → Type 0
-AreStepsAdding H line ids made =
-    (m : Made) → Has m made → (a : LineAttempt) × IsAttempt H line m a × (batch_identities a ≡ ids m.new) × AreApart (ids m.new)
+abbrev pub AreStepsAdding : (List ℕ → List ℕ) → List (List ℕ) → (State → StateLine) → (Made → LineAttempt) → (State → List (List ℕ)) → List Made → Type 0
+AreStepsAdding H S line step ids made =
+    (m : Made) → Has m made → IsAttempt H S line m (step m) × (batch_identities (step m) ≡ ids m.new) × AreApart (ids m.new)
 
--- Whatever happens, where each step was looked up before and no place is missing, the register's line is that of a log that begins with the entries
--- that were known, and that has behind these no identity that stands before; or two different strings with one hash are given.
+-- Whatever happens, let E be the log that the register took, and let S have the strings that nodes hashed when they made steps. If each step was looked up
+-- before and no place is missing, the register's line is that of E, E begins with the entries that were known, and it has after these no identity that
+-- stands before; or two strings collide that S has, or that are hashed for the log's lines.
 abbrev pub NodesAddOnce : Type 0
 NodesAddOnce =
-    (H : List ℕ → List ℕ) (line : State → StateLine) (ids : State → List (List ℕ)) (known : List Tiled) (count : State → ℕ) (b : State)
-    (hs : List Happening) (w : World) → IsFirstState count b → LeadTo count (beginning b) hs w → IsLog H known (line b)
-    → (ids b ≡ entry_identities known) → AreStepsAdding H line ids w.made → AllLookUp ids (beginning b) hs
-    → ((E : List Tiled) × IsLog H E (line w.held) × (known ≡ take (length known) E) × AreNewFrom (length known) (entry_identities E)) ⊎ SomeCollide H
+    (H : List ℕ → List ℕ) (S : List (List ℕ)) (line : State → StateLine) (step : Made → LineAttempt) (ids : State → List (List ℕ)) (known : List Tiled)
+    (count : State → ℕ) (b : State) (hs : List Happening) (w : World) → IsFirstState count b → LeadTo count (beginning b) hs w → IsLog H known (line b)
+    → (ids b ≡ entry_identities known) → AreStepsAdding H S line step ids w.made → AllLookUp ids (beginning b) hs
+    → (E : List Tiled) → E ≡ log_of_past step known w.past
+    → (IsLog H E (line w.held) × (known ≡ take (length known) E) × AreNewFrom (length known) (entry_identities E)) ⊎ CollideAmong H (IsHashedBySteps H S E)

@@ -32,7 +32,7 @@ pub fn certificates_have_one_key()
 {}
 
 /// Where an audit path leads from the leaf that a timestamp within a certificate stands for to a root, that leaf stands in each list with this
-/// root, or two different strings with one hash are given: a law of every hash function with hashes of 32 bytes, of which
+/// root, or two of the strings that are hashed collide: a law of every hash function with hashes of 32 bytes, of which
 /// [`check_promise`](crate::check_promise) has the one of SHA-256.
 pub fn kept_promises_stand()
     ensures { KeptPromisesStand }

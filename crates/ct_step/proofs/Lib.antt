@@ -4,6 +4,6 @@ mod Batches
 mod Handed
 mod Fitting
 mod Made
-mod LinesAgree
+pub mod LinesAgree
 pub mod RollingOut
 pub mod Lengths

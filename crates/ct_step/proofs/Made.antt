@@ -1,15 +1,14 @@
 -- What a step makes of a batch.
 use Rattle.std.proofs.Common.{◌≡◌, ◌⊎◌, ◌∙◌, ℕ, suc, ◌-◌, ◌/◌, ◌<◌, ◌≤◌, ◌+◌, ◌^◌, true, false, List, [], ◌∷◌, ◌++◌, length, map, sym, refl, ap, subst, arith, inl, inr, ⊎_elim, Vec, Global, All}
-use Rattle.std.specs.Str.{bytes_eq}
-use Rattle.std.proofs.lemmas.Bool.{cases_Bool, both_ways}
-use Rattle.std.proofs.lemmas.Slice.Eq.{bytes_eq-Decides}
 use Rattle.std.proofs.lemmas.List.{length-map, map-append}
+use Rattle.std.specs.Prelude.{Contains}
 use Rattle.ct_codec.specs.Submitted.{Submitted, entry_of}
 use Rattle.ct_tree.specs.Tree.{hash_leaf}
 use Rattle.ct_data_tiles.specs.Rows.{data_tile, data_tiles_from, IsPartialTile, IsDataRow}
 use Rattle.ct_data_tiles.specs.declared.row.DataRow.{DataRow}
 use Rattle.ct_data_tiles.proofs.Rows.{text_in}
-use Rattle.ct_growth.specs.Believed.{BelievesState, IsHeadOver}
+use Rattle.ct_growth.specs.Believed.{BelievesState, IsHeadOver, IsHashedInEdgeOf}
+use Rattle.ct_growth.specs.EdgeStrings.{IsHashedInEdge}
 use Rattle.ct_growth.specs.Growths.{IsState}
 use Rattle.ct_growth.specs.Leaves.{indexed_leaves}
 use Rattle.ct_growth.specs.declared.growth.State.{State}
@@ -18,10 +17,12 @@ use Rattle.ct_growth.proofs.EdgesTell.{believed_edges_tell, edges_are_believed, 
 use Rattle.ct_log_state.specs.declared.line.StateLine.{StateLine}
 use Rattle.ct_tiles.specs.Edge.{IsEdge}
 use Rattle.ct_data_tiles.specs.TileLeaf.{Tiled, leaf_of, tile_leaf_text}
-use Rattle.ct_verify.specs.Laws.{AreHashes, SomeCollide}
+use Rattle.ct_verify.specs.Laws.{AreHashes}
+use Rattle.ct_older_tree.proofs.Agreeing.{collide_more, one_hash}
+use Rattle.ct_older_tree.specs.Hashed.{CollideAmong}
 use Rattle.ct_step.specs.Entries.{tiled_at, tiled_leaves, texts_of, tree_leaves, hashes_of}
-use Rattle.ct_step.specs.Steps.{new_entries, last_tiles, line_head, tile_hashes, AreBytesOf, IsLog, IsNamed, IsEdgeOf, NamedEdgesTell, EdgesAreNamed, MayStep, StopsStep, StopsMade}
-use Rattle.ct_step.specs.Lines.{HandedAttemptsAreAttempts}
+use Rattle.ct_step.specs.Steps.{new_entries, last_tiles, line_head, tile_hashes, AreBytesOf, IsLog, IsNamed, IsEdgeOf, IsHashedOfHanded, IsHashedOfLog, NamedEdgesTell, EdgesAreNamed, MayStep, StopsStep, StopsMade}
+use Rattle.ct_step.specs.Lines.{IsHashedByMaker, HandedAttemptsAreAttempts}
 use Rattle.ct_step.specs.declared.step.StepFault.{StepFault}
 use Rattle.ct_step.specs.declared.step.StepFault.TheVariants.{Edge, Entries, Growth, TooLong}
 use Rattle.ct_step.proofs.Batches.{Entry}
@@ -43,14 +44,6 @@ pub all-leaves : (E : List Tiled) (B : List Entry) (t : ℕ)
     → tree_leaves E ++ indexed_leaves t (length (tree_leaves E)) (map entry_of (map (λ (e : Entry). e.0) B)) ≡ tree_leaves (E ++ new_entries E B t)
 all-leaves E B t =
     ap (λ (x : List (List ℕ)). tree_leaves E ++ x) (new-leaves E B t) ∙ sym (map-append leaf_of E (new_entries E B t))
-
--- two strings with one hash are one, or they differ
-pub same_or_other : (H : List ℕ → List ℕ) (a b : List ℕ) → H a ≡ H b → (a ≡ b) ⊎ SomeCollide H
-same_or_other H a b e =
-    ⊎_elim
-    (λ (same : bytes_eq a b ≡ true). inl ((bytes_eq-Decides a b).0 same))
-    (λ (other : bytes_eq a b ≡ false). inr (a, b, (λ q. both_ways (bytes_eq a b) other ((bytes_eq-Decides a b).1 q), e)))
-    (cases_Bool (bytes_eq a b))
 
 -- how many texts there are, and how many submissions
 pub count-made : (t first : ℕ) (B : List Entry) (X : List (Vec ℕ Global)) → map text_in X ≡ texts_of (tiled_leaves t first B) → length X ≡ length B
@@ -84,7 +77,10 @@ tile_of_log L n e = ap (λ (k : ℕ). data_tile (k / 256) L) (sym e)
 -- what a line names is the edge of a log that has the line
 pub named_edges_tell : NamedEdgesTell
 named_edges_tell H long line E edge entries named log =
+    let S : List ℕ → Type 0 = λ s. IsHashedOfHanded H edge entries s ⊎ IsHashedOfLog H E s in
     let texts : length (texts_of E) ≡ length E = length-map E tile_leaf_text in
+    let T : List (List (List ℕ)) = named.tiles.0 in
+    let read : T ≡ map tile_hashes edge = sym (all-back T named.tiles.2.hashes) ∙ ap (map tile_hashes) named.tiles.1 in
     ⊎_elim
     (λ (is : IsEdge H (line.tree_size, named.tiles.0) (hashes_of H E)).
     ⊎_elim
@@ -93,9 +89,15 @@ named_edges_tell H long line E edge entries named log =
       tiles = (named.tiles.0, named.tiles.1, is);
       partial = (log.size ∙ sym texts, same ∙ tile_of_log (texts_of E) (length E) texts);
     }))
-    (λ (found : SomeCollide H). inr found)
-    (same_or_other H entries (data_tile (length E / 256) (texts_of E)) (named.digest ∙ log.entries)))
-    (λ (found : SomeCollide H). inr found)
+    (λ (found : CollideAmong H S). inr found)
+    (one_hash H S entries (data_tile (length E / 256) (texts_of E)) (inl (inr refl)) (inr (inr refl)) (named.digest ∙ log.entries)))
+    (λ (found : CollideAmong H (λ s. IsHashedInEdge H T s ⊎ IsHashedInEdgeOf H (tree_leaves E) s)).
+    inr (collide_more H (λ s. IsHashedInEdge H T s ⊎ IsHashedInEdgeOf H (tree_leaves E) s) S
+    (λ s h. ⊎_elim
+    (λ (in_tiles : IsHashedInEdge H T s). inl (inl (subst (λ (x : List (List (List ℕ))). IsHashedInEdge H x s) read in_tiles)))
+    (λ (in_edge : IsHashedInEdgeOf H (tree_leaves E) s). inr (inl in_edge))
+    h)
+    found))
     (believed_edges_tell H long (line_head line) (tree_leaves E) named.tiles.0 (over H line E log) named.tiles.2)
 
 -- the edge of a log is what its line names
@@ -109,11 +111,18 @@ edges_are_named H long line E edge entries is log =
 
 -- what was made of an edge is an attempt, whatever the edge was
 pub handed_attempts_are_attempts : HandedAttemptsAreAttempts
-handed_attempts_are_attempts H long b made = (
+handed_attempts_are_attempts H long S b made all = (
   made.may.later,
+  all b.attempt.step.bundle.items (inr refl),
   λ E log. ⊎_elim
       (λ (is : IsEdgeOf H E b.attempt.seen.tree_size b.edge b.entries). inl (made.step E is))
-      (λ (found : SomeCollide H). inr found)
+      (λ (found : CollideAmong H (λ s. IsHashedOfHanded H b.edge b.entries s ⊎ IsHashedOfLog H E s)).
+      inr (collide_more H (λ s. IsHashedOfHanded H b.edge b.entries s ⊎ IsHashedOfLog H E s) (λ s. Contains S s ⊎ IsHashedOfLog H E s)
+      (λ s h. ⊎_elim
+      (λ (handed : IsHashedOfHanded H b.edge b.entries s). inl (all s (inl handed)))
+      (λ (own : IsHashedOfLog H E s). inr own)
+      h)
+      found))
       (named_edges_tell H long b.attempt.seen E b.edge b.entries made.may.named log),
 )
 

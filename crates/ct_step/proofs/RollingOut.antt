@@ -9,13 +9,13 @@ use Rattle.ct_log_state.proofs.Bundles.{bundles_are_resumed, bundles_tell}
 use Rattle.ct_codec.specs.Submitted.{Submitted}
 use Rattle.ct_log_state.specs.declared.line.StateLine.{StateLine}
 use Rattle.ct_data_tiles.specs.TileLeaf.{Tiled}
-use Rattle.ct_verify.specs.Laws.{SomeCollide}
+use Rattle.ct_verify.specs.Evidence.{Collides}
 use Rattle.ct_step.specs.RollingOut.{IsRolledOut, StepsAreRolledOut}
 use Rattle.ct_step.specs.Steps.{new_entries, step_objects, IsTiledStep}
 use Rattle.ct_step.specs.declared.step.Step.{Step}
 
 others_tell : (H : List ℕ → List ℕ) (line : StateLine) (own bytes : List ℕ) (r : Result (Vec Object Global) ResumeFault) → line.bundle ≡ H own
-    → AnswersResume H line bytes r → bytes ≢ own → IsRolledOut r → SomeCollide H
+    → AnswersResume H line bytes r → bytes ≢ own → IsRolledOut r → Collides H bytes own
 others_tell H line own bytes (Ok found) d a other out = bundles_tell H line bytes own a.0 (sym d) other
 others_tell H line own bytes (Err fault) d a other out = absurd out
 

@@ -1,12 +1,12 @@
 -- Many sequencers over one register that holds the log's line, each of them handed the edge and the partial data tile by whoever keeps
 -- them. H is any hash function on byte lists.
-use Rattle.std.specs.Prelude.{◌≡◌, ◌⊎◌, ⊤, Bool, true, false, ℕ, ◌<◌, ◌≤◌, List, [], ◌∷◌, ◌++◌, length, map, take, drop, filter, All, AllPairs}
+use Rattle.std.specs.Prelude.{◌≡◌, ◌⊎◌, ⊤, Bool, true, false, ℕ, ◌<◌, ◌≤◌, if◌then◌else◌, Contains, List, [], ◌∷◌, ◌++◌, length, map, take, drop, filter, All, AllPairs}
 use Rattle.ct_codec.specs.Submitted.{Submitted}
 use Rattle.ct_data_tiles.specs.TileLeaf.{Tiled}
 use Rattle.ct_log_state.specs.declared.line.StateLine.{StateLine}
-use Rattle.ct_verify.specs.Laws.{SomeCollide}
+use Rattle.ct_older_tree.specs.Hashed.{CollideAmong}
 use Rattle.ct_step.specs.Entries.{tiled_leaves}
-use Rattle.ct_step.specs.Steps.{new_entries, IsEdgeOf, IsLog, IsStepFrom, IsTiledStep, MayStep}
+use Rattle.ct_step.specs.Steps.{new_entries, IsEdgeOf, IsHashedOfHanded, IsHashedOfLog, IsLog, IsStepFrom, IsTiledStep, MayStep}
 use Rattle.ct_step.specs.declared.step.Step.{Step}
 
 -- An attempt to carry on the log: the line that was read (seen), the submissions with their chains' fingerprints (batch), the moment (now),
@@ -18,17 +18,22 @@ pub record LineAttempt : Type 0 where
   pub step : Step
   pub took : Bool
 
--- the attempt's step is what `take_step` answers of its line, its batch and its moment, whatever edge and data tile were handed in
-abbrev pub IsMadeOfLine : (List ℕ → List ℕ) → LineAttempt → Type 0
-IsMadeOfLine H a = (a.seen.timestamp < a.now) × ((E : List Tiled) → IsLog H E a.seen → IsTiledStep H a.seen E a.batch a.now a.step ⊎ SomeCollide H)
+-- The attempt's step is what `take_step` answers of its line, its batch and its moment, whatever edge and data tile were handed in. S has the strings that
+-- its maker hashed: its moment is later than the line's, S has its bundle, and it is the step of each log that has the line; or two strings collide, each
+-- of which S has or is hashed for the line of that log.
+abbrev pub IsMadeOfLine : (List ℕ → List ℕ) → List (List ℕ) → LineAttempt → Type 0
+IsMadeOfLine H S a =
+    (a.seen.timestamp < a.now) × Contains S a.step.bundle.items
+    × ((E : List Tiled) → IsLog H E a.seen
+    → IsTiledStep H a.seen E a.batch a.now a.step ⊎ CollideAmong H (λ s. Contains S s ⊎ IsHashedOfLog H E s))
 
 -- Attempts in the order in which the register answered, from the line that it held on: it took a line only in place of the one that it held.
 -- Who made an attempt, and what became of them afterwards, isn't said.
-unfoldable pub AreLineAttempts : (List ℕ → List ℕ) → StateLine → List LineAttempt → Type 0
-AreLineAttempts H held [] = ⊤
-AreLineAttempts H held (a ∷ rest) =
-    IsMadeOfLine H a
-    × (((a.took ≡ true) × (a.seen ≡ held) × AreLineAttempts H a.step.line rest) ⊎ ((a.took ≡ false) × AreLineAttempts H held rest))
+unfoldable pub AreLineAttempts : (List ℕ → List ℕ) → List (List ℕ) → StateLine → List LineAttempt → Type 0
+AreLineAttempts H S held [] = ⊤
+AreLineAttempts H S held (a ∷ rest) =
+    IsMadeOfLine H S a
+    × (((a.took ≡ true) × (a.seen ≡ held) × AreLineAttempts H S a.step.line rest) ⊎ ((a.took ≡ false) × AreLineAttempts H S held rest))
 
 -- the attempts whose lines the register took, in order
 abbrev pub taken_lines : List LineAttempt → List LineAttempt
@@ -54,12 +59,22 @@ pub record CarryOnLines (H : List ℕ → List ℕ) (since : ℕ) (E : List Tile
   pub later : All (λ a. since < a.step.line.timestamp) steps
   pub order : AllPairs ComesBehindLine steps
 
--- There is one list of entries that all the steps whose lines the register took carry on, and it begins with the entries that were known; or
--- two different strings with one hash are given.
+-- the entries after these attempts: those that were known, and after them those of each attempt whose line the register took
+unfoldable pub entries_after : List Tiled → List LineAttempt → List Tiled
+entries_after known [] = known
+entries_after known (a ∷ rest) = entries_after (if a.took then known ++ new_entries known a.batch a.now else known) rest
+
+-- the strings that S has, and those that are hashed for the lines of the log while it grows to the entries E
+abbrev pub IsHashedBySteps : (List ℕ → List ℕ) → List (List ℕ) → List Tiled → List ℕ → Type 0
+IsHashedBySteps H S E s = Contains S s ⊎ ((n : ℕ) × (n ≤ length E) × IsHashedOfLog H (take n E) s)
+
+-- Let E be the entries that were known, and after them those of each attempt whose line the register took, and let S have the strings that the makers of the
+-- steps hashed. All steps whose lines the register took carry on E; or two strings collide that S has, or that are hashed for the log's lines.
 abbrev pub LineSequencersAgree : Type 0
 LineSequencersAgree =
-    (H : List ℕ → List ℕ) (held : StateLine) (known : List Tiled) (attempts : List LineAttempt) → IsLog H known held → AreLineAttempts H held attempts
-    → ((E : List Tiled) × (known ≡ take (length known) E) × CarryOnLines H held.timestamp E (taken_lines attempts)) ⊎ SomeCollide H
+    (H : List ℕ → List ℕ) (S : List (List ℕ)) (held : StateLine) (known : List Tiled) (attempts : List LineAttempt) → IsLog H known held
+    → AreLineAttempts H S held attempts → (E : List Tiled) → E ≡ entries_after known attempts
+    → ((known ≡ take (length known) E) × CarryOnLines H held.timestamp E (taken_lines attempts)) ⊎ CollideAmong H (IsHashedBySteps H S E)
 
 -- An attempt with what was handed in: the bytes of the partial tiles (edge), those of the partial data tile (entries), and the attempt itself
 -- (attempt).
@@ -98,7 +113,12 @@ TrueEdgesAgree =
     → AreTrueAttempts H held known attempts
     → (E : List Tiled) × (known ≡ take (length known) E) × CarryOnLines H held.timestamp E (taken_lines (handed_line_attempts attempts))
 
--- A step that was made of what was handed in is an attempt from its line, whatever that was.
+-- the strings that the maker of a step hashes: those of what was handed in, and the step's bundle
+abbrev pub IsHashedByMaker : (List ℕ → List ℕ) → HandedLineAttempt → List ℕ → Type 0
+IsHashedByMaker H b s = IsHashedOfHanded H b.edge b.entries s ⊎ (s ≡ b.attempt.step.bundle.items)
+
+-- A step that was made of what was handed in is an attempt from its line, whatever that was, if S has the strings that its maker hashed.
 abbrev pub HandedAttemptsAreAttempts : Type 0
 HandedAttemptsAreAttempts =
-    (H : List ℕ → List ℕ) → ((x : List ℕ) → length (H x) ≡ 32) → (b : HandedLineAttempt) → IsMadeOfEdge H b → IsMadeOfLine H b.attempt
+    (H : List ℕ → List ℕ) → ((x : List ℕ) → length (H x) ≡ 32) → (S : List (List ℕ)) (b : HandedLineAttempt) → IsMadeOfEdge H b
+    → ((s : List ℕ) → IsHashedByMaker H b s → Contains S s) → IsMadeOfLine H S b.attempt

@@ -13,14 +13,16 @@ use Rattle.ct_data_tiles.specs.Rows.{data_tile, data_tiles_from, IsPartialTile}
 use Rattle.ct_data_tiles.specs.TileLeaf.{Tiled}
 use Rattle.ct_log_state.specs.Lines.{state_line_text}
 use Rattle.ct_log_state.specs.declared.line.StateLine.{StateLine}
-use Rattle.ct_growth.specs.Believed.{AreBelieved}
+use Rattle.ct_growth.specs.Believed.{AreBelieved, IsHashedInEdgeOf}
+use Rattle.ct_growth.specs.EdgeStrings.{IsHashedInEdge}
 use Rattle.ct_growth.specs.Growths.{IsState, MayGrow, StopsGrowth}
 use Rattle.ct_growth.specs.Leaves.{receipts_from, receipt_parts}
 use Rattle.ct_growth.specs.declared.believed.EdgeFault.{EdgeFault}
 use Rattle.ct_growth.specs.declared.believed.EdgeFault.TheVariants.{OtherWidths, OtherRoot, Memory}
 use Rattle.ct_growth.specs.declared.growth.State.{State}
 use Rattle.ct_growth.specs.declared.growth.GrowthFault.TheVariants.{ClockBack, Full, Refused}
-use Rattle.ct_verify.specs.Laws.{AreHashes, SomeCollide}
+use Rattle.ct_verify.specs.Laws.{AreHashes}
+use Rattle.ct_older_tree.specs.Hashed.{CollideAmong}
 use Rattle.ct_log_state.specs.Bundle.{IsBundleOf}
 use Rattle.ct_step.specs.Entries.{tiled_leaves, texts_of, tree_leaves, hashes_of}
 use Rattle.ct_step.specs.Objects.{level_objects, data_objects, FitsInBundle}
@@ -130,11 +132,20 @@ pub record IsEdgeOf (H : List ℕ → List ℕ) (E : List Tiled) (size : ℕ) (e
   pub tiles : (T : List (List (List ℕ))) × AreBytesOf T edge × IsEdge H (size, T) (hashes_of H E)
   pub partial : IsPartialTile (texts_of E) size entries
 
--- What a line names is the edge of each log that has the line, or two different strings with one hash are given.
+-- the strings that are hashed when what was handed in is compared with a line: those over the partial tiles, and the partial data tile
+abbrev pub IsHashedOfHanded : (List ℕ → List ℕ) → List (List ℕ) → List ℕ → List ℕ → Type 0
+IsHashedOfHanded H edge entries s = IsHashedInEdge H (map tile_hashes edge) s ⊎ (s ≡ entries)
+
+-- the strings that are hashed for the line of the log with the entries E: those over its partial tiles, and its partial data tile
+abbrev pub IsHashedOfLog : (List ℕ → List ℕ) → List Tiled → List ℕ → Type 0
+IsHashedOfLog H E s = IsHashedInEdgeOf H (tree_leaves E) s ⊎ (s ≡ data_tile (length E / 256) (texts_of E))
+
+-- What a line names is the edge of each log that has the line; or two of the strings collide that are hashed of what was handed in, and for the log's line.
 abbrev pub NamedEdgesTell : Type 0
 NamedEdgesTell =
     (H : List ℕ → List ℕ) → ((x : List ℕ) → length (H x) ≡ 32) → (line : StateLine) (E : List Tiled) (edge : List (List ℕ)) (entries : List ℕ)
-    → IsNamed H line edge entries → IsLog H E line → IsEdgeOf H E line.tree_size edge entries ⊎ SomeCollide H
+    → IsNamed H line edge entries → IsLog H E line
+    → IsEdgeOf H E line.tree_size edge entries ⊎ CollideAmong H (λ s. IsHashedOfHanded H edge entries s ⊎ IsHashedOfLog H E s)
 
 -- The edge of a log is what its line names.
 abbrev pub EdgesAreNamed : Type 0

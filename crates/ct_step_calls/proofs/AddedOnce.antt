@@ -1,5 +1,5 @@
 -- The log that the taken steps carry on has each new identity once.
-use Rattle.std.proofs.Common.{◌≡◌, ◌⊎◌, ◌∙◌, ℕ, suc, Bool, true, false, cond, List, [], ◌∷◌, ◌++◌, length, get_or, map, flat_map, All, AllPairs, Contains, sym, refl, ap, subst, arith, inl, inr, ⊎_elim, append_assoc, append-nil}
+use Rattle.std.proofs.Common.{◌≡◌, ◌⊎◌, ◌∙◌, ℕ, suc, Bool, true, false, cond, List, [], ◌∷◌, ◌++◌, length, get_or, map, flat_map, take, All, AllPairs, Contains, sym, refl, ap, subst, arith, inl, inr, ⊎_elim, append_assoc, append-nil}
 use Rattle.std.proofs.lemmas.List.{take_at, map-append, length-map}
 use Rattle.std.proofs.lemmas.List.Elements.{All-nil, All-cons, All-head, All-tail, All-append, All-map, All-weaker}
 use Rattle.ct_codec.specs.Submitted.{identity_of}
@@ -8,10 +8,11 @@ use Rattle.ct_growth.proofs.Lists.{AllPairs-first, AllPairs-rest, AllPairs-appen
 use Rattle.ct_growth.proofs.Once.{leaves_keep_identities}
 use Rattle.ct_log_state.specs.declared.line.StateLine.{StateLine}
 use Rattle.ct_step.specs.Entries.{tiled_leaves, tree_leaves}
-use Rattle.ct_step.specs.Lines.{LineAttempt, AreLineAttempts, taken_lines}
-use Rattle.ct_step.specs.Steps.{new_entries, IsLog, IsTiledStep}
+use Rattle.ct_step.specs.Lines.{LineAttempt, AreLineAttempts, entries_after, taken_lines, IsHashedBySteps}
+use Rattle.ct_step.specs.Steps.{new_entries, IsHashedOfLog, IsLog, IsTiledStep}
+use Rattle.ct_step.proofs.LinesAgree.{after_begins, after_taken, after_left, met_before}
 use Rattle.ct_data_tiles.specs.TileLeaf.{Tiled, leaf_of}
-use Rattle.ct_verify.specs.Laws.{SomeCollide}
+use Rattle.ct_older_tree.specs.Hashed.{CollideAmong}
 use Rattle.ct_step_calls.specs.StepLaws.{LookedUpLine, line_attempts_of, taken_of_lines, StoresEach, held_behind, logged_identities, OneEntryAnIdentityByLines}
 use Rattle.ct_step_calls.specs.StepRepeats.{BatchEntry, is_known, with_identity, first_of_each, identities_of}
 use Rattle.ct_step_calls.proofs.Splits.{batches_are_split}
@@ -30,49 +31,55 @@ logged-append E N = ap (map identity_of_leaf) (map-append leaf_of E N) ∙ map-a
 abbrev step_identities : LineAttempt → List (List ℕ)
 step_identities a = identities_of a.batch
 
-abbrev Grown : (List ℕ → List ℕ) → StateLine → List Tiled → List LineAttempt → Type 0
-Grown H held known attempts =
-    ((Z : List Tiled) × IsLog H (known ++ Z) (held_behind held attempts)
-    × (logged_identities Z ≡ flat_map step_identities (taken_lines attempts))) ⊎ SomeCollide H
+module _ (H : List ℕ → List ℕ) (S : List (List ℕ)) (E : List Tiled) where
+  abbrev Grown : StateLine → List Tiled → List LineAttempt → Type 0
+  Grown held known attempts =
+      ((Z : List Tiled) × (E ≡ known ++ Z) × IsLog H E (held_behind held attempts)
+      × (logged_identities Z ≡ flat_map step_identities (taken_lines attempts))) ⊎ CollideAmong H (IsHashedBySteps H S E)
 
-grown_from : (H : List ℕ → List ℕ) (held : StateLine) (known : List Tiled) (attempts : List LineAttempt) → IsLog H known held → AreLineAttempts H held attempts
-    → Grown H held known attempts
-unfolding AreLineAttempts
-grown_from H held known [] log made = inl ([], subst (λ (E : List Tiled). IsLog H E held) (sym (append-nil known)) log, refl)
-grown_from H held known (a ∷ rest) log (made, inl (took, seen, more)) =
-    let here : IsLog H known a.seen = subst (IsLog H known) (sym seen) log in
-    let N = new_entries known a.batch a.now in
-    let kept : taken_lines (a ∷ rest) ≡ a ∷ taken_lines rest = ap (λ b. cond b (a ∷ taken_lines rest) (taken_lines rest)) took in
-    let held_now : a.step.line ≡ cond a.took a.step.line held = ap (λ b. cond b a.step.line held) (sym took) in
-    ⊎_elim
-    (λ (p : IsTiledStep H a.seen known a.batch a.now a.step).
-    ⊎_elim
-    (λ (behind : (Z : List Tiled) × IsLog H ((known ++ N) ++ Z) (held_behind a.step.line rest)
-    × (logged_identities Z ≡ flat_map step_identities (taken_lines rest))).
-    inl (
-      N ++ behind.0,
-      subst (λ (E : List Tiled). IsLog H E (held_behind held (a ∷ rest))) (append_assoc known N behind.0)
-          (subst (λ (h : StateLine). IsLog H ((known ++ N) ++ behind.0) (held_behind h rest)) held_now behind.1),
-      logged-append N behind.0 ∙ ap (λ x. x ++ logged_identities behind.0) (new_identities a.now (length known) a.batch)
-          ∙ ap (λ x. step_identities a ++ x) behind.2 ∙ ap (flat_map step_identities) (sym kept),
-    ))
-    (λ (found : SomeCollide H). inr found)
-    (grown_from H a.step.line (known ++ N) rest p.log more))
-    (λ (found : SomeCollide H). inr found)
-    (made.1 known here)
-grown_from H held known (a ∷ rest) log (made, inr (left, more)) =
-    let kept : taken_lines (a ∷ rest) ≡ taken_lines rest = ap (λ b. cond b (a ∷ taken_lines rest) (taken_lines rest)) left in
-    let held_now : held ≡ cond a.took a.step.line held = ap (λ b. cond b a.step.line held) (sym left) in
-    ⊎_elim
-    (λ (behind : (Z : List Tiled) × IsLog H (known ++ Z) (held_behind held rest)
-    × (logged_identities Z ≡ flat_map step_identities (taken_lines rest))).
-    inl (
-      behind.0,
-      subst (λ (h : StateLine). IsLog H (known ++ behind.0) (held_behind h rest)) held_now behind.1,
-      behind.2 ∙ ap (flat_map step_identities) (sym kept),
-    ))
-    (λ (found : SomeCollide H). inr found)
-    (grown_from H held known rest log more)
+  grown_from : (held : StateLine) (known : List Tiled) (attempts : List LineAttempt) → E ≡ entries_after known attempts → IsLog H known held
+      → AreLineAttempts H S held attempts → Grown held known attempts
+  unfolding AreLineAttempts entries_after
+  grown_from held known [] all log made =
+      inl ([], all ∙ sym (append-nil known), subst (λ (X : List Tiled). IsLog H X held) (sym all) log, refl)
+  grown_from held known (a ∷ rest) all log (made, inl (took, seen, more)) =
+      let here : IsLog H known a.seen = subst (IsLog H known) (sym seen) log in
+      let N = new_entries known a.batch a.now in
+      let kept : taken_lines (a ∷ rest) ≡ a ∷ taken_lines rest = ap (λ b. cond b (a ∷ taken_lines rest) (taken_lines rest)) took in
+      let held_now : a.step.line ≡ cond a.took a.step.line held = ap (λ b. cond b a.step.line held) (sym took) in
+      let after : E ≡ entries_after (known ++ N) rest = all ∙ after_taken known a rest took in
+      let end = after_begins (known ++ N) rest in
+      ⊎_elim
+      (λ (p : IsTiledStep H a.seen known a.batch a.now a.step).
+      ⊎_elim
+      (λ (behind : (Z : List Tiled) × (E ≡ (known ++ N) ++ Z) × IsLog H E (held_behind a.step.line rest)
+      × (logged_identities Z ≡ flat_map step_identities (taken_lines rest))).
+      inl (
+        N ++ behind.0,
+        behind.1 ∙ append_assoc known N behind.0,
+        subst (λ (h : StateLine). IsLog H E (held_behind h rest)) held_now behind.2,
+        logged-append N behind.0 ∙ ap (λ x. x ++ logged_identities behind.0) (new_identities a.now (length known) a.batch)
+            ∙ ap (λ x. step_identities a ++ x) behind.3 ∙ ap (flat_map step_identities) (sym kept),
+      ))
+      (λ (found : CollideAmong H (IsHashedBySteps H S E)). inr found)
+      (grown_from a.step.line (known ++ N) rest after p.log more))
+      (λ (found : CollideAmong H (λ s. Contains S s ⊎ IsHashedOfLog H known s)).
+      inr (met_before H S E known (N ++ end.0) (after ∙ end.1 ∙ append_assoc known N end.0) found))
+      (made.2 known here)
+  grown_from held known (a ∷ rest) all log (made, inr (left, more)) =
+      let kept : taken_lines (a ∷ rest) ≡ taken_lines rest = ap (λ b. cond b (a ∷ taken_lines rest) (taken_lines rest)) left in
+      let held_now : held ≡ cond a.took a.step.line held = ap (λ b. cond b a.step.line held) (sym left) in
+      ⊎_elim
+      (λ (behind : (Z : List Tiled) × (E ≡ known ++ Z) × IsLog H E (held_behind held rest)
+      × (logged_identities Z ≡ flat_map step_identities (taken_lines rest))).
+      inl (
+        behind.0,
+        behind.1,
+        subst (λ (h : StateLine). IsLog H E (held_behind h rest)) held_now behind.2,
+        behind.3 ∙ ap (flat_map step_identities) (sym kept),
+      ))
+      (λ (found : CollideAmong H (IsHashedBySteps H S E)). inr found)
+      (grown_from held known rest (all ∙ after_left known a rest left) log more)
 
 -- ---- the taken ones of those that were looked up
 kept_of : (took : Bool) (b : LookedUpLine) (x : List LineAttempt) (y : List LookedUpLine) → x ≡ line_attempts_of y
@@ -149,25 +156,24 @@ added_apart (b ∷ steps) miss written =
     (stored_too b steps (AllPairs-first Written b steps written)) behind)
 
 pub one_entry_an_identity_by_lines : OneEntryAnIdentityByLines
-one_entry_an_identity_by_lines H held known asked log made true_misses =
+one_entry_an_identity_by_lines H S held known asked log made true_misses E whole =
     let steps = taken_of_lines asked in
     let K = logged_identities known in
     let I = added steps in
     ⊎_elim
-    (λ (all : (Z : List Tiled) × IsLog H (known ++ Z) (held_behind held (line_attempts_of asked))
+    (λ (all : (Z : List Tiled) × (E ≡ known ++ Z) × IsLog H E (held_behind held (line_attempts_of asked))
     × (logged_identities Z ≡ flat_map step_identities (taken_lines (line_attempts_of asked)))).
     let Z = all.0 in
-    let new : logged_identities Z ≡ I = all.2 ∙ ap (flat_map step_identities) (taken_attempts asked) in
-    let ids : logged_identities (known ++ Z) ≡ K ++ I = logged-append known Z ∙ ap (λ x. K ++ x) new in
+    let new : logged_identities Z ≡ I = all.3 ∙ ap (flat_map step_identities) (taken_attempts asked) in
+    let ids : logged_identities E ≡ K ++ I = ap logged_identities all.1 ∙ logged-append known Z ∙ ap (λ x. K ++ x) new in
     let apart : AreApart I = added_apart steps true_misses.misses true_misses.written in
     let across : All (λ x. All (Differ x) I) K = all_missed identity_of_leaf (tree_leaves known) steps true_misses.had true_misses.misses in
     let count : length K ≡ length known = length-map (tree_leaves known) identity_of_leaf ∙ length-map known leaf_of in
     inl (
-      known ++ Z,
-      all.1,
-      sym (take_at known Z (length known) refl),
+      all.2,
+      sym (take_at known Z (length known) refl) ∙ ap (take (length known)) (sym all.1),
       subst (AreNewFrom (length known)) (sym ids)
           (λ i j d l n h. pairs_behind Differ K I apart across i j d l (omega (arith, n, count)) h),
     ))
-    (λ (found : SomeCollide H). inr found)
-    (grown_from H held known (line_attempts_of asked) log made)
+    (λ (found : CollideAmong H (IsHashedBySteps H S E)). inr found)
+    (grown_from H S E held known (line_attempts_of asked) whole log made)

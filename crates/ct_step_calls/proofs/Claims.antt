@@ -20,7 +20,8 @@ use Rattle.ct_step.specs.Steps.{line_head, IsLog}
 use Rattle.ct_data_tiles.specs.TileLeaf.{Tiled, leaf_of}
 use Rattle.ct_tree.specs.Tree.{hash_leaf}
 use Rattle.ct_tree.specs.declared.head.Head.{Head}
-use Rattle.ct_verify.specs.Laws.{SomeCollide}
+use Rattle.ct_older_tree.specs.Hashed.{CollideAmong}
+use Rattle.ct_older_tree.specs.ListLaws.{IsHashedInAudit}
 use Rattle.ct_verify.proofs.Defined.{accepted_not_refused}
 use Rattle.ct_step_calls.specs.StepAnswers.{IsClaimReplyBy}
 use Rattle.ct_step_calls.specs.StepLaws.{StandsAsClaimed, ClaimsStandThere}
@@ -41,14 +42,14 @@ no_refusal p r e = cc
 same_receipt : (p q : ℕ × ℕ × List ℕ) → stands p ≡ stands q → p ≡ q
 same_receipt p q e = cc
 
-within : (H : List ℕ → List ℕ) (E : List Tiled) (i : ℕ) (leaf : List ℕ)
-    → ((i < length (tree_leaves E)) × (leaf ≡ get_or (tree_leaves E) i [])) ⊎ SomeCollide H
-    → ((i < length E) × (leaf ≡ get_or (tree_leaves E) i [])) ⊎ SomeCollide H
-within H E i leaf (inl there) = inl (omega (arith, there.0, length-map E leaf_of), there.1)
-within H E i leaf (inr found) = inr found
+within : (H : List ℕ → List ℕ) (S : List ℕ → Type 0) (E : List Tiled) (i : ℕ) (leaf : List ℕ)
+    → ((i < length (tree_leaves E)) × (leaf ≡ get_or (tree_leaves E) i [])) ⊎ CollideAmong H S
+    → ((i < length E) × (leaf ≡ get_or (tree_leaves E) i [])) ⊎ CollideAmong H S
+within H S E i leaf (inl there) = inl (omega (arith, there.0, length-map E leaf_of), there.1)
+within H S E i leaf (inr found) = inr found
 
 told : (H : List ℕ → List ℕ) → ((x : List ℕ) → length (H x) ≡ 32) → (line : StateLine) (claim : Claim) (path : List (List ℕ)) (s : Submitted) (r : ℕ × ℕ × List ℕ) (E : List Tiled)
-    → IsClaimReplyBy H line claim path s (stands r) → IsLog H E line → StandsAsClaimed H E claim s r
+    → IsClaimReplyBy H line claim path s (stands r) → IsLog H E line → StandsAsClaimed H E claim path s r
 told H sized line claim path s r E (inl tells) log =
     let e = entry_of s in
     let q : ℕ × ℕ × List ℕ = (claim.leaf_index, claim.timestamp, claimed_leaf e claim) in
@@ -58,13 +59,13 @@ told H sized line claim path s r E (inl tells) log =
       log.root,
       omega (arith, log.few, length-map E leaf_of),
     ) in
-    subst (λ (x : ℕ × ℕ × List ℕ). StandsAsClaimed H E claim s x) (sym same)
+    subst (λ (x : ℕ × ℕ × List ℕ). StandsAsClaimed H E claim path s x) (sym same)
     (record {
       index = refl;
       moment = refl;
       signed = refl;
       identity = leaves_keep_identities claim.timestamp claim.leaf_index s;
-      there = within H E claim.leaf_index (claimed_leaf e claim)
+      there = within H (IsHashedInAudit H (tree_leaves E) (claimed_leaf e claim) claim.leaf_index path) E claim.leaf_index (claimed_leaf e claim)
           (stands_there H sized (line_head line) (tree_leaves E) (claimed_leaf e claim) (claimed_leaf e claim) claim.leaf_index path over
           tells.2.believed.included refl);
     })

@@ -15,10 +15,11 @@ use Rattle.ct_log_state.proofs.Lines.{state_lines_differ}
 use Rattle.ct_step.proofs.Lengths.{length_hashes, length_texts}
 use Rattle.ct_step.specs.Entries.{texts_of, hashes_of}
 use Rattle.ct_step.specs.Objects.{named, hash_object, entry_object, each_from, changed, level_objects, data_objects}
-use Rattle.ct_step.specs.Steps.{new_entries, step_objects, IsEdgeOf, IsLog, IsTiledStep, NamedEdgesTell}
+use Rattle.ct_step.specs.Steps.{new_entries, step_objects, IsEdgeOf, IsHashedOfHanded, IsHashedOfLog, IsLog, IsTiledStep, NamedEdgesTell}
 use Rattle.ct_step.specs.declared.step.Step.{Step}
-use Rattle.ct_verify.specs.Laws.{SomeCollide}
-use Rattle.ct_step_calls.specs.RolledOut.{RepliedObjectsChange}
+use Rattle.ct_older_tree.proofs.Agreeing.{collide_more}
+use Rattle.ct_older_tree.specs.Hashed.{CollideAmong}
+use Rattle.ct_step_calls.specs.RolledOut.{IsHashedOfContents, RepliedObjectsChange}
 use Rattle.ct_step_calls.specs.StepAnswers.{edge_of, AreObjectsIn, IsStepReplyBy, IsBoundedReplyBy}
 use Rattle.ct_step_calls.specs.StepRepeats.{BatchEntry, first_of_each}
 use Rattle.ct_step_calls.specs.StepWords.{IsTileName, Reference, references_of, steps, refuses}
@@ -85,8 +86,14 @@ no_refusal s p o r e = cc
 same_objects : (s t : Step) (p q : List ℕ) (a b : List Reference) → steps s p a ≡ steps t q b → a ≡ b
 same_objects s t p q a b e = cc
 
-abbrev Changed : (List ℕ → List ℕ) → List Tiled → List BatchEntry → ℕ → List Reference → Type 0
-Changed H E batch now objects = (objects ≡ references_of H (step_objects H E (new_entries E (first_of_each [] batch) now))) ⊎ SomeCollide H
+-- the strings that are hashed of an edge, if one was handed in
+abbrev OfEdge : (List ℕ → List ℕ) → Option (List (List ℕ) × List ℕ) → List ℕ → Type 0
+OfEdge H handed s = (edge : List (List ℕ) × List ℕ) × (handed ≡ Some edge) × IsHashedOfHanded H edge.0 edge.1 s
+
+abbrev Changed : (List ℕ → List ℕ) → List Tiled → Option (List (List ℕ) × List ℕ) → List BatchEntry → ℕ → List Reference → Type 0
+Changed H E handed batch now objects =
+    (objects ≡ references_of H (step_objects H E (new_entries E (first_of_each [] batch) now)))
+    ⊎ CollideAmong H (λ s. OfEdge H handed s ⊎ IsHashedOfLog H E s)
 
 own_objects : (H : List ℕ → List ℕ) (line : StateLine) (E : List Tiled) (batch : List BatchEntry) (now : ℕ) (s : Step) (found : List (List ℕ × List ℕ))
     → IsTiledStep H line E batch now s → AreObjectsIn s.bundle.items found → found ≡ step_objects H E (new_entries E batch now)
@@ -97,7 +104,7 @@ own_objects H line E batch now s found made (inr none) =
 
 told : NamedEdgesTell → (H : List ℕ → List ℕ) → ((x : List ℕ) → length (H x) ≡ 32) → (line : StateLine) (batch : List BatchEntry) (now : ℕ) (step : Step) (places : List ℕ)
     (objects : List Reference) (E : List Tiled) (edge : Option (List (List ℕ) × List ℕ)) → IsStepReplyBy H line edge batch now (steps step places objects)
-    → IsLog H E line → Changed H E batch now objects
+    → IsLog H E line → Changed H E edge batch now objects
 told tell H len line batch now step places objects E None is log = absurd (no_refusal step places objects _ is)
 told tell H len line batch now step places objects E (Some edge) (inl tells) log =
     let F = first_of_each [] batch in
@@ -105,13 +112,19 @@ told tell H len line batch now step places objects E (Some edge) (inl tells) log
     (λ (e : IsEdgeOf H E line.tree_size edge.0 edge.1).
     inl (same_objects step tells.0 places _ objects (references_of H tells.1) tells.2
     ∙ ap (references_of H) (own_objects H line E F now tells.0 tells.1 (tells.6 E e) tells.3)))
-    (λ (c : SomeCollide H). inr c)
+    (λ (c : CollideAmong H (λ s. IsHashedOfHanded H edge.0 edge.1 s ⊎ IsHashedOfLog H E s)).
+    inr (collide_more H (λ s. IsHashedOfHanded H edge.0 edge.1 s ⊎ IsHashedOfLog H E s) (λ s. OfEdge H (Some edge) s ⊎ IsHashedOfLog H E s)
+    (λ s h. ⊎_elim
+    (λ (handed : IsHashedOfHanded H edge.0 edge.1 s). inl (edge, refl, handed))
+    (λ (own : IsHashedOfLog H E s). inr own)
+    h)
+    c))
     (tell H len line E edge.0 edge.1 tells.4.named log)
 told tell H len line batch now step places objects E (Some edge) (inr none) log = absurd (no_refusal step places objects none.1 none.2)
 
 told_near : NamedEdgesTell → (H : List ℕ → List ℕ) → ((x : List ℕ) → length (H x) ≡ 32) → (line : StateLine) (batch : List BatchEntry) (now most : ℕ) (step : Step)
     (places : List ℕ) (objects : List Reference) (E : List Tiled) (edge : Option (List (List ℕ) × List ℕ))
-    → IsBoundedReplyBy H line edge batch now most (steps step places objects) → IsLog H E line → Changed H E batch now objects
+    → IsBoundedReplyBy H line edge batch now most (steps step places objects) → IsLog H E line → Changed H E edge batch now objects
 told_near tell H len line batch now most step places objects E edge (inl far) log = absurd (no_refusal step places objects _ far.1)
 told_near tell H len line batch now most step places objects E edge (inr near) log = told tell H len line batch now step places objects E edge near.1 log
 

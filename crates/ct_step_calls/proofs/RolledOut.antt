@@ -9,7 +9,7 @@ use Rattle.ct_log_state.proofs.Lines.{state_lines_differ}
 use Rattle.ct_step.specs.Steps.{new_entries, step_objects, IsTiledStep}
 use Rattle.ct_step.specs.declared.step.Step.{Step}
 use Rattle.ct_data_tiles.specs.TileLeaf.{Tiled}
-use Rattle.ct_verify.specs.Laws.{SomeCollide}
+use Rattle.ct_verify.specs.Evidence.{Collides}
 use Rattle.ct_step_calls.specs.RolledOut.{ResumedLinesAreRolledOut}
 use Rattle.ct_step_calls.specs.StepAnswers.{IsResumeReplyBy}
 use Rattle.ct_step_calls.specs.StepRepeats.{BatchEntry}
@@ -33,7 +33,7 @@ one_list a b bytes p q =
 
 told : (H : List ℕ → List ℕ) (seen : StateLine) (E : List Tiled) (batch : List BatchEntry) (now : ℕ) (s : Step) (bytes : List ℕ) (line : StateLine)
     (objects : List Reference) → IsTiledStep H seen E batch now s → IsResumeReplyBy H s.line bytes (rolls_out line objects)
-    → (bytes ≡ s.bundle.items → objects ≡ references_of H (step_objects H E (new_entries E batch now))) × (bytes ≢ s.bundle.items → SomeCollide H)
+    → (bytes ≡ s.bundle.items → objects ≡ references_of H (step_objects H E (new_entries E batch now))) × (bytes ≢ s.bundle.items → Collides H bytes s.bundle.items)
 told H seen E batch now s bytes line objects made (inl tells) =
     let own = step_objects H E (new_entries E batch now) in (
       (λ (e : bytes ≡ s.bundle.items). same_reply line s.line objects (references_of H tells.0) tells.1

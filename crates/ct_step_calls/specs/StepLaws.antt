@@ -7,11 +7,12 @@ use Rattle.ct_growth.specs.Claims.{claimed_leaf}
 use Rattle.ct_growth.specs.Identities.{identity_of_leaf, AreApart, AreNewFrom}
 use Rattle.ct_growth.specs.declared.claim.Claim.{Claim}
 use Rattle.ct_step.specs.Entries.{tree_leaves}
-use Rattle.ct_step.specs.Lines.{LineAttempt, AreLineAttempts, IsMadeOfEdge}
+use Rattle.ct_step.specs.Lines.{LineAttempt, AreLineAttempts, entries_after, IsHashedBySteps, IsMadeOfEdge}
 use Rattle.ct_step.specs.Steps.{new_entries, IsLog}
 use Rattle.ct_step.specs.declared.step.Step.{Step}
 use Rattle.ct_data_tiles.specs.TileLeaf.{Tiled}
-use Rattle.ct_verify.specs.Laws.{SomeCollide}
+use Rattle.ct_older_tree.specs.Hashed.{CollideAmong}
+use Rattle.ct_older_tree.specs.ListLaws.{IsHashedInAudit}
 use Rattle.ct_step_calls.specs.StepAsks.{for_step, for_claim}
 use Rattle.ct_step_calls.specs.StepAnswers.{edge_of, first_line_by, IsReplyToBy}
 use Rattle.ct_step_calls.specs.StepRepeats.{BatchEntry, first_of_each, places_of_all, identities_of}
@@ -41,19 +42,22 @@ RepliedStepsAreAttempts =
 
 -- A receipt (leaf index, moment in milliseconds, bytes to be signed) is a submission's at a claimed place of the log with the entries E. Its
 -- index and its moment are the claimed ones (index, moment); the bytes are the submission's leaf of these (signed), which has the submission's
--- identity (identity); and that leaf stands at that index of the log, or two different strings with one hash are given (there).
-pub record StandsAsClaimed (H : List ℕ → List ℕ) (E : List Tiled) (claim : Claim) (s : Submitted) (r : ℕ × ℕ × List ℕ) : Type 0 where
+-- identity (identity); and that leaf stands at that index of the log, or two strings collide that are hashed when the path is checked, or in the log's tree
+-- (there).
+pub record StandsAsClaimed (H : List ℕ → List ℕ) (E : List Tiled) (claim : Claim) (path : List (List ℕ)) (s : Submitted) (r : ℕ × ℕ × List ℕ) : Type 0 where
   pub index : r.0 ≡ claim.leaf_index
   pub moment : r.1 ≡ claim.timestamp
   pub signed : r.2 ≡ claimed_leaf (entry_of s) claim
   pub identity : identity_of_leaf r.2 ≡ identity_of s
-  pub there : ((claim.leaf_index < length E) × (claimed_leaf (entry_of s) claim ≡ slice_index_or (tree_leaves E) claim.leaf_index [])) ⊎ SomeCollide H
+  pub there : ((claim.leaf_index < length E) × (claimed_leaf (entry_of s) claim ≡ slice_index_or (tree_leaves E) claim.leaf_index []))
+      ⊎ CollideAmong H (IsHashedInAudit H (tree_leaves E) (claimed_leaf (entry_of s) claim) claim.leaf_index path)
 
 -- a receipt that is replied to a claim is the submission's at the claimed place, in every log that has the state's line
 abbrev pub ClaimsStandThere : Type 0
 ClaimsStandThere =
     (H : List ℕ → List ℕ) → ((x : List ℕ) → length (H x) ≡ 32) → (line : StateLine) (claim : Claim) (path : List (List ℕ)) (s : Submitted) (r : ℕ × ℕ × List ℕ) (E : List Tiled) → IsStateLine line
-    → IsReplyToBy H (for_claim claim path (state_line_text line) s) (stands r) → IsLog H E line → StandsAsClaimed H E claim s r
+    → IsReplyToBy H (for_claim claim path (state_line_text line) s) (stands r) → IsLog H E line
+    → StandsAsClaimed H E claim path s r
 
 -- The first entries of a batch and the places of all. The first ones stand in the batch (entries) at these indexes, in its order (rising). No
 -- identity stands twice among them (once). Each entry of the batch has its place among these (within), where one of its identity stands
@@ -121,11 +125,13 @@ held_behind held (a ∷ rest) = held_behind (if a.took then a.step.line else hel
 abbrev pub logged_identities : List Tiled → List (List ℕ)
 logged_identities E = map identity_of_leaf (tree_leaves E)
 
--- Where the misses of the steps that were taken were true, the line that the register holds in the end is that of a log that has at most one
--- entry to an identity behind those that were known, and no known one's; or two different strings with one hash are given.
+-- Let E be the entries that were known, and after them those of each step that was taken, and let S have the strings that the makers of the steps hashed. If
+-- the misses of the steps that were taken were true, the line that the register holds in the end is that of E, and E has at most one entry of an identity
+-- after those that were known, and no known one's; or two strings collide that S has, or that are hashed for the log's lines.
 abbrev pub OneEntryAnIdentityByLines : Type 0
 OneEntryAnIdentityByLines =
-    (H : List ℕ → List ℕ) (held : StateLine) (known : List Tiled) (asked : List LookedUpLine) → IsLog H known held
-    → AreLineAttempts H held (line_attempts_of asked) → LineMissesWereTrue known (taken_of_lines asked)
-    → ((E : List Tiled) × IsLog H E (held_behind held (line_attempts_of asked)) × (known ≡ take (length known) E)
-    × AreNewFrom (length known) (logged_identities E)) ⊎ SomeCollide H
+    (H : List ℕ → List ℕ) (S : List (List ℕ)) (held : StateLine) (known : List Tiled) (asked : List LookedUpLine) → IsLog H known held
+    → AreLineAttempts H S held (line_attempts_of asked) → LineMissesWereTrue known (taken_of_lines asked) → (E : List Tiled)
+    → E ≡ entries_after known (line_attempts_of asked)
+    → (IsLog H E (held_behind held (line_attempts_of asked)) × (known ≡ take (length known) E) × AreNewFrom (length known) (logged_identities E))
+    ⊎ CollideAmong H (IsHashedBySteps H S E)

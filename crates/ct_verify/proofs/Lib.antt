@@ -16,4 +16,3 @@ pub mod Prefix
 pub mod Walking
 pub mod Extending
 pub mod Clashes
-pub mod Telling

@@ -15,7 +15,7 @@ use Rattle.ct_verify.proofs.Rebuild.{rebuild_left, rebuild_right, rebuild_past, 
 use Rattle.ct_verify.proofs.Equations.{path_rebuilds}
 use Rattle.ct_verify.specs.Rebuild.{rebuild, rebuild_down}
 use Rattle.ct_verify.specs.Evidence.{Collides, compared, evid_down, evid, IsAudited}
-use Rattle.ct_verify.specs.Laws.{AreHashes, SomeCollide}
+use Rattle.ct_verify.specs.Laws.{AreHashes}
 
 pub head_same : {X : Type 0} (x y : X) (xs ys : List X) → x ∷ xs ≡ y ∷ ys → x ≡ y
 head_same x y xs ys e = cc
@@ -56,37 +56,7 @@ last_of (t ∷ s ∷ p) some a =
     let z = last_of (s ∷ p) (omega arith) (All-tail (λ x. length x ≡ 32) t (s ∷ p) a) in
     (t ∷ z.0, z.1, ap (λ v. t ∷ v) z.2, z.3, All-cons (λ x. length x ≡ 32) t z.0 (All-head (λ x. length x ≡ 32) t (s ∷ p) a) z.4)
 
-same_or_not : (x y : List ℕ) → (x ≡ y) ⊎ (¬ (x ≡ y))
-same_or_not x y =
-    ⊎_elim
-    (λ (t : bytes_eq x y ≡ true). inl ((bytes_eq-Decides x y).0 t))
-    (λ (f : bytes_eq x y ≡ false). inr (λ s. both_ways (bytes_eq x y) f ((bytes_eq-Decides x y).1 s)))
-    (cases_Bool (bytes_eq x y))
-
 module _ (H : List ℕ → List ℕ) where
-  -- two strings with one hash
-  one_hash : (x y : List ℕ) → H x ≡ H y → (x ≡ y) ⊎ SomeCollide H
-  one_hash x y e =
-      ⊎_elim
-      (λ (same : x ≡ y). inl same)
-      (λ (other : ¬ (x ≡ y)). inr (x, y, (other, e)))
-      (same_or_not x y)
-
-  -- two nodes with one hash, whose left or right parts are equally long
-  pub left_nodes : (s y A B : List ℕ) → length s ≡ length A → hash_node H s y ≡ hash_node H A B → ((s ≡ A) × (y ≡ B)) ⊎ SomeCollide H
-  left_nodes s y A B l e =
-      ⊎_elim
-      (λ (u : 1 ∷ s ++ y ≡ 1 ∷ A ++ B). inl (parts s A y B l (tail_same 1 1 (s ++ y) (A ++ B) u)))
-      (λ (pair : SomeCollide H). inr pair)
-      (one_hash (1 ∷ s ++ y) (1 ∷ A ++ B) e)
-
-  pub right_nodes : (y s A B : List ℕ) → length s ≡ length B → hash_node H y s ≡ hash_node H A B → ((y ≡ A) × (s ≡ B)) ⊎ SomeCollide H
-  right_nodes y s A B l e =
-      ⊎_elim
-      (λ (u : 1 ∷ y ++ s ≡ 1 ∷ A ++ B). inl (parts_right y A s B l (tail_same 1 1 (y ++ s) (A ++ B) u)))
-      (λ (pair : SomeCollide H). inr pair)
-      (one_hash (1 ∷ y ++ s) (1 ∷ A ++ B) e)
-
   pub shows_map : (P Q : Type 0) (o : Option (List ℕ × List ℕ)) → (P → Q) → Shows H P o → Shows H Q o
   shows_map P Q None f s = f s
   shows_map P Q (Some z) f s = s

@@ -1,7 +1,6 @@
 -- The laws of the verifiers' definitions: the equations of `rebuild` and `both_roots`, where they are defined, that every
--- proof of RFC 6962 is accepted, that no accepted proof is refused, none in two ways, and what an accepted one tells of given
--- lists. H is any hash function on byte lists, k the
--- largest power of two smaller than n, and q : s is the path q ++ s ∷ [].
+-- proof of RFC 6962 is accepted, and that no accepted proof is refused, and none in two ways. H is any hash function on byte
+-- lists, k the largest power of two smaller than n, and q : s is the path q ++ s ∷ [].
 use Rattle.std.specs.Prelude.{◌≡◌, ℕ, ◌-◌, ◌<◌, ◌≤◌, ◌↔◌, Bool, true, false, List, [], ◌∷◌, ◌++◌, length, take, get_or, Some, None, IsSome, All, ◌⊎◌}
 use Rattle.std.specs.Option.{option_map}
 use Rattle.ct_tree.specs.Tree.{split, hash_leaf, hash_node, mth, mth_of_leaves, path, proof}
@@ -90,34 +89,9 @@ PathHolds =
     (H : List ℕ → List ℕ) → ((x : List ℕ) → length (H x) ≡ 32) → (D : List (List ℕ)) (leaf : List ℕ) (m : ℕ) (p : List (List ℕ)) → IsAudited H D leaf m p
     → AcceptsInclusion H (hash_leaf H leaf) m (length D) p (mth_of_leaves H D) × (evid H D leaf m p ≡ None)
 
--- two strings are given that differ and have one hash
-abbrev pub SomeCollide : (List ℕ → List ℕ) → Type 0
-SomeCollide H = (a b : List ℕ) × Collides H a b
-
 -- each element is as long as a hash, 32 bytes
 abbrev pub AreHashes : List (List ℕ) → Type 0
 AreHashes p = All (λ s. length s ≡ 32) p
-
--- what an accepted audit path tells of the list D: the leaf stands in it at index m, and the path is its PATH; or two different
--- strings with one hash are given. The hashes of H have 32 bytes
-abbrev pub PathTells : Type 0
-PathTells =
-    (H : List ℕ → List ℕ) → ((x : List ℕ) → length (H x) ≡ 32) → (D : List (List ℕ)) (leaf : List ℕ) (m : ℕ) (p : List (List ℕ))
-    → IsAccepted H D leaf m p → IsAudited H D leaf m p ⊎ SomeCollide H
-
--- what an accepted consistency proof of elements of 32 bytes tells of two lists: the old one E begins the new one D; or two
--- different strings with one hash are given. The hashes of H have 32 bytes
-abbrev pub ProofTells : Type 0
-ProofTells =
-    (H : List ℕ → List ℕ) → ((x : List ℕ) → length (H x) ≡ 32) → (E D p : List (List ℕ)) → AreHashes p
-    → IsAcceptedFor H E D p → IsBeginning E D ⊎ SomeCollide H
-
--- two lists of one length with one root are one list; or two different strings with one hash are given. The hashes of H have 32
--- bytes
-abbrev pub RootTells : Type 0
-RootTells =
-    (H : List ℕ → List ℕ) → ((x : List ℕ) → length (H x) ≡ 32) → (E D : List (List ℕ)) → length E ≡ length D
-    → mth_of_leaves H E ≡ mth_of_leaves H D → (E ≡ D) ⊎ SomeCollide H
 
 -- a PROOF leads to MTH of the first m leaves and of all
 abbrev pub ProofRebuilds : Type 0

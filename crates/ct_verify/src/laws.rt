@@ -1,6 +1,6 @@
 //! The laws of the definitions that the verifiers' contracts name, each a clause of a function that does nothing. A
 //! reader who believes these need not read how `specs/Rebuild.antt` reads a path from its end.
-ghost use Rattle.ct_verify.specs.Laws.{RebuildOfOne, RebuildInLeft, RebuildInRight, RebuildDefined, BothOfKnown, BothOfUnknown, BothInLeft, BothInRight, BothDefined, PathRebuilds, PathAccepted, PathNotRefused, PathOneRefusal, PathHolds, PathTells, ProofRebuilds, ProofAccepted, ProofNotRefused, ProofOneRefusal, ProofTells, RootTells};
+ghost use Rattle.ct_verify.specs.Laws.{RebuildOfOne, RebuildInLeft, RebuildInRight, RebuildDefined, BothOfKnown, BothOfUnknown, BothInLeft, BothInRight, BothDefined, PathRebuilds, PathAccepted, PathNotRefused, PathOneRefusal, PathHolds, ProofRebuilds, ProofAccepted, ProofNotRefused, ProofOneRefusal};
 
 /// The root that an audit path gives to a leaf hash, from the root of the tree down.
 #[tactic(auto, using(crate::proofs::Equations::rebuild_of_one, crate::proofs::Equations::rebuild_in_left, crate::proofs::Equations::rebuild_in_right, crate::proofs::Equations::rebuild_defined))]
@@ -22,32 +22,22 @@ pub fn both_roots()
 {}
 
 /// Every audit path (RFC 6962, section 2.1.1) leads to its root, and is accepted. No accepted path is refused, and none in two
-/// ways. There is no evidence against a leaf of the list with its path. Held
-/// against a list, an accepted path shows that leaf there, or two different strings with one hash are given.
-#[tactic(auto, using(crate::proofs::Equations::path_rebuilds, crate::proofs::Equations::path_accepted, crate::proofs::Equations::path_not_refused, crate::proofs::Equations::path_one_refusal, crate::proofs::Telling::path_tells))]
+/// ways. There is no evidence against a leaf of the list with its path.
+#[tactic(auto, using(crate::proofs::Equations::path_rebuilds, crate::proofs::Equations::path_accepted, crate::proofs::Equations::path_not_refused, crate::proofs::Equations::path_one_refusal))]
 pub fn path()
     ensures rebuilds { PathRebuilds }
     ensures accepted { PathAccepted }
     ensures not_refused { PathNotRefused }
     ensures one_refusal { PathOneRefusal }
     ensures holds { PathHolds }
-    ensures tells { PathTells }
 {}
 
 /// Every consistency proof (RFC 6962, section 2.1.2) leads to both roots, and is accepted. No accepted proof is refused, and none
-/// in two ways. Held against two lists, an accepted proof shows that the old one begins the new one, or two different strings with
-/// one hash are given.
-#[tactic(auto, using(crate::proofs::Equations::proof_rebuilds, crate::proofs::Equations::proof_accepted, crate::proofs::Equations::proof_not_refused, crate::proofs::Equations::proof_one_refusal, crate::proofs::Telling::proof_tells))]
+/// in two ways.
+#[tactic(auto, using(crate::proofs::Equations::proof_rebuilds, crate::proofs::Equations::proof_accepted, crate::proofs::Equations::proof_not_refused, crate::proofs::Equations::proof_one_refusal))]
 pub fn proof()
     ensures rebuilds { ProofRebuilds }
     ensures accepted { ProofAccepted }
     ensures not_refused { ProofNotRefused }
     ensures one_refusal { ProofOneRefusal }
-    ensures tells { ProofTells }
-{}
-
-/// A root and a number of leaves stand for one list, or two different strings with one hash are given.
-#[tactic(auto, using(crate::proofs::Telling::root_tells))]
-pub fn root()
-    ensures { RootTells }
 {}

@@ -5,7 +5,7 @@ use Rattle.sha2.specs.Sha256.{sha256}
 use Rattle.sha2.proofs.Facts256.{length-sha256}
 use Rattle.ct_monitor_calls.specs.Calls.{Handed, a_head, entries_from, a_proof, HasState, IsMonitorBegin, StateJudges}
 use Rattle.ct_monitor_calls.specs.Laws.{MonitorCall, CallsHandOut, IsCallOver, IsNeverRefused, AreCalls, last_state}
-use Rattle.ct_monitor_calls.specs.Starts.{IsMonitorStart, known_at_start}
+use Rattle.ct_monitor_calls.specs.Starts.{IsHashedForStart, IsMonitorStart, known_at_start}
 use Rattle.ct_monitor_calls.specs.declared.starting.StartFault.TheVariants.{OtherCount, OtherRoot, Memory}
 use Rattle.ct_monitor_calls.specs.StateText.{IsMonitorState}
 use Rattle.ct_monitor_calls.specs.declared.answer.Answer.{Answer}
@@ -15,7 +15,7 @@ use Rattle.ct_monitor.specs.Heads.{IsHeadOfAll}
 use Rattle.ct_monitor.specs.Watched.{Watched}
 use Rattle.ct_monitor.specs.WatcherState.{WatcherState}
 use Rattle.ct_tree.specs.declared.head.Head.{Head}
-use Rattle.ct_verify.specs.Laws.{SomeCollide}
+use Rattle.ct_older_tree.specs.Hashed.{CollideAmong}
 use Rattle.libwagtenib.specs.Guard.{head_of_c}
 use Rattle.libwagtenib.specs.Monitor.{BeginsMonitor, StartsMonitor, GivesAnswer, Judges, JudgesEntries, TellsVerdict, verdict_code, verdict_fault, verdict_known, verdict_root}
 use Rattle.libwagtenib.specs.MonitorLaws.{JudgingCall, CountsState, ReturnsOver, state_written, AreJudging, last_written, AreCallsOf, JudgingCallsAgree, StartedCallsAgree}
@@ -143,5 +143,5 @@ started_calls_agree head subtrees before after count_before count b calls j D is
       agree.3,
       subst (IsNeverRefused sha256) all.last agree.3.3,
     ))
-    (λ (collide : SomeCollide sha256). inr collide)
+    (λ (collide : CollideAmong sha256 (IsHashedForStart sha256 subtrees D)). inr collide)
     (calls_agree_from_start sha256 length-sha256 head subtrees first all.others (begun_at head subtrees before after count_before count b) all.over D is)

@@ -3,7 +3,7 @@ use Rattle.std.proofs.Common.{◌≡◌, ◌∙◌, ◌⊎◌, ⊎_elim, inl, in
 use Rattle.std.proofs.lemmas.Option.{same_Some, none-some}
 use Rattle.ct_data_tiles.specs.TileLeaf.{Tiled}
 use Rattle.ct_log_state.specs.declared.line.StateLine.{StateLine}
-use Rattle.ct_verify.specs.Laws.{SomeCollide}
+use Rattle.ct_older_tree.specs.Hashed.{CollideAmong}
 use Rattle.ct_node.specs.declared.state.State.{State}
 use Rattle.ct_node.specs.declared.node.Node.{Node}
 use Rattle.ct_node.specs.declared.node.Node.TheVariants.{Reading, Looking, Stepping, Staging, Swapping, Promising, Deleting, Putting, Placing, Heading, Answering}
@@ -15,7 +15,8 @@ use Rattle.ct_node.specs.Nodes.{after}
 use Rattle.ct_node.specs.Starts.{started, GoesBehindNone, NoneIsAhead}
 use Rattle.ct_node.specs.Worlds.{Has, World, Happening, Comes, Makes, Puts, Goes as GoesAway, Told, comes, happens, beginning, MayHappen, LeadTo, IsFirstState, IsSoundWorld, WorldsAreSound}
 use Rattle.ct_node.specs.LookUps.{AllLookUp}
-use Rattle.ct_node_log.specs.Logs.{StandsOf, NodesWriteOneLog}
+use Rattle.ct_step.specs.Lines.{IsHashedBySteps}
+use Rattle.ct_node_log.specs.Logs.{StandsOf, NodesWriteOneLog, log_of_past}
 use Rattle.ct_node_log.specs.Once.{NodesAddOnce}
 use Rattle.libwagtenib.specs.declared.node.NodeCommand.{NodeCommand}
 use Rattle.libwagtenib.specs.declared.node.NodeFound.{NodeFound}
@@ -145,21 +146,20 @@ answered_head sound count b hs w first leads l h =
     (sound count b (hs ++ Comes (Answering l) ∷ []) (comes w (Answering l)) first more).answered l (inl refl)
 
 pub calls_write_one_log : WorldsAreSound → NodesWriteOneLog → CallsWriteOneLog
-calls_write_one_log sound one_log H line plan known count b hs w first leads is steps =
+calls_write_one_log sound one_log H S line step plan known count b hs w first leads is steps E all =
     let machine = of_history count b hs w leads in
     let s : IsSoundWorld count w.world = sound count b (of_nodes hs) w.world first machine.0 in
     ⊎_elim
-    (λ (r : (E : List Tiled) × (known ≡ take (length known) E) × StandsOf H line b plan E w.world).
+    (λ (r : (known ≡ take (length known) E) × StandsOf H line step b plan E w.world).
     inl (
       r.0,
       r.1,
-      r.2,
       λ l g.
           let head = answered_head sound count b (of_nodes hs) w.world first machine.0 l (is_sent w (Answering l) machine.1 g) in
-          (head, r.2.past l (s.heads l head)),
+          (head, r.1.past l (s.heads l head)),
     ))
-    (λ (pair : SomeCollide H). inr pair)
-    (one_log H line plan known count b (of_nodes hs) w.world first machine.0 is steps)
+    (λ (pair : CollideAmong H (IsHashedBySteps H S E)). inr pair)
+    (one_log H S line step plan known count b (of_nodes hs) w.world first machine.0 is steps E all)
 
 all_looked : (ids : State → List (List ℕ)) (hs : List CallHappening) (w : CallsWorld) → AllLookUpByCalls ids w hs → AllLookUp ids w.world (of_nodes hs)
 unfolding as_node of_nodes AllLookUp AllLookUpByCalls
@@ -168,12 +168,12 @@ all_looked ids (Beside h ∷ hs) w u = (u.0, all_looked ids hs (happens_by_calls
 all_looked ids (Called c ∷ hs) w u = (tt, all_looked ids hs (happens_by_calls w (Called c)) u.1)
 
 pub calls_add_once : NodesAddOnce → CallsAddOnce
-calls_add_once add_once H line ids known count b hs w first leads log same steps looks =
+calls_add_once add_once H S line step ids known count b hs w first leads log same steps looks E all =
     let machine = of_history count b hs w leads in
-    add_once H line ids known count b (of_nodes hs) w.world first machine.0 log same steps (all_looked ids hs (calls_beginning b) looks)
+    add_once H S line step ids known count b (of_nodes hs) w.world first machine.0 log same steps (all_looked ids hs (calls_beginning b) looks) E all
 
 pub calls_name_one_content : NodesWriteOneLog → CallsNameOneContent
-calls_name_one_content one_log H line plan known count b hs w first leads is steps l m n c i j says other i_less j_less same =
+calls_name_one_content one_log H S line step plan known count b hs w first leads is steps l m n c i j says other i_less j_less same =
     let machine = of_history count b hs w leads in
     let one : Has (Putting l n) w.world.sent = is_sent w (Putting l n) machine.1 says in
     let two : Has (Putting m c) w.world.sent = is_sent w (Putting m c) machine.1 other in
@@ -181,11 +181,12 @@ calls_name_one_content one_log H line plan known count b hs w first leads is ste
     let u : World = happens v (Puts m c j) in
     let more = lead_more count (of_nodes hs) (beginning b) w.world (Puts l n i) machine.0 (one, i_less) in
     let again = lead_more count (of_nodes hs ++ Puts l n i ∷ []) (beginning b) v (Puts m c j) more (two, j_less) in
+    let E : List Tiled = log_of_past step known w.world.past in
     ⊎_elim
-    (λ (r : (E : List Tiled) × (known ≡ take (length known) E) × StandsOf H line b plan E u).
-    inl (r.2.names (record { state = l; index = i }) (record { state = m; index = j }) (inr (inl refl)) (inl refl) same))
-    (λ (pair : SomeCollide H). inr pair)
-    (one_log H line plan known count b ((of_nodes hs ++ Puts l n i ∷ []) ++ Puts m c j ∷ []) u first again is steps)
+    (λ (r : (known ≡ take (length known) E) × StandsOf H line step b plan E u).
+    inl (r.1.names (record { state = l; index = i }) (record { state = m; index = j }) (inr (inl refl)) (inl refl) same))
+    (λ (pair : CollideAmong H (IsHashedBySteps H S E)). inr pair)
+    (one_log H S line step plan known count b ((of_nodes hs ++ Puts l n i ∷ []) ++ Puts m c j ∷ []) u first again is steps E refl)
 
 -- ---- a start
 

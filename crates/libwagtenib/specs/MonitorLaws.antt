@@ -7,10 +7,10 @@ use Rattle.ct_monitor.specs.WatcherState.{WatcherState}
 use Rattle.ct_monitor_calls.specs.Calls.{Handed, a_head, entries_from, a_proof}
 use Rattle.ct_monitor_calls.specs.Laws.{MonitorCall, CallsHandOut, IsNeverRefused}
 use Rattle.ct_monitor_calls.specs.Entries.{size_awaited}
-use Rattle.ct_monitor_calls.specs.Starts.{known_at_start}
+use Rattle.ct_monitor_calls.specs.Starts.{IsHashedForStart, known_at_start}
 use Rattle.ct_monitor_calls.specs.StateText.{IsInBytes, monitor_state_text}
 use Rattle.ct_tree.specs.declared.head.Head.{Head}
-use Rattle.ct_verify.specs.Laws.{SomeCollide}
+use Rattle.ct_older_tree.specs.Hashed.{CollideAmong}
 use Rattle.libwagtenib.specs.Guard.{head_of_c}
 use Rattle.libwagtenib.specs.Monitor.{BeginsMonitor, StartsMonitor, Judges, JudgesPieces, verdict_code, verdict_fault, verdict_known, verdict_root}
 use Rattle.libwagtenib.specs.Tiles.{pieces}
@@ -83,11 +83,12 @@ JudgingCallsAgree =
     × IsNeverRefused sha256 (last_written (take count after) calls)
 
 -- The same over the state that a call of `wagtenib_monitor_start` wrote. Let the head that it was told to trust be that of the leaves D. Then the leaves of w that are
--- accepted begin with D, or two different strings have one SHA-256. Nothing is said of a head that is the head of no leaves.
+-- accepted begin with D; or two of the strings collide that are hashed when the start's subtrees are joined, and when those of D are. Nothing is said of a head
+-- that is the head of no leaves.
 abbrev pub StartedCallsAgree : Type 0
 StartedCallsAgree =
     (head : Head) (subtrees : List (List ℕ)) (before after : List ℕ) (count_before count : ℕ) → StartsMonitor head subtrees 0 before after count_before count
     → (calls : List JudgingCall) → AreJudging (take count after) calls → (D : List (List ℕ)) → IsHeadOfAll sha256 D head
     → ((w : Watched) × (Y : List (List ℕ)) × (w.sure ≡ D ++ Y) × (others : List MonitorCall) × AreCallsOf calls others
     × CallsHandOut sha256 (take count after) others (known_at_start head D) w × IsNeverRefused sha256 (last_written (take count after) calls))
-    ⊎ SomeCollide sha256
+    ⊎ CollideAmong sha256 (IsHashedForStart sha256 subtrees D)

@@ -11,11 +11,12 @@ use Rattle.ct_node.specs.declared.starting.Point.{Point}
 use Rattle.ct_node.specs.LookUps.{LooksUp}
 use Rattle.ct_node.specs.Nodes.{after}
 use Rattle.ct_node.specs.Starts.{NoneIsAhead}
-use Rattle.ct_node.specs.Worlds.{Has, Object, World, Happening, Told, happens, beginning, MayHappen, MayBeTold, IsFirstState}
-use Rattle.ct_node_log.specs.Logs.{IsOf, AreStepsMade, StandsOf}
+use Rattle.ct_node.specs.Worlds.{Has, Made, Object, World, Happening, Told, happens, beginning, MayHappen, MayBeTold, IsFirstState}
+use Rattle.ct_node_log.specs.Logs.{IsOf, AreStepsMade, StandsOf, log_of_past}
 use Rattle.ct_node_log.specs.Once.{entry_identities, AreStepsAdding}
+use Rattle.ct_step.specs.Lines.{LineAttempt, IsHashedBySteps}
 use Rattle.ct_step.specs.Steps.{IsLog}
-use Rattle.ct_verify.specs.Laws.{SomeCollide}
+use Rattle.ct_older_tree.specs.Hashed.{CollideAmong}
 use Rattle.libwagtenib.specs.declared.node.NodeCommand.{NodeCommand}
 use Rattle.libwagtenib.specs.declared.node.NodeOutcome.{NodeOutcome}
 use Rattle.libwagtenib.specs.declared.node.NodeFound.{NodeFound}
@@ -79,27 +80,34 @@ CallsAreHistories =
     (count : State → ℕ) (b : State) (hs : List CallHappening) (w : CallsWorld) → LeadToByCalls count (calls_beginning b) hs w → (n : Node)
     → GivesNode w n → Has n w.world.sent
 
--- If a call says to answer the submissions of a state, the head of that state is in the store, and its line is that of the entries E.
-abbrev pub AnswersAreOf : (List ℕ → List ℕ) → (State → StateLine) → State → List Tiled → CallsWorld → Type 0
-AnswersAreOf H line b E w = (l : State) → GivesNode w (Answering l) → Has l w.world.heads × IsOf H line b E l
+-- If a call says to answer the submissions of a state, the head of that state is in the store, and its step is of the entries E: the receipt at an index is that
+-- of the submission at this index of the step's batch.
+abbrev pub AnswersAreOf : (List ℕ → List ℕ) → (State → StateLine) → (Made → LineAttempt) → State → List Tiled → CallsWorld → Type 0
+AnswersAreOf H line step b E w =
+    (l : State) → GivesNode w (Answering l) → Has l w.world.heads × IsOf H line step w.world.made b E l
 
--- Whatever happens by calls, there is one list of entries, which begins with those that were known. All that is in the stores is of it, and all answers are; or
--- two different strings with one hash are given.
+-- Whatever happens by calls, let E be the log that the lock took: the entries that were known, and after them those that each step added by which it came to its
+-- next state. Let S have the strings that nodes hashed when they made steps and resumed them. All that is in the stores is of E, and all answers are; or two
+-- strings collide that S has, or that are hashed for the log's lines.
 abbrev pub CallsWriteOneLog : Type 0
 CallsWriteOneLog =
-    (H : List ℕ → List ℕ) (line : State → StateLine) (plan : Object → List ℕ × List ℕ) (known : List Tiled) (count : State → ℕ) (b : State)
+    (H : List ℕ → List ℕ) (S : List (List ℕ)) (line : State → StateLine) (step : Made → LineAttempt) (plan : Object → List ℕ × List ℕ) (known : List Tiled)
+    (count : State → ℕ) (b : State)
     (hs : List CallHappening) (w : CallsWorld) → IsFirstState count b → LeadToByCalls count (calls_beginning b) hs w → IsLog H known (line b)
-    → AreStepsMade H line count plan w.world.made
-    → ((E : List Tiled) × (known ≡ take (length known) E) × StandsOf H line b plan E w.world × AnswersAreOf H line b E w) ⊎ SomeCollide H
+    → AreStepsMade H S line step count plan w.world.made → (E : List Tiled) → E ≡ log_of_past step known w.world.past
+    → ((known ≡ take (length known) E) × StandsOf H line step b plan E w.world × AnswersAreOf H line step b E w) ⊎ CollideAmong H (IsHashedBySteps H S E)
 
--- Of any two objects that calls say to put, and that have one name, the content is one; or two different strings with one hash are given.
+-- Of any two objects that calls say to put, and that have one name, the content is one; or two strings collide that S has (the strings that nodes hashed when
+-- they made steps and resumed them), or that are hashed for the log's lines.
 abbrev pub CallsNameOneContent : Type 0
 CallsNameOneContent =
-    (H : List ℕ → List ℕ) (line : State → StateLine) (plan : Object → List ℕ × List ℕ) (known : List Tiled) (count : State → ℕ) (b : State)
+    (H : List ℕ → List ℕ) (S : List (List ℕ)) (line : State → StateLine) (step : Made → LineAttempt) (plan : Object → List ℕ × List ℕ) (known : List Tiled)
+    (count : State → ℕ) (b : State)
     (hs : List CallHappening) (w : CallsWorld) → IsFirstState count b → LeadToByCalls count (calls_beginning b) hs w → IsLog H known (line b)
-    → AreStepsMade H line count plan w.world.made → (l m : State) (n c i j : ℕ) → GivesNode w (Putting l n) → GivesNode w (Putting m c) → i < n → j < c
+    → AreStepsMade H S line step count plan w.world.made → (l m : State) (n c i j : ℕ) → GivesNode w (Putting l n) → GivesNode w (Putting m c) → i < n → j < c
     → (plan (record { state = l; index = i })).0 ≡ (plan (record { state = m; index = j })).0
-    → ((plan (record { state = l; index = i })).1 ≡ (plan (record { state = m; index = j })).1) ⊎ SomeCollide H
+    → ((plan (record { state = l; index = i })).1 ≡ (plan (record { state = m; index = j })).1)
+    ⊎ CollideAmong H (IsHashedBySteps H S (log_of_past step known w.world.past))
 
 -- a step is made only after its submissions were looked up
 abbrev pub LooksUpByCalls : (State → List (List ℕ)) → CallsWorld → CallHappening → Type 0
@@ -111,14 +119,17 @@ unfoldable pub AllLookUpByCalls : (State → List (List ℕ)) → CallsWorld →
 AllLookUpByCalls ids w [] = ⊤
 AllLookUpByCalls ids w (h ∷ hs) = LooksUpByCalls ids w h × AllLookUpByCalls ids (happens_by_calls w h) hs
 
--- Whatever happens by calls, if each step was looked up before and no place is missing, the lock's line is that of a log that begins with the entries that were known
--- and has no identity of these, and none twice, after them; or two different strings with one hash are given.
+-- Whatever happens by calls, let E be the log that the lock took, and let S have the strings that nodes hashed when they made steps. If each step was looked up
+-- before and no place is missing, the lock's line is that of E, E begins with the entries that were known, and it has no identity of these, and none twice, after
+-- them; or two strings collide that S has, or that are hashed for the log's lines.
 abbrev pub CallsAddOnce : Type 0
 CallsAddOnce =
-    (H : List ℕ → List ℕ) (line : State → StateLine) (ids : State → List (List ℕ)) (known : List Tiled) (count : State → ℕ) (b : State)
+    (H : List ℕ → List ℕ) (S : List (List ℕ)) (line : State → StateLine) (step : Made → LineAttempt) (ids : State → List (List ℕ)) (known : List Tiled)
+    (count : State → ℕ) (b : State)
     (hs : List CallHappening) (w : CallsWorld) → IsFirstState count b → LeadToByCalls count (calls_beginning b) hs w → IsLog H known (line b)
-    → (ids b ≡ entry_identities known) → AreStepsAdding H line ids w.world.made → AllLookUpByCalls ids (calls_beginning b) hs
-    → ((E : List Tiled) × IsLog H E (line w.world.held) × (known ≡ take (length known) E) × AreNewFrom (length known) (entry_identities E)) ⊎ SomeCollide H
+    → (ids b ≡ entry_identities known) → AreStepsAdding H S line step ids w.world.made → AllLookUpByCalls ids (calls_beginning b) hs
+    → (E : List Tiled) → E ≡ log_of_past step known w.world.past
+    → (IsLog H E (line w.world.held) × (known ≡ take (length known) E) × AreNewFrom (length known) (entry_identities E)) ⊎ CollideAmong H (IsHashedBySteps H S E)
 
 -- A call returns 0 over a lock's text exactly if no head that the node finds is ahead of the text's.
 abbrev pub CallsStartBehindNone : Type 0

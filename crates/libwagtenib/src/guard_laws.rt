@@ -12,20 +12,20 @@ pub fn signed_by_calls_are_steps()
     ensures { TakenAreSteps }
 {}
 
-/// If each of these heads is that of some list of leaves, the lists are beginnings of one list, or two different strings with one hash are given.
+/// If each of these heads is that of some list of leaves, the lists are beginnings of one list, or two of the strings that are hashed collide.
 pub fn signed_by_calls_agree()
     ensures { TakenAgree }
 {}
 
-/// If the newest of these heads is that of a list of leaves, each of them that has leaves is that of a beginning of this list, or two different strings
-/// with one hash are given.
+/// If the newest of these heads is that of a list of leaves, each of them that has leaves is that of a beginning of this list, or two of the strings
+/// that are hashed collide.
 #[tactic(auto, using(crate::proofs::GuardLaws::taken_go_back))]
 pub fn signed_by_calls_go_back()
     ensures { TakenGoBack }
 {}
 
 /// If the newest of these heads is that of a list of leaves, the leaf of each receipt that was let through after any of them is in this list at its
-/// index, or two different strings with one hash are given.
+/// index, or two of the strings that are hashed collide.
 pub fn receipts_stand_in_the_newest()
     ensures { ReceiptsStandInNewest }
 {}

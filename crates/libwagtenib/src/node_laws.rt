@@ -9,8 +9,8 @@ pub fn commands_by_calls_are_histories()
     ensures { CallsAreHistories }
 {}
 
-/// There is one list of entries. All that is in the stores is of it, and each call that says to answer submissions does so under a head of it. Or two different strings
-/// with one hash are given.
+/// There is one list of entries. All that is in the stores is of it, and each call that says to answer submissions does so under a head of it. Or two of the strings
+/// that are hashed collide.
 pub fn nodes_by_calls_write_one_log()
     ensures { CallsWriteOneLog }
 {
@@ -18,14 +18,14 @@ pub fn nodes_by_calls_write_one_log()
     ct_node::laws::worlds();
 }
 
-/// Any two objects that calls say to put under one name have one content, or two different strings with one hash are given.
+/// Any two objects that calls say to put under one name have one content, or two of the strings that are hashed collide.
 pub fn nodes_by_calls_name_one_content()
     ensures { CallsNameOneContent }
 {
     ct_node_log::laws::nodes();
 }
 
-/// If each step is looked up and no place is missing, no identity is in the log twice after the known entries, or two different strings with one hash are given.
+/// If each step is looked up and no place is missing, no identity is in the log twice after the known entries, or two of the strings that are hashed collide.
 pub fn nodes_by_calls_add_once()
     ensures { CallsAddOnce }
 {

@@ -19,8 +19,8 @@ pub fn cosigned_by_calls_are_a_witness()
     ensures { KeptAreAWitness }
 {}
 
-/// If the newest of these trees is that of a list of leaves, each of them is that of a beginning of this list, or two different strings with one hash are
-/// given. Any number of processes may make calls, and may be killed anywhere.
+/// If the newest of these trees is that of a list of leaves, each of them is that of a beginning of this list, or two of the strings that are hashed
+/// collide. Any number of processes may make calls, and may be killed anywhere.
 #[tactic(auto, using(crate::proofs::WitnessLaws::kept_go_back))]
 pub fn cosigned_by_calls_go_back()
     ensures { KeptGoBack }
