@@ -19,8 +19,8 @@ import (
 
 // defaults are the defaults of ctserve's settings that the pages state.
 const (
-	maxWritten, maxSkew       = 16 << 20, 10 * time.Second
-	keepTiles, refresh, scrub = 5 * time.Minute, time.Hour, time.Second
+	maxWritten, maxSkew = 16 << 20, 10 * time.Second
+	keepTiles, scrub    = 5 * time.Minute, time.Second
 )
 
 // The bounds that service/README.md and docs/OPERATING.md state of a node are those of this package.
@@ -85,9 +85,6 @@ func alertAt(t *testing.T, expression string) float64 {
 // An alert fires after what a log does by itself, and before what it refuses anyway.
 func TestAlertsFitTheBounds(t *testing.T) {
 	t.Parallel()
-	if old := alertAt(t, "ctserve_head_age_seconds >"); old != 2*refresh.Seconds() {
-		t.Errorf("a head is old after %v s, and one is made each %v", old, refresh)
-	}
 	if ahead := alertAt(t, "ctserve_head_age_seconds <"); ahead >= 0 || -ahead > maxSkew.Seconds() {
 		t.Errorf("a head is ahead from %v s on, and a clock may be by %v", ahead, maxSkew)
 	}

@@ -167,12 +167,11 @@ func runListEntry(words []string, answers, faults io.Writer) error {
 	submission := flags.String("submission-url", "", "`URL` below which submissions come in; by default https:// and the origin")
 	monitoring := flags.String("monitoring-url", "", "`URL` below which the log is read; by default the same")
 	publicAt := flags.String("key", "", "`file` with the log's public key in PEM, where the settings name no signing-key")
-	mmd := flags.Int("mmd", usualMMD, "the maximum merge delay in seconds: a timestamp is answered once a head has its entry, so any holds")
 	if err := parseFlags(flags, words, 0); err != nil {
 		return err
 	}
-	if *config == "" || *name == "" || *email == "" || *mmd < 1 {
-		return fmt.Errorf("%w: list-entry needs --config, --operator and --email, and an --mmd above 0", errUsage)
+	if *config == "" || *name == "" || *email == "" {
+		return fmt.Errorf("%w: list-entry needs --config, --operator and --email", errUsage)
 	}
 	s, err := parse([]string{"--config", *config}, faults)
 	if err != nil {
@@ -183,7 +182,6 @@ func runListEntry(words []string, answers, faults io.Writer) error {
 		return err
 	}
 	one := entryOf(s, public)
-	one.MMD = *mmd
 	if *submission != "" {
 		one.SubmissionURL, one.MonitoringURL = *submission, *submission
 	}
@@ -195,16 +193,13 @@ func runListEntry(words []string, answers, faults io.Writer) error {
 	return out.Encode(map[string][]operator{"operators": {{*name, strings.Split(*email, ","), []string{}, []listed{one}}}})
 }
 
-// usualMMD is the merge delay that is told where none is given, in seconds.
-const usualMMD = 60
-
 // entryOf is what a log list has of a log that is asked below its origin.
 func entryOf(s *settings, public []byte) listed {
 	id := sha256.Sum256(public)
 	address := "https://" + s.node.origin + "/"
 	one := listed{
 		Description: s.node.origin, LogID: base64.StdEncoding.EncodeToString(id[:]), Key: base64.StdEncoding.EncodeToString(public),
-		SubmissionURL: address, MonitoringURL: address, MMD: usualMMD,
+		SubmissionURL: address, MonitoringURL: address, MMD: int(s.node.maxMergeDelay / time.Second),
 	}
 	if from, to := s.window.From, s.window.To; !from.IsZero() && !to.IsZero() {
 		one.Interval = &interval{from.UTC().Format(time.RFC3339), to.UTC().Format(time.RFC3339)}
@@ -215,14 +210,14 @@ func entryOf(s *settings, public []byte) listed {
 // aboutOf is what a log answers of itself: nothing where its key isn't known.
 func aboutOf(s *settings, public []byte) (web.About, error) {
 	if public == nil {
-		return web.About{}, nil
+		return web.About{MaxMergeDelay: s.node.maxMergeDelay}, nil
 	}
 	entry, err := json.MarshalIndent(struct {
 		listed
 		Version string `json:"version"`
 		Notice  string `json:"notice,omitempty"`
 	}{entryOf(s, public), version.Number() + " (commit " + version.Commit() + ")", s.notice}, "", "  ")
-	return web.About{Key: public, Entry: append(entry, '\n')}, err
+	return web.About{Key: public, Entry: append(entry, '\n'), MaxMergeDelay: s.node.maxMergeDelay}, err
 }
 
 // publicKey is the log's, out of a file or of its signing key.
@@ -299,6 +294,7 @@ func runCheck(words []string, answers, faults io.Writer) error {
 			look("roots", "left out: "+each.String(), nil)
 		}
 	}
+	look("max-merge-delay", fmt.Sprintf("%v, so a head is made at least each %v", s.node.maxMergeDelay, s.node.refresh), nil)
 	if s.certificate != "" {
 		_, err := web.LoadCertificate(s.certificate, s.key)
 		look("tls-certificate", s.certificate, err)

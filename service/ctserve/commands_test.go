@@ -137,7 +137,7 @@ func TestListEntry(t *testing.T) {
 		!strings.Contains(other, base64.StdEncoding.EncodeToString(id[:])) || !strings.Contains(other, `"https://a/"`) || !strings.Contains(other, `"https://b/"`) {
 		t.Errorf("by the public key: status %d, %s%s", status, other, told)
 	}
-	for _, words := range [][]string{{"--config", file}, {"--config", file, "--operator", "o", "--email", "e", "--mmd", "0"}, {"--config", file, "--operator", "o", "--email", "e", "more"}} {
+	for _, words := range [][]string{{"--config", file}, {"--config", file, "--operator", "o", "--email", "e", "more"}} {
 		if status, _, _ := does(append([]string{"list-entry"}, words...)...); status != 2 {
 			t.Errorf("%q: status %d", words, status)
 		}

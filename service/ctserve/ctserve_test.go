@@ -239,7 +239,8 @@ func patient() (words []string) {
 	for _, name := range []string{"open-timeout", "shutdown-timeout", "submission-timeout", "header-timeout", "request-timeout", "response-timeout", "idle-timeout"} {
 		words = append(words, "--"+name, trial.Longest.String())
 	}
-	return words
+	// (so no head without entries is made meanwhile)
+	return append(words, "--max-merge-delay", "24h")
 }
 
 // words are those that start a log here, at ports of its own.

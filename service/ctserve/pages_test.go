@@ -68,7 +68,8 @@ func TestPagesNameSettings(t *testing.T) {
 		{"guard", "`guard` is on by default", "default true)"},
 		{"latest-head", "`latest-head`, by default `FOLDER.latest-head`", "default FOLDER.latest-head"},
 		{"guard-state", "`guard-state`, by default `FOLDER.guard`", "FOLDER.guard"},
-		{"refresh-interval", "each `refresh-interval` (an hour)", "default 1h0m0s)"},
+		{"max-merge-delay", "`max-merge-delay` (a minute)", "default 1m0s)"},
+		{"refresh-interval", "each `refresh-interval` (half of `max-merge-delay`)", "default half of it)"},
 		{"interval", "twenty heads a second", "50ms means at most twenty a second"},
 	} {
 		if !strings.Contains(whole, said.onPage) {

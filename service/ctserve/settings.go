@@ -45,7 +45,8 @@ type node struct {
 	latestHead, namedDay             string
 	mostSkew                         time.Duration
 	synchronized                     bool
-	interval, refresh, openWithin    time.Duration
+	interval, refresh, maxMergeDelay time.Duration
+	openWithin                       time.Duration
 	sweepAfter, sweepTilesAfter      time.Duration
 	readEvery, readAllWithin         time.Duration
 	mostQueue, mostBatch, mostProofs int
@@ -159,7 +160,8 @@ func (n *node) paceFlags(flags *flag.FlagSet) {
 	flags.DurationVar(&n.mostSkew, "max-clock-skew", 10*time.Second, "maximum difference of the machine's clock from the newest head, the stores' machines, the other nodes and the elapsed time. Beyond it, submissions are refused")
 	flags.BoolVar(&n.synchronized, "require-synchronized-clock", false, "refuse submissions until the kernel reports that its clock is synchronized (timedatectl)")
 	flags.Func("interval", "minimum `duration` between two heads. 50ms means at most twenty a second. By default, 50ms with witnesses and with stores on other machines, and 5ms for a folder", above0(&n.interval))
-	flags.DurationVar(&n.refresh, "refresh-interval", time.Hour, "age of the newest head at which a head without new entries is made")
+	flags.DurationVar(&n.maxMergeDelay, "max-merge-delay", time.Minute, "maximum merge delay (MMD) that the log publishes, in whole seconds. No head that the log serves is older")
+	flags.Func("refresh-interval", "`age` of the newest head at which a head without new entries is made. It must be below max-merge-delay (default half of it)", above0(&n.refresh))
 	flags.DurationVar(&n.sweepAfter, "delete-heads-after", time.Hour, "age of a head at which older heads are deleted")
 	flags.DurationVar(&n.sweepTilesAfter, "delete-tiles-after", 5*time.Minute, "age of a full tile at which its partial tiles are deleted. Of heads that are older than ten seconds, one in each five seconds is kept. At most delete-heads-after")
 	flags.DurationVar(&n.readEvery, "scrub-interval", time.Second, "time between two checks of old tiles")
@@ -211,10 +213,13 @@ func (s *settings) settle() error {
 	if !s.window.From.IsZero() && !s.window.To.IsZero() && !s.window.From.Before(s.window.To) {
 		return errors.New("--not-after-start must be before --not-after-limit")
 	}
-	for _, time := range []time.Duration{s.endWithin, l.Headers, l.Request, l.Submission, l.Answer, l.Idle, n.refresh, n.openWithin, n.sweepAfter, n.sweepTilesAfter, n.readEvery, n.readAllWithin, n.mostSkew} {
+	for _, time := range []time.Duration{s.endWithin, l.Headers, l.Request, l.Submission, l.Answer, l.Idle, n.maxMergeDelay, n.openWithin, n.sweepAfter, n.sweepTilesAfter, n.readEvery, n.readAllWithin, n.mostSkew} {
 		if time <= 0 {
 			return errors.New("a duration must be above 0")
 		}
+	}
+	if err := n.settleMergeDelay(); err != nil {
+		return err
 	}
 	// One address may use a quarter of the proofs.
 	if l.ProofsByAddress = n.mostProofs / 4; l.ProofsByAddress < 1 {
@@ -248,6 +253,21 @@ func (s *settings) settle() error {
 		return errors.New("--nodes-address: nodes on several machines must share one index: use PostgreSQL (--index postgres://HOST/DATABASE?log=NAME) instead of a file on each machine")
 	}
 	return n.settleWitnesses()
+}
+
+// settleMergeDelay refuses a merge delay that a log list cannot have, and an age of heads with which an idle log would not keep it (RFC 6962, section 3.5).
+func (n *node) settleMergeDelay() error {
+	if n.maxMergeDelay%time.Second != 0 {
+		return fmt.Errorf("--max-merge-delay %v is no whole number of seconds, as a log list needs it (write for example 1m)", n.maxMergeDelay)
+	}
+	if n.refresh == 0 {
+		n.refresh = n.maxMergeDelay / 2
+	}
+	if n.refresh >= n.maxMergeDelay {
+		return fmt.Errorf("--refresh-interval %v is not below --max-merge-delay %v, so an idle log would serve heads that are older than it publishes (leave refresh-interval out)",
+			n.refresh, n.maxMergeDelay)
+	}
+	return nil
 }
 
 // checkOrigin refuses a name that cannot be a log's origin. An origin is the submission prefix as a URL, without the scheme and without a slash at the end (C2SP

@@ -3,6 +3,7 @@ package web
 import (
 	"encoding/pem"
 	"net/http"
+	"time"
 )
 
 // About is what a log says of itself beside its tree. What is nil isn't answered.
@@ -11,6 +12,8 @@ type About struct {
 	Key []byte
 	// Entry is what a log list has of the log (log list schema v3, of one log), in JSON, with the fields version and notice beside.
 	Entry []byte
+	// MaxMergeDelay is the maximum merge delay that the log publishes. /metrics has it beside the age of the newest head.
+	MaxMergeDelay time.Duration
 }
 
 func (f *Front) key(w http.ResponseWriter, r *http.Request) error {

@@ -79,6 +79,7 @@ func described(name, help string) *prometheus.Desc {
 var (
 	descEntries    = described("ctserve_entries", "Entries of the newest published head.")
 	descHeadAge    = described("ctserve_head_age_seconds", "Age of the newest published head.")
+	descMergeDelay = described("ctserve_max_merge_delay_seconds", "Maximum merge delay that the log publishes. The newest published head is never older, unless there is a fault.")
 	descAhead      = described("ctserve_unpublished_entries", "Entries that were added to the log and are in no published head that this node knows.")
 	descRound      = described("ctserve_round_age_seconds", "Time since the last round that succeeded. A round is made each second, even without submissions.")
 	descStore      = prometheus.NewDesc("ctserve_store_seconds", "Time that calls of the stores took, including those that failed.", []string{"store", "call"}, nil)
@@ -136,6 +137,7 @@ func (c figures) Collect(to chan<- prometheus.Metric) {
 	}
 	gauge(descEntries, float64(f.Entries))
 	gauge(descHeadAge, f.HeadAge.Seconds())
+	gauge(descMergeDelay, c.front.options.About.MaxMergeDelay.Seconds())
 	gauge(descAhead, float64(f.Unpublished))
 	gauge(descRound, f.SinceRound.Seconds())
 	gauge(descQueue, float64(f.Queue))

@@ -481,7 +481,7 @@ func TestAbout(t *testing.T) {
 }
 
 func TestMetricsAndHealth(t *testing.T) {
-	f := newFixture(t, 0, func(o *Options) { o.LogRequests = true })
+	f := newFixture(t, 0, func(o *Options) { o.LogRequests, o.About.MaxMergeDelay = true, 90*time.Second })
 	began := time.Now()
 	f.fill(5)
 	f.get("/checkpoint")
@@ -515,7 +515,7 @@ func TestMetricsAndHealth(t *testing.T) {
 		`ctserve_requests_total{call="none",status="404"} 1`,
 		`ctserve_refusals_total{call="add-chain",refusal="empty-chain"} 1`,
 		`ctserve_request_seconds_count{call="checkpoint"} 1`,
-		"ctserve_entries 5", "ctserve_queue 0", `ctserve_build_info{commit="unknown",version="unreleased"} 1`, "ctserve_queue_capacity 1024", "ctserve_lost_swaps_total 3", "ctserve_fault 0", "ctserve_ready 1", "ctserve_roots 1",
+		"ctserve_entries 5", "ctserve_max_merge_delay_seconds 90", "ctserve_queue 0", `ctserve_build_info{commit="unknown",version="unreleased"} 1`, "ctserve_queue_capacity 1024", "ctserve_lost_swaps_total 3", "ctserve_fault 0", "ctserve_ready 1", "ctserve_roots 1",
 		"ctserve_deleted_tiles_total 4", "ctserve_deleted_heads_total 8", "ctserve_scrubbed_tiles_total 5", "ctserve_damaged_tiles 6", "ctserve_written_bytes_total 16", `ctserve_step_seconds_sum{phase="stage"} 1.5`, `ctserve_step_seconds_count{phase="stage"} 17`, "ctserve_deleted_batches_total 11", "ctserve_staged_batches 12", "ctserve_janitor_failures_total 13", "ctserve_damaged_issuers 9", "ctserve_repaired_objects_total 10", "ctserve_signer_starts_total 7", "ctserve_queued_bytes 0", "ctserve_response_bytes 0", `ctserve_connections_refused_total{bound="address"} 0`,
 		"ctserve_unpublished_entries 18", "ctserve_round_age_seconds 2.5", "ctserve_partial_tiles_deleted_to 512", "ctserve_scrub_next_tile 19", "ctserve_faults_total 0",
 		`ctserve_step_submissions_bucket{le="1"} 18`, `ctserve_step_submissions_bucket{le="8"} 20`, `ctserve_step_submissions_bucket{le="+Inf"} 20`, "ctserve_step_submissions_sum 21", "ctserve_step_submissions_count 20",
