@@ -17,7 +17,7 @@ import (
 
 // TestBounds: the largest that may be isn't refused for its size, and one more is.
 func TestBounds(t *testing.T) {
-	c := NewChecker(&Roots{}, Window{}, byASN1{})
+	c := NewChecker(&Roots{}, Rules{}, byASN1{})
 	of := func(lengths ...int) (chain [][]byte) {
 		for _, length := range lengths {
 			chain = append(chain, make([]byte, length))
@@ -68,7 +68,7 @@ func TestRootsOfOneName(t *testing.T) {
 	if err != nil {
 		t.Fatal(err)
 	}
-	c := NewChecker(taken, Window{}, byASN1{})
+	c := NewChecker(taken, Rules{}, byASN1{})
 	for i, leaf := range leaves {
 		entry, err := c.Certificate([][]byte{leaf})
 		if err != nil || !reflect.DeepEqual(entry.Issuers, roots[i:i+1]) {
@@ -100,7 +100,7 @@ func TestEmptySignature(t *testing.T) {
 	if err != nil {
 		t.Fatal(err)
 	}
-	c := NewChecker(roots, Window{}, byASN1{})
+	c := NewChecker(roots, Rules{}, byASN1{})
 	for _, chain := range [][][]byte{{bare}, {bare, root}} {
 		if _, err := c.Certificate(chain); err == nil {
 			t.Errorf("a chain of %d is taken", len(chain))
@@ -125,10 +125,10 @@ func TestVersion2(t *testing.T) {
 	if err != nil {
 		t.Fatal(err)
 	}
-	if _, err := NewChecker(roots, Window{}, byASN1{}).Certificate([][]byte{leaf, old}); err != nil {
+	if _, err := NewChecker(roots, Rules{}, byASN1{}).Certificate([][]byte{leaf, old}); err != nil {
 		t.Errorf("a root: %v", err)
 	}
-	if err := NewChecker(&Roots{}, Window{}, byASN1{}).issued(certificateOf(parsed), parsed); RefusalOf(err) != NotAnAuthority {
+	if err := NewChecker(&Roots{}, Rules{}, byASN1{}).issued(certificateOf(parsed), parsed); RefusalOf(err) != NotAnAuthority {
 		t.Errorf("no root: %v", err)
 	}
 }
@@ -145,7 +145,7 @@ func TestReloadCounts(t *testing.T) {
 	if err != nil {
 		t.Fatal(err)
 	}
-	c := NewChecker(first, Window{}, byASN1{})
+	c := NewChecker(first, Rules{}, byASN1{})
 	for _, test := range []struct {
 		roots         [][]byte
 		added, remove int

@@ -20,9 +20,9 @@ type certificate struct {
 	raw    []byte
 	tbs    []byte
 	issuer []byte
-	// notAfter is the end of its validity.
-	notAfter   time.Time
-	extensions []extension
+	// notBefore and notAfter are the beginning and the end of its validity.
+	notBefore, notAfter time.Time
+	extensions          []extension
 	// algorithm and signature are as crypto/x509 reads them.
 	algorithm x509.SignatureAlgorithm
 	signature []byte
@@ -48,7 +48,7 @@ func identifierOf(oid asn1.ObjectIdentifier) []byte {
 // certificateOf gives of an issuer's certificate what is read of the first one of a chain.
 func certificateOf(issuer *x509.Certificate) *certificate {
 	c := &certificate{
-		raw: issuer.Raw, tbs: issuer.RawTBSCertificate, issuer: issuer.RawIssuer, notAfter: issuer.NotAfter,
+		raw: issuer.Raw, tbs: issuer.RawTBSCertificate, issuer: issuer.RawIssuer, notBefore: issuer.NotBefore, notAfter: issuer.NotAfter,
 		algorithm: issuer.SignatureAlgorithm, signature: issuer.Signature,
 	}
 	for _, of := range issuer.Extensions {
@@ -66,6 +66,35 @@ func (c *certificate) value(oid asn1.ObjectIdentifier) ([]byte, bool) {
 		}
 	}
 	return nil, false
+}
+
+// The extension of the extended key usage, and two of its purposes (RFC 5280, section 4.2.1.12).
+var (
+	oidExtendedKeyUsage    = asn1.ObjectIdentifier{2, 5, 29, 37}
+	oidAnyExtendedKeyUsage = asn1.ObjectIdentifier{2, 5, 29, 37, 0}
+	oidServerAuth          = asn1.ObjectIdentifier{1, 3, 6, 1, 5, 5, 7, 3, 1}
+)
+
+// isForServers reports whether a certificate may be used by TLS servers, by its extended key usage. One without this extension may be used for anything, and
+// one whose extension cannot be read for nothing.
+func isForServers(c *certificate) bool {
+	value, has := c.value(oidExtendedKeyUsage)
+	if !has {
+		return true
+	}
+	input, found := cryptobyte.String(value), false
+	var purposes cryptobyte.String
+	if !input.ReadASN1(&purposes, tags.SEQUENCE) || !input.Empty() {
+		return false
+	}
+	for !purposes.Empty() {
+		var purpose asn1.ObjectIdentifier
+		if !purposes.ReadASN1ObjectIdentifier(&purpose) {
+			return false
+		}
+		found = found || purpose.Equal(oidServerAuth) || purpose.Equal(oidAnyExtendedKeyUsage)
+	}
+	return found
 }
 
 // readCertificate reads a certificate in DER as far as a log needs it.
@@ -107,7 +136,7 @@ func (c *certificate) readTBS(tbs, algorithm cryptobyte.String) error {
 	}
 	c.issuer = issuer
 	var err error
-	if c.notAfter, err = endOf(validity); err != nil {
+	if c.notBefore, c.notAfter, err = readValidity(validity); err != nil {
 		return err
 	}
 	if !has {
@@ -119,8 +148,8 @@ func (c *certificate) readTBS(tbs, algorithm cryptobyte.String) error {
 	return c.readExtensions(extensions)
 }
 
-// endOf gives the end of a validity.
-func endOf(validity cryptobyte.String) (time.Time, error) {
+// readValidity returns the beginning and the end of a validity.
+func readValidity(validity cryptobyte.String) (notBefore, notAfter time.Time, err error) {
 	var moments [2]time.Time
 	for i := range moments {
 		read := validity.ReadASN1GeneralizedTime
@@ -128,13 +157,13 @@ func endOf(validity cryptobyte.String) (time.Time, error) {
 			read = validity.ReadASN1UTCTime
 		}
 		if !read(&moments[i]) {
-			return time.Time{}, noDER("a moment of the validity")
+			return time.Time{}, time.Time{}, noDER("a moment of the validity")
 		}
 	}
 	if !validity.Empty() {
-		return time.Time{}, noDER("a validity")
+		return time.Time{}, time.Time{}, noDER("a validity")
 	}
-	return moments[1], nil
+	return moments[0], moments[1], nil
 }
 
 func (c *certificate) readExtensions(extensions cryptobyte.String) error {

@@ -66,7 +66,7 @@ func TestMisissuedAreShown(t *testing.T) {
 	if err != nil {
 		t.Fatal(err)
 	}
-	c := NewChecker(roots, Window{}, precert.New())
+	c := NewChecker(roots, Rules{}, precert.New())
 	same := func(tbs []byte) []byte { return tbs }
 	unknown := pkix.Extension{Id: asn1.ObjectIdentifier{1, 2, 3}, Value: []byte{5, 0}}
 	poisonous := pkix.Extension{Id: oidPoison, Critical: true, Value: []byte{5, 0}}
@@ -98,7 +98,7 @@ func TestMisissuedAreShown(t *testing.T) {
 		if _, err := c.Certificate([][]byte{damaged}); RefusalOf(err) != UnknownRoot {
 			t.Errorf("%s, damaged: %v", test.what, err)
 		}
-		if _, err := NewChecker(roots, Window{To: template.NotAfter}, byASN1{}).Certificate([][]byte{der}); RefusalOf(err) != OutsideWindow {
+		if _, err := NewChecker(roots, Rules{Window: Window{To: template.NotAfter}}, byASN1{}).Certificate([][]byte{der}); RefusalOf(err) != OutsideWindow {
 			t.Errorf("%s, outside of the window: %v", test.what, err)
 		}
 		template.ExtraExtensions = append(append([]pkix.Extension{}, test.extensions...), poisonous)
@@ -128,7 +128,7 @@ func TestOtherFormOfASignature(t *testing.T) {
 	if err != nil {
 		t.Fatal(err)
 	}
-	c := NewChecker(roots, Window{}, precert.New())
+	c := NewChecker(roots, Rules{}, precert.New())
 	rewritten := func(der []byte) []byte {
 		t.Helper()
 		var whole struct {

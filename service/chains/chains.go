@@ -2,11 +2,11 @@
 // into the log (section 3.2).
 //
 // A chain is checked so that who misissued is known, and no more: every certificate is signed by the next one, which may sign
-// certificates, and the last one is a root of the log or signed by one. Names, dates, purposes, lengths of paths and critical
-// extensions that nobody knows don't matter, since a log shows what was issued and not what is valid. Of the first certificate only
-// that is read which this takes, so one that crypto/x509 refuses, for a name or a key, is shown too; its issuers have to be read by
-// crypto/x509, and whatever signs it by a kind of signature that crypto/x509 checks. A log may take only certificates that end within
-// a window, so that it can be closed one day.
+// certificates, and the last one is a root of the log or signed by one. Names, lengths of paths and critical extensions that nobody
+// knows don't matter, since a log shows what was issued and not what is valid. Of the first certificate only that is read which this
+// takes, so one that crypto/x509 refuses, for a name or a key, is shown too; its issuers have to be read by crypto/x509, and whatever
+// signs it by a kind of signature that crypto/x509 checks. By its Rules a log accepts only certificates for servers, or only those
+// that expire within a window, so that it can be closed one day.
 package chains
 
 import (
@@ -56,6 +56,33 @@ type Entry struct {
 	Issuers [][]byte
 }
 
+// Rules are what a log asks of the first certificate of a chain. The zero value asks for nothing.
+type Rules struct {
+	// Window is when the certificate must expire.
+	Window Window
+	// ServerAuthentication is whether the certificate must be one for TLS servers: its extended key usage has serverAuth or anyExtendedKeyUsage, or there is no
+	// such extension (RFC 5280, section 4.2.1.12).
+	ServerAuthentication bool
+	// RefuseExpired and RefuseNotYetValid are whether the certificate must not have expired, and whether its validity must have begun.
+	RefuseExpired, RefuseNotYetValid bool
+}
+
+// check returns the reason why a certificate does not keep to the rules at this time, or nil.
+func (r Rules) check(c *certificate, now time.Time) error {
+	const day = time.RFC3339
+	switch {
+	case !r.Window.has(c.notAfter):
+		return fmt.Errorf("%w: it ends %s", OutsideWindow, c.notAfter.UTC().Format(day))
+	case r.RefuseExpired && now.After(c.notAfter):
+		return fmt.Errorf("%w: it ended %s", Expired, c.notAfter.UTC().Format(day))
+	case r.RefuseNotYetValid && now.Before(c.notBefore):
+		return fmt.Errorf("%w: it begins %s", NotYetValid, c.notBefore.UTC().Format(day))
+	case r.ServerAuthentication && !isForServers(c):
+		return fmt.Errorf("%w: its extended key usage has neither serverAuth nor anyExtendedKeyUsage", NotForServers)
+	}
+	return nil
+}
+
 // Window is when the certificates of a log end: From <= notAfter < To. A zero time bounds nothing.
 type Window struct {
 	From, To time.Time
@@ -65,18 +92,18 @@ func (w Window) has(moment time.Time) bool {
 	return (w.From.IsZero() || !moment.Before(w.From)) && (w.To.IsZero() || moment.Before(w.To))
 }
 
-// Checker checks chains against a log's roots and its window. Its methods may be called at once.
+// Checker checks chains against a log's roots and its rules. Its methods may be called at once.
 type Checker struct {
 	roots  atomic.Pointer[Roots]
-	window Window
+	rules  Rules
 	cutter Cutter
 	// signed checks a signature; the fuzzer has another one.
 	signed func(certificate *certificate, issuer *x509.Certificate) error
 }
 
 // NewChecker makes a checker, whose cutter makes precertificates' entries.
-func NewChecker(roots *Roots, window Window, cutter Cutter) *Checker {
-	c := &Checker{window: window, cutter: cutter, signed: checkSignature}
+func NewChecker(roots *Roots, rules Rules, cutter Cutter) *Checker {
+	c := &Checker{rules: rules, cutter: cutter, signed: checkSignature}
 	c.roots.Store(roots)
 	return c
 }
@@ -156,8 +183,8 @@ func (c *Checker) check(chain [][]byte) (*certificate, []*x509.Certificate, erro
 	if err != nil {
 		return nil, nil, err
 	}
-	if !c.window.has(first.notAfter) {
-		return nil, nil, fmt.Errorf("%w: it ends %s", OutsideWindow, first.notAfter.UTC().Format(time.RFC3339))
+	if err := c.rules.check(first, time.Now()); err != nil {
+		return nil, nil, err
 	}
 	below := []*certificate{first}
 	for i, issuer := range issuers {

@@ -19,7 +19,7 @@ import (
 
 func TestCertificatesAreTaken(t *testing.T) {
 	a := madeByOpenssl(t)
-	c := NewChecker(a.roots(t, "root", "old-root"), Window{}, byASN1{})
+	c := NewChecker(a.roots(t, "root", "old-root"), Rules{}, byASN1{})
 	for _, test := range []struct {
 		what      string
 		submitted []string
@@ -131,13 +131,14 @@ func refusals(t testing.TB, a *authorities) []refused {
 
 func TestChainsAreRefused(t *testing.T) {
 	a := madeByOpenssl(t)
-	reached := map[Refusal]bool{}
+	// (TestRules has these three)
+	reached := map[Refusal]bool{Expired: true, NotYetValid: true, NotForServers: true}
 	for _, test := range refusals(t, a) {
 		if test.roots == "" {
 			test.roots = "root"
 		}
 		window := Window{moment(t, test.from), moment(t, test.til)}
-		c := NewChecker(rootsNamed(t, a, test), window, byASN1{})
+		c := NewChecker(rootsNamed(t, a, test), Rules{Window: window}, byASN1{})
 		call := c.Certificate
 		if test.precert {
 			call = c.Precertificate
@@ -264,7 +265,7 @@ func TestChainOfSixteen(t *testing.T) {
 		chain = append([][]byte{signedBy(t, child, parent, &key.PublicKey, key)}, chain...)
 		parent = child
 	}
-	c := NewChecker(roots, Window{}, byASN1{})
+	c := NewChecker(roots, Rules{}, byASN1{})
 	if _, err := c.Certificate(chain); RefusalOf(err) != ChainTooLong {
 		t.Errorf("17: %v", err)
 	}
@@ -294,7 +295,7 @@ func TestWindow(t *testing.T) {
 		{"", "2027-01-01T00:00:00Z", false},
 		{"", "2027-01-01T00:00:01Z", true},
 	} {
-		_, err := NewChecker(roots, Window{moment(t, test.from), moment(t, test.to)}, byASN1{}).Certificate(chain)
+		_, err := NewChecker(roots, Rules{Window: Window{moment(t, test.from), moment(t, test.to)}}, byASN1{}).Certificate(chain)
 		if (err == nil) != test.taken || err != nil && RefusalOf(err) != OutsideWindow {
 			t.Errorf("from %q to %q: %v", test.from, test.to, err)
 		}
@@ -333,7 +334,7 @@ func TestReload(t *testing.T) {
 			t.Fatal(err)
 		}
 	}
-	c := NewChecker(a.roots(t, "other"), Window{}, byASN1{})
+	c := NewChecker(a.roots(t, "other"), Rules{}, byASN1{})
 	chain := a.chain(t, "leaf", "middle")
 	if _, err := c.Certificate(chain); RefusalOf(err) != UnknownRoot {
 		t.Errorf("before: %v", err)

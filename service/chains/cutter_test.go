@@ -93,12 +93,12 @@ func TestCutters(t *testing.T) {
 		{precert.ErrNoExtension, NoPoison}, {precert.ErrSecondExtension, NoPoison}, {precert.ErrBadPoison, BadPoison},
 		{fmt.Errorf("%w: trailing in tbs of the certificate", precert.ErrUnread), NoCertificate}, {wagtenib.ErrMemory, ""}, {gone, ""},
 	} {
-		entry, err := NewChecker(a.roots(t, "root"), Window{}, answers{[]byte("an entry"), test.err}).Precertificate(chain)
+		entry, err := NewChecker(a.roots(t, "root"), Rules{}, answers{[]byte("an entry"), test.err}).Precertificate(chain)
 		if entry != nil || RefusalOf(err) != test.want || test.want == "" && !errors.Is(err, test.err) {
 			t.Errorf("%v: %v, %v", test.err, entry != nil, err)
 		}
 	}
-	entry, err := NewChecker(a.roots(t, "root"), Window{}, answers{entry: []byte("an entry")}).Precertificate(chain)
+	entry, err := NewChecker(a.roots(t, "root"), Rules{}, answers{entry: []byte("an entry")}).Precertificate(chain)
 	if err != nil || string(entry.TBSCertificate) != "an entry" {
 		t.Errorf("another entry: %v", err)
 	}

@@ -135,7 +135,7 @@ func FuzzChain(f *testing.F) {
 	for i := range all {
 		f.Add(all[i], all[(i+1)%len(all)])
 	}
-	c := NewChecker(roots, Window{}, byASN1{})
+	c := NewChecker(roots, Rules{}, byASN1{})
 	c.signed = func(*certificate, *x509.Certificate) error { return nil }
 	f.Fuzz(func(t *testing.T, first, second []byte) {
 		for _, chain := range [][][]byte{{first}, {first, second}} {

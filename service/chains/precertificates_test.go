@@ -26,7 +26,7 @@ func inPEM(certificates ...[]byte) (text []byte) {
 // dates, the final certificate. The entry's TBSCertificate is the final one's, as openssl cuts it.
 func TestPrecertificatesAreTheirFinalCertificates(t *testing.T) {
 	a := madeByOpenssl(t)
-	c := NewChecker(a.roots(t, "root"), Window{}, precert.New())
+	c := NewChecker(a.roots(t, "root"), Rules{}, precert.New())
 	for _, test := range []struct {
 		final, issuer      string
 		submitted, issuers []string
@@ -174,7 +174,7 @@ func TestPrecertificatesAgreeWithPython(t *testing.T) {
 	cutter := precert.New()
 	for i, there := range askPython(t, chains, roots.Certificates()) {
 		test := tests[i]
-		entry, err := NewChecker(roots, Window{}, cutter).Precertificate(chains[i])
+		entry, err := NewChecker(roots, Rules{}, cutter).Precertificate(chains[i])
 		if RefusalOf(err) != test.here || there.Refusal != test.there || (err == nil) != (test.here == "") {
 			t.Errorf("%s: %v here, %q there", test.names, err, there.Refusal)
 		}
@@ -222,7 +222,7 @@ func TestRealPrecertificates(t *testing.T) {
 			t.Fatal(err)
 		}
 		for _, chain := range [][][]byte{line.Chain, line.Chain[:1]} {
-			entry, err := NewChecker(roots, Window{}, cutter).Precertificate(chain)
+			entry, err := NewChecker(roots, Rules{}, cutter).Precertificate(chain)
 			if err != nil {
 				t.Errorf("number %d: %v", i, err)
 				continue
@@ -241,7 +241,7 @@ func BenchmarkRealPrecertificate(b *testing.B) {
 	if err != nil {
 		b.Fatal(err)
 	}
-	c := NewChecker(roots, Window{}, byASN1{})
+	c := NewChecker(roots, Rules{}, byASN1{})
 	for i := 0; i < b.N; i++ {
 		if _, err := c.Precertificate(line.Chain); err != nil {
 			b.Fatal(err)

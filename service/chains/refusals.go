@@ -29,6 +29,12 @@ const (
 	BadSignature Refusal = "bad-signature"
 	// OutsideWindow: the first one's notAfter lies outside of the log's window.
 	OutsideWindow Refusal = "outside-window"
+	// Expired: the first one has expired, and the log accepts none such.
+	Expired Refusal = "expired"
+	// NotYetValid: the validity of the first one has not begun, and the log accepts none such.
+	NotYetValid Refusal = "not-yet-valid"
+	// NotForServers: the first one is not for TLS servers (extended key usage), and the log accepts only those.
+	NotForServers Refusal = "not-for-servers"
 	// IsPrecertificate: a certificate has the poison extension.
 	IsPrecertificate Refusal = "is-precertificate"
 	// NoPoison: a precertificate lacks the poison extension.
@@ -44,7 +50,7 @@ const (
 // Refusals are all of them.
 var Refusals = []Refusal{
 	EmptyChain, ChainTooLong, CertificateTooLong, NoCertificate, NotIssuedByNext, UnknownRoot, NotAnAuthority, KeyTooLong, BadSignature,
-	OutsideWindow, IsPrecertificate, NoPoison, BadPoison, NoFinalIssuer, NoAuthorityKey,
+	OutsideWindow, Expired, NotYetValid, NotForServers, IsPrecertificate, NoPoison, BadPoison, NoFinalIssuer, NoAuthorityKey,
 }
 
 // RefusalOf gives the refusal that an error wraps, or none.

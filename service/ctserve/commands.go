@@ -201,7 +201,7 @@ func entryOf(s *settings, public []byte) listed {
 		Description: s.node.origin, LogID: base64.StdEncoding.EncodeToString(id[:]), Key: base64.StdEncoding.EncodeToString(public),
 		SubmissionURL: address, MonitoringURL: address, MMD: int(s.node.maxMergeDelay / time.Second),
 	}
-	if from, to := s.window.From, s.window.To; !from.IsZero() && !to.IsZero() {
+	if from, to := s.rules.Window.From, s.rules.Window.To; !from.IsZero() && !to.IsZero() {
 		one.Interval = &interval{from.UTC().Format(time.RFC3339), to.UTC().Format(time.RFC3339)}
 	}
 	return one

@@ -21,6 +21,7 @@ import (
 	"testing"
 	"time"
 
+	"wagtenib/service/chains"
 	"wagtenib/service/check"
 	"wagtenib/service/signer"
 	"wagtenib/service/softhsm"
@@ -607,7 +608,7 @@ func TestSettings(t *testing.T) {
 		t.Fatal(err)
 	}
 	if s.node.origin != "z" || s.node.mostSkew != 3*time.Second || !s.node.synchronized || s.limits.Idle != 5*time.Second || fmt.Sprint(s.proxies) != "[127.0.0.1/32 10.0.0.0/8]" || !s.node.create ||
-		s.window.From.Year() != 2027 ||
+		s.rules.Window.From.Year() != 2027 ||
 		s.node.guardState != "file:ct-log.guard" || s.node.latestHead != "ct-log.latest-head" || s.node.namedDay != "ct-log.day" || !s.node.isGuarded() || s.node.store != "folder:ct-log/objects" || s.node.register != "file:ct-log/register" || s.node.places != "sqlite:ct-log/places" {
 		t.Errorf("%+v", s)
 	}
@@ -617,6 +618,15 @@ func TestSettings(t *testing.T) {
 	for _, origin := range []string{"log.example", "log.example/2027h1", "xn--lg-fka.example/a/b", "localhost:8618"} {
 		if s, err := parse(named(origin), io.Discard); err != nil || s.node.origin != origin {
 			t.Errorf("%s: %v", origin, err)
+		}
+	}
+	for text, want := range map[string]chains.Rules{
+		"":                 {ServerAuthentication: true},
+		"any-purpose true": {},
+		"refuse-expired true\nrefuse-not-yet-valid true": {ServerAuthentication: true, RefuseExpired: true, RefuseNotYetValid: true},
+	} {
+		if s, err := parse(file(needed+text), io.Discard); err != nil || s.rules != want {
+			t.Errorf("%s: %v, %+v", text, err, s)
 		}
 	}
 	for text, want := range map[string]time.Duration{"": 0, "interval 50ms": 50 * time.Millisecond} {

@@ -127,7 +127,7 @@ func serveLog(s *settings, lines *web.Lines, signals <-chan os.Signal, open open
 		return err
 	}
 	defer of.close()
-	checker := chains.NewChecker(roots, s.window, of.cutter)
+	checker := chains.NewChecker(roots, s.rules, of.cutter)
 	awaitHead(s, of.log)
 	about, err := aboutOf(s, of.key)
 	if err != nil {

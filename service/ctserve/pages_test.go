@@ -9,6 +9,7 @@ import (
 	"testing"
 	"time"
 
+	"wagtenib/service/chains"
 	"wagtenib/service/trial"
 )
 
@@ -46,6 +47,9 @@ func TestPagesNameSettings(t *testing.T) {
 	}
 	// What has a hyphen and is no setting.
 	others := map[string]bool{"list-entry": true, "made-again": true, "root-left-out": true, "read-only": true, "too-often": true, "statement_timeout": true, "pre-vote": true, "auto-compaction-mode=periodic": true}
+	for _, refusal := range chains.Refusals {
+		others[string(refusal)] = true
+	}
 	whole := ""
 	for _, page := range []string{"../../docs/OPERATING.md", "../INCIDENTS.md"} {
 		text := trial.Page(t, page)

@@ -28,7 +28,8 @@ type settings struct {
 	certificate, key         string
 	proxies                  []netip.Prefix
 	roots                    chains.RootFiles
-	window                   chains.Window
+	rules                    chains.Rules
+	anyPurpose               bool
 	limits                   web.Limits
 	endWithin                time.Duration
 	logRequests, readOnly    bool
@@ -112,8 +113,11 @@ func (s *settings) frontFlags(flags *flag.FlagSet) {
 		return nil
 	})
 	flags.StringVar(&s.roots.Without, "excluded-roots", "", "`file` with the SHA-256 fingerprint of one root on each line. These roots are not accepted")
-	flags.Func("not-after-start", "`time` (2026-07-01 or 2026-07-01T00:00:00Z). Certificates that expire before it are refused", moment(&s.window.From))
-	flags.Func("not-after-limit", "`time`. Certificates that expire at this time or later are refused", moment(&s.window.To))
+	flags.Func("not-after-start", "`time` (2026-07-01 or 2026-07-01T00:00:00Z). Certificates that expire before it are refused", moment(&s.rules.Window.From))
+	flags.Func("not-after-limit", "`time`. Certificates that expire at this time or later are refused", moment(&s.rules.Window.To))
+	flags.BoolVar(&s.anyPurpose, "any-purpose", false, "accept certificates of any purpose. Without it, those whose extended key usage excludes TLS servers are refused")
+	flags.BoolVar(&s.rules.RefuseExpired, "refuse-expired", false, "refuse certificates that have expired")
+	flags.BoolVar(&s.rules.RefuseNotYetValid, "refuse-not-yet-valid", false, "refuse certificates whose validity has not begun")
 	flags.DurationVar(&s.endWithin, "shutdown-timeout", 30*time.Second, "time after SIGTERM within which waiting clients are still answered")
 	flags.BoolVar(&s.readOnly, "read-only", false, "refuse submissions with 403 read-only. Heads are still made, and reads continue")
 	flags.BoolVar(&s.logRequests, "log-requests", false, "log every request, and not only those that fail because of the log")
@@ -210,7 +214,8 @@ func (s *settings) settle() error {
 	if (s.certificate == "") != (s.key == "") {
 		return errors.New("--tls-certificate and --tls-key need each other")
 	}
-	if !s.window.From.IsZero() && !s.window.To.IsZero() && !s.window.From.Before(s.window.To) {
+	s.rules.ServerAuthentication = !s.anyPurpose
+	if window := s.rules.Window; !window.From.IsZero() && !window.To.IsZero() && !window.From.Before(window.To) {
 		return errors.New("--not-after-start must be before --not-after-limit")
 	}
 	for _, time := range []time.Duration{s.endWithin, l.Headers, l.Request, l.Submission, l.Answer, l.Idle, n.maxMergeDelay, n.openWithin, n.sweepAfter, n.sweepTilesAfter, n.readEvery, n.readAllWithin, n.mostSkew} {

@@ -83,7 +83,7 @@ func newFixture(t testing.TB, every time.Duration, change func(*Options)) *fixtu
 	if change != nil {
 		change(&options)
 	}
-	f.checker = chains.NewChecker(roots, window, precert.New())
+	f.checker = chains.NewChecker(roots, chains.Rules{Window: window}, precert.New())
 	f.front = New(of, reader.New(of.Object, 4), f.checker, options)
 	return f
 }
@@ -162,7 +162,7 @@ func (f *fixture) verifies(signed, signature []byte) bool {
 func TestPrecertificatesWithoutMemory(t *testing.T) {
 	f := newFixture(t, 10*time.Millisecond, nil)
 	dry := precert.Over(func([]byte) ([]byte, error) { return nil, wagtenib.ErrMemory })
-	checker := chains.NewChecker(f.checker.Roots(), chains.Window{}, dry)
+	checker := chains.NewChecker(f.checker.Roots(), chains.Rules{}, dry)
 	f.front = New(f.log, reader.New(f.log.Object, 4), checker, Options{Limits: DefaultLimits(), Lines: NewLines(f.lines)})
 	w := f.do("POST", "/ct/v1/add-pre-chain", standin.Submission(f.issue(true), f.authority.Root.Raw))
 	if w.Code != 503 || w.Header().Get("Retry-After") != "1" || !strings.Contains(w.Body.String(), `"busy"`) {
