@@ -164,8 +164,6 @@ func runListEntry(words []string, answers, faults io.Writer) error {
 	config := flags.String("config", "", "the log's `file` of settings")
 	name := flags.String("operator", "", "the operator's `name`")
 	email := flags.String("email", "", "the operator's `addresses` of mail, with commas between them")
-	submission := flags.String("submission-url", "", "`URL` below which submissions come in; by default https:// and the origin")
-	monitoring := flags.String("monitoring-url", "", "`URL` below which the log is read; by default the same")
 	publicAt := flags.String("key", "", "`file` with the log's public key in PEM, where the settings name no signing-key")
 	if err := parseFlags(flags, words, 0); err != nil {
 		return err
@@ -182,24 +180,17 @@ func runListEntry(words []string, answers, faults io.Writer) error {
 		return err
 	}
 	one := entryOf(s, public)
-	if *submission != "" {
-		one.SubmissionURL, one.MonitoringURL = *submission, *submission
-	}
-	if *monitoring != "" {
-		one.MonitoringURL = *monitoring
-	}
 	out := json.NewEncoder(answers)
 	out.SetIndent("", "  ")
 	return out.Encode(map[string][]operator{"operators": {{*name, strings.Split(*email, ","), []string{}, []listed{one}}}})
 }
 
-// entryOf is what a log list has of a log that is asked below its origin.
+// entryOf returns what a log list has of a log. The origin is the submission prefix without its scheme (C2SP static-ct-api, "Parameters").
 func entryOf(s *settings, public []byte) listed {
 	id := sha256.Sum256(public)
-	address := "https://" + s.node.origin + "/"
 	one := listed{
 		Description: s.node.origin, LogID: base64.StdEncoding.EncodeToString(id[:]), Key: base64.StdEncoding.EncodeToString(public),
-		SubmissionURL: address, MonitoringURL: address, MMD: int(s.node.maxMergeDelay / time.Second),
+		SubmissionURL: "https://" + s.node.origin + "/", MonitoringURL: s.monitoringURL, MMD: int(s.node.maxMergeDelay / time.Second),
 	}
 	if from, to := s.rules.Window.From, s.rules.Window.To; !from.IsZero() && !to.IsZero() {
 		one.Interval = &interval{from.UTC().Format(time.RFC3339), to.UTC().Format(time.RFC3339)}

@@ -132,9 +132,9 @@ func TestListEntry(t *testing.T) {
 	if err := os.WriteFile(folder+"/public.pem", pem.EncodeToMemory(&pem.Block{Type: "PUBLIC KEY", Bytes: public}), 0o600); err != nil {
 		t.Fatal(err)
 	}
-	more := []string{"--operator", "o", "--email", "e", "--submission-url", "https://a/", "--monitoring-url", "https://b/"}
+	more := []string{"--operator", "o", "--email", "e"}
 	if status, other, told := does(append([]string{"list-entry", "--config", file, "--key", folder + "/public.pem"}, more...)...); status != 0 ||
-		!strings.Contains(other, base64.StdEncoding.EncodeToString(id[:])) || !strings.Contains(other, `"https://a/"`) || !strings.Contains(other, `"https://b/"`) {
+		!strings.Contains(other, base64.StdEncoding.EncodeToString(id[:])) || !strings.Contains(other, `"https://log.example/2027h1/"`) {
 		t.Errorf("by the public key: status %d, %s%s", status, other, told)
 	}
 	for _, words := range [][]string{{"--config", file}, {"--config", file, "--operator", "o", "--email", "e", "more"}} {

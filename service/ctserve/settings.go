@@ -7,6 +7,7 @@ import (
 	"io"
 	"net"
 	"net/netip"
+	"net/url"
 	"path/filepath"
 	"strconv"
 	"strings"
@@ -25,6 +26,7 @@ var fileRules = settingsfile.Rules{Only: []string{"config"}}
 // settings are the values of the command line and of the file of settings.
 type settings struct {
 	listen, operator, notice string
+	monitoringURL            string
 	certificate, key         string
 	proxies                  []netip.Prefix
 	roots                    chains.RootFiles
@@ -101,6 +103,7 @@ func parse(words []string, help io.Writer) (*settings, error) {
 func (s *settings) frontFlags(flags *flag.FlagSet) {
 	flags.StringVar(&s.listen, "listen", "127.0.0.1:8618", "`address` for clients")
 	flags.StringVar(&s.operator, "operator-listen", "127.0.0.1:8619", "`address` for /metrics, /healthz and /readyz. If it is empty, they are not served")
+	flags.StringVar(&s.monitoringURL, "monitoring-url", "", "`URL` below which the log is read, if that is another one than where it is submitted to. /log.v3.json and list-entry have it (default https://ORIGIN/)")
 	flags.StringVar(&s.notice, "notice", "", "`text` that the log's page and /log.v3.json show")
 	flags.StringVar(&s.certificate, "tls-certificate", "", "`file` with the TLS certificate chain in PEM. It is read again at SIGHUP. Without it, the log serves plain HTTP")
 	flags.StringVar(&s.key, "tls-key", "", "`file` with the key of the TLS certificate in PEM")
@@ -205,6 +208,12 @@ func (s *settings) settle() error {
 	if err := checkOrigin(n.origin); err != nil {
 		return err
 	}
+	if s.monitoringURL == "" {
+		s.monitoringURL = "https://" + n.origin + "/"
+	}
+	if err := checkMonitoringURL(s.monitoringURL); err != nil {
+		return err
+	}
 	if err := checkListeners(s.listen, n.peers.listen, s.operator); err != nil {
 		return err
 	}
@@ -258,6 +267,15 @@ func (s *settings) settle() error {
 		return errors.New("--nodes-address: nodes on several machines must share one index: use PostgreSQL (--index postgres://HOST/DATABASE?log=NAME) instead of a file on each machine")
 	}
 	return n.settleWitnesses()
+}
+
+// checkMonitoringURL refuses what is no monitoring prefix (C2SP static-ct-api, "Parameters"): readers append paths to it.
+func checkMonitoringURL(text string) error {
+	at, err := url.Parse(text)
+	if err != nil || at.Scheme != "https" || at.Host == "" || at.User != nil || at.RawQuery != "" || at.Fragment != "" || !strings.HasSuffix(at.Path, "/") {
+		return fmt.Errorf("--monitoring-url %q is no https URL that ends with a slash (write for example https://read.log.example/2027h1/)", text)
+	}
+	return nil
 }
 
 // settleMergeDelay refuses a merge delay that a log list cannot have, and an age of heads with which an idle log would not keep it (RFC 6962, section 3.5).
