@@ -45,6 +45,10 @@ func refusalOf(err error) refusal {
 		r.name, r.after = "busy", 1
 	case errors.Is(err, log.ErrTooLarge):
 		r.status, r.name = http.StatusBadRequest, "entry-too-large"
+		// (the log says how many bytes an entry may have)
+		if _, sizes, hasSizes := strings.Cut(err.Error(), log.ErrTooLarge.Error()+": "); hasSizes {
+			r.detail = sizes
+		}
 	case errors.Is(err, log.ErrEnded):
 		r.name, r.after = "ended", 10
 	case errors.Is(err, log.ErrClock):

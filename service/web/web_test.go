@@ -294,6 +294,16 @@ func TestBytesByAddress(t *testing.T) {
 	}
 }
 
+// TestTooLargeSaysTheBound: the refusal of an entry that is too large says how large one may be.
+func TestTooLargeSaysTheBound(t *testing.T) {
+	f := newFixture(t, 10*time.Millisecond, nil)
+	f.log.Break(fmt.Errorf("%w: it has 131073 bytes, and may have 131072", log.ErrTooLarge))
+	w := f.do("POST", "/ct/v1/add-chain", standin.Submission(f.issue(false)))
+	if w.Code != 400 || !strings.Contains(w.Body.String(), "entry-too-large") || !strings.Contains(w.Body.String(), "it has 131073 bytes, and may have 131072") {
+		t.Errorf("%d %s", w.Code, w.Body)
+	}
+}
+
 // What the log answers comes out with its status, and where it is of a moment, with the time to ask again.
 func TestErrorsOfTheLog(t *testing.T) {
 	f := newFixture(t, 10*time.Millisecond, nil)
