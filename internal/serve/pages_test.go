@@ -38,6 +38,7 @@ func TestPageSaysBounds(t *testing.T) {
 		"- The tiles of 32 duplicates are read at once.":                                                            maxLookups == 32,
 		"- an entry above 128 KiB.":                       MaxEntry == 128<<10,
 		"Waiting clients get an error after five seconds": patience == 5*time.Second,
+		"If too few witnesses answer (5 s each)":          cosignWithin == 5*time.Second,
 		"one data tile a second is enough for 1.5 x 10^8 entries, and 16 (the maximum) for 2.5 x 10^9": scrub == time.Second &&
 			week/time.Second*tile.Width/1e7 == 15 && week/time.Second*tile.Width*again/1e8 == 24,
 	})

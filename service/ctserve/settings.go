@@ -307,11 +307,10 @@ func (n *node) settleWitnesses() error {
 			*of = (len(n.witnesses)+q.Faults)/2 + 1
 		}
 	}
-	circle, err := witness.NewCircle(n.witnesses, *q, nil)
-	if err != nil {
+	if err := witness.CheckDistinct(n.witnesses); err != nil {
 		return err
 	}
-	return circle.Close()
+	return q.Check(len(n.witnesses))
 }
 
 // beside returns the name of a file that belongs to a log's folder and is not in it, so that a copy of the folder does not have it and an older copy does not restore it.

@@ -10,6 +10,9 @@ import (
 	"golang.org/x/mod/sumdb/note"
 )
 
+// maxAnswer is how much of an answer is read.
+const maxAnswer = 16 << 10
+
 // Client asks one witness over HTTP, once a call (C2SP tlog-witness).
 type Client struct {
 	One
@@ -30,7 +33,7 @@ func (c Client) AddCheckpoint(ctx context.Context, body []byte) (status int, ans
 		return 0, "", fmt.Errorf("witness: %s: %w", c.Name, err)
 	}
 	defer response.Body.Close()
-	text, err := io.ReadAll(io.LimitReader(response.Body, mostAnswer))
+	text, err := io.ReadAll(io.LimitReader(response.Body, maxAnswer))
 	if err != nil {
 		return 0, "", fmt.Errorf("witness: %s: %w", c.Name, err)
 	}

@@ -1,7 +1,6 @@
 package witness
 
 import (
-	"context"
 	"crypto/ecdsa"
 	"crypto/ed25519"
 	"crypto/elliptic"
@@ -14,10 +13,8 @@ import (
 	"errors"
 	"fmt"
 	"io"
-	"net/http"
 	"net/http/httptest"
 	"strings"
-	"sync"
 	"testing"
 	"testing/iotest"
 	"time"
@@ -26,7 +23,6 @@ import (
 
 	"wagtenib/bindings/go/wagtenib"
 	"wagtenib/service/stores"
-	"wagtenib/service/trial"
 )
 
 var errTried = errors.New("tried")
@@ -298,187 +294,5 @@ func TestLeads(t *testing.T) {
 	}
 	if err := leads(of(5), Request{Old: 5}, 4, one.root(t, 4)); err == nil {
 		t.Error("a smaller tree follows")
-	}
-}
-
-// TestAsked: a witness is asked once for each head, from what it is known to have seen; where that isn't so any more, it says so, and is asked from there.
-func TestAsked(t *testing.T) {
-	a := asking{headKey(t, origin), grown(t, "a", "b", "c", "d", "e", "f")}
-	s := serving(t, 1, a.by)
-	c, err := NewCircle([]One{s.One}, Quorums{Publish: 1, Start: 1}, nil)
-	must(t, err)
-	c.within = trial.Longest
-	defer c.Close()
-	var mu sync.Mutex
-	var asked []uint64
-	var instead []string
-	s.before.Store(before(func(w http.ResponseWriter, q *http.Request) bool {
-		r := requestIn(t, q)
-		mu.Lock()
-		defer mu.Unlock()
-		asked = append(asked, r.Old)
-		if len(instead) > 0 {
-			w.WriteHeader(409)
-			_, _ = io.WriteString(w, instead[0])
-			instead = instead[1:]
-			return true
-		}
-		return false
-	}))
-	cosigns := func(n int64, want error, from ...uint64) {
-		t.Helper()
-		signed, size, proof := a.head(t, n)
-		_, err := c.Cosign(limited(t), signed, size, proof)
-		mu.Lock()
-		defer mu.Unlock()
-		if !errors.Is(err, want) {
-			t.Errorf("%d entries: %v, and not %v", n, err, want)
-		}
-		if fmt.Sprint(asked) != fmt.Sprint(from) {
-			t.Errorf("%d entries: it is asked from %d, and not %d", n, asked, from)
-		}
-		asked = nil
-	}
-	says := func(sizes ...string) {
-		mu.Lock()
-		instead = sizes
-		mu.Unlock()
-	}
-	cosigns(2, nil, 0)
-	cosigns(3, nil, 2)
-	cosigns(4, nil, 3)
-	cosigns(4, nil, 4)
-	cosigns(3, ErrBehind, 3)
-	says("1\n")
-	cosigns(5, nil, 4, 1, 4)
-	says("1\n", "2\n", "3\n")
-	cosigns(6, ErrFew, 5, 1, 2)
-	says("7\n")
-	cosigns(6, ErrBehind, 5)
-	if one := c.standing(s.Name); !one.SeenMore || one.Missed != 2 {
-		t.Errorf("%+v", one)
-	}
-	// (one that can't be asked has seen no less than before)
-	s.answers(503, "")
-	missed := c.standing(s.Name).Missed
-	cosigned := func() error {
-		signed, size, proof := a.head(t, 6)
-		_, err := c.Cosign(limited(t), signed, size, proof)
-		return err
-	}
-	for i := uint64(1); i < 3; i++ {
-		if err := cosigned(); !errors.Is(err, ErrFew) {
-			t.Error(err)
-		}
-		if one := c.standing(s.Name); !one.SeenMore || uint64(one.Missed) != uint64(missed)+i {
-			t.Errorf("%+v", one)
-		}
-	}
-	s.answersItself()
-	if err := cosigned(); err != nil {
-		t.Error(err)
-	}
-	if one := c.standing(s.Name); one.SeenMore || one.Missed != 0 || one.Fault != "" {
-		t.Errorf("%+v", one)
-	}
-}
-
-// TestLongAnswers: of an answer only its beginning is read; a cosignature of more than the text that was asked for is none.
-func TestLongAnswers(t *testing.T) {
-	a := asking{headKey(t, origin), grown(t, "a", "b", "c")}
-	s := serving(t, 1, a.by)
-	c, err := NewCircle([]One{s.One}, Quorums{Publish: 1, Start: 1}, nil)
-	must(t, err)
-	c.within = trial.Longest
-	defer c.Close()
-	signed, size, proof := a.head(t, 3)
-	text, err := TextOf(signed)
-	must(t, err)
-	key := s.witness.of.Key
-	of := func(text string) string {
-		return cosignatureLine(s.Name, s.Key, 7, ed25519.Sign(key, Message(7, text)))
-	}
-	other := "— other.example " + base64.StdEncoding.EncodeToString(make([]byte, 300)) + "\n"
-	for what, test := range map[string]struct {
-		answer string
-		right  bool
-	}{
-		"its line":                       {of(text), true},
-		"behind another's":               {other + of(text), true},
-		"before many others":             {of(text) + strings.Repeat(other, 90), false},
-		"twice":                          {of(text) + of(text), true},
-		"of a text that goes on":         {"more\n\n" + of(text+"\nmore\n"), false},
-		"of the text without its end":    {of(text[:len(text)-1]), false},
-		"without its line's end":         {strings.TrimSuffix(of(text), "\n"), false},
-		"of a name that begins with its": {strings.Replace(of(text), s.Name, s.Name+"x", 1), false},
-	} {
-		s.answers(200, test.answer)
-		lines, err := c.Cosign(limited(t), signed, size, proof)
-		if test.right != (err == nil) || err != nil && !errors.Is(err, ErrFew) || err == nil && string(lines) != of(text) {
-			t.Errorf("%s: %q, %v", what, lines, err)
-		}
-	}
-}
-
-// TestSilent: a witness that doesn't answer is given up; who waits for its turn goes once enough others have cosigned, or it was given up, and a circle that is
-// closed has no one asked any more.
-func TestSilent(t *testing.T) {
-	a := asking{headKey(t, origin), grown(t, "a", "b", "c", "d")}
-	all, c := three(t, a.by, Quorums{Publish: 2, Start: 2})
-	silent := before(func(_ http.ResponseWriter, q *http.Request) bool {
-		// (before its body is read no server sees that a client goes)
-		_, _ = io.Copy(io.Discard, q.Body)
-		<-q.Context().Done()
-		return true
-	})
-	all[1].before.Store(silent)
-	for n := int64(2); n <= 3; n++ {
-		signed, size, proof := a.head(t, n)
-		lines, err := c.Cosign(limited(t), signed, size, proof)
-		if err != nil || cosignedBy(t, signed, lines, []*server{all[0], all[2]}) != 2 {
-			t.Fatal(err)
-		}
-	}
-	eventually := func(what string, is func() bool) {
-		t.Helper()
-		for until := limited(t); !is(); {
-			if until.Err() != nil {
-				t.Fatal(what)
-			}
-			time.Sleep(time.Millisecond)
-		}
-	}
-	// (the second head's question went as the first one's was asked still, or behind its end)
-	eventually("nobody goes", func() bool { return c.standing(all[1].Name).Missed > 0 })
-	if fault := c.standing(all[1].Name).Fault; !strings.Contains(fault, "isn't done with the head before") || strings.Contains(fault, "deadline") {
-		t.Errorf("it went for %s", fault)
-	}
-	must(t, c.Close())
-	// All are silent: they are given up, and the context isn't over.
-	c, err := NewCircle([]One{all[0].One, all[1].One, all[2].One}, Quorums{Publish: 2, Start: 2}, nil)
-	must(t, err)
-	for _, s := range all {
-		s.before.Store(silent)
-	}
-	signed, size, proof := a.head(t, 4)
-	ctx := limited(t)
-	if _, err := c.Cosign(ctx, signed, size, proof); !errors.Is(err, ErrFew) || ctx.Err() != nil {
-		t.Error(err)
-	}
-	before := c.standing(all[0].Name).Missed
-	ctx, cancel := context.WithCancel(context.Background())
-	ended := make(chan error, 1)
-	go func() {
-		_, err := c.Cosign(ctx, signed, size, proof)
-		ended <- err
-	}()
-	eventually("it isn't asked", func() bool { return len(c.members[0].turn) == 1 })
-	cancel()
-	if err := <-ended; !errors.Is(err, ErrFew) {
-		t.Error(err)
-	}
-	must(t, c.Close())
-	if c.standing(all[0].Name).Missed == before {
-		t.Error("it is closed, and somebody is asked")
 	}
 }

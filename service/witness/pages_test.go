@@ -2,7 +2,6 @@ package witness
 
 import (
 	"testing"
-	"time"
 
 	"wagtenib/service/trial"
 )
@@ -12,6 +11,5 @@ func TestPageSaysBounds(t *testing.T) {
 	trial.Says(t, trial.Page(t, "../README.md"), map[string]bool{
 		"A request, `POST /add-checkpoint`, has at most 64 KiB and 63 hashes":         MostBody == 64<<10 && MostProof == 63,
 		"| 503 `clock` | the clock is more than a minute behind the last timestamp |": mostBehind == 60,
-		"If too few witnesses answer (5 s each)":                                      asksWithin == 5*time.Second,
 	})
 }

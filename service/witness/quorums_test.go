@@ -2,16 +2,18 @@ package witness
 
 import (
 	"context"
+	"crypto/ed25519"
 	"errors"
 	"fmt"
 	"math/bits"
+	"net/http"
+	"strings"
 	"sync"
 	"testing"
 
 	"golang.org/x/mod/sumdb/note"
 
 	"wagtenib/service/stores"
-	"wagtenib/service/trial"
 )
 
 // subsets are those of n witnesses, as bits.
@@ -109,24 +111,34 @@ func (h *held) stands(t testing.TB, of *leaves, size int64) {
 	h.mu.Unlock()
 }
 
-// parties are three witnesses, whose states are in hand, and a log that had five entries and was put back to three: its head then, and one of a fork.
-type parties struct {
-	all       []*server
-	states    []*held
-	one       *leaves
-	old, fork asking
+// shown is the list of entries of a log, with the key by which it signs heads.
+type shown struct {
+	by signing
+	of *leaves
 }
 
-// TestNoQuorumStartsAnOldLog: of three witnesses some cosigned a head of 5 entries, and some are then restored as they were at 3, or lie. A log that was put
-// back to 3 entries as a whole doesn't begin, whichever witnesses answer, nor does one that forked behind those 3; where one witness more is faulty than may
-// be, it can.
+// parties are three witnesses with their states, and a log that had five entries and was rolled back to three: its head then, and one of a fork.
+type parties struct {
+	all    []*Server
+	states []*held
+	// lying are the witnesses that cosign whatever they are shown, as bits.
+	lying     uint
+	one       *leaves
+	old, fork shown
+}
+
+// TestNoQuorumStartsAnOldLog: of three witnesses some cosigned a head of 5 entries, and some are then restored as they were at 3, or lie. A log that was rolled
+// back to 3 entries as a whole does not start, whichever witnesses answer, nor does one that forked after those 3. If one witness more is faulty than may be, it
+// can start.
 func TestNoQuorumStartsAnOldLog(t *testing.T) {
 	by := headKey(t, origin)
 	p := &parties{one: grown(t, "a", "b", "c", "d", "e")}
-	p.old, p.fork = asking{by, p.one}, asking{by, grown(t, "a", "b", "c", "x", "y", "z")}
+	p.old, p.fork = shown{by, p.one}, shown{by, grown(t, "a", "b", "c", "x", "y", "z")}
 	for i := 1; i <= 3; i++ {
-		s, state := serving(t, i, by), &held{}
-		s.witness.SetLogs([]Log{{Origin: origin, Keys: []note.Verifier{by.key}, State: state}})
+		s, err := New(Options{Name: fmt.Sprintf("w%d.example", i), Key: newKey(t)})
+		must(t, err)
+		state := &held{}
+		s.SetLogs([]Log{{Origin: origin, Keys: []note.Verifier{by.key}, State: state}})
 		p.all, p.states = append(p.all, s), append(p.states, state)
 	}
 	for publish := 1; publish <= 3; publish++ {
@@ -134,32 +146,24 @@ func TestNoQuorumStartsAnOldLog(t *testing.T) {
 			most := publish + start - 4
 			for faults := 0; faults <= most; faults++ {
 				if began := p.starts(t, Quorums{publish, start, faults}); began > 0 {
-					t.Errorf("%d publish, %d start, %d faulty: an old log began %d times", publish, start, faults, began)
+					t.Errorf("%d publish, %d start, %d faulty: an old log started %d times", publish, start, faults, began)
 				}
 			}
 			if most >= -1 && p.starts(t, Quorums{publish, start, most + 1}) == 0 {
-				t.Errorf("%d publish, %d start, %d faulty: the bound isn't exact: no old log began", publish, start, most+1)
+				t.Errorf("%d publish, %d start, %d faulty: the bound is not exact: no old log started", publish, start, most+1)
 			}
 		}
 	}
 }
 
-// starts counts how often an old log begins, over all that cosigned the newest head, are faulty, and answer.
+// starts counts how often an old log starts, over all sets of witnesses that cosigned the newest head, are faulty, and answer.
 func (p *parties) starts(t *testing.T, q Quorums) (began int) {
 	for _, cosigned := range subsets(3) {
 		for _, faulty := range subsets(3) {
 			if bits.OnesCount(cosigned) != q.Publish || bits.OnesCount(faulty) != q.Faults {
 				continue
 			}
-			for _, lying := range []bool{false, true} {
-				for _, s := range p.all {
-					s.answersItself()
-				}
-				for i, s := range p.all {
-					if lying && faulty>>i&1 == 1 {
-						s.lies(t)
-					}
-				}
+			for _, p.lying = range []uint{0, faulty} {
 				began += p.begins(t, q, cosigned&^faulty)
 			}
 		}
@@ -168,39 +172,83 @@ func (p *parties) starts(t *testing.T, q Quorums) (began int) {
 }
 
 // startsAgain has a witness know its stored state only, as one that was restored and started again. A witness that runs would refuse the older state.
-func (s *server) startsAgain() {
-	s.witness.mu.Lock()
-	defer s.witness.mu.Unlock()
-	s.witness.seen = map[string]state{}
+func (s *Server) startsAgain() {
+	s.mu.Lock()
+	defer s.mu.Unlock()
+	s.seen = map[string]state{}
 }
 
-// begins counts how often an old head is begun with, over all that may answer. Those who know better stand at the newest head, and the others at the old one.
+// begins counts how often an old log starts, over all sets of witnesses that may answer. Those that know better have the newest head, and the others the old one.
+// As in the node, enough must cosign, and none may say that it saw more.
 func (p *parties) begins(t *testing.T, q Quorums, know uint) (began int) {
 	for _, answering := range subsets(3) {
-		if bits.OnesCount(answering) < q.Start {
-			continue
-		}
-		for size, old := range map[int64]asking{3: p.old, 6: p.fork} {
-			var ones []One
+		for size, old := range map[int64]shown{3: p.old, 6: p.fork} {
+			given := 0
 			for i, s := range p.all {
 				p.states[i].stands(t, p.one, 3+2*int64(know>>i&1))
 				s.startsAgain()
-				if ones = append(ones, s.One); answering>>i&1 == 0 {
-					ones[i].URL = fmt.Sprintf("http://127.0.0.1:1/%d", i)
+				if answering>>i&1 == 1 && (p.lying>>i&1 == 1 || cosigns(t, s, old, size)) {
+					given++
 				}
 			}
-			// (quorums that aren't safe would be refused)
-			c, err := NewCircle(ones, Quorums{Publish: 3, Start: 3}, nil)
-			must(t, err)
-			c.quorums, c.within = q, trial.Longest
-			signed, n, proof := old.head(t, size)
-			if _, err := c.Start(limited(t), signed, n, proof); err == nil {
+			if given >= q.Start && given == bits.OnesCount(answering) {
 				began++
-			} else if !errors.Is(err, ErrBehind) && !errors.Is(err, ErrFew) {
-				t.Error(err)
 			}
-			must(t, c.Close())
 		}
 	}
 	return began
+}
+
+// cosigns reports whether a witness cosigns a head. It is asked from no entries, and then from the size that it answers.
+func cosigns(t *testing.T, s *Server, of shown, size int64) bool {
+	signed := of.by.sign(checkpoint(origin, size, of.of.root(t, size)))
+	w := posted(t, s, request(0, nil, signed))
+	if w.Code == http.StatusConflict {
+		seen, err := number(strings.TrimSuffix(w.Body.String(), "\n"))
+		must(t, err)
+		if seen > uint64(size) {
+			return false
+		}
+		w = posted(t, s, request(int64(seen), of.of.proof(t, int64(seen), size), signed))
+	}
+	return w.Code == http.StatusOK
+}
+
+// TestQuorums: quorums are refused if no honest witness is in all of them, and two witnesses are refused if they are one.
+func TestQuorums(t *testing.T) {
+	var ones []One
+	for i := 0; i < 4; i++ {
+		ones = append(ones, One{fmt.Sprint("http://", i), fmt.Sprint("w", i), newKey(t).Public().(ed25519.PublicKey)})
+	}
+	for _, test := range []struct {
+		n, publish, start, faults int
+		right                     bool
+	}{
+		{1, 1, 1, 0, true}, {2, 2, 1, 0, true}, {2, 1, 1, 0, false}, {3, 2, 2, 0, true}, {3, 2, 2, 1, false}, {3, 3, 2, 1, true},
+		{3, 2, 3, 1, true}, {3, 1, 2, 0, false}, {3, 3, 3, 2, true}, {3, 3, 3, 3, false}, {4, 3, 2, 0, true}, {4, 2, 2, 0, false},
+		{3, 4, 2, 0, false}, {3, 2, 4, 0, false}, {3, 0, 4, 0, false}, {3, 4, 0, 0, false}, {3, 3, 3, -1, false}, {0, 1, 1, 0, false},
+	} {
+		err := Quorums{test.publish, test.start, test.faults}.Check(test.n)
+		if test.right != (err == nil) || err != nil && !errors.Is(err, ErrQuorum) {
+			t.Errorf("%+v: %v", test, err)
+		}
+	}
+	if err := CheckDistinct(ones); err != nil {
+		t.Errorf("different witnesses are refused: %v", err)
+	}
+	other := newKey(t).Public().(ed25519.PublicKey)
+	for _, twice := range []One{{ones[0].URL, "x", other}, {"http://x", ones[0].Name, other}, {"http://x", "x", ones[0].Key}} {
+		if err := CheckDistinct([]One{ones[0], twice}); !errors.Is(err, ErrQuorum) {
+			t.Errorf("%+v: %v", twice, err)
+		}
+	}
+	key := VerifierKey("w.example", ones[0].Key)
+	if one, err := ReadOne("https://w.example/a/," + key); err != nil || one.URL != "https://w.example/a" || one.Name != "w.example" || !one.Key.Equal(ones[0].Key) {
+		t.Errorf("%+v, %v", one, err)
+	}
+	for _, wrong := range []string{"", key, "https://w.example", "https://w.example,", "w.example," + key, "https://w.example,x"} {
+		if _, err := ReadOne(wrong); !errors.Is(err, ErrKey) {
+			t.Errorf("%q: %v", wrong, err)
+		}
+	}
 }

@@ -3,7 +3,6 @@ package witness
 import (
 	"bufio"
 	"context"
-	"crypto/ed25519"
 	"crypto/x509"
 	"encoding/hex"
 	"encoding/pem"
@@ -366,14 +365,4 @@ func engineDies(t *testing.T, at string, words []string, command string) {
 		}
 	}
 	t.Logf("%d heads were cosigned", last)
-}
-
-// lies has a server cosign whatever it is shown.
-func (s *server) lies(t testing.TB) {
-	key := s.witness.of.Key
-	s.before.Store(before(func(w http.ResponseWriter, q *http.Request) bool {
-		r := requestIn(t, q)
-		_, _ = io.WriteString(w, cosignatureLine(s.Name, key.Public().(ed25519.PublicKey), 1, ed25519.Sign(key, Message(1, r.Text))))
-		return true
-	}))
 }

@@ -1,7 +1,6 @@
 package witness
 
 import (
-	"bytes"
 	"context"
 	"crypto/ecdsa"
 	"crypto/ed25519"
@@ -11,7 +10,6 @@ import (
 	"encoding/binary"
 	"errors"
 	"fmt"
-	"io"
 	"net/http"
 	"net/http/httptest"
 	"os"
@@ -163,20 +161,6 @@ func posted(t testing.TB, s http.Handler, body []byte) *httptest.ResponseRecorde
 
 func request(old int64, proof [][32]byte, signed []byte) []byte {
 	return Request{Old: uint64(old), Proof: proof, Note: signed}.Body()
-}
-
-// requestIn reads what a server is asked, which may be read once more.
-func requestIn(t testing.TB, q *http.Request) Request {
-	body, err := io.ReadAll(q.Body)
-	if err != nil {
-		t.Error(err)
-	}
-	q.Body = io.NopCloser(bytes.NewReader(body))
-	r, err := ParseRequest(body)
-	if err != nil {
-		t.Error(err)
-	}
-	return r
 }
 
 // cosignatureIn finds the witness's cosignature in an answer.
