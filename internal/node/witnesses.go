@@ -13,8 +13,8 @@ import (
 
 	"golang.org/x/mod/sumdb/note"
 
-	"wagtenib/service/step"
-	"wagtenib/service/witness"
+	"wagtenib/internal/step"
+	"wagtenib/internal/witness"
 )
 
 // A log all of whose stores are rolled back together cannot show that to itself, but its witnesses saw more. A head is signed, then cosigned by enough
