@@ -28,8 +28,8 @@ demo: ## proves ctlog, and shows what it and the library do as soon as each is p
 test: ## the gate: proves every crate from nothing, and runs the tests and the program
 	@checks/needs.sh test
 	@$(MAKE) --silent sources
-	@COUNT="$(CURDIR)/service/out/count" $(MAKE) --silent service-test
-	@COUNT="$(CURDIR)/service/out/count" PYTHONDONTWRITEBYTECODE=1 python3 checks/gate.py
+	@COUNT="$(CURDIR)/cmd/out/count" $(MAKE) --silent service-test
+	@COUNT="$(CURDIR)/cmd/out/count" PYTHONDONTWRITEBYTECODE=1 python3 checks/gate.py
 
 # On a terminal it asks before it installs anything. SETUP=no says what is missing, and SETUP=yes installs a C compiler even if apt upgrades others for it.
 deps: ## fetches Go 1.24 and the modules of the Go part from Debian 13 into a cache, and installs a C compiler where there is none
@@ -42,43 +42,43 @@ check: ## for daily work: proves what changed
 	@$(MAKE) --silent sources
 
 serve: ## serves a log over HTTP at PORT=8618 out of the folder FOLDER=ct-log, by ctserve, which it builds over the proved code of dist/, without the kit
-	@service/serve.sh "$(FOLDER:~/%=$(HOME)/%)" "$(PORT)"
+	@cmd/serve.sh "$(FOLDER:~/%=$(HOME)/%)" "$(PORT)"
 
 serve-witness: ## serves a witness at WITNESS_PORT=8640 out of WITNESS=ct-witness, of the log of make serve in FOLDER=ct-log, by ctwitness-serve, which it builds likewise
-	@service/serve-witness.sh "$(WITNESS:~/%=$(HOME)/%)" "$(WITNESS_PORT)" "$(FOLDER:~/%=$(HOME)/%)"
+	@cmd/serve-witness.sh "$(WITNESS:~/%=$(HOME)/%)" "$(WITNESS_PORT)" "$(FOLDER:~/%=$(HOME)/%)"
 
-service: ## builds service/out/ctserve, the service in Go (docs/OPERATING.md), ctwitness-serve, ctwatch, and ctcheck, ctload and ctread
+service: ## builds cmd/out/ctserve, the service in Go (docs/OPERATING.md), ctwitness-serve, ctwatch, and ctcheck, ctload and ctread
 	@checks/needs.sh service
-	@service/build.sh build
+	@cmd/build.sh build
 
 service-test: ## builds and tests the Go part, without engines; fetches first what make deps fetches
-	@service/test.sh
+	@cmd/test.sh
 
 service-engines: ## the same with engines on loopback: those of etcd, PostgreSQL and Ceph that are installed
-	@service/test.sh engines
+	@cmd/test.sh engines
 
 service-race: ## the same as service-test, built to tell of data races (go test -race)
-	@service/test.sh race
+	@cmd/test.sh race
 
 # As root. HOURS=2 or MINUTES=30, SEED=NUMBER for the choices of another run.
 service-soak: ## runs two logs for HOURS=2 while nodes, programs, engines, disks and clients go wrong at random, and judges them every twelve minutes and at the end
 	@checks/needs.sh service
-	@PYTHONDONTWRITEBYTECODE=1 service/soak.py $(if $(MINUTES),--minutes $(MINUTES),--hours $(or $(HOURS),2)) $(if $(SEED),--seed $(SEED))
+	@PYTHONDONTWRITEBYTECODE=1 tests/soak.py $(if $(MINUTES),--minutes $(MINUTES),--hours $(or $(HOURS),2)) $(if $(SEED),--seed $(SEED))
 
 service-clients: ## has certspotter, Google's client library, x/mod's tlog and ctwatch use a log of ctserve over HTTP, those of them that are installed
 	@checks/needs.sh service
-	@service/clients.sh
+	@tests/clients.sh
 
 # LOAD=no leaves the loader and the reader out.
 cluster: ## runs three nodes of ctserve on engines of their own in CLUSTER=ct-cluster (etcd, Ceph's S3; from PORT=8618 on), with three witnesses, a loader and a reader
 	@checks/needs.sh service
-	@service/cluster.sh start "$(CLUSTER:~/%=$(HOME)/%)" "$(PORT)"
+	@tests/cluster.sh start "$(CLUSTER:~/%=$(HOME)/%)" "$(PORT)"
 
 cluster-status: ## says what runs of it
-	@service/cluster.sh status "$(CLUSTER:~/%=$(HOME)/%)"
+	@tests/cluster.sh status "$(CLUSTER:~/%=$(HOME)/%)"
 
 cluster-stop: ## ends it, and judges what it published and answered
-	@service/cluster.sh stop "$(CLUSTER:~/%=$(HOME)/%)"
+	@tests/cluster.sh stop "$(CLUSTER:~/%=$(HOME)/%)"
 
 link: ## builds libwagtenib, the proof checkers for C, and runs programs in C and Python over it
 	@checks/needs.sh link
@@ -115,7 +115,7 @@ programs: ## proves and builds ctlog and libwagtenib, and builds the service: wh
 	@checks/needs.sh service
 	@examples/build.py $(PROGRAMS) libwagtenib
 	@examples/link/library.sh
-	@service/build.sh build
+	@cmd/build.sh build
 
 # After make programs, which builds what it takes.
 release: ## puts what is built into release/out: a tarball, Debian packages, SHA256SUMS and what they are made of
@@ -127,7 +127,7 @@ bare: ## makes a release's packages, installs them on a bare Debian, and runs th
 	@PYTHONDONTWRITEBYTECODE=1 tests/bare/bare.py --built "$(BUILT)"
 
 # As root, with buildah, podman and mmdebstrap.
-container: ## builds the image of service/Containerfile out of a release's package, and runs a log in it
+container: ## builds the image of release/Containerfile out of a release's package, and runs a log in it
 	@checks/needs.sh service
 	@PYTHONDONTWRITEBYTECODE=1 tests/bare/container.py --built "$(BUILT)"
 

@@ -1,10 +1,10 @@
 #!/usr/bin/env python3
 """Times one node of ctserve over engines on loopback, by turns: what it carries, and what a step asks of which store.
 
-    service/engines.sh run bench/engines.py [--turns 2] [--seconds 12] [--clients 16,64,256,1024] [--stores etcd,postgres] [--out OUT,..]
+    tests/engines.sh run bench/engines.py [--turns 2] [--seconds 12] [--clients 16,64,256,1024] [--stores etcd,postgres] [--out OUT,..]
 
-The engines are those of service/engines.sh: the register and the guard's state are on etcd's three members or on PostgreSQL, the places always on PostgreSQL, objects always on S3. With
-several folders OUT of builds of ctserve (service/out by itself) each is a log of its own over the same engines. In each turn ctload submits to each log with so
+The engines are those of tests/engines.sh: the register and the guard's state are on etcd's three members or on PostgreSQL, the places always on PostgreSQL, objects always on S3. With
+several folders OUT of builds of ctserve (cmd/out by itself) each is a log of its own over the same engines. In each turn ctload submits to each log with so
 many clients for so many seconds, each client a new certificate as soon as its last one is answered.
 `make service` builds ctserve and ctload.
 
@@ -23,7 +23,7 @@ import time
 import urllib.request
 
 from peers import size_of
-from served import SERVICE, Log, busy_time, load, processor_time, run, stop, until
+from served import OUT, Log, busy_time, load, processor_time, run, stop, until
 
 WANTED = ("STORES_MEMBERS", "STORES_POSTGRES", "STORES_S3", "STORES_AGAIN")
 SUMMARY = re.compile(r'^ctserve_(store|step)_seconds_(sum|count)\{(.*)\} (\S+)$', re.M)
@@ -49,7 +49,7 @@ class Node:
     """A log of one node, whose stores are engines."""
 
     def __init__(self, folder, number, store, out):
-        self.name, name = f"{store}{'' if out == SERVICE / 'out' else f', {out}'}", f"log{os.getpid()}-{number}"
+        self.name, name = f"{store}{'' if out == OUT else f', {out}'}", f"log{os.getpid()}-{number}"
         self.log = Log(folder, out, store=bucket(name), register=address(store, name), places=address("postgres", name), guard_state=address(store, f"{name}-guard"))
         self.rows, self.steps, self.calls, self.phases = [], 0, {}, {}
 
@@ -87,12 +87,12 @@ class Node:
 
 
 class Engines:
-    """The processes that service/engines.sh started."""
+    """The processes that tests/engines.sh started."""
 
     def __init__(self):
         missing = [name for name in WANTED if name not in os.environ]
         if missing:
-            stop(f"{', '.join(missing)} isn't told: service/engines.sh run bench/engines.py (ENGINES=\"members postgres s3\")")
+            stop(f"{', '.join(missing)} isn't told: tests/engines.sh run bench/engines.py (ENGINES=\"members postgres s3\")")
         self.folder = pathlib.Path(os.environ["STORES_AGAIN"].split()[-1])
 
     def spent(self):
@@ -110,7 +110,7 @@ def main():
     parser.add_argument("--seconds", type=int, default=12)
     parser.add_argument("--clients", default="16,64,256,1024")
     parser.add_argument("--stores", default="etcd,postgres")
-    parser.add_argument("--out", default=str(SERVICE / "out"))
+    parser.add_argument("--out", default=str(OUT))
     words = parser.parse_args()
     engines, nodes = Engines(), []
     with tempfile.TemporaryDirectory(dir=os.environ.get("TMPDIR")) as work:

@@ -18,7 +18,7 @@ import subprocess
 import tempfile
 import time
 
-from served import SERVICE, Log, busy_time, free_port, listens, load, processor_time, run, stop, until
+from served import OUT, Log, busy_time, free_port, listens, load, processor_time, run, stop, until
 
 NAME = "bench.example"
 KINDS = {"hash tile": "tile/0/000", "data tile": "tile/data/000", "checkpoint": "checkpoint"}
@@ -30,13 +30,13 @@ scgi_temp_path {folder}/scgi;
 
 
 class Nginx:
-    """nginx in front of a log, in a folder, with the example of its configuration (service/ctserve.nginx.conf)."""
+    """nginx in front of a log, in a folder, with the example of its configuration (release/ctserve.nginx.conf)."""
 
     def __init__(self, folder, log):
         folder.mkdir(mode=0o711)
         self.port, tls = free_port(), folder / NAME
         run("openssl", "req", "-x509", "-newkey", "ec", "-pkeyopt", "ec_paramgen_curve:P-256", "-nodes", "-keyout", f"{tls}.key", "-subj", f"/CN={NAME}", "-days", 30, "-out", f"{tls}.pem")
-        site = (SERVICE / "ctserve.nginx.conf").read_text()
+        site = (HERE.parent / "release" / "ctserve.nginx.conf").read_text()
         changes = {"log.example.org": NAME, "/etc/ssl": str(folder), "listen 443": f"listen 127.0.0.1:{self.port}", "127.0.0.1:8618": log.url.removeprefix("http://"),
                    "/var/lib/nginx/ctserve": str(folder / "cache"), "limit_conn ctserve_clients 64": "limit_conn ctserve_clients 5000"}  # fmt: skip
         for old, new in changes.items():
@@ -69,7 +69,7 @@ def main():
     for name, least in (("seconds", 10), ("turns", 3), ("connections", 48), ("entries", 600)):
         parser.add_argument(f"--{name}", type=int, default=least)
     words = parser.parse_args()
-    for tool in ("wrk", "nginx", "openssl", SERVICE / "out" / "ctserve"):
+    for tool in ("wrk", "nginx", "openssl", OUT / "ctserve"):
         if not shutil.which(tool):
             stop(f"{tool} isn't here")
     figures, others, loads = {}, [], [os.getloadavg()[0]]

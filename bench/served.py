@@ -9,8 +9,8 @@ import sys
 import time
 
 HERE = pathlib.Path(__file__).resolve().parent
-SERVICE, TESTS = (HERE.parent / name for name in ("service", "tests"))
-OUT = SERVICE / "out"
+TESTS = HERE.parent / "tests"
+OUT = HERE.parent / "cmd" / "out"
 ORIGIN = "bench.example/log"
 TICK = os.sysconf("SC_CLK_TCK")
 # How long a process may take to serve, in seconds.

@@ -26,7 +26,7 @@ import time
 import urllib.parse
 
 HERE = pathlib.Path(__file__).resolve().parent
-SERVICE = HERE.parent / "service"
+OUT = HERE.parent / "cmd" / "out"
 ORIGIN = "bench.example/log"
 LATE = 0.1
 # The setups: how many witnesses answer, answer late, are silent and lie, and faulty-witnesses.
@@ -125,7 +125,7 @@ class Setup:
         """Starts a process, and waits until it serves."""
         log = self.folder / f"{name}.log"
         with open(log, "wb") as to:
-            self.processes.append(subprocess.Popen([SERVICE / "out" / words[0], *words[1:]], stdout=to, stderr=subprocess.STDOUT))
+            self.processes.append(subprocess.Popen([OUT / words[0], *words[1:]], stdout=to, stderr=subprocess.STDOUT))
         while '"event":"serving"' not in log.read_text():
             if self.processes[-1].poll() is not None:
                 sys.exit(f"witnesses.py: {words[0]} ended: {log.read_text()}")
@@ -140,7 +140,7 @@ class Setup:
             f"name w{number}.example\nkey {own}.key\nstate file:{own}\nlog {ORIGIN} {self.folder / 'log.pem'}\n"
             f"listen 127.0.0.1:{port}\noperator-listen 127.0.0.1:{free_port()}\n"
         )
-        words = [SERVICE / "out" / "ctwitness-serve", "--config", f"{own}.conf"]
+        words = [OUT / "ctwitness-serve", "--config", f"{own}.conf"]
         subprocess.run([*words, "--create", ORIGIN], check=True, capture_output=True)
         key = subprocess.run([*words, "--verifier-key"], check=True, capture_output=True, text=True).stdout.strip()
         self.start(f"w{number}", *words)
@@ -150,7 +150,7 @@ class Setup:
         """Loads the log for a while."""
         had = (self.folder / "roots.pem").stat().st_size
         words = ["--nodes", f"http://127.0.0.1:{self.port}", "--roots", self.folder / "roots.pem", "--answers", self.folder / "answers", "--repeats", "0"]
-        loading = subprocess.Popen([SERVICE / "out" / "ctload", *words, "--clients", str(clients), "--rate", str(rate), "--for", f"{seconds}s"], stdout=subprocess.PIPE, text=True)
+        loading = subprocess.Popen([OUT / "ctload", *words, "--clients", str(clients), "--rate", str(rate), "--for", f"{seconds}s"], stdout=subprocess.PIPE, text=True)
         while (self.folder / "roots.pem").stat().st_size == had:
             time.sleep(0.01)
         time.sleep(0.2)

@@ -1,8 +1,8 @@
 #!/usr/bin/env python3
 """What the documents name is there: links, files, functions, words of the code, and targets of the Makefile.
 
-It reads README.md, docs/*.md (but for the texts of sources that checking.py puts into docs/CHECKING.md) and the README.md of bench/, bindings/go/wagtenib/, bindings/python/, bindings/rust/, checks/, dist/, internal/node/,
-internal/sim/, examples/, examples/link/, release/, service/ and tests/. A link has to lead to a file, and its # to a heading there. In code
+It reads README.md, docs/*.md (but for the texts of sources that checking.py puts into docs/CHECKING.md) and the README.md of each folder at
+the top, and of the folders below that READMES names. A link has to lead to a file, and its # to a heading there. In code
 (spans and blocks) a path has to be a file of this repository, `Type::name` a function or a case, `name()` a function, `make name` a target; a
 name with a capital inside or an underscore, and a span of one word, have to stand in the code outside of comments, or in elsewhere.txt. And
 `make help` has to tell each target but the parts of `make install`. A block below a comment `<!-- from FILE -->` has only text of that file, in its order (a line of `..` stands
@@ -25,6 +25,11 @@ CALL = re.compile(r"(?<![\w.])([a-z]\w*)\(\)")
 NAME = re.compile(r"\b(?:[A-Z][a-z0-9]+(?:[A-Z][a-z0-9]*)+|[a-z]+(?:_[a-z0-9]+)+)\b")
 MAKE = re.compile(r"\bmake ([a-z]+(?:-[a-z]+)*)")
 QUOTED = re.compile(r"^<!-- from (\S+) -->\n+(```.*?^```$|(?:^ {4}[^\n]*\n)+)", re.M | re.S)
+# The folders whose README.md is read, beside docs/.
+READMES = (
+    "bench", "bindings", "bindings/go/wagtenib", "bindings/python", "bindings/rust", "checks", "cmd", "crates", "deps", "dist", "examples", "examples/link", "include",
+    "internal", "internal/node", "internal/sim", "release", "tests",
+)
 # No code: this script's own page of faults, and the words of elsewhere.
 OWN = ("documents.py", "elsewhere.txt")
 # Words of the kit, of std, of the C library, of other crates and of standards, which stand in no code here.
@@ -42,7 +47,7 @@ def files():
 
 
 def pages():
-    return [ROOT / "README.md", *sorted((ROOT / "docs").glob("**/*.md")), *(ROOT / folder / "README.md" for folder in ("bench", "bindings/go/wagtenib", "bindings/python", "bindings/rust", "checks", "dist", "examples", "examples/link", "internal/node", "internal/sim", "release", "service", "tests"))]
+    return [ROOT / "README.md", *sorted((ROOT / "docs").glob("**/*.md")), *(ROOT / folder / "README.md" for folder in READMES)]
 
 
 def words_of_code(paths):

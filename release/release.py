@@ -3,7 +3,7 @@
 
     release.py [--built FOLDER] [--service FOLDER] [--to FOLDER] [--quickly]
 
-By default the programs are taken from crates/NAME/out, the service from service/out, and all goes to release/out. Nothing is built: what lacks is named,
+By default the programs are taken from crates/NAME/out, the service from cmd/out, and all goes to release/out. Nothing is built: what lacks is named,
 with the command that builds it. Each program has to say at --version that it is of VERSION, those in Go also that they are of this commit. --quickly packs
 less tightly, and asks no program, for trials. The same files give the same bytes each time, whatever the folder and the hour: moments are the commit's, owners
 are root, and names are sorted.
@@ -131,12 +131,12 @@ class Release:
         """Pages by their names."""
         found = {name: ROOT / name for name in ("README.md", "CHANGELOG.md", "LICENSE")}
         found.update({f"{page}.md": ROOT / "docs" / f"{page}.md" for page in PAGES if (ROOT / "docs" / f"{page}.md").exists()})
-        pages = {"service.md": "service/README.md", "INCIDENTS.md": "service/INCIDENTS.md", "LINKING.md": "examples/link/README.md"}
+        pages = {"service.md": "docs/SERVICE.md", "INCIDENTS.md": "docs/INCIDENTS.md", "LINKING.md": "examples/link/README.md"}
         return {**found, **{name: ROOT / path for name, path in pages.items()}}
 
     def shared(self):
         """What an operator puts into place: Prometheus' settings, the rules of alarms, the dashboard, and what makes an image of a container."""
-        return {path.name: path for path in (ROOT / "service" / name for name in ("prometheus.yml", "ctserve.rules.yml", "ctserve.dashboard.json", "ctserve.nginx.conf", "Containerfile"))}
+        return {path.name: path for path in (ROOT / "release" / name for name in ("prometheus.yml", "ctserve.rules.yml", "ctserve.dashboard.json", "ctserve.nginx.conf", "Containerfile"))}
 
     def pkg_config(self, prefix):
         return (ROOT / "include" / "wagtenib.pc.in").read_text().replace("@PREFIX@", prefix).replace("@VERSION@", self.version)
@@ -157,7 +157,7 @@ class Release:
         found.update(self.library_files("lib"))
         found["lib/pkgconfig/wagtenib.pc"] = (self.pkg_config("/usr/local").encode(), 0o644)
         found["include/wagtenib.h"] = ((ROOT / "include" / "wagtenib.h").read_bytes(), 0o644)
-        found.update({f"lib/systemd/system/{unit}": ((ROOT / "service" / unit).read_bytes(), 0o644) for unit in UNITS + WATCH_UNITS})
+        found.update({f"lib/systemd/system/{unit}": ((ROOT / "release" / unit).read_bytes(), 0o644) for unit in UNITS + WATCH_UNITS})
         found.update({f"share/wagtenib/{name}": (path.read_bytes(), 0o644) for name, path in self.shared().items()})
         found.update({f"share/doc/wagtenib/{name}": (path.read_bytes(), 0o644) for name, path in self.documents().items()})
         found["PROVED"] = (self.proved(found).encode(), 0o644)
@@ -172,8 +172,8 @@ class Release:
         if name == "ctwatch":
             found["usr/bin/ctwatch"] = (self.programs["ctwatch"].read_bytes(), 0o755)
             found[f"{doc}/WATCH.md"] = (self.documents()["WATCH.md"].read_bytes(), 0o644)
-            found.update(installed_units("service", WATCH_UNITS))
-            found["etc/ctwatch.conf"] = ((ROOT / "service" / "ctwatch.conf").read_bytes(), 0o644)
+            found.update(installed_units(WATCH_UNITS))
+            found["etc/ctwatch.conf"] = ((ROOT / "release" / "ctwatch.conf").read_bytes(), 0o644)
         elif name == "libwagtenib-dev":
             found.update(self.library_files(f"usr/{LIBRARY}"))
             found[f"usr/{LIBRARY}/pkgconfig/wagtenib.pc"] = (self.pkg_config("/usr").replace("${prefix}/lib", f"${{prefix}}/{LIBRARY}").encode(), 0o644)
@@ -181,7 +181,7 @@ class Release:
             found[f"{doc}/LINKING.md"] = (self.documents()["LINKING.md"].read_bytes(), 0o644)
         else:
             found.update({f"usr/bin/{command}": (path.read_bytes(), 0o755) for command, path in self.programs.items() if command != "ctwatch"})
-            found.update(installed_units("service", UNITS))
+            found.update(installed_units(UNITS))
             found.update({f"usr/share/wagtenib/{file}": (path.read_bytes(), 0o644) for file, path in self.shared().items()})
             found.update({f"{doc}/{page}": (path.read_bytes(), 0o644) for page, path in self.documents().items() if page != "LICENSE"})
             found.update({"etc/ctserve": None, "etc/ctwitness": None})
@@ -213,9 +213,9 @@ class Release:
         return ".".join(map(str, max(asked, default=(2, 34))))
 
 
-def installed_units(folder, names):
+def installed_units(names):
     """Units as a package has them: of the programs that it installs."""
-    texts = {name: (ROOT / folder / name).read_text().replace("/usr/local/bin/", "/usr/bin/") for name in names}
+    texts = {name: (ROOT / "release" / name).read_text().replace("/usr/local/bin/", "/usr/bin/") for name in names}
     return {f"lib/systemd/system/{name}": (text.encode(), 0o644) for name, text in texts.items()}
 
 
@@ -341,7 +341,7 @@ def make_package(release, name, to):
 def go_modules(release):
     """Returns the modules that are linked into the programs in Go, each with its version and where its sources are from, and Go itself. A trial has none where
     Go isn't there."""
-    ran, go = run("service/build.sh", "modules", env={**os.environ, "SETUP": "no"}), run("deps/go", "env", "GOVERSION")
+    ran, go = run("cmd/build.sh", "modules", env={**os.environ, "SETUP": "no"}), run("deps/go", "env", "GOVERSION")
     if ran.returncode or go.returncode:
         if release.quickly:
             return []
@@ -401,7 +401,7 @@ def tagging(release):
 def main():
     words = argparse.ArgumentParser(description="Makes a release out of what is built.")
     words.add_argument("--built", default=ROOT / "crates", help="the folder in which the crates' builds lie")
-    words.add_argument("--service", default=ROOT / "service" / "out", help="the folder of the programs in Go")
+    words.add_argument("--service", default=ROOT / "cmd" / "out", help="the folder of the programs in Go")
     words.add_argument("--to", default=ROOT / "release" / "out", help="where the release is put")
     words.add_argument("--quickly", action="store_true", help="pack less tightly, and ask no program for its version, for trials")
     given = words.parse_args()

@@ -38,10 +38,10 @@ if [ $# -eq 0 ]; then
   copy "$first"
   copy "$second"
   # (each compiles all, Go's own library too: what one has compiled the other doesn't take)
-  GOCACHE=$work/go-a PROCESSORS=1 "$first/service/build.sh" build
-  GOCACHE=$work/go-b PROCESSORS=$(nproc) "$second/service/build.sh" build
-  for path in "$first"/service/out/*; do
-    compare "${path##*/}" "$path" "$second/service/out/${path##*/}"
+  GOCACHE=$work/go-a PROCESSORS=1 "$first/cmd/build.sh" build
+  GOCACHE=$work/go-b PROCESSORS=$(nproc) "$second/cmd/build.sh" build
+  for path in "$first"/cmd/out/*; do
+    compare "${path##*/}" "$path" "$second/cmd/out/${path##*/}"
   done
 fi
 if [ -n "$crates" ] && ! command -v rt >/dev/null; then

@@ -1,5 +1,5 @@
 #!/usr/bin/env python3
-"""Tries service/cluster.sh over programs that stand in for its own and for the engines: it starts in an empty folder without a loader, a first start that failed
+"""Tries tests/cluster.sh over programs that stand in for its own and for the engines: it starts in an empty folder without a loader, a first start that failed
 is made again, and what was made isn't made anew.
 
 It ends with status 1, and says why, where one of these isn't so.
@@ -16,7 +16,7 @@ import sys
 import tempfile
 import threading
 
-SERVICE = pathlib.Path(__file__).resolve().parent.parent / "service"
+ROOT = pathlib.Path(__file__).resolve().parent.parent
 
 # In the place of ctserve: a signer listens at its socket. A node wants its roots, makes the log's register where it is told to create one and there is none,
 # and is refused where there is none otherwise; it answers until it is ended. Where a file `fails` is there the first one fails before all that.
@@ -97,19 +97,20 @@ def main():
     with tempfile.TemporaryDirectory() as folder, http.server.HTTPServer(("127.0.0.1", 0), Bucket) as bucket:
         threading.Thread(target=bucket.serve_forever, daemon=True).start()
         top = pathlib.Path(folder)
-        service, log = top / "service", top / "log"
-        (service / "out").mkdir(parents=True)
-        for script in ("cluster.sh", "cosignatures.sh", "node-certificate.sh"):
-            shutil.copy(SERVICE / script, service)
-        written(service / "build.sh", "#!/bin/sh\n")
-        written(service / "engines.sh", ENGINES)
-        written(service / "out" / "ctserve", CTSERVE)
-        written(service / "out" / "ctcheck", "#!/bin/sh\n")
+        programs, tests, log = top / "cmd", top / "tests", top / "log"
+        (programs / "out").mkdir(parents=True)
+        for script in ("tests/cluster.sh", "tests/cosignatures.sh", "release/node-certificate.sh"):
+            (top / script).parent.mkdir(exist_ok=True)
+            shutil.copy(ROOT / script, top / script)
+        written(programs / "build.sh", "#!/bin/sh\n")
+        written(tests / "engines.sh", ENGINES)
+        written(programs / "out" / "ctserve", CTSERVE)
+        written(programs / "out" / "ctcheck", "#!/bin/sh\n")
         port = free_ports()
         place = dict(os.environ, S3=f"127.0.0.1:{bucket.server_port}", LOAD="no", WITNESSES="0", NODES="1")
 
         def does(*words):
-            return subprocess.run(["bash", service / "cluster.sh", *words], env=place, capture_output=True, text=True)
+            return subprocess.run(["bash", tests / "cluster.sh", *words], env=place, capture_output=True, text=True)
 
         try:
             log.mkdir()

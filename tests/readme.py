@@ -135,7 +135,7 @@ ELSEWHERE = {
     "examples/README.md": {"examples/pem_lines.py": HERE, "examples/bad_lines.py": HERE},
     "examples/link/README.md": {"make link": PAGES, "make install": PAGES, "ldconfig": PAGES, "cc program.c": PAGES},
     "release/README.md": {"make programs release": PAGES, "cd release/out && sha256sum": PAGES, "apt-get install": BARE},
-    "service/README.md": {"make deps": PAGES, "make service-engines": PAGES, "make service-test": GATE, "make service": HERE, "openssl genpkey": BARE, "cp 2027h1.pem": BARE, "cat > /etc/ctwitness/a.conf": BARE,
+    "docs/SERVICE.md": {"make deps": PAGES, "make service-engines": PAGES, "make service-test": GATE, "make service": HERE, "openssl genpkey": BARE, "cp 2027h1.pem": BARE, "cat > /etc/ctwitness/a.conf": BARE,
                           "runuser -u ctwitness": BARE, "systemctl": BARE, "ctwatch cosign": BARE},
 }
 # What the pages name in their text, README.md's tables too.
@@ -174,7 +174,7 @@ def elsewhere():
 def bare_commands():
     """Those that bare.py runs, in the order of the pages below."""
     found = elsewhere()
-    pages_in_order = ("docs/OPERATING.md", "service/README.md")
+    pages_in_order = ("docs/OPERATING.md", "docs/SERVICE.md")
     return [command for name in pages_in_order for command in found[ROOT / name] if run_by(ROOT / name, command) == BARE]
 
 
@@ -205,7 +205,7 @@ KNOWN = [
     ("make serve", lambda page, command: page.serve(command)),
     ("curl -s -d @ct-log/chain.json", lambda page, command: page.run(command, 0, SIGNED)),
     ("curl -s 127.0.0.1:8618/checkpoint", lambda page, command: page.run(command, 0, CHECKPOINT)),
-    ("service/out/ctwatch run", lambda page, command: page.run(command, 8, ALERT)),
+    ("cmd/out/ctwatch run", lambda page, command: page.run(command, 8, ALERT)),
 ]
 
 
@@ -233,7 +233,7 @@ def main():
                 page.run(next(command for command in watching if command.startswith("curl")), 0, SIGNED)
                 # (in a folder of its own: the store of README.md's ctwatch has the alert already)
                 watches = next(command for command in watching if command.startswith("ctwatch run"))
-                page.run("PATH=service/out:$PATH; " + watches.replace("ctwatch run", "ctwatch run --folder another-store"), 8, ALERT)
+                page.run("PATH=cmd/out:$PATH; " + watches.replace("ctwatch run", "ctwatch run --folder another-store"), 8, ALERT)
                 pem_lines(page)
         finally:
             page.end()

@@ -1,7 +1,7 @@
 #!/usr/bin/env python3
 """Tries the scripts of examples/ and of this folder: bad_lines.py, pem_lines.py, expected.py, check.py and those of tiles/ on
 stored input, sessions.py on its sessions, on damaged ones and on a program that stands in for ctlog, tiles/step.py and node/explore.py on random histories, those of checks/ on a made-up repository, README.md's commands, release.py on
-made-up builds, and service/cluster.sh over programs in the place of its own.
+made-up builds, and tests/cluster.sh over programs in the place of its own.
 
 It prints one line where all is as expected; else it says what isn't, and ends with status 1.
 """
@@ -421,7 +421,7 @@ def try_deps(folder):
         planned.write_text(new)
         judge(f"the answer {answer}", answered([top / "deps" / "fetch.sh"], answer, env=place(), capture_output=True, text=True), status, ran, line)
     for go, status, says in (("", 1, "deps: gcc libc6-dev must be installed"), ("no", 0, "GO=no")):
-        ended = subprocess.run([HERE.parent / "service" / "test.sh"], env={**place("no"), "GO": go}, stdin=subprocess.DEVNULL, capture_output=True, text=True)
+        ended = subprocess.run([HERE.parent / "cmd" / "test.sh"], env={**place("no"), "GO": go}, stdin=subprocess.DEVNULL, capture_output=True, text=True)
         if ended.returncode != status or says not in ended.stdout + ended.stderr:
             fail(f"test.sh with GO={go} ends with status {ended.returncode}: {ended.stdout}{ended.stderr}")
 
@@ -440,22 +440,22 @@ def two_ports():
 def try_serve(folder):
     """serve.sh refuses a port that is taken, and a folder that it did not make, before it does anything. A first start that fails leaves nothing behind, and
     the next one makes the log, once."""
-    service, log, fails, calls = folder / "service", folder / "a log", folder / "fails", folder / "calls"
+    programs, log, fails, calls = folder / "cmd", folder / "a log", folder / "fails", folder / "calls"
     ctserve = f"""echo "$*" >>'{calls}'
 [ ! -e '{fails}' ] || {{ echo 'it fails' >&2; exit 1; }}
 echo '{{"event":"serving"}}' >&2
 case "$*" in *--create*) trap 'exit 0' TERM; while :; do sleep 0.1; done ;; esac"""
-    (service / "out").mkdir(parents=True)
+    (programs / "out").mkdir(parents=True)
     (folder / "checks").mkdir()
-    shutil.copy(HERE.parent / "service" / "serve.sh", service)
-    for path, script in ((service / "build.sh", ""), (folder / "checks" / "needs.sh", ""), (service / "out" / "ctserve", ctserve)):
+    shutil.copy(HERE.parent / "cmd" / "serve.sh", programs)
+    for path, script in ((programs / "build.sh", ""), (folder / "checks" / "needs.sh", ""), (programs / "out" / "ctserve", ctserve)):
         path.write_text(f"#!/bin/sh\n{script}\n")
         path.chmod(0o755)
     before = {path.name for path in folder.iterdir()}
     place = {**os.environ, "ROOTS": os.devnull}
 
     def serve(what, port, status, says, left):
-        ended = subprocess.run([service / "serve.sh", log, str(port)], env=place, capture_output=True, text=True)
+        ended = subprocess.run([programs / "serve.sh", log, str(port)], env=place, capture_output=True, text=True)
         there = {path.name for path in folder.iterdir()} - before - {calls.name, fails.name}
         if ended.returncode != status or says not in ended.stdout + ended.stderr or there != left:
             fail(f"serve.sh, with {what}, ends with status {ended.returncode}, leaves {there} and says {ended.stdout}{ended.stderr}")
@@ -480,16 +480,16 @@ case "$*" in *--create*) trap 'exit 0' TERM; while :; do sleep 0.1; done ;; esac
 
 def try_serve_witness(folder):
     """serve-witness.sh refuses a port that is taken, and a log that is not there, before it does anything. The first start makes the witness's key and state, and the next one goes on."""
-    service, log, witness, calls = folder / "service", folder / "a log", folder / "a witness", folder / "calls"
-    (service / "out").mkdir(parents=True)
+    programs, log, witness, calls = folder / "cmd", folder / "a log", folder / "a witness", folder / "calls"
+    (programs / "out").mkdir(parents=True)
     (folder / "checks").mkdir()
-    shutil.copy(HERE.parent / "service" / "serve-witness.sh", service)
-    for path, script in ((service / "build.sh", ""), (folder / "checks" / "needs.sh", ""), (service / "out" / "ctwitness-serve", f"echo \"$*\" >>'{calls}'")):
+    shutil.copy(HERE.parent / "cmd" / "serve-witness.sh", programs)
+    for path, script in ((programs / "build.sh", ""), (folder / "checks" / "needs.sh", ""), (programs / "out" / "ctwitness-serve", f"echo \"$*\" >>'{calls}'")):
         path.write_text(f"#!/bin/sh\n{script}\n")
         path.chmod(0o755)
 
     def serve(what, port, status, says, made):
-        ended = subprocess.run([service / "serve-witness.sh", witness, str(port), log], capture_output=True, text=True)
+        ended = subprocess.run([programs / "serve-witness.sh", witness, str(port), log], capture_output=True, text=True)
         if ended.returncode != status or says not in ended.stdout + ended.stderr or witness.exists() != made:
             fail(f"serve-witness.sh, with {what}, ends with status {ended.returncode}, and says {ended.stdout}{ended.stderr}")
 
@@ -523,7 +523,7 @@ def try_count(folder):
     ):
         events = [json.dumps({"Action": action, "Package": "a", **({"Test": test} if test else {}), **({"Output": text} if text else {})}) for action, test, text in output]
         environment = {**os.environ, "COUNT": str(count)}
-        ran = subprocess.run([HERE.parent / "service" / "count.py"], input="\n".join(["a line", *events]) + "\n", env=environment, capture_output=True, text=True)
+        ran = subprocess.run([HERE.parent / "cmd" / "count.py"], input="\n".join(["a line", *events]) + "\n", env=environment, capture_output=True, text=True)
         if ran.returncode != status or count.read_text() != counted or not ran.stdout.startswith(f"a line\n{says}"):
             fail(f"count.py of {what} ends with status {ran.returncode}, counts {count.read_text()} and says {ran.stdout}{ran.stderr}")
 

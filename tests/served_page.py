@@ -3,7 +3,7 @@
 
     served_page.py [--screenshots FOLDER] [--more ENTRIES]
 
-It serves a log of its own by service/serve.sh at a port that is free. The page has to tell what the log answers: its size, names, key and notice; that the
+It serves a log of its own by cmd/serve.sh at a port that is free. The page has to tell what the log answers: its size, names, key and notice; that the
 head's signature is the key's, and a changed head's isn't; that an audit path leads to the head's root, and a changed one doesn't; it may not be wider
 than a phone, and without JavaScript it says so. With --more ctload has so many taken before it looks once more. Screenshots are of a light and of a dark
 screen. It ends with a line of what it saw, and with status 1 where something is wrong.
@@ -85,7 +85,7 @@ class Served:
     def __init__(self, work):
         self.folder, self.port = work / "log", free_port()
         self.base = f"http://127.0.0.1:{self.port}/"
-        words = [ROOT / "service" / "serve.sh", self.folder, str(self.port), "--notice", "only to look at"]
+        words = [ROOT / "cmd" / "serve.sh", self.folder, str(self.port), "--notice", "only to look at"]
         self.log = subprocess.Popen(words, stdout=subprocess.PIPE, stderr=subprocess.STDOUT, text=True, start_new_session=True)
         while line := self.log.stdout.readline():
             if '"event":"serving"' in line:
@@ -117,7 +117,7 @@ class Served:
     def load(self, entries):
         """So many entries of an authority of ctload's own, whose root the log is given."""
         roots = self.folder / "roots.pem"
-        words = [ROOT / "service/out/ctload", "-nodes", self.base.rstrip("/"), "-roots", roots, "-answers", self.folder / "answers", "-clients", "48", "-repeats", "0", "-most", str(entries)]
+        words = [ROOT / "cmd/out/ctload", "-nodes", self.base.rstrip("/"), "-roots", roots, "-answers", self.folder / "answers", "-clients", "48", "-repeats", "0", "-most", str(entries)]
         had, loading = roots.stat().st_size, subprocess.Popen(words, stdout=subprocess.DEVNULL)
         while roots.stat().st_size == had and loading.poll() is None:
             time.sleep(0.1)

@@ -7,9 +7,9 @@ import (
 	"path/filepath"
 	"sync"
 
+	"wagtenib/internal/stores"
 	"wagtenib/internal/watch"
-	"wagtenib/service/stores"
-	"wagtenib/service/web"
+	"wagtenib/internal/web"
 )
 
 // acceptedFolder is a Keeper that also puts the head of each tiled log that was accepted last into a folder, as the log

@@ -8,7 +8,7 @@ import (
 
 	"golang.org/x/mod/sumdb/note"
 
-	"wagtenib/service/witness"
+	"wagtenib/internal/witness"
 )
 
 // TestAcceptedFolder checks that a run puts the head that it accepted into the folder, as the log signed it, and that a

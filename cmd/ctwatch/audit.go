@@ -14,8 +14,8 @@ import (
 	"wagtenib/internal/audit"
 	"wagtenib/internal/logclient"
 	"wagtenib/internal/loglist"
+	"wagtenib/internal/version"
 	"wagtenib/internal/watch"
-	"wagtenib/service/version"
 )
 
 var _ = addCommand("audit", "CERTIFICATE asks logs whether they keep the promises (SCTs) in a certificate", runAudit)

@@ -22,8 +22,8 @@ import (
 	"testing"
 	"time"
 
+	"wagtenib/internal/check"
 	"wagtenib/internal/testlog"
-	"wagtenib/service/check"
 )
 
 // logWords returns the words that name a log of a server, as a tiled log.

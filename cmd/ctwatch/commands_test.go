@@ -19,9 +19,9 @@ import (
 	"wagtenib/internal/alert"
 	"wagtenib/internal/finding"
 	"wagtenib/internal/testcert"
+	"wagtenib/internal/trial"
 	"wagtenib/internal/watch"
 	"wagtenib/internal/watchstore"
-	"wagtenib/service/trial"
 )
 
 // TestMain runs the tests, or the program itself.

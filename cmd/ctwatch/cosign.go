@@ -11,10 +11,10 @@ import (
 
 	"wagtenib/internal/alert"
 	"wagtenib/internal/audit"
+	"wagtenib/internal/stores"
 	"wagtenib/internal/watch"
 	"wagtenib/internal/watchstore"
-	"wagtenib/service/stores"
-	"wagtenib/service/witness"
+	"wagtenib/internal/witness"
 )
 
 var _ = addCommand("cosign", "URL,KEY has a witness cosign the head of a tiled log that ctwatch run accepted last",

@@ -15,9 +15,9 @@ import (
 
 	"wagtenib/internal/logclient"
 	"wagtenib/internal/loglist"
+	"wagtenib/internal/version"
 	"wagtenib/internal/watch"
-	"wagtenib/service/version"
-	"wagtenib/service/web"
+	"wagtenib/internal/web"
 )
 
 // The bounds of what settings name.

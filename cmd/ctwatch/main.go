@@ -17,9 +17,9 @@ import (
 	"strings"
 	"syscall"
 
+	"wagtenib/internal/settingsfile"
+	"wagtenib/internal/version"
 	"wagtenib/internal/watchstore"
-	"wagtenib/service/settingsfile"
-	"wagtenib/service/version"
 )
 
 // The statuses with which ctwatch ends.

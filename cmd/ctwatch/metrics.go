@@ -6,8 +6,8 @@ import (
 	"github.com/prometheus/client_golang/prometheus"
 
 	"wagtenib/internal/alert"
+	"wagtenib/internal/version"
 	"wagtenib/internal/watchstore"
-	"wagtenib/service/version"
 )
 
 // collector gives Prometheus what the store knows.

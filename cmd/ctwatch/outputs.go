@@ -7,7 +7,7 @@ import (
 
 	"wagtenib/internal/alert"
 	"wagtenib/internal/logclient"
-	"wagtenib/service/version"
+	"wagtenib/internal/version"
 )
 
 // outputs opens where alerts go. The caller must call close.

@@ -18,7 +18,7 @@ import (
 	"wagtenib/internal/alert"
 	"wagtenib/internal/finding"
 	"wagtenib/internal/watchstore"
-	"wagtenib/service/web"
+	"wagtenib/internal/web"
 )
 
 //go:embed page.html

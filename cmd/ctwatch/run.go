@@ -17,7 +17,7 @@ import (
 	"wagtenib/internal/finding"
 	"wagtenib/internal/watch"
 	"wagtenib/internal/watchstore"
-	"wagtenib/service/web"
+	"wagtenib/internal/web"
 )
 
 var _ = addCommand("run", "follows logs, and alerts to certificates for the watched names", runWatch)

@@ -12,9 +12,9 @@ import (
 	"time"
 
 	"wagtenib/internal/finding"
+	"wagtenib/internal/settingsfile"
 	"wagtenib/internal/watch"
 	"wagtenib/internal/watchstore"
-	"wagtenib/service/settingsfile"
 )
 
 // fileRules are those of the file of settings.

@@ -24,10 +24,10 @@ import (
 	"time"
 
 	"wagtenib/internal/audit"
+	"wagtenib/internal/check"
 	"wagtenib/internal/logclient"
 	"wagtenib/internal/testlog"
 	"wagtenib/internal/watch"
-	"wagtenib/service/check"
 )
 
 // begun is the timestamp of the promises, in milliseconds since 1970; day is the maximum merge delay of the logs.

@@ -12,7 +12,7 @@ import (
 
 	"wagtenib/bindings/go/wagtenib"
 	"wagtenib/internal/watch"
-	"wagtenib/service/witness"
+	"wagtenib/internal/witness"
 )
 
 // The reasons for which a witness does not cosign. Each is found by errors.Is.

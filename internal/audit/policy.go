@@ -10,7 +10,7 @@ import (
 	"golang.org/x/mod/sumdb/note"
 
 	"wagtenib/internal/watch"
-	"wagtenib/service/witness"
+	"wagtenib/internal/witness"
 )
 
 // ErrPolicy means that a policy of witnesses cannot be read, or can never be met.

@@ -24,7 +24,7 @@ import (
 	"wagtenib/internal/signature"
 	"wagtenib/internal/testlog"
 	"wagtenib/internal/watch"
-	"wagtenib/service/witness"
+	"wagtenib/internal/witness"
 )
 
 // cosigner is a witness's key.

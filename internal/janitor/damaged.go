@@ -3,8 +3,8 @@ package janitor
 import (
 	"context"
 
+	"wagtenib/internal/datatile"
 	"wagtenib/internal/tile"
-	"wagtenib/service/datatile"
 )
 
 // maxLooked is how many issuers are remembered as read.

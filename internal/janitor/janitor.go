@@ -19,8 +19,8 @@ import (
 	"sync"
 	"time"
 
-	"wagtenib/service/decider"
-	"wagtenib/service/signer"
+	"wagtenib/internal/decider"
+	"wagtenib/internal/signer"
 )
 
 // ErrConfig: a configuration lacks something.

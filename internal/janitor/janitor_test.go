@@ -13,11 +13,11 @@ import (
 
 	"golang.org/x/mod/sumdb/tlog"
 
+	"wagtenib/internal/datatile"
+	"wagtenib/internal/decider"
+	"wagtenib/internal/signer"
+	"wagtenib/internal/stores"
 	"wagtenib/internal/tile"
-	"wagtenib/service/datatile"
-	"wagtenib/service/decider"
-	"wagtenib/service/signer"
-	"wagtenib/service/stores"
 )
 
 // kept are objects in memory.

@@ -9,10 +9,10 @@ import (
 
 	"golang.org/x/mod/sumdb/tlog"
 
+	"wagtenib/internal/decider"
+	"wagtenib/internal/signer"
+	"wagtenib/internal/stores"
 	"wagtenib/internal/tile"
-	"wagtenib/service/decider"
-	"wagtenib/service/signer"
-	"wagtenib/service/stores"
 )
 
 const (

@@ -20,11 +20,11 @@ import (
 	"path/filepath"
 
 	"wagtenib/bindings/go/wagtenib"
+	"wagtenib/internal/datatile"
 	"wagtenib/internal/logclient"
 	"wagtenib/internal/signature"
+	"wagtenib/internal/stores"
 	"wagtenib/internal/watch"
-	"wagtenib/service/datatile"
-	"wagtenib/service/stores"
 )
 
 // The reasons for which a log is not kept. Each is found by errors.Is.

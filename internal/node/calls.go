@@ -4,7 +4,7 @@ import (
 	"context"
 	"time"
 
-	"wagtenib/service/stores"
+	"wagtenib/internal/stores"
 )
 
 // limited gives each call to a store its time limit. A node has no other way to its stores, so no call can hold it for ever.

@@ -10,10 +10,10 @@ import (
 
 	"golang.org/x/mod/sumdb/note"
 
-	"wagtenib/service/signer"
-	"wagtenib/service/step"
-	"wagtenib/service/stores"
-	"wagtenib/service/witness"
+	"wagtenib/internal/signer"
+	"wagtenib/internal/step"
+	"wagtenib/internal/stores"
+	"wagtenib/internal/witness"
 )
 
 // Head is a signed tree head, with its note (C2SP tlog-checkpoint).

@@ -6,9 +6,9 @@ import (
 	"errors"
 	"fmt"
 
+	"wagtenib/internal/datatile"
+	"wagtenib/internal/stores"
 	"wagtenib/internal/tile"
-	"wagtenib/service/datatile"
-	"wagtenib/service/stores"
 )
 
 // index adds the places of the entries, so many at once as the index takes. Those of this node's own step replace what the index has wrong: the round before the

@@ -6,10 +6,10 @@ import (
 	"fmt"
 	"time"
 
-	"wagtenib/service/decider"
-	"wagtenib/service/signer"
-	"wagtenib/service/step"
-	"wagtenib/service/stores"
+	"wagtenib/internal/decider"
+	"wagtenib/internal/signer"
+	"wagtenib/internal/step"
+	"wagtenib/internal/stores"
 )
 
 // Loop is all that one node decides by. Only the coroutine that calls Run may use it, so nothing in it needs a lock.

@@ -7,13 +7,13 @@ import (
 	"strings"
 	"time"
 
+	"wagtenib/internal/chains"
+	"wagtenib/internal/datatile"
+	"wagtenib/internal/decider"
+	"wagtenib/internal/signer"
+	"wagtenib/internal/step"
+	"wagtenib/internal/stores"
 	"wagtenib/internal/tile"
-	"wagtenib/service/chains"
-	"wagtenib/service/datatile"
-	"wagtenib/service/decider"
-	"wagtenib/service/signer"
-	"wagtenib/service/step"
-	"wagtenib/service/stores"
 )
 
 const (

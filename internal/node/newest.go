@@ -7,7 +7,7 @@ import (
 	"strings"
 	"time"
 
-	"wagtenib/service/stores"
+	"wagtenib/internal/stores"
 )
 
 const (

@@ -10,12 +10,12 @@ import (
 
 	"golang.org/x/mod/sumdb/note"
 
+	"wagtenib/internal/decider"
+	"wagtenib/internal/signer"
+	"wagtenib/internal/step"
+	"wagtenib/internal/stores"
 	"wagtenib/internal/tile"
-	"wagtenib/service/decider"
-	"wagtenib/service/signer"
-	"wagtenib/service/step"
-	"wagtenib/service/stores"
-	"wagtenib/service/witness"
+	"wagtenib/internal/witness"
 )
 
 // The errors of a node that cannot continue. Each is found by errors.Is.

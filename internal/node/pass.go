@@ -8,10 +8,10 @@ import (
 
 	"golang.org/x/mod/sumdb/tlog"
 
+	"wagtenib/internal/decider"
+	"wagtenib/internal/step"
+	"wagtenib/internal/stores"
 	"wagtenib/internal/tile"
-	"wagtenib/service/decider"
-	"wagtenib/service/step"
-	"wagtenib/service/stores"
 )
 
 // pass is one way through the decider's commands, from a text that the lock had. It ends with its round.

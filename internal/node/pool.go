@@ -5,8 +5,8 @@ import (
 	"fmt"
 	"sync"
 
-	"wagtenib/service/step"
-	"wagtenib/service/stores"
+	"wagtenib/internal/step"
+	"wagtenib/internal/stores"
 )
 
 // Place is where a submission's entry is, with the signature that promises it: what an SCT is made of (RFC 6962, section 3.2).

@@ -6,10 +6,10 @@ import (
 
 	"golang.org/x/mod/sumdb/tlog"
 
+	"wagtenib/internal/signer"
+	"wagtenib/internal/step"
+	"wagtenib/internal/stores"
 	"wagtenib/internal/tile"
-	"wagtenib/service/signer"
-	"wagtenib/service/step"
-	"wagtenib/service/stores"
 )
 
 // stored reads an object out of the store. One that is missing is ErrDamaged.

@@ -5,9 +5,9 @@ import (
 	"errors"
 	"fmt"
 
+	"wagtenib/internal/step"
+	"wagtenib/internal/stores"
 	"wagtenib/internal/tile"
-	"wagtenib/service/step"
-	"wagtenib/service/stores"
 )
 
 // Request is one submission of a client. It must be looked up before it is enqueued, and may then be looked up again. Its methods are for one coroutine, which is

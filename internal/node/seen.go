@@ -8,9 +8,9 @@ import (
 
 	"golang.org/x/mod/sumdb/tlog"
 
-	"wagtenib/service/signer"
-	"wagtenib/service/step"
-	"wagtenib/service/stores"
+	"wagtenib/internal/signer"
+	"wagtenib/internal/step"
+	"wagtenib/internal/stores"
 )
 
 // A node continues from no state that is older than what it accepted before, or older than what the store has: a lock that was rolled back would make it sign a second

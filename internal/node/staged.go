@@ -6,8 +6,8 @@ import (
 	"errors"
 	"fmt"
 
-	"wagtenib/service/step"
-	"wagtenib/service/stores"
+	"wagtenib/internal/step"
+	"wagtenib/internal/stores"
 )
 
 // errNoBundle: the newest state's staged batch is missing.

@@ -5,10 +5,10 @@ import (
 	"errors"
 	"fmt"
 
+	"wagtenib/internal/decider"
+	"wagtenib/internal/signer"
+	"wagtenib/internal/stores"
 	"wagtenib/internal/tile"
-	"wagtenib/service/decider"
-	"wagtenib/service/signer"
-	"wagtenib/service/stores"
 )
 
 // Start looks at the lock, the stores, the signer and the machine's memory, and returns a node if the node may continue from there. The caller must then

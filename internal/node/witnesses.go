@@ -13,8 +13,8 @@ import (
 
 	"golang.org/x/mod/sumdb/note"
 
-	"wagtenib/service/step"
-	"wagtenib/service/witness"
+	"wagtenib/internal/step"
+	"wagtenib/internal/witness"
 )
 
 // A log all of whose stores are rolled back together cannot show that to itself, but its witnesses saw more. A head is signed, then cosigned by enough
@@ -37,12 +37,11 @@ type Witnesses struct {
 
 // check returns ErrConfig unless any two heads that enough witnesses cosigned are of one list.
 func (w Witnesses) check(cosign time.Duration) error {
-	n, q := len(w.All), w.Quorums
-	if n == 0 {
+	if len(w.All) == 0 {
 		return nil
 	}
-	if q.Publish < 1 || q.Start < 1 || q.Faults < 0 || q.Publish > n || q.Start > n || !q.IsSafe(n) {
-		return fmt.Errorf("%w: of %d witnesses, %d publish, %d start and %d may be faulty (%d + %d must be below %d + %d)", ErrConfig, n, q.Publish, q.Start, q.Faults, n, q.Faults, q.Start, q.Publish)
+	if err := w.Quorums.Check(len(w.All)); err != nil {
+		return fmt.Errorf("%w: %w", ErrConfig, err)
 	}
 	names := map[string]bool{}
 	for _, one := range w.All {

@@ -8,10 +8,10 @@ import (
 	"testing"
 	"time"
 
+	"wagtenib/internal/log"
 	"wagtenib/internal/node"
 	"wagtenib/internal/serve"
-	"wagtenib/service/log"
-	"wagtenib/service/stores"
+	"wagtenib/internal/stores"
 )
 
 // timed is a store of objects on another machine, whose clock is ahead by so much.

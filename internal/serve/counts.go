@@ -6,9 +6,9 @@ import (
 	"sync/atomic"
 	"time"
 
+	"wagtenib/internal/decider"
+	"wagtenib/internal/log"
 	"wagtenib/internal/node"
-	"wagtenib/service/decider"
-	"wagtenib/service/log"
 )
 
 // counts counts what the node does, for metrics: a node.Observer.

@@ -10,9 +10,9 @@ import (
 	"testing"
 	"time"
 
+	"wagtenib/internal/log"
 	"wagtenib/internal/node"
-	"wagtenib/service/log"
-	"wagtenib/service/stores"
+	"wagtenib/internal/stores"
 )
 
 // damages are ways in which a file is not what was written.

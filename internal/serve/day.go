@@ -6,7 +6,7 @@ import (
 	"time"
 
 	"wagtenib/internal/node"
-	"wagtenib/service/stores"
+	"wagtenib/internal/stores"
 )
 
 // dayForm is how a day is written.

@@ -1,4 +1,4 @@
-// Package serve serves one log out of a node: it is what service/web asks (service/log.Log). The node decides
+// Package serve serves one log out of a node: it is what internal/web asks (internal/log.Log). The node decides
 // (internal/node), and this package has all that the node needs of a machine, and that readers need of a log.
 //
 //   - serve.go opens the log, and takes submissions;

@@ -6,7 +6,7 @@ import (
 	"maps"
 	"sync"
 
-	"wagtenib/service/stores"
+	"wagtenib/internal/stores"
 )
 
 // maxJoined is how many identities a lookup has at most that shares a call with others.

@@ -12,8 +12,8 @@ import (
 	"sync/atomic"
 	"testing"
 
+	"wagtenib/internal/log"
 	"wagtenib/internal/serve"
-	"wagtenib/service/log"
 )
 
 // otherNode is what a test has in place of another node of the log: a server over TLS.

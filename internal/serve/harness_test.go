@@ -18,13 +18,13 @@ import (
 	"testing"
 	"time"
 
+	"wagtenib/internal/chains"
+	"wagtenib/internal/check"
+	"wagtenib/internal/log"
 	"wagtenib/internal/serve"
-	"wagtenib/service/chains"
-	"wagtenib/service/check"
-	"wagtenib/service/log"
-	"wagtenib/service/signer"
-	"wagtenib/service/stores"
-	"wagtenib/service/trial"
+	"wagtenib/internal/signer"
+	"wagtenib/internal/stores"
+	"wagtenib/internal/trial"
 )
 
 var must, wants = trial.Must, trial.Wants

@@ -9,9 +9,9 @@ import (
 	"strings"
 	"testing"
 
+	"wagtenib/internal/log"
 	"wagtenib/internal/node"
 	"wagtenib/internal/serve"
-	"wagtenib/service/log"
 )
 
 // newestHead returns the path of the head that was put last, and its note.

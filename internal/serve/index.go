@@ -10,8 +10,8 @@ import (
 	"strings"
 
 	"wagtenib/internal/node"
+	"wagtenib/internal/stores"
 	"wagtenib/internal/tile"
-	"wagtenib/service/stores"
 )
 
 // Which index is the log's says a random id that both have: the index as if it were an identity's place, and the store

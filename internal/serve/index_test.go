@@ -7,7 +7,7 @@ import (
 
 	"wagtenib/internal/node"
 	"wagtenib/internal/serve"
-	"wagtenib/service/stores"
+	"wagtenib/internal/stores"
 )
 
 // An index of another log is refused by its id, and the log's own one is not.

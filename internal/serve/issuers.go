@@ -12,7 +12,7 @@ import (
 	"golang.org/x/sync/singleflight"
 
 	"wagtenib/internal/node"
-	"wagtenib/service/stores"
+	"wagtenib/internal/stores"
 )
 
 const (

@@ -13,12 +13,12 @@ import (
 	"testing"
 	"time"
 
+	"wagtenib/internal/chains"
+	"wagtenib/internal/log"
 	"wagtenib/internal/node"
 	"wagtenib/internal/serve"
-	"wagtenib/service/chains"
-	"wagtenib/service/log"
-	"wagtenib/service/signer"
-	"wagtenib/service/stores"
+	"wagtenib/internal/signer"
+	"wagtenib/internal/stores"
 )
 
 // 700 entries over the edge of two full tiles, a restart between: all are answered, and the log is judged from its

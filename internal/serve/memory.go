@@ -7,8 +7,8 @@ import (
 	"fmt"
 
 	"wagtenib/internal/node"
-	"wagtenib/service/signer"
-	"wagtenib/service/stores"
+	"wagtenib/internal/signer"
+	"wagtenib/internal/stores"
 )
 
 // memory keeps the newest head that this machine accepted in a file of this machine's own.

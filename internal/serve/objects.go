@@ -9,11 +9,11 @@ import (
 
 	"golang.org/x/mod/sumdb/tlog"
 
+	"wagtenib/internal/log"
 	"wagtenib/internal/node"
+	"wagtenib/internal/signer"
+	"wagtenib/internal/stores"
 	"wagtenib/internal/tile"
-	"wagtenib/service/log"
-	"wagtenib/service/signer"
-	"wagtenib/service/stores"
 )
 
 // tileHeight is the logarithm of a tile's width.

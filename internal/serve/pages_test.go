@@ -8,13 +8,13 @@ import (
 	"testing"
 	"time"
 
+	"wagtenib/internal/chains"
 	"wagtenib/internal/node"
+	"wagtenib/internal/step"
+	"wagtenib/internal/stores"
 	"wagtenib/internal/tile"
-	"wagtenib/service/chains"
-	"wagtenib/service/step"
-	"wagtenib/service/stores"
-	"wagtenib/service/trial"
-	"wagtenib/service/web"
+	"wagtenib/internal/trial"
+	"wagtenib/internal/web"
 )
 
 // defaults are the defaults of ctserve's settings that the pages state.
@@ -23,13 +23,13 @@ const (
 	keepTiles, scrub    = 5 * time.Minute, time.Second
 )
 
-// The bounds that service/README.md and docs/OPERATING.md state of a node are those of this package.
+// The bounds that docs/SERVICE.md and docs/OPERATING.md state of a node are those of this package.
 func TestPageSaysBounds(t *testing.T) {
 	t.Parallel()
 	week := 7 * 24 * time.Hour
 	// 16 is the maximum number of tiles that one pass of the janitor reads again.
 	const again = 16
-	trial.Says(t, trial.Page(t, "../../service/README.md"), map[string]bool{
+	trial.Says(t, trial.Page(t, "../../docs/SERVICE.md"), map[string]bool{
 		"no more than 16 MiB a second are written (`max-write-rate`)":                                               maxWritten == 16<<20,
 		"| a partial tile | five minutes after its full tile came, if the full tile is whole |":                     keepTiles == 5*time.Minute,
 		"| a tree head less than five seconds after another one that stays | ten seconds after a later head came |": thinAfter == 10*time.Second && thinApart == 5*time.Second,
@@ -38,6 +38,7 @@ func TestPageSaysBounds(t *testing.T) {
 		"- The tiles of 32 duplicates are read at once.":                                                            maxLookups == 32,
 		"- an entry above 128 KiB.":                       MaxEntry == 128<<10,
 		"Waiting clients get an error after five seconds": patience == 5*time.Second,
+		"If too few witnesses answer (5 s each)":          cosignWithin == 5*time.Second,
 		"one data tile a second is enough for 1.5 x 10^8 entries, and 16 (the maximum) for 2.5 x 10^9": scrub == time.Second &&
 			week/time.Second*tile.Width/1e7 == 15 && week/time.Second*tile.Width*again/1e8 == 24,
 	})
@@ -48,7 +49,7 @@ func TestPageSaysBounds(t *testing.T) {
 	ofOne := max(answers/8, stores.MostObject+1<<20)
 	// Half of what is written are partial tiles, and these stay for as long again as they have to.
 	partials := float64(maxWritten) / 2 * 2 * keepTiles.Seconds()
-	trial.Says(t, trial.Page(t, "../../service/README.md"), map[string]bool{
+	trial.Says(t, trial.Page(t, "../../docs/SERVICE.md"), map[string]bool{
 		"An entry has at most 128 KiB because a step holds 255 of them, in the partial data tile, beside 12 MiB of new ones": MaxEntry == 128<<10 && tile.Width-1 == 255 && MaxBatchBytes == 12<<20,
 		"So a data tile has at most 34 MB. Answers hold at most 15 of these at once, and two for one address": math.Round(float64(largest)/1e6) == 34 && largest < stores.MostObject &&
 			answers/largest == 15 && ofOne/largest == 2,
@@ -63,10 +64,10 @@ func TestPageSaysBounds(t *testing.T) {
 	})
 }
 
-// alertAt returns the number above which, or below which, an alert fires, as service/ctserve.rules.yml has it.
+// alertAt returns the number above which, or below which, an alert fires, as release/ctserve.rules.yml has it.
 func alertAt(t *testing.T, expression string) float64 {
 	t.Helper()
-	rules, err := os.ReadFile("../../service/ctserve.rules.yml")
+	rules, err := os.ReadFile("../../release/ctserve.rules.yml")
 	trial.Must(t, err)
 	found := regexp.MustCompile(`(?m)^    expr: ` + expression + ` (-?\d+)(?: \* (\d+))?$`).FindSubmatch(rules)
 	if found == nil {

@@ -6,9 +6,9 @@ import (
 	"sync"
 	"time"
 
+	"wagtenib/internal/log"
 	"wagtenib/internal/node"
-	"wagtenib/service/log"
-	"wagtenib/service/stores"
+	"wagtenib/internal/stores"
 )
 
 const (

@@ -11,9 +11,9 @@ import (
 
 	"golang.org/x/mod/sumdb/note"
 
-	"wagtenib/service/log"
-	"wagtenib/service/stores"
-	"wagtenib/service/witness"
+	"wagtenib/internal/log"
+	"wagtenib/internal/stores"
+	"wagtenib/internal/witness"
 )
 
 // remote is a witness over HTTP (node.Witness). A call goes on after the node has enough cosignatures, so that a

@@ -13,14 +13,14 @@ import (
 
 	"golang.org/x/sync/errgroup"
 
+	"wagtenib/internal/decider"
 	"wagtenib/internal/janitor"
+	"wagtenib/internal/log"
 	"wagtenib/internal/node"
-	"wagtenib/service/decider"
-	"wagtenib/service/log"
-	"wagtenib/service/signer"
-	"wagtenib/service/step"
-	"wagtenib/service/stores"
-	"wagtenib/service/witness"
+	"wagtenib/internal/signer"
+	"wagtenib/internal/step"
+	"wagtenib/internal/stores"
+	"wagtenib/internal/witness"
 )
 
 const (

@@ -8,8 +8,8 @@ import (
 	"sync"
 	"time"
 
-	"wagtenib/service/stores"
-	"wagtenib/service/witness"
+	"wagtenib/internal/stores"
+	"wagtenib/internal/witness"
 )
 
 const (

@@ -6,11 +6,11 @@ import (
 	"errors"
 	"fmt"
 
+	"wagtenib/internal/chains"
+	"wagtenib/internal/datatile"
+	"wagtenib/internal/log"
 	"wagtenib/internal/node"
-	"wagtenib/service/chains"
-	"wagtenib/service/datatile"
-	"wagtenib/service/log"
-	"wagtenib/service/step"
+	"wagtenib/internal/step"
 )
 
 // Submit is log.Log's. A submission that the log has already is answered with the first timestamp of its entry, without

@@ -8,8 +8,8 @@ import (
 	"time"
 
 	"wagtenib/internal/node"
-	"wagtenib/service/signer"
-	"wagtenib/service/step"
+	"wagtenib/internal/signer"
+	"wagtenib/internal/step"
 )
 
 // certificateOf returns the certificate of a number. Nobody here reads it, so any bytes serve.

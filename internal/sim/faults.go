@@ -6,7 +6,7 @@ import (
 	"sort"
 	"strings"
 
-	"wagtenib/service/stores"
+	"wagtenib/internal/stores"
 )
 
 // befalls has a fault happen at a call of a machine. It returns the fault if that is the outcome of this call. Any other fault changes the world before the call.

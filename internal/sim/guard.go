@@ -17,9 +17,9 @@ import (
 
 	"golang.org/x/mod/sumdb/note"
 
-	"wagtenib/service/signer"
-	"wagtenib/service/stores"
-	"wagtenib/service/witness"
+	"wagtenib/internal/signer"
+	"wagtenib/internal/stores"
+	"wagtenib/internal/witness"
 )
 
 // key is the log's in all histories, and keyDER its SubjectPublicKeyInfo.

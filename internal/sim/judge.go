@@ -13,8 +13,8 @@ import (
 	"github.com/transparency-dev/merkle/compact"
 	"github.com/transparency-dev/merkle/rfc6962"
 
-	"wagtenib/service/signer"
-	"wagtenib/service/stores"
+	"wagtenib/internal/signer"
+	"wagtenib/internal/stores"
 )
 
 // judge looks at each object as it is put, at each head as it is signed, and at each answer as it is given. It has one list of leaves, which only grows. It uses

@@ -6,7 +6,7 @@ import (
 	"strings"
 	"time"
 
-	"wagtenib/service/witness"
+	"wagtenib/internal/witness"
 )
 
 // Kind is a kind of fault.

@@ -225,7 +225,7 @@ func (c *copies) write(t *testing.T, name, text string) {
 func (c *copies) finish(t *testing.T) string {
 	t.Helper()
 	c.write(t, "planted_test.go", "package planted\n\nimport (\n\t\"os\"\n\t\"strconv\"\n\t\"testing\"\n\n"+c.imports.String()+
-		"\n\t\"wagtenib/internal/sim\"\n\t\"wagtenib/service/decider\"\n\t\"wagtenib/service/step\"\n)\n"+runner+
+		"\n\t\"wagtenib/internal/sim\"\n\t\"wagtenib/internal/decider\"\n\t\"wagtenib/internal/step\"\n)\n"+runner+
 		"\nfunc TestAll(t *testing.T) {\n"+c.cases.String()+"}\n")
 	c.write(t, "planted.go", "package planted\n")
 	overlay, err := json.Marshal(map[string]any{"Replace": c.replaced})

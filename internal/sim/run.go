@@ -6,8 +6,8 @@ import (
 	"time"
 
 	"wagtenib/internal/node"
-	"wagtenib/service/signer"
-	"wagtenib/service/stores"
+	"wagtenib/internal/signer"
+	"wagtenib/internal/stores"
 )
 
 // Result is the outcome of a history.

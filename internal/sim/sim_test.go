@@ -7,10 +7,10 @@ import (
 	"testing"
 	"time"
 
+	"wagtenib/internal/decider"
 	"wagtenib/internal/node"
 	"wagtenib/internal/sim"
-	"wagtenib/service/decider"
-	"wagtenib/service/step"
+	"wagtenib/internal/step"
 )
 
 // proved are the proved decisions.

@@ -4,8 +4,8 @@ import (
 	"fmt"
 	"strings"
 
-	"wagtenib/service/signer"
-	"wagtenib/service/stores"
+	"wagtenib/internal/signer"
+	"wagtenib/internal/stores"
 )
 
 // refuses returns why a machine's node must not start with the stores as they are now, or nothing. It looks at the stores by itself.

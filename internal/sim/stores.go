@@ -8,8 +8,8 @@ import (
 	"strings"
 	"time"
 
-	"wagtenib/service/signer"
-	"wagtenib/service/stores"
+	"wagtenib/internal/signer"
+	"wagtenib/internal/stores"
 )
 
 // part is what can be rolled back by itself.

@@ -9,7 +9,7 @@ import (
 	"github.com/transparency-dev/merkle/compact"
 	"github.com/transparency-dev/merkle/rfc6962"
 
-	"wagtenib/service/signer"
+	"wagtenib/internal/signer"
 )
 
 // ranges makes the judge's trees.

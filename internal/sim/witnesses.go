@@ -16,8 +16,8 @@ import (
 
 	"wagtenib/bindings/go/wagtenib"
 	"wagtenib/internal/node"
-	"wagtenib/service/signer"
-	"wagtenib/service/witness"
+	"wagtenib/internal/signer"
+	"wagtenib/internal/witness"
 )
 
 // Witnesses says how many witnesses a log has, and how many of them must cosign.

@@ -11,8 +11,8 @@ import (
 
 	"wagtenib/internal/janitor"
 	"wagtenib/internal/node"
-	"wagtenib/service/signer"
-	"wagtenib/service/stores"
+	"wagtenib/internal/signer"
+	"wagtenib/internal/stores"
 )
 
 // Origin is the log's name in checkpoints: the proved steps need it.

@@ -3,10 +3,10 @@ package sim_test
 import (
 	"testing"
 
+	"wagtenib/internal/decider"
 	"wagtenib/internal/node"
 	"wagtenib/internal/sim"
-	"wagtenib/service/decider"
-	"wagtenib/service/step"
+	"wagtenib/internal/step"
 )
 
 // wrapped is the proved decider, and changes what it says.

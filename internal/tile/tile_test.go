@@ -8,8 +8,8 @@ import (
 	"fmt"
 	"testing"
 
-	"wagtenib/service/datatile"
-	"wagtenib/service/stores"
+	"wagtenib/internal/datatile"
+	"wagtenib/internal/stores"
 )
 
 // leafOf writes a TileLeaf of a certificate (C2SP static-ct-api, "Log Entries").

@@ -14,10 +14,10 @@ import (
 	"testing"
 	"time"
 
+	"wagtenib/internal/check"
 	"wagtenib/internal/logclient"
 	"wagtenib/internal/testlog"
 	"wagtenib/internal/watch"
-	"wagtenib/service/check"
 )
 
 // clock is a clock that the test sets. A wait passes at once, and moves it.

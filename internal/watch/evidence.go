@@ -10,7 +10,7 @@ import (
 	"wagtenib/bindings/go/wagtenib"
 )
 
-// The verdicts of evidence. `ctcheck evidence FOLDER` checks the files of each (wagtenib/service/check).
+// The verdicts of evidence. `ctcheck evidence FOLDER` checks the files of each (wagtenib/internal/check).
 const (
 	VerdictFork         = "fork"               // two roots of one size
 	VerdictShrunk       = "shrunk"             // fewer leaves, and no earlier timestamp

@@ -10,9 +10,9 @@ import (
 
 	"wagtenib/internal/alert"
 	"wagtenib/internal/testcert"
+	"wagtenib/internal/trial"
 	"wagtenib/internal/watch"
 	"wagtenib/internal/watchstore"
-	"wagtenib/service/trial"
 )
 
 // TestFullDiskLosesNothing: while files cannot grow, Keep fails and stores nothing. The same call then stores all.

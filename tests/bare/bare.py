@@ -1,11 +1,11 @@
 #!/usr/bin/env python3
 """Runs the lines of docs/OPERATING.md, in the order of the page and as they stand there, on a bare Debian: a folder with Debian's base alone, into which
-change-root leads, and the packages of a release. Neither the kit nor this checkout is in it. Then those of service/README.md that tests/readme.py leaves to it: the
+change-root leads, and the packages of a release. Neither the kit nor this checkout is in it. Then those of docs/SERVICE.md that tests/readme.py leaves to it: the
 log is watched by ctwatch, and has a witness.
 
     bare.py [--built FOLDER] [--keep]
 
-As root, with mmdebstrap (Debian's package of that name). The release is made here, out of what is built (crates/NAME/out, service/out). If ctlog is not
+As root, with mmdebstrap (Debian's package of that name). The release is made here, out of what is built (crates/NAME/out, cmd/out). If ctlog is not
 built, a program in Python replaces it, and the script says so. The release that the page upgrades to is this one with another VERSION.
 
 Debian's packages come from its mirror. Everything else happens in a network of its own, which has only loopback. No systemd runs there: tests/bare/systemctl does
@@ -99,7 +99,7 @@ class Releases:
                 (top / file).parent.mkdir(parents=True, exist_ok=True)
                 shutil.copy(ROOT / file, top / file)
             (top / "VERSION").write_text(f"{version}\n")
-        for words in ([top / "service" / "build.sh", "build"], [top / "release" / "release.py", "--quickly", "--built", self.built, "--to", to]):
+        for words in ([top / "cmd" / "build.sh", "build"], [top / "release" / "release.py", "--quickly", "--built", self.built, "--to", to]):
             ran = subprocess.run(words, capture_output=True, text=True)
             if ran.returncode:
                 fail(f"{words[0]}: {ran.stdout}{ran.stderr}")
@@ -273,7 +273,7 @@ class Trial:
     def figures(self, said):
         until(lambda: prometheus("query?query=ctserve_ready")["result"], "Prometheus has no figures of the log")
         rules = [rule["name"] for group in prometheus("rules")["groups"] for rule in group["rules"]]
-        due = re.findall(r"alert: (\w+)", (ROOT / "service" / "ctserve.rules.yml").read_text())
+        due = re.findall(r"alert: (\w+)", (ROOT / "release" / "ctserve.rules.yml").read_text())
         if rules != due or prometheus("query?query=up")["result"][0]["value"][1] != "1":
             fail(f"Prometheus has the rules {rules}")
 

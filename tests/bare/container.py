@@ -1,5 +1,5 @@
 #!/usr/bin/env python3
-"""Builds the image of service/Containerfile out of a release's package, and runs it: a log is made, serves, takes a submission, ends by SIGTERM with
+"""Builds the image of release/Containerfile out of a release's package, and runs it: a log is made, serves, takes a submission, ends by SIGTERM with
 status 0, and goes on.
 
     container.py [--built FOLDER] [--base IMAGE]
@@ -120,7 +120,7 @@ def trial(tool, work, given):
     packages = [path for path in releases.make(work / "out") if path.name.startswith("wagtenib_")]
     context = work / "context"
     context.mkdir()
-    for path in [*packages, ROOT / "service" / "Containerfile"]:
+    for path in [*packages, ROOT / "release" / "Containerfile"]:
         shutil.copy(path, context)
     of = given.base or base(tool, work, "ca-certificates")
     print(f"The base is {of}" + ("." if given.base else ", made here by mmdebstrap: no registry is asked."), flush=True)
@@ -148,7 +148,7 @@ def trial(tool, work, given):
 
 
 def main():
-    words = argparse.ArgumentParser(description="Builds the image of service/Containerfile, and runs it.")
+    words = argparse.ArgumentParser(description="Builds the image of release/Containerfile, and runs it.")
     words.add_argument("--built", type=pathlib.Path, default=ROOT / "crates", help="the folder in which the crates' builds lie")
     words.add_argument("--base", help="Debian's slim base")
     given = words.parse_args()

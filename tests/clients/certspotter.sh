@@ -1,5 +1,5 @@
 #!/usr/bin/env bash
-# Has certspotter, a monitor by others, follow a log over HTTP. service/clients.sh reads this in, and has to define `base`, the log's address; `work`, a folder
+# Has certspotter, a monitor by others, follow a log over HTTP. tests/clients.sh reads this in, and has to define `base`, the log's address; `work`, a folder
 # with certspotter's logs.json and watched-names; `running`, the ids of the processes that it ends; `fail`; and make_certificate, which makes
 # certificate.NUMBER in that folder.
 # shellcheck disable=SC2154

@@ -3,7 +3,7 @@
 
     beside.py [--ctwatch PROGRAM] [--many N] [--write]
 
-certspotter must be installed. ctwatch is service/out/ctwatch, which `make service` builds. The entries are the certificates of table.py, made by openssl and by
+certspotter must be installed. ctwatch is cmd/out/ctwatch, which `make service` builds. The entries are the certificates of table.py, made by openssl and by
 python's `cryptography`; odd names on which monitors differ; the certificates of examples/real-chains.jsonl; and N (1000) made-up ones, each with its precertificate. Three
 logs have all of them, and both programs watch the three at once. ctwatch must report everything that certspotter reports, each issuance once, and nothing
 else except names of the kinds that certspotter does not read. With --write the table of docs/WATCH.md is written; otherwise it must be there.
@@ -240,7 +240,7 @@ def compare_many(given, folder):
 
 def main():
     words = argparse.ArgumentParser()
-    words.add_argument("--ctwatch", default=ROOT / "service" / "out" / "ctwatch")
+    words.add_argument("--ctwatch", default=ROOT / "cmd" / "out" / "ctwatch")
     words.add_argument("--many", type=int, default=1000)
     words.add_argument("--write", action="store_true")
     given = words.parse_args()

@@ -17,7 +17,7 @@ import (
 	"wagtenib/bindings/go/wagtenib"
 )
 
-// These targets compare each call that reads bytes with a reader that is written here from the standard. `service/build.sh fuzz` runs them on random bytes, and
+// These targets compare each call that reads bytes with a reader that is written here from the standard. `cmd/build.sh fuzz` runs them on random bytes, and
 // `go test` on their seeds only.
 
 // leafRead reads a MerkleTreeLeaf as RFC 6962, section 3.4, has it, and returns the first fault from the left.

@@ -1,0 +1,155 @@
+package main
+
+import (
+	"bytes"
+	"crypto/ecdsa"
+	"crypto/elliptic"
+	"crypto/rand"
+	"crypto/sha256"
+	"crypto/x509"
+	"encoding/base64"
+	"encoding/binary"
+	"encoding/json"
+	"encoding/pem"
+	"errors"
+	"fmt"
+	"os"
+	"path/filepath"
+	"strings"
+	"testing"
+
+	"wagtenib/internal/check"
+	"wagtenib/internal/trial"
+)
+
+var must = trial.Must
+
+func TestMain(m *testing.M) { trial.Main(m, main) }
+
+// log is one of one leaf, whose certificate is longer than a line of a scanner is by itself.
+type log struct {
+	folder, key string
+	answer      check.Answer
+}
+
+func newLog(t testing.TB) log {
+	key, err := ecdsa.GenerateKey(elliptic.P256(), rand.Reader)
+	must(t, err)
+	der, err := x509.MarshalPKIXPublicKey(&key.PublicKey)
+	must(t, err)
+	signed := func(message []byte) []byte {
+		digest := sha256.Sum256(message)
+		signature, err := ecdsa.SignASN1(rand.Reader, key, digest[:])
+		must(t, err)
+		return append([]byte{4, 3, 0, byte(len(signature))}, signature...)
+	}
+	const origin, moment, head = "log.example/judged", 7, 9
+	certificate := make([]byte, 90_000)
+	extensions := []byte{0, 0, 5, 0, 0, 0, 0, 0}
+	entry := append(binary.BigEndian.AppendUint64(nil, moment), 0, 0, byte(len(certificate)>>16), byte(len(certificate)>>8), byte(len(certificate)&255))
+	entry = append(append(append(entry, certificate...), 0, 8), extensions...)
+	leaf := append([]byte{0, 0}, entry...)
+	// (the root of one leaf is the leaf's hash)
+	root := sha256.Sum256(append([]byte{0}, leaf...))
+	id := sha256.Sum256(der)
+	name := sha256.Sum256(append([]byte(origin+"\n\x05"), id[:]...))
+	message := binary.BigEndian.AppendUint64([]byte{0, 1}, head)
+	message = append(binary.BigEndian.AppendUint64(message, 1), root[:]...)
+	blob := append(binary.BigEndian.AppendUint64(append([]byte{}, name[:4]...), head), signed(message)...)
+	l := log{t.TempDir(), filepath.Join(t.TempDir(), "log.pem"), check.Answer{Certificate: certificate, Timestamp: moment, Extensions: extensions, Signature: signed(leaf), LogID: id[:]}}
+	in := base64.StdEncoding
+	for name, content := range map[string][]byte{
+		"tile/0/000.p/1": root[:], "tile/data/000.p/1": append(entry, 0, 0), fmt.Sprintf("heads/%020d-%020d", 1, head): []byte(fmt.Sprintf("%s\n1\n%s\n\n— %s %s\n", origin, in.EncodeToString(root[:]), origin, in.EncodeToString(blob))),
+	} {
+		path := filepath.Join(l.folder, name)
+		must(t, os.MkdirAll(filepath.Dir(path), 0o755))
+		must(t, os.WriteFile(path, content, 0o600))
+	}
+	must(t, os.WriteFile(l.key, pem.EncodeToMemory(&pem.Block{Type: "PUBLIC KEY", Bytes: der}), 0o600))
+	return l
+}
+
+// file is one with these answers.
+func file(t testing.TB, answers ...check.Answer) string {
+	path := filepath.Join(t.TempDir(), "answers")
+	var lines bytes.Buffer
+	for _, answer := range answers {
+		must(t, json.NewEncoder(&lines).Encode(answer))
+	}
+	must(t, os.WriteFile(path, lines.Bytes(), 0o600))
+	return path
+}
+
+// TestJudge: all answers of all files are judged, and what is no key, no answer or no file is told.
+func TestJudge(t *testing.T) {
+	l := newLog(t)
+	report, err := judge(l.folder, l.key, []string{file(t, l.answer), file(t, l.answer, l.answer), file(t)})
+	if want := (check.Report{Heads: 1, Leaves: 1, Tiles: 2, Answers: 3}); err != nil || report != want {
+		t.Fatalf("%+v, and not %+v: %v", report, want, err)
+	}
+	wrong := l.answer
+	wrong.Timestamp++
+	if _, err := judge(l.folder, l.key, []string{file(t, wrong), file(t, l.answer)}); err == nil || !strings.Contains(err.Error(), "answer 0") {
+		t.Errorf("a wrong answer of the first file: %v", err)
+	}
+	if _, err := judge(l.folder, l.key, []string{file(t, l.answer), file(t, wrong)}); err == nil || !strings.Contains(err.Error(), "answer 1") {
+		t.Errorf("a wrong answer of the second file: %v", err)
+	}
+	content, err := os.ReadFile(l.key)
+	must(t, err)
+	for what, text := range map[string]string{
+		"no PEM": "x", "another kind": strings.ReplaceAll(string(content), "PUBLIC KEY", "CERTIFICATE"),
+	} {
+		path := filepath.Join(t.TempDir(), "key")
+		must(t, os.WriteFile(path, []byte(text), 0o600))
+		if _, err := judge(l.folder, path, nil); err == nil || !strings.Contains(err.Error(), "is no public key in PEM") {
+			t.Errorf("%s in place of a key: %v", what, err)
+		}
+	}
+	long := filepath.Join(t.TempDir(), "long")
+	must(t, os.WriteFile(long, []byte(strings.Repeat(" ", mostLine)+"{}\n"), 0o600))
+	if _, err := judge(l.folder, l.key, []string{long}); err == nil || !strings.Contains(err.Error(), "too long") {
+		t.Errorf("a line that is too long: %v", err)
+	}
+	for _, text := range []string{"x\n", "[]\n", `{"timestamp":"7"}` + "\n"} {
+		path := filepath.Join(t.TempDir(), "answers")
+		must(t, os.WriteFile(path, []byte(text), 0o600))
+		if _, err := judge(l.folder, l.key, []string{path}); err == nil || !strings.Contains(err.Error(), path) {
+			t.Errorf("%q: %v", text, err)
+		}
+	}
+	nowhere := filepath.Join(t.TempDir(), "nowhere")
+	for _, of := range [][3]string{{nowhere, l.key, ""}, {l.folder, nowhere, ""}, {l.folder, l.key, nowhere}} {
+		var files []string
+		if of[2] != "" {
+			files = append(files, of[2])
+		}
+		if _, err := judge(of[0], of[1], files); !errors.Is(err, os.ErrNotExist) {
+			t.Errorf("%q: %v", of, err)
+		}
+	}
+}
+
+// TestStatus: what is right is told with status 0, what is wrong on standard error with 1, and too few words have 2.
+func TestStatus(t *testing.T) {
+	l := newLog(t)
+	wrong := l.answer
+	wrong.LogID = make([]byte, 32)
+	for _, of := range []struct {
+		words        []string
+		status       int
+		out, problem string
+	}{
+		{[]string{l.folder, l.key, file(t, l.answer)}, 0, "1 heads, 1 leaves (0 repeats), 2 tiles, 0 issuers, 1 timestamps: all as they have to be\n", ""},
+		{[]string{l.folder, l.key, file(t, wrong)}, 1, "", "a timestamp of another log"},
+		{[]string{t.TempDir(), l.key}, 1, "", "there is no head"},
+		{[]string{l.folder}, 2, "", "ctcheck FOLDER"},
+		{nil, 2, "", "ctcheck FOLDER"},
+		{[]string{"--version"}, 0, "ctcheck ", ""},
+	} {
+		if status, out, problem := trial.Runs(t, of.words...); status != of.status || !strings.HasPrefix(out, of.out) || (of.out == "") != (out == "") ||
+			!strings.Contains(problem, of.problem) || (of.problem == "") != (problem == "") {
+			t.Errorf("%q: status %d, %q and %q", of.words, status, out, problem)
+		}
+	}
+}

@@ -1,0 +1,309 @@
+package main
+
+import (
+	"bytes"
+	"context"
+	"encoding/base64"
+	"encoding/json"
+	"errors"
+	"fmt"
+	"io"
+	"math/rand"
+	"net/http"
+	"net/http/httptest"
+	"os"
+	"path/filepath"
+	"strings"
+	"sync"
+	"testing"
+	"time"
+
+	"wagtenib/internal/check"
+	"wagtenib/internal/trial"
+	"wagtenib/internal/web/standin"
+)
+
+var must = trial.Must
+
+func limited(t testing.TB) context.Context { return trial.Limited(t, trial.Longest) }
+
+// node is one of a log's, which answers as it is told.
+type node struct {
+	*httptest.Server
+	mu    sync.Mutex
+	asked []*http.Request
+	says  func(nth int, w http.ResponseWriter)
+}
+
+func newNode(t testing.TB, says func(nth int, w http.ResponseWriter)) *node {
+	n := &node{says: says}
+	n.Server = httptest.NewServer(http.HandlerFunc(func(w http.ResponseWriter, q *http.Request) {
+		n.mu.Lock()
+		n.asked = append(n.asked, q)
+		nth := len(n.asked)
+		n.mu.Unlock()
+		n.says(nth, w)
+	}))
+	t.Cleanup(n.Close)
+	return n
+}
+
+func (n *node) count() int {
+	n.mu.Lock()
+	defer n.mu.Unlock()
+	return len(n.asked)
+}
+
+const timestamp = `{"sct_version":0,"id":"AQI=","timestamp":7,"extensions":"AwQ=","signature":"BQY="}`
+
+func right(_ int, w http.ResponseWriter) { fmt.Fprint(w, timestamp) }
+
+// loadOf is a load on nodes, whose answers are written into a text.
+func loadOf(t testing.TB, nodes ...*node) (*load, *bytes.Buffer) {
+	authority, err := standin.NewAuthority("An authority of tests")
+	must(t, err)
+	var answers bytes.Buffer
+	l := &load{authority: authority, ends: time.Now().AddDate(0, 6, 0), answers: json.NewEncoder(&answers), again: map[string]int{}, client: &http.Client{Timeout: answersWithin}}
+	for _, n := range nodes {
+		l.nodes = append(l.nodes, n.URL)
+	}
+	return l, &answers
+}
+
+var some = submission{"add-chain", []byte(`{"chain":[]}`), check.Answer{Certificate: []byte("a certificate")}}
+
+// TestSubmit: who is busy, late or broken is asked again at the next node, and what is refused as wrong isn't; what was answered is kept with what it is of.
+func TestSubmit(t *testing.T) {
+	busy := newNode(t, func(_ int, w http.ResponseWriter) { w.WriteHeader(http.StatusServiceUnavailable) })
+	many := newNode(t, func(_ int, w http.ResponseWriter) { w.WriteHeader(http.StatusTooManyRequests) })
+	answers := newNode(t, right)
+	l, _ := loadOf(t, answers, busy, many)
+	answer, err := l.submit(limited(t), some, 1)
+	want := check.Answer{Certificate: []byte("a certificate"), Timestamp: 7, Extensions: []byte{3, 4}, Signature: []byte{5, 6}, LogID: []byte{1, 2}}
+	if err != nil || fmt.Sprint(*answer) != fmt.Sprint(want) {
+		t.Fatalf("%+v, %v", answer, err)
+	}
+	if busy.count() != 1 || many.count() != 1 || answers.count() != 1 || fmt.Sprint(l.again) != "map[429:1 503:1]" {
+		t.Errorf("asked %d, %d and %d times; again: %v", busy.count(), many.count(), answers.count(), l.again)
+	}
+	for _, n := range []*node{busy, answers} {
+		if q := n.asked[0]; q.Method != "POST" || q.URL.Path != "/ct/v1/add-chain" || q.Header.Get("Content-Type") != "application/json" {
+			t.Errorf("%s %s, %q", q.Method, q.URL.Path, q.Header)
+		}
+	}
+	for _, status := range []int{400, 403, 404, 413, 422} {
+		wrong := newNode(t, func(_ int, w http.ResponseWriter) {
+			w.WriteHeader(status)
+			fmt.Fprint(w, "why")
+		})
+		l, _ := loadOf(t, wrong)
+		if answer, err := l.submit(limited(t), some, 0); err == nil || !strings.Contains(err.Error(), fmt.Sprintf("add-chain: %d: why", status)) || answer != nil || wrong.count() != 1 {
+			t.Errorf("%d: %+v, %v, asked %d times", status, answer, err, wrong.count())
+		}
+	}
+	gone, cancel := context.WithCancel(context.Background())
+	cancel()
+	if answer, err := l.submit(gone, some, 0); answer != nil || err != nil || answers.count() != 1 {
+		t.Errorf("who is gone: %+v, %v", answer, err)
+	}
+	// (what isn't answered since the end came isn't sent again)
+	ending, cancel := context.WithCancel(context.Background())
+	l, _ = loadOf(t, newNode(t, func(_ int, w http.ResponseWriter) {
+		cancel()
+		w.WriteHeader(http.StatusServiceUnavailable)
+	}))
+	if answer, err := l.submit(ending, some, 0); answer != nil || err != nil || len(l.again) != 0 {
+		t.Errorf("at the end: %+v, %v; again: %v", answer, err, l.again)
+	}
+}
+
+// TestAnswered: what is no timestamp of version 1 is an error.
+func TestAnswered(t *testing.T) {
+	for _, reply := range []string{"", "x", "[]", strings.Replace(timestamp, `"sct_version":0`, `"sct_version":1`, 1), strings.Replace(timestamp, "7", `"7"`, 1), strings.Replace(timestamp, "AQI=", "AQI", 1)} {
+		if answer, err := answered(some, []byte(reply)); err == nil || !strings.Contains(err.Error(), "no timestamp") || answer != nil {
+			t.Errorf("%q: %+v, %v", reply, answer, err)
+		}
+	}
+}
+
+// zeros is a source of chance that gives the least of all each time.
+type zeros struct{}
+
+func (zeros) Int63() int64 { return 0 }
+func (zeros) Seed(int64)   {}
+
+// TestNext: without repeats nothing is submitted twice, and with nothing but repeats what was answered is.
+func TestNext(t *testing.T) {
+	l, _ := loadOf(t)
+	chance := rand.New(zeros{})
+	must(t, l.keep(some, check.Answer{}, time.Second))
+	s, err := l.next(chance)
+	if must(t, err); s.call != "add-pre-chain" || len(s.of.TBSCertificate) == 0 || len(s.of.IssuerKeyHash) != 32 || s.of.Certificate != nil {
+		t.Errorf("%s of %+v", s.call, s.of)
+	}
+	l.repeats = 1
+	if s, err = l.next(chance); err != nil || s.call != "add-chain" || string(s.of.Certificate) != "a certificate" {
+		t.Errorf("%s of %+v, %v", s.call, s.of, err)
+	}
+}
+
+// TestPrepared: what was made before is submitted first, each once, and behind it what is made then.
+func TestPrepared(t *testing.T) {
+	l, _ := loadOf(t)
+	must(t, l.prepare(20))
+	if len(l.made) != 20 {
+		t.Fatalf("%d were made", len(l.made))
+	}
+	seen, calls := map[string]bool{}, map[string]int{}
+	for i := 0; i < 25; i++ {
+		s, err := l.next(rand.New(zeros{}))
+		must(t, err)
+		if seen[string(s.body)] {
+			t.Errorf("%d: %s comes again", i, s.call)
+		}
+		seen[string(s.body)] = true
+		calls[s.call]++
+	}
+	if len(l.made) != 0 || calls["add-chain"] == 0 || calls["add-pre-chain"] == 0 {
+		t.Errorf("%d are left, of %v", len(l.made), calls)
+	}
+}
+
+// TestKeep: each answer is written down, with its latency and its submission; of these two some are kept, however many there are.
+func TestKeep(t *testing.T) {
+	l, answers := loadOf(t)
+	for i := 0; i < mostPast+3; i++ {
+		one := some
+		one.call = fmt.Sprint(i)
+		must(t, l.keep(one, check.Answer{Timestamp: uint64(i)}, time.Duration(i)*time.Millisecond))
+	}
+	calls := map[string]bool{}
+	for _, one := range l.past {
+		calls[one.call] = true
+	}
+	if l.count != mostPast+3 || len(l.past) != mostPast || len(calls) != mostPast || !calls[fmt.Sprint(mostPast+2)] || len(l.took) != mostPast+3 {
+		t.Errorf("%d answers, %d submissions of which %d differ, %d latencies", l.count, len(l.past), len(calls), len(l.took))
+	}
+	if lines := strings.Count(answers.String(), "\n"); lines != mostPast+3 || !strings.Contains(answers.String(), fmt.Sprintf(`"timestamp":%d,`, mostPast+2)) {
+		t.Errorf("%d lines", lines)
+	}
+	// Of the latencies, too, the newest stay.
+	l.took, l.answers = make([]time.Duration, mostTook), json.NewEncoder(io.Discard)
+	for i := 0; i < 3; i++ {
+		must(t, l.keep(some, check.Answer{}, time.Hour))
+	}
+	hours := 0
+	for _, took := range l.took {
+		if took == time.Hour {
+			hours++
+		}
+	}
+	if len(l.took) != mostTook || hours != 3 {
+		t.Errorf("%d latencies are kept, and %d of the last three", len(l.took), hours)
+	}
+	full := errors.New("the disk is full")
+	l.answers = json.NewEncoder(failing{full})
+	if err := l.keep(some, check.Answer{}, 0); !errors.Is(err, full) {
+		t.Error(err)
+	}
+}
+
+// failing takes nothing.
+type failing struct{ why error }
+
+func (f failing) Write([]byte) (int, error) { return 0, f.why }
+
+// TestFigures: the median, the 99th percentile and the longest of what was kept.
+func TestFigures(t *testing.T) {
+	l, _ := loadOf(t)
+	if line := l.figures(2 * time.Second); line != "0 answered in 2.0 s: 0.0 a second; median 0.000 s, 99th percentile 0.000 s, longest 0.000 s" {
+		t.Error(line)
+	}
+	for i := 100; i >= 0; i-- {
+		l.took, l.count = append(l.took, time.Duration(i)*time.Millisecond), l.count+1
+	}
+	l.again["503"] = 2
+	if line := l.figures(2 * time.Second); line != "101 answered in 2.0 s: 50.5 a second; median 0.050 s, 99th percentile 0.099 s, longest 0.100 s; sent again: map[503:2]" {
+		t.Error(line)
+	}
+}
+
+// TestReady: each node is asked until it has the authority among its roots; who ends before waits no more.
+func TestReady(t *testing.T) {
+	var l *load
+	slow := newNode(t, func(nth int, w http.ResponseWriter) {
+		switch root := base64.StdEncoding.EncodeToString(l.authority.Root.Raw); nth {
+		case 1:
+			w.WriteHeader(http.StatusServiceUnavailable)
+		case 2:
+			fmt.Fprint(w, `{"certificates":["AAAA"]}`)
+		default:
+			fmt.Fprintf(w, `{"certificates":["AAAA",%q]}`, root)
+		}
+	})
+	l, _ = loadOf(t, slow)
+	must(t, l.ready(limited(t)))
+	if slow.count() != 3 || slow.asked[0].URL.Path != "/ct/v1/get-roots" {
+		t.Errorf("asked %d times", slow.count())
+	}
+	never := newNode(t, func(_ int, w http.ResponseWriter) { fmt.Fprint(w, `{"certificates":[]}`) })
+	l, _ = loadOf(t, never)
+	gone, cancel := context.WithCancel(context.Background())
+	cancel()
+	came := make(chan error, 1)
+	go func() { came <- l.ready(gone) }()
+	select {
+	case err := <-came:
+		if !errors.Is(err, context.Canceled) {
+			t.Error(err)
+		}
+	case <-limited(t).Done():
+		t.Error("who is gone waits")
+	}
+}
+
+// TestAll: clients end where as many were answered as were to be, each of which is written down; and all end where one is refused, by why.
+func TestAll(t *testing.T) {
+	answers := newNode(t, right)
+	l, written := loadOf(t, answers)
+	l.most = 5
+	must(t, l.all(limited(t), 1, time.Minute))
+	if l.count != 5 || answers.count() != 5 || strings.Count(written.String(), "\n") != 5 {
+		t.Errorf("%d answered of %d asked, %d written down", l.count, answers.count(), strings.Count(written.String(), "\n"))
+	}
+	refuses := newNode(t, func(nth int, w http.ResponseWriter) {
+		if nth == 4 {
+			w.WriteHeader(http.StatusBadRequest)
+			return
+		}
+		right(nth, w)
+	})
+	l, _ = loadOf(t, refuses)
+	asks := time.AfterFunc(trial.Longest, func() { l.mu.Lock(); defer l.mu.Unlock(); l.most = 1 })
+	defer asks.Stop()
+	err := l.all(limited(t), 3, time.Minute)
+	if err == nil || !strings.Contains(err.Error(), ": 400: ") {
+		t.Errorf("one is refused: %v", err)
+	}
+	l.mu.Lock()
+	defer l.mu.Unlock()
+	if l.most != 0 {
+		t.Error("one is refused, and the others go on")
+	}
+}
+
+// TestAdd: what is added to a file stands behind what it had.
+func TestAdd(t *testing.T) {
+	path := filepath.Join(t.TempDir(), "roots.pem")
+	for _, text := range []string{"one\n", "two\n"} {
+		must(t, add(path, []byte(text)))
+	}
+	if text, err := os.ReadFile(path); err != nil || string(text) != "one\ntwo\n" {
+		t.Errorf("%q, %v", text, err)
+	}
+	for _, wrong := range []string{filepath.Join(path, "x"), "/dev/full"} {
+		if err := add(wrong, []byte("x")); err == nil {
+			t.Errorf("something is added to %s", wrong)
+		}
+	}
+}

@@ -1,0 +1,271 @@
+package main
+
+import (
+	"bytes"
+	"crypto/sha256"
+	"encoding/base64"
+	"encoding/json"
+	"encoding/pem"
+	"fmt"
+	"io"
+	"os"
+	"os/exec"
+	"path/filepath"
+	"strings"
+	"testing"
+	"time"
+
+	"wagtenib/internal/trial"
+	"wagtenib/internal/web/standin"
+)
+
+// does runs one of the commands in this process.
+func does(words ...string) (status int, answers, faults string) {
+	var out, told bytes.Buffer
+	status = runCommand(words[0], words[1:], &out, &told)
+	return status, out.String(), told.String()
+}
+
+// settingsFile writes a file of settings with a root and a key of its own, and gives the folder and the file.
+func settingsFile(t *testing.T, lines ...string) (folder, file string) {
+	t.Helper()
+	folder = t.TempDir()
+	authority, err := standin.NewAuthority("an authority")
+	if err != nil {
+		t.Fatal(err)
+	}
+	if err := os.WriteFile(filepath.Join(folder, "roots.pem"), authority.PEM(), 0o600); err != nil {
+		t.Fatal(err)
+	}
+	if status, _, told := does("key", filepath.Join(folder, "log.key")); status != 0 {
+		t.Fatalf("no key: %s", told)
+	}
+	text := []string{"origin log.example/2027h1", "signing-key " + folder + "/log.key", "roots " + folder + "/roots.pem", "folder " + folder + "/log",
+		"not-after-start 2027-01-01", "not-after-limit 2027-07-01"}
+	file = filepath.Join(folder, "settings")
+	if err := os.WriteFile(file, []byte(strings.Join(append(text, lines...), "\n")), 0o600); err != nil {
+		t.Fatal(err)
+	}
+	return folder, file
+}
+
+// TestKey: a key is made once, none but its owner may read it, and openssl finds the public key that is printed.
+func TestKey(t *testing.T) {
+	path := filepath.Join(t.TempDir(), "log.key")
+	status, said, told := does("key", path)
+	if status != 0 {
+		t.Fatalf("status %d: %s", status, told)
+	}
+	info, err := os.Stat(path)
+	if err != nil || info.Mode().Perm() != 0o400 {
+		t.Errorf("the key's file: %v, %v", info, err)
+	}
+	public, err := exec.Command("openssl", "ec", "-in", path, "-pubout", "-outform", "DER").Output()
+	if err != nil {
+		t.Fatal(err)
+	}
+	id := sha256.Sum256(public)
+	for _, due := range []string{"log id      " + base64.StdEncoding.EncodeToString(id[:]) + "\n", "public key  " + base64.StdEncoding.EncodeToString(public) + "\n",
+		string(pem.EncodeToMemory(&pem.Block{Type: "PUBLIC KEY", Bytes: public}))} {
+		if !strings.Contains(said, due) {
+			t.Errorf("%q isn't in %q", due, said)
+		}
+	}
+	before, _ := os.ReadFile(path)
+	if status, _, _ := does("key", path); status != 1 {
+		t.Errorf("made where one is: status %d", status)
+	}
+	if after, _ := os.ReadFile(path); !bytes.Equal(before, after) {
+		t.Error("a key that was there is another one now")
+	}
+	if status, shown, _ := does("key", "--show", path); status != 0 || shown != said {
+		t.Errorf("shown: status %d, %q", status, shown)
+	}
+	if status, _, _ := does("key", "--show", path+".absent"); status != 1 {
+		t.Errorf("shown where none is: status %d", status)
+	}
+	if _, err := os.Stat(path + ".absent"); err == nil {
+		t.Error("--show made a key")
+	}
+	if status, _, _ := does("key"); status != 2 {
+		t.Errorf("no file: status %d", status)
+	}
+	if status, _, _ := does("key", filepath.Join(path, "below", "a", "file")); status != 1 {
+		t.Error("made below a file")
+	}
+}
+
+// TestListEntry compares an entry with what openssl says of the key.
+func TestListEntry(t *testing.T) {
+	folder, file := settingsFile(t)
+	status, said, told := does("list-entry", "--config", file, "--operator", "An operator", "--email", "a@log.example,b@log.example")
+	if status != 0 {
+		t.Fatalf("status %d: %s", status, told)
+	}
+	public, err := exec.Command("openssl", "ec", "-in", folder+"/log.key", "-pubout", "-outform", "DER").Output()
+	if err != nil {
+		t.Fatal(err)
+	}
+	id := sha256.Sum256(public)
+	due := map[string]any{"operators": []any{map[string]any{"name": "An operator", "email": []any{"a@log.example", "b@log.example"}, "logs": []any{}, "tiled_logs": []any{map[string]any{
+		"description": "log.example/2027h1", "log_id": base64.StdEncoding.EncodeToString(id[:]), "key": base64.StdEncoding.EncodeToString(public),
+		"submission_url": "https://log.example/2027h1/", "monitoring_url": "https://log.example/2027h1/", "mmd": 60.0,
+		"temporal_interval": map[string]any{"start_inclusive": "2027-01-01T00:00:00Z", "end_exclusive": "2027-07-01T00:00:00Z"},
+	}}}}}
+	var found any
+	if err := json.Unmarshal([]byte(said), &found); err != nil || fmt.Sprint(found) != fmt.Sprint(due) {
+		t.Errorf("%v: %s", err, said)
+	}
+	s, err := parse([]string{"--config", file, "--notice", "a \"notice\""}, io.Discard)
+	if err != nil {
+		t.Fatal(err)
+	}
+	about, err := aboutOf(s, public)
+	one := due["operators"].([]any)[0].(map[string]any)["tiled_logs"].([]any)[0].(map[string]any)
+	one["version"], one["notice"] = "unreleased (commit unknown)", "a \"notice\""
+	if json.Unmarshal(about.Entry, &found) != nil || err != nil || fmt.Sprint(found) != fmt.Sprint(one) || string(about.Key) != string(public) {
+		t.Errorf("the log says of itself: %v, %s", err, about.Entry)
+	}
+	if about, err := aboutOf(s, nil); err != nil || about.Key != nil || about.Entry != nil {
+		t.Errorf("a log without a key says of itself: %v, %v", about, err)
+	}
+	if err := os.WriteFile(folder+"/public.pem", pem.EncodeToMemory(&pem.Block{Type: "PUBLIC KEY", Bytes: public}), 0o600); err != nil {
+		t.Fatal(err)
+	}
+	more := []string{"--operator", "o", "--email", "e"}
+	if status, other, told := does(append([]string{"list-entry", "--config", file, "--key", folder + "/public.pem"}, more...)...); status != 0 ||
+		!strings.Contains(other, base64.StdEncoding.EncodeToString(id[:])) || !strings.Contains(other, `"https://log.example/2027h1/"`) {
+		t.Errorf("by the public key: status %d, %s%s", status, other, told)
+	}
+	for _, words := range [][]string{{"--config", file}, {"--config", file, "--operator", "o", "--email", "e", "more"}} {
+		if status, _, _ := does(append([]string{"list-entry"}, words...)...); status != 2 {
+			t.Errorf("%q: status %d", words, status)
+		}
+	}
+	if status, _, _ := does("list-entry", "--config", file, "--operator", "o", "--email", "e", "--key", folder+"/roots.pem"); status != 1 {
+		t.Errorf("a certificate for a key: status %d", status)
+	}
+}
+
+// TestCheck: each setting that doesn't hold is told, and nothing is made.
+func TestCheck(t *testing.T) {
+	folder, file := settingsFile(t)
+	status, said, told := does("check", file)
+	if status != 0 || told != "" {
+		t.Fatalf("status %d: %s%s", status, said, told)
+	}
+	for _, due := range []string{"log.example/2027h1", "1 roots", "guard            on\n"} {
+		if !strings.Contains(said, due) {
+			t.Errorf("%q isn't said: %s", due, said)
+		}
+	}
+	if _, err := os.Stat(folder + "/log"); err == nil {
+		t.Error("the log's folder was made")
+	}
+	for _, c := range []struct {
+		line, due string
+		status    int
+	}{
+		{"tls-certificate " + folder + "/absent\ntls-key " + folder + "/absent", "tls-certificate  WRONG: ", 1},
+		{"roots " + folder + "/log.key", "", 2},
+		{"no-such-setting 1", "", 2},
+		{"store S3://a.example/b", "store            WRONG: ", 1},
+		{"store s3:/b", "store            WRONG: ", 1},
+		{"store s3://a.example/b", "store            WRONG: ", 1},
+		{"store s3://key:secret@a.example/b", "store            s3, not opened", 0},
+		{"lock file:", "lock             WRONG: ", 1},
+		{"lock folder:" + folder, "lock             WRONG: ", 1},
+		{"guard false", "guard            off: the signer signs whatever it is asked for", 0},
+		{"guard none", "", 2},
+		{"guard-state folder:" + folder, "guard-state      WRONG: ", 1},
+		{"index http://a.example/", "index            WRONG: ", 1},
+		{"index postgres://a.example/b?log=one", "index            postgres, not opened", 0},
+	} {
+		_, file := settingsFile(t, c.line)
+		status, said, _ := does("check", file)
+		if status != c.status || !strings.Contains(said, c.due) {
+			t.Errorf("%q: status %d, %s", c.line, status, said)
+		}
+	}
+	for _, name := range []string{"roots.pem", "log.key"} {
+		folder, file := settingsFile(t)
+		if err := os.Remove(filepath.Join(folder, name)); err != nil {
+			t.Fatal(err)
+		}
+		if status, said, told := does("check", file); status != 1 || strings.Count(said, "WRONG") != 1 || !strings.Contains(told, "1 settings") {
+			t.Errorf("without %s: status %d, %s%s", name, status, said, told)
+		}
+	}
+}
+
+// TestCheckOfAFolder has settings name a file in the folder's place: a start refuses it, so must check.
+func TestCheckOfAFolder(t *testing.T) {
+	folder, file := settingsFile(t)
+	if err := os.WriteFile(filepath.Join(folder, "log"), nil, 0o600); err != nil {
+		t.Fatal(err)
+	}
+	if status, said, _ := does("check", file); status != 1 || !strings.Contains(said, "isn't a folder") {
+		t.Errorf("a file in the folder's place: status %d, %s", status, said)
+	}
+}
+
+// TestClock: the day is named as the machine's clock has it, for the log of the settings, where its node reads it; no other day is, nor for settings
+// that don't hold.
+func TestClock(t *testing.T) {
+	folder, file := settingsFile(t)
+	now := time.Now().UTC()
+	today := now.Format("2006-01-02")
+	status, said, told := does("clock", file, today)
+	if status != 0 || told != "" || !strings.HasPrefix(said, "log.example/2027h1: on "+today+" it goes on; this machine's clock says "+now.Format("2006-01")) {
+		t.Fatalf("status %d: %s%s", status, said, told)
+	}
+	s, err := parse([]string{"--config", file}, io.Discard)
+	if err != nil || s.node.namedDay != folder+"/log.day" {
+		t.Fatalf("%v: %s", err, s.node.namedDay)
+	}
+	named, err := os.ReadFile(s.node.namedDay)
+	if err != nil || string(named) != today+"\n" {
+		t.Fatalf("%v: %q", err, named)
+	}
+	for _, c := range []struct {
+		words  []string
+		status int
+		due    string
+	}{
+		{[]string{file, now.AddDate(1, 0, 0).Format("2006-01-02")}, 1, "this machine's clock says " + now.Format("2006-01")},
+		{[]string{file, now.AddDate(0, 0, -3).Format("2006-01-02")}, 1, "this machine's clock says " + now.Format("2006-01")},
+		{[]string{file, "today"}, 1, "is no day"},
+		{[]string{file}, 2, "--help"},
+		{[]string{folder + "/absent", today}, 2, "absent"},
+	} {
+		if status, said, told := does(append([]string{"clock"}, c.words...)...); status != c.status || said != "" || !strings.Contains(told, c.due) {
+			t.Errorf("%q: status %d, %s%s", c.words, status, said, told)
+		}
+	}
+	if after, err := os.ReadFile(s.node.namedDay); err != nil || !bytes.Equal(after, named) {
+		t.Errorf("%v: %q", err, after)
+	}
+	if s, err := parse([]string{"--config", file, "--latest-head", folder + "/kept"}, io.Discard); err != nil || s.node.namedDay != folder+"/kept.day" {
+		t.Errorf("%v: %s", err, s.node.namedDay)
+	}
+}
+
+// TestCommandLine: the words lead to the commands, and the version is said on the standard output.
+func TestCommandLine(t *testing.T) {
+	for _, c := range []struct {
+		words  []string
+		status int
+		out    string
+	}{{[]string{"--version"}, 0, "ctserve unreleased (commit unknown)\n"}, {[]string{"key"}, 2, ""}, {[]string{"check", "--help"}, 0, ""}} {
+		command := exec.Command(os.Args[0], c.words...)
+		command.Env = append(os.Environ(), childKey+"=1")
+		var out bytes.Buffer
+		command.Stdout = &out
+		timer := time.AfterFunc(trial.Longest, func() { command.Process.Kill() })
+		command.Run()
+		timer.Stop()
+		if status := command.ProcessState.ExitCode(); status != c.status || out.String() != c.out {
+			t.Errorf("%q: status %d, %q", c.words, status, out.String())
+		}
+	}
+}

@@ -1,0 +1,286 @@
+// Command ctserve serves a Certificate Transparency log over HTTP: RFC 6962's calls, and C2SP static-ct-api.
+//
+// SIGHUP has it read the roots and the certificate of TLS anew. SIGTERM and SIGINT end it: it takes no more, publishes, answers
+// who waits, and ends with status 0; where that isn't done within its time, with 1. A second one ends it at once.
+//
+// The key is read by a process of its own, `ctserve signer`, which it starts, or finds at a socket. `ctserve key`, `check` and
+// `list-entry` make a key, look at settings, and write a log list's entry; `index` builds a log's deduplication index again from its tiles,
+// and `clock` names the day.
+package main
+
+import (
+	"context"
+	"crypto/tls"
+	"encoding/hex"
+	"errors"
+	"fmt"
+	"io"
+	"net"
+	"net/http"
+	"os"
+	"os/signal"
+	"syscall"
+	"time"
+
+	"wagtenib/internal/chains"
+	"wagtenib/internal/log"
+	"wagtenib/internal/reader"
+	"wagtenib/internal/serve"
+	"wagtenib/internal/settingsfile"
+	"wagtenib/internal/stores"
+	"wagtenib/internal/version"
+	"wagtenib/internal/web"
+)
+
+// opened is a log that was opened.
+type opened struct {
+	log log.Log
+	// proofs makes proofs from its tiles, and cutter a precertificate's entry.
+	proofs *reader.Reader
+	cutter chains.Cutter
+	// nodes returns the handler of what other nodes forward, forward forwards to them, and secured has the certificates for both. All are nil if the log has one node.
+	nodes   func(front http.Handler) http.Handler
+	forward web.Forwarder
+	secured *secured
+	key     []byte
+	// calls has counted what the stores were asked.
+	calls *stores.Calls
+	// close closes what the log uses.
+	close func()
+}
+
+type opener func(context.Context, node) (*opened, error)
+
+// looksEvery is how often the log is looked at for what an operator is to be told.
+const looksEvery = time.Second
+
+func main() {
+	settleCollector()
+	os.Exit(run(os.Args[1:], os.Stderr, openNode))
+}
+
+// statusSetBack is the status of a start that is refused, and will be until an operator has looked at the log's stores.
+const statusSetBack = 3
+
+// run serves until a signal ends it, and gives the status: 0 at an end in order, 1 at another, 2 where the words aren't ones, statusSetBack
+// where the log, or its guard's state, is gone or older than it was, or the places aren't its.
+func run(words []string, to io.Writer, open opener) int {
+	switch {
+	case version.Asked(words):
+		return runVersion(os.Stdout)
+	case len(words) > 0 && words[0] == "signer":
+		return runSigner(words[1:], os.Stdin, os.Stdout, to)
+	case len(words) > 0 && commands[words[0]] != nil:
+		return runCommand(words[0], words[1:], os.Stdout, to)
+	}
+	s, err := parse(words, to)
+	if status, ends := settingsfile.Ends(err, to); ends {
+		return status
+	}
+	surviveReader()
+	signals := make(chan os.Signal, 4)
+	signal.Notify(signals, syscall.SIGHUP, syscall.SIGTERM, syscall.SIGINT)
+	lines := web.NewLines(to)
+	if err := serveLog(s, lines, signals, open); err != nil {
+		lines.Error("end", "fault", err)
+		if serve.NeedsOperator(err) {
+			return statusSetBack
+		}
+		return 1
+	}
+	lines.Info("end")
+	return 0
+}
+
+// surviveReader has a write to standard error fail once nobody reads it any more, instead of ending this process by SIGPIPE: the log must go on without its lines.
+// The signal is caught and not ignored, since what is ignored would be so in the programs that this process starts.
+func surviveReader() { signal.Notify(make(chan os.Signal, 1), syscall.SIGPIPE) }
+
+// served is one listener with its server.
+type served struct {
+	of       string
+	address  string
+	over     *tls.Config
+	handler  http.Handler
+	listener net.Listener
+	server   *web.Server
+}
+
+func serveLog(s *settings, lines *web.Lines, signals <-chan os.Signal, open opener) (err error) {
+	roots, err := s.roots.Load()
+	if err != nil {
+		return err
+	}
+	tellLeftOut(roots, lines)
+	var certificate *web.Certificate
+	var over *tls.Config
+	if s.certificate != "" {
+		if certificate, err = web.LoadCertificate(s.certificate, s.key); err != nil {
+			return err
+		}
+		over = certificate.Config()
+	}
+	opening, cancel := context.WithTimeout(context.Background(), s.node.openWithin)
+	of, err := open(opening, s.node)
+	cancel()
+	if err != nil {
+		return err
+	}
+	defer of.close()
+	checker := chains.NewChecker(roots, s.rules, of.cutter)
+	awaitHead(s, of.log)
+	about, err := aboutOf(s, of.key)
+	if err != nil {
+		return err
+	}
+	front := web.New(of.log, of.proofs, checker, web.Options{Limits: s.limits, Proxies: s.proxies, Lines: lines, LogRequests: s.logRequests, ReadOnly: s.readOnly, About: about, Stores: of.calls, Forward: of.forward})
+
+	servers := []*served{{of: "clients", address: s.listen, over: over, handler: front}}
+	if of.secured != nil {
+		servers = append(servers, &served{of: "nodes", address: s.node.peers.listen, over: of.secured.listens, handler: of.nodes(front.Nodes())})
+	}
+	if s.operator != "" {
+		servers = append(servers, &served{of: "operator", address: s.operator, handler: front.Operator()})
+	}
+	failed, ending := make(chan error, len(servers)), os.Signal(nil)
+	for _, each := range servers {
+		if each.listener, err = net.Listen("tcp", each.address); err != nil {
+			break
+		}
+		lines.Info("listening", "for", each.of, "address", each.listener.Addr(), "tls", each.over != nil)
+	}
+	for _, each := range servers {
+		if err != nil {
+			if each.listener != nil {
+				each.listener.Close()
+			}
+			continue
+		}
+		each := each
+		switch each.of {
+		case "clients":
+			each.server = front.Serve(each.handler)
+		case "nodes":
+			each.server = front.ServeNodes(each.handler)
+		default:
+			each.server = front.ServeOthers(each.handler)
+		}
+		go func() { failed <- each.server.Listen(each.listener, each.over) }()
+	}
+	if err == nil {
+		tellHead(s, of.log, lines)
+		telling, stop := context.WithCancel(context.Background())
+		defer stop()
+		go front.Tell(telling, looksEvery)
+		ending, err = wait(func() { reload(s, front, checker, []*web.Certificate{certificate, of.secured.its()}, lines) }, signals, failed)
+	}
+	// From here on another signal ends the process; that it ends is told behind that.
+	signal.Reset(syscall.SIGTERM, syscall.SIGINT)
+	front.Refuse()
+	if ending != nil {
+		lines.Info("ending", "signal", ending)
+	}
+	return ended(s, of.log, servers, err)
+}
+
+// awaitHead waits for the first head of a log, for as long as a reading may take.
+func awaitHead(s *settings, of log.Log) {
+	ctx, cancel := context.WithTimeout(context.Background(), s.limits.Reading)
+	defer cancel()
+	for {
+		if _, err := of.Checkpoint(ctx); !errors.Is(err, stores.ErrAbsent) {
+			return
+		}
+		select {
+		case <-time.After(10 * time.Millisecond):
+		case <-ctx.Done():
+			return
+		}
+	}
+}
+
+// tellLeftOut tells which certificates of the files of roots aren't roots of the log.
+func tellLeftOut(roots *chains.Roots, lines *web.Lines) {
+	for _, each := range roots.LeftOut() {
+		lines.Warn("root-left-out", "root", each)
+	}
+}
+
+// tellHead tells what is served, from where it goes on.
+func tellHead(s *settings, of log.Log, lines *web.Lines) {
+	ctx, cancel := context.WithTimeout(context.Background(), s.limits.Reading)
+	defer cancel()
+	head, err := of.Checkpoint(ctx)
+	if err != nil {
+		lines.Warn("serving", "origin", s.node.origin, "fault", err)
+		return
+	}
+	lines.Info("serving", "origin", s.node.origin, "entries", head.TreeSize, "root_hash", hex.EncodeToString(head.RootHash[:]), "head_of", time.UnixMilli(int64(head.Timestamp)).UTC().Format(time.RFC3339))
+}
+
+// wait has everything reloaded at SIGHUP, and returns at a signal that ends, which it gives, or if a server fails. A file that can't be read for long, as on a
+// network's disk, must not keep it from ending.
+func wait(reload func(), signals <-chan os.Signal, failed <-chan error) (os.Signal, error) {
+	reloaded, reloads, again := make(chan struct{}, 1), false, false
+	for {
+		if again && !reloads {
+			reloads, again = true, false
+			go func() {
+				reload()
+				reloaded <- struct{}{}
+			}()
+		}
+		select {
+		case err := <-failed:
+			return nil, err
+		case <-reloaded:
+			reloads = false
+		case came := <-signals:
+			if came != syscall.SIGHUP {
+				return came, nil
+			}
+			again = true
+		}
+	}
+}
+
+// reload reads the roots and the certificate again, and tells what came of it.
+func reload(s *settings, front *web.Front, checker *chains.Checker, certificates []*web.Certificate, lines *web.Lines) {
+	reloaded := func(of string, err error, more ...any) {
+		front.Reloaded(of, err)
+		if err != nil {
+			lines.Error("reload", "of", of, "fault", err)
+			return
+		}
+		lines.Info("reload", append([]any{"of", of}, more...)...)
+	}
+	added, removed, err := checker.Reload(s.roots)
+	reloaded("roots", err, "roots", len(checker.Roots().Certificates()), "added", added, "removed", removed)
+	if err == nil {
+		tellLeftOut(checker.Roots(), lines)
+	}
+	for at, name := range []string{"certificate", "nodes-certificate"} {
+		if certificates[at] != nil {
+			reloaded(name, certificates[at].Reload())
+		}
+	}
+}
+
+// ended has the log, which takes no more, publish and answer who waits, and then ends the servers, within the time for it. Reading goes on until the log
+// has ended.
+func ended(s *settings, of log.Log, servers []*served, why error) error {
+	ctx, cancel := context.WithTimeout(context.Background(), s.endWithin)
+	defer cancel()
+	if err := of.End(ctx); why == nil {
+		why = err
+	}
+	for _, each := range servers {
+		if each.server == nil {
+			continue
+		}
+		if err := each.server.End(ctx); why == nil && err != nil {
+			why = fmt.Errorf("who waits at the listener for %s isn't answered: %w", each.of, err)
+		}
+	}
+	return why
+}

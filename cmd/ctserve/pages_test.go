@@ -1,0 +1,163 @@
+package main
+
+import (
+	"bytes"
+	"fmt"
+	"os"
+	"regexp"
+	"strings"
+	"testing"
+	"time"
+
+	"wagtenib/internal/chains"
+	"wagtenib/internal/trial"
+)
+
+// defaults are the settings that --help lists, with what it says of each; a setting whose default isn't said has none.
+func defaults(t *testing.T, words ...string) map[string]string {
+	t.Helper()
+	var help bytes.Buffer
+	if len(words) == 0 {
+		if _, err := parse([]string{"--help"}, &help); err == nil {
+			t.Fatal("no help")
+		}
+	} else {
+		run(words, &help, openNode)
+	}
+	found := map[string]string{}
+	for _, part := range regexp.MustCompile(`(?m)^  -`).Split(help.String(), -1)[1:] {
+		name, _, _ := strings.Cut(strings.Fields(part)[0], "\n")
+		found[name] = part
+	}
+	return found
+}
+
+// TestPagesNameSettings: what docs/OPERATING.md and INCIDENTS.md call a setting is one, and has the default that they say.
+func TestPagesNameSettings(t *testing.T) {
+	settings := defaults(t)
+	for name, said := range defaults(t, "signer", "--help") {
+		if settings[name] == "" {
+			settings[name] = said
+		}
+	}
+	for _, name := range []string{"listen", "max-write-rate", "guard-state", "require-synchronized-clock"} {
+		if settings[name] == "" {
+			t.Fatalf("--help doesn't list %s: %d settings", name, len(settings))
+		}
+	}
+	// What has a hyphen and is no setting.
+	others := map[string]bool{"list-entry": true, "made-again": true, "root-left-out": true, "read-only": true, "too-often": true, "statement_timeout": true, "pre-vote": true, "auto-compaction-mode=periodic": true}
+	for _, refusal := range chains.Refusals {
+		others[string(refusal)] = true
+	}
+	whole := ""
+	for _, page := range []string{"../../docs/OPERATING.md", "../../docs/INCIDENTS.md"} {
+		text := trial.Page(t, page)
+		whole += text + "\n"
+		for _, quoted := range regexp.MustCompile("`([^`]+)`").FindAllStringSubmatch(text, -1) {
+			word := strings.TrimLeft(strings.Fields(quoted[1])[0], "-")
+			if !regexp.MustCompile(`^[a-z]+(-[a-z]+)+$`).MatchString(word) || others[word] {
+				continue
+			}
+			if settings[word] == "" {
+				t.Errorf("%s: %s is no setting", page, word)
+			}
+		}
+	}
+	for _, said := range []struct{ name, onPage, standard string }{
+		{"operator-listen", "`operator-listen` (127.0.0.1:8619;", `default "127.0.0.1:8619"`},
+		{"max-connections-per-address", "64 connections at once, or 64 requests at once through nginx (`max-connections-per-address`)", "default 64)"},
+		{"max-clock-skew", "`max-clock-skew` (10 s)", "default 10s)"},
+		{"shutdown-timeout", "`shutdown-timeout` (30 s)", "default 30s)"},
+		{"guard", "`guard` is on by default", "default true)"},
+		{"latest-head", "`latest-head`, by default `FOLDER.latest-head`", "default FOLDER.latest-head"},
+		{"guard-state", "`guard-state`, by default `FOLDER.guard`", "FOLDER.guard"},
+		{"max-merge-delay", "`max-merge-delay` (a minute)", "default 1m0s)"},
+		{"refresh-interval", "each `refresh-interval` (half of `max-merge-delay`)", "default half of it)"},
+		{"interval", "twenty heads a second", "50ms means at most twenty a second"},
+	} {
+		if !strings.Contains(whole, said.onPage) {
+			t.Errorf("the pages don't say %q", said.onPage)
+		}
+		if !strings.Contains(settings[said.name], said.standard) {
+			t.Errorf("%s isn't %s: %s", said.name, said.standard, settings[said.name])
+		}
+	}
+}
+
+// TestPageSaysBounds: the bounds that docs/SERVICE.md says of the program are those that are here.
+func TestPageSaysBounds(t *testing.T) {
+	s, err := parse([]string{"--roots", "r", "--origin", "o.example", "--signing-key", "k"}, &bytes.Buffer{})
+	trial.Must(t, err)
+	trial.Says(t, trial.Page(t, "../../docs/SERVICE.md"), map[string]bool{
+		"more than `max-write-rate` allows in a second (16 MiB)": s.node.mostWritten == 16<<20,
+	})
+	if s.node.mostProofs != 64 || s.limits.ProofsByAddress != 16 {
+		t.Errorf("%d proofs at once, of one address %d", s.node.mostProofs, s.limits.ProofsByAddress)
+	}
+}
+
+// TestScraped: Prometheus is told to read where a log's figures are, by the name that the alarms ask for, and the alarms beside.
+func TestScraped(t *testing.T) {
+	s, err := parse([]string{"--roots", "r", "--origin", "o.example", "--signing-key", "k"}, &bytes.Buffer{})
+	trial.Must(t, err)
+	rules, err := os.ReadFile("../../release/ctserve.rules.yml")
+	trial.Must(t, err)
+	jobs := regexp.MustCompile(`job="(\w+)"`).FindAllSubmatch(rules, -1)
+	if len(jobs) == 0 {
+		t.Fatal("no alarm names a job")
+	}
+	settings := trial.Page(t, "../../release/prometheus.yml")
+	trial.Says(t, settings, map[string]bool{
+		"rule_files: [ctserve.rules.yml]":       true,
+		`targets: ["` + s.operator + `"]`:       s.operator != "",
+		"job_name: " + string(jobs[0][1]) + " ": true,
+	})
+	for _, job := range jobs {
+		if string(job[1]) != string(jobs[0][1]) {
+			t.Errorf("one alarm is of %s, and another of %s", jobs[0][1], job[1])
+		}
+	}
+	trial.Says(t, trial.Page(t, "../../docs/OPERATING.md"), map[string]bool{
+		"Prometheus reads /metrics at `operator-listen` (" + s.operator + ";": true,
+	})
+}
+
+// TestUnit: systemd doesn't end or start a log against what it says of itself: it waits for longer than an end takes, starts none anew whose settings
+// aren't ones or whose stores were set back, lets it open as many connections as it takes, and starts it once the clock is right.
+func TestUnit(t *testing.T) {
+	text, err := os.ReadFile("../../release/ctserve@.service")
+	trial.Must(t, err)
+	unit := map[string]string{}
+	for _, line := range strings.Split(string(text), "\n") {
+		if name, value, isSet := strings.Cut(line, "="); isSet {
+			unit[name] += value
+		}
+	}
+	s, err := parse([]string{"--roots", "r", "--origin", "o.example", "--signing-key", "k"}, &bytes.Buffer{})
+	trial.Must(t, err)
+	seconds, err := time.ParseDuration(unit["TimeoutStopSec"] + "s")
+	if err != nil || seconds <= s.endWithin {
+		t.Errorf("systemd kills it behind %v, %v, and an end takes up to %v", seconds, err, s.endWithin)
+	}
+	var files, memory int
+	if _, err := fmt.Sscanf(unit["LimitNOFILE"]+" "+unit["MemoryMax"], "%d %dG", &files, &memory); err != nil || files < 2*s.limits.Connections {
+		t.Errorf("%d files, %v, for %d connections", files, err, s.limits.Connections)
+	}
+	// (beside what a log of any size holds)
+	if wanted := s.limits.AnswerBytes + s.limits.WaitingBytes; int64(memory)<<30 < 2*wanted {
+		t.Errorf("%d GiB of memory, and answers and submissions alone have %d bytes", memory, wanted)
+	}
+	if wanted := fmt.Sprint(2, statusSetBack); unit["RestartPreventExitStatus"] != wanted || unit["Restart"] != "always" {
+		t.Errorf("it is started anew behind all but %q, and not %q", unit["RestartPreventExitStatus"], wanted)
+	}
+	for _, name := range []string{"After", "Wants"} {
+		if !strings.Contains(unit[name], "time-sync.target") {
+			t.Errorf("%s is %q", name, unit[name])
+		}
+	}
+	trial.Says(t, trial.Page(t, "../../docs/OPERATING.md"), map[string]bool{
+		"ends with status 3, which the unit doesn't start again":    statusSetBack == 3,
+		"A setting with an unknown name ends a start with status 2": run([]string{"--no-such-word"}, &bytes.Buffer{}, openNode) == 2,
+	})
+}

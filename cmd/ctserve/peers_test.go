@@ -1,0 +1,229 @@
+package main
+
+import (
+	"crypto/ecdsa"
+	"crypto/elliptic"
+	"crypto/rand"
+	"crypto/tls"
+	"crypto/x509"
+	"crypto/x509/pkix"
+	"encoding/json"
+	"encoding/pem"
+	"io"
+	"math/big"
+	"net"
+	"net/http"
+	"os"
+	"strings"
+	"syscall"
+	"testing"
+	"time"
+
+	"wagtenib/internal/trial"
+)
+
+// nodesAuthority is a CA of the nodes of a log.
+type nodesAuthority struct {
+	certificate *x509.Certificate
+	key         *ecdsa.PrivateKey
+}
+
+// newNodesAuthority makes a CA, and writes its certificate into a file.
+func (p *place) newNodesAuthority(name string) *nodesAuthority {
+	p.t.Helper()
+	key, err := ecdsa.GenerateKey(elliptic.P256(), rand.Reader)
+	if err != nil {
+		p.t.Fatal(err)
+	}
+	a := &nodesAuthority{key: key}
+	of := &x509.Certificate{SerialNumber: big.NewInt(1), Subject: pkix.Name{CommonName: name},
+		NotBefore: time.Now().Add(-time.Hour), NotAfter: time.Now().Add(time.Hour), IsCA: true,
+		BasicConstraintsValid: true, KeyUsage: x509.KeyUsageCertSign}
+	der, err := x509.CreateCertificate(rand.Reader, of, of, &key.PublicKey, key)
+	if err != nil {
+		p.t.Fatal(err)
+	}
+	if a.certificate, err = x509.ParseCertificate(der); err != nil {
+		p.t.Fatal(err)
+	}
+	p.write(name+".pem", pem.EncodeToMemory(&pem.Block{Type: "CERTIFICATE", Bytes: der}))
+	return a
+}
+
+// issue writes a node's certificate and key into files.
+func (a *nodesAuthority) issue(p *place, name string) {
+	p.t.Helper()
+	key, err := ecdsa.GenerateKey(elliptic.P256(), rand.Reader)
+	if err != nil {
+		p.t.Fatal(err)
+	}
+	of := &x509.Certificate{
+		SerialNumber: big.NewInt(2), Subject: pkix.Name{CommonName: name}, NotBefore: time.Now().Add(-time.Hour),
+		NotAfter:    time.Now().Add(time.Hour),
+		IPAddresses: []net.IP{net.IPv4(127, 0, 0, 1)}, ExtKeyUsage: []x509.ExtKeyUsage{x509.ExtKeyUsageServerAuth,
+			x509.ExtKeyUsageClientAuth}, KeyUsage: x509.KeyUsageDigitalSignature,
+	}
+	der, err := x509.CreateCertificate(rand.Reader, of, a.certificate, &key.PublicKey, a.key)
+	if err != nil {
+		p.t.Fatal(err)
+	}
+	private, err := x509.MarshalPKCS8PrivateKey(key)
+	if err != nil {
+		p.t.Fatal(err)
+	}
+	p.write(name+".pem", pem.EncodeToMemory(&pem.Block{Type: "CERTIFICATE", Bytes: der}))
+	p.write(name+".key", pem.EncodeToMemory(&pem.Block{Type: "PRIVATE KEY", Bytes: private}))
+}
+
+// freeAddress returns an address of this machine at which nobody listens.
+func freeAddress(t *testing.T) string {
+	t.Helper()
+	l, err := net.Listen("tcp", "127.0.0.1:0")
+	if err != nil {
+		t.Fatal(err)
+	}
+	defer l.Close()
+	return l.Addr().String()
+}
+
+// nodeWords are the settings of a node among others.
+func (p *place) nodeWords(name, address string) []string {
+	return []string{"--nodes-listen", address, "--nodes-address", "https://" + address, "--nodes-certificate",
+		p.path(name + ".pem"), "--nodes-key", p.path(name + ".key"),
+		"--nodes-ca", p.path("nodes.pem"), "--latest-head", p.path(name + ".latest-head")}
+}
+
+// metric returns the value of a metric of the operator's address.
+func (p *program) metric(name string) string {
+	p.t.Helper()
+	_, text := get(p.operator, "/metrics")
+	for _, line := range strings.Split(text, "\n") {
+		if value, ok := strings.CutPrefix(line, name+" "); ok {
+			return value
+		}
+	}
+	return ""
+}
+
+// Of two nodes, the one that does not make the steps forwards what it gets, and takes it itself after the other one was
+// killed. Nobody else gets in at the address for nodes.
+func TestForwards(t *testing.T) {
+	t.Parallel()
+	at := newPlace(t)
+	authority := at.newNodesAuthority("nodes")
+	authority.issue(at, "one")
+	authority.issue(at, "two")
+	words := at.realWords("--signing-key", at.path("log.pem"))
+	first, second := freeAddress(t), freeAddress(t)
+	one := started(t, "", append(append(words, at.nodeWords("one", first)...), "--create")...)
+	two := started(t, "", append(words, at.nodeWords("two", second)...)...)
+	for until := time.Now().Add(trial.Longest); two.metric("ctserve_forwarded_submissions_total") == "0"; {
+		for _, node := range []*program{one, two} {
+			if status, text := post(node.clients, at.submission()); status != 200 {
+				t.Fatalf("%d %s", status, text)
+			}
+		}
+		if time.Now().After(until) {
+			t.Fatal("nothing is forwarded")
+		}
+	}
+	// The same submission is answered by both with one timestamp.
+	body := at.submission()
+	_, here := post(one.clients, body)
+	status, there := post(two.clients, body)
+	if status != 200 || timestampIn(t, here) != timestampIn(t, there) {
+		t.Errorf("%d: %s and %s", status, here, there)
+	}
+	at.refusesOthers(first)
+	one.signal(syscall.SIGKILL)
+	one.ends()
+	if status, text := post(two.clients, at.submission()); status != 200 {
+		t.Errorf("the other node was killed: %d %s", status, text)
+	}
+}
+
+// refusesOthers sees that a node lets in neither plain HTTP nor a client without a certificate of the nodes' CA, and
+// that a node's certificate gets nothing but submissions.
+func (p *place) refusesOthers(address string) {
+	p.t.Helper()
+	pool := x509.NewCertPool()
+	p.newNodesAuthority("others").issue(p, "other")
+	pool.AddCert(p.read("nodes.pem"))
+	for name, want := range map[string]int{"": 0, "other": 0, "two": http.StatusNotFound} {
+		over := &tls.Config{RootCAs: pool}
+		if name != "" {
+			pair, err := tls.LoadX509KeyPair(p.path(name+".pem"), p.path(name+".key"))
+			if err != nil {
+				p.t.Fatal(err)
+			}
+			over.Certificates = []tls.Certificate{pair}
+		}
+		client := &http.Client{Transport: &http.Transport{TLSClientConfig: over}, Timeout: trial.Longest}
+		answer, err := client.Get("https://" + address + "/checkpoint")
+		if err == nil {
+			answer.Body.Close()
+		}
+		if (err == nil) != (want != 0) || err == nil && answer.StatusCode != want {
+			p.t.Errorf("a client with the certificate %q: %v, %+v", name, err, answer)
+		}
+		client.CloseIdleConnections()
+	}
+}
+
+// timestampIn returns the timestamp of an SCT.
+func timestampIn(t *testing.T, text string) uint64 {
+	t.Helper()
+	var sct struct {
+		Timestamp uint64 `json:"timestamp"`
+	}
+	if err := json.Unmarshal([]byte(text), &sct); err != nil || sct.Timestamp == 0 {
+		t.Fatalf("%v: %s", err, text)
+	}
+	return sct.Timestamp
+}
+
+// read reads a certificate.
+func (p *place) read(name string) *x509.Certificate {
+	p.t.Helper()
+	text, err := os.ReadFile(p.path(name))
+	if err != nil {
+		p.t.Fatal(err)
+	}
+	block, _ := pem.Decode(text)
+	certificate, err := x509.ParseCertificate(block.Bytes)
+	if err != nil {
+		p.t.Fatal(err)
+	}
+	return certificate
+}
+
+// Settings of several nodes that do not go together are refused by name.
+func TestSettingsOfNodes(t *testing.T) {
+	at := newPlace(t)
+	at.newNodesAuthority("nodes").issue(at, "one")
+	at.write("empty.pem", nil)
+	with := func(changed ...string) []string {
+		words := append(at.words(), at.nodeWords("one", "127.0.0.1:1")...)
+		return append(words, changed...)
+	}
+	for _, test := range []struct {
+		words []string
+		why   string
+	}{
+		{at.words("--nodes-listen", "127.0.0.1:1"), "need one another"},
+		{with("--nodes-ca", ""), "need one another"},
+		{with("--lock", "etcd://127.0.0.1:2379/log"), "must share one index"},
+		{with("--nodes-address", "http://127.0.0.1:1"), "write https://HOST:PORT"},
+		{with("--nodes-address", "https://127.0.0.1:1/a/path"), "write https://HOST:PORT"},
+		{with("--nodes-certificate", at.path("none")), "no such file"},
+		{with("--nodes-ca", at.path("none")), "no such file"},
+		{with("--nodes-ca", at.path("empty.pem")), "has no certificate in PEM"},
+	} {
+		if _, err := parse(test.words, io.Discard); err == nil || !strings.Contains(err.Error(), test.why) {
+			t.Errorf("%q: %v, and not %s", test.words, err, test.why)
+		}
+	}
+	if s, err := parse(with(), io.Discard); err != nil || s.node.peers.address != "https://127.0.0.1:1" {
+		t.Errorf("%v: %+v", err, s)
+	}
+}

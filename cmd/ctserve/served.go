@@ -1,0 +1,135 @@
+package main
+
+import (
+	"context"
+	"path/filepath"
+	"time"
+
+	"wagtenib/internal/precert"
+	"wagtenib/internal/reader"
+	"wagtenib/internal/serve"
+	"wagtenib/internal/stores"
+)
+
+// shared are the stores that all nodes of a log share, and what closes them.
+type shared struct {
+	serve.Stores
+	calls   *stores.Calls
+	closers []func() error
+}
+
+// close closes what was opened, the last first.
+func (s *shared) close() {
+	for i := len(s.closers) - 1; i >= 0; i-- {
+		// The log has ended by then, and what it put is on the disk.
+		_ = s.closers[i]()
+	}
+	s.closers = nil
+}
+
+// openStores opens the stores of a log.
+func openStores(ctx context.Context, n node) (s *shared, err error) {
+	s = &shared{calls: &stores.Calls{}}
+	defer func() {
+		if err != nil {
+			s.close()
+		}
+	}()
+	objects, err := stores.ObjectsAt(ctx, n.store)
+	if err != nil {
+		return s, err
+	}
+	s.Objects, s.closers = s.calls.Objects(objects), append(s.closers, objects.Close)
+	lock, err := stores.RegisterAt(ctx, n.register)
+	if err != nil {
+		return s, err
+	}
+	s.Lock, s.closers = s.calls.Register(lock), append(s.closers, lock.Close)
+	index, err := stores.PlacesAt(ctx, n.places)
+	if err != nil {
+		return s, err
+	}
+	s.Index, s.closers = s.calls.Places(index), append(s.closers, index.Close)
+	return s, nil
+}
+
+// openNode opens a log, and begins to serve it.
+func openNode(ctx context.Context, n node) (of *opened, err error) {
+	if n.makesFolder {
+		if err := stores.MakeFolder(n.folder); err != nil {
+			return nil, err
+		}
+	}
+	if err := stores.MakeFolder(filepath.Dir(n.latestHead)); err != nil {
+		return nil, err
+	}
+	asked, err := askSigner(ctx, n)
+	if err != nil {
+		return nil, err
+	}
+	s := &shared{}
+	closeAll := func() {
+		s.close()
+		// The signer has signed all that it was asked for.
+		_ = asked.Close()
+	}
+	defer func() {
+		if err != nil {
+			closeAll()
+		}
+	}()
+	if !n.create {
+		// Another node that runs would write into a folder that is made again.
+		if err := stores.ObjectsThere(n.store); err != nil {
+			return nil, err
+		}
+	}
+	if s, err = openStores(ctx, n); err != nil {
+		return nil, err
+	}
+	config := n.config(s.Stores)
+	config.Signer = asked
+	of = &opened{cutter: precert.New(), key: asked.Key(), calls: s.calls}
+	if of.secured, err = n.peers.secure(); err != nil {
+		return nil, err
+	}
+	log, err := serve.Open(ctx, config)
+	if err != nil {
+		return nil, err
+	}
+	of.log, of.proofs, of.close = log, reader.New(log.Object, n.mostProofs), closeAll
+	if of.secured != nil {
+		forwarder := log.Forward(of.secured.dials)
+		of.forward, of.nodes = forwarder, log.OfNodes
+		of.close = func() {
+			forwarder.Close()
+			closeAll()
+		}
+	}
+	return of, nil
+}
+
+// defaultInterval is the minimum time between two heads if stores are on other machines, or if the log has witnesses,
+// and localInterval if not.
+const defaultInterval, localInterval = 50 * time.Millisecond, 5 * time.Millisecond
+
+// config returns the configuration of a log over its stores.
+func (n *node) config(of serve.Stores) serve.Config {
+	interval := n.interval
+	if interval == 0 {
+		if interval = localInterval; n.isAway() || len(n.witnesses) > 0 {
+			interval = defaultInterval
+		}
+	}
+	return serve.Config{
+		Origin: n.origin, Address: n.peers.address, Create: n.create, Stores: of, Witnesses: n.witnesses,
+		Quorums: n.quorums,
+		Pace: serve.Pace{Interval: interval, Refresh: n.refresh, MaxWritten: n.mostWritten, MaxBatch: n.mostBatch,
+			MaxQueue: n.mostQueue},
+		Keep: serve.Keep{Heads: n.sweepAfter, Tiles: n.sweepTilesAfter, Every: n.readEvery, Reread: n.readAllWithin},
+		Machine: serve.MachineConfig{
+			Files: serve.Files{LatestHead: n.latestHead, NamedDay: n.namedDay},
+			Clock: serve.ClockBounds{MaxSkew: n.mostSkew, Synchronized: n.synchronized},
+		},
+	}
+}

@@ -1,0 +1,111 @@
+package main
+
+import (
+	"context"
+	"errors"
+	"flag"
+	"fmt"
+	"io"
+	"os"
+	"strconv"
+	"strings"
+	"time"
+
+	"wagtenib/internal/signer"
+	"wagtenib/internal/stores"
+)
+
+const (
+	// guardStateKey is where the environment has the address of the guard's state: it may have a password, which other users would see
+	// among a process's words.
+	guardStateKey = "CTSERVE_GUARD_STATE"
+	// signsWithin is the time within which a signer must answer a request.
+	signsWithin = 30 * time.Second
+)
+
+// askSigner starts the log's signer, which is a process of its own, or connects to the one at a socket. A signer that is started again does not create the
+// guard's state, because the log may have grown since.
+func askSigner(ctx context.Context, n node) (*signer.Client, error) {
+	open := func(ctx context.Context) (*signer.End, error) { return signer.Dial(ctx, n.signerAt) }
+	if n.signerAt == "" {
+		self, err := os.Executable()
+		if err != nil {
+			return nil, fmt.Errorf("ctserve: %w", err)
+		}
+		words := []string{self, "signer", "--signing-key", n.signingKey, "--guard=" + strconv.FormatBool(n.isGuarded())}
+		if n.openWithin > 0 {
+			// (so that it reports the reason before the node gives up)
+			words = append(words, "--open-timeout", (n.openWithin * 4 / 5).String())
+		}
+		create := n.create
+		open = func(context.Context) (*signer.End, error) {
+			these := append(append([]string{}, words...), "--create="+strconv.FormatBool(create))
+			create = false
+			return signer.Start(these, guardStateKey+"="+n.guardState)
+		}
+	}
+	return signer.Ask(ctx, open, signsWithin)
+}
+
+// runSigner answers the lines of a node until they end, or those of all nodes that connect to a socket. It returns the exit status: 0 at the end of the lines, 1 after a
+// fault, 2 if the command line is refused.
+func runSigner(given []string, from io.Reader, answers, to io.Writer) int {
+	flags := commandFlags("signer", "ctserve signer has a log's key, and signs what the guard approves. Nodes of ctserve ask it over two pipes or a socket.", to)
+	key := flags.String("signing-key", "", "`file` with the log's P-256 key in PEM, which only its owner may have the permission to read, or a PKCS#11 URI: pkcs11:token=LABEL;object=LABEL?module-path=PATH&pin-source=file:PATH")
+	guard := flags.Bool("guard", true, "have the guard, which is proved code, approve what is signed. Without it, the signer signs everything that it is asked to sign")
+	state := flags.String("guard-state", os.Getenv(guardStateKey), "`address` of the guard's state: file:PATH, etcd://HOST:PORT/PREFIX, postgres://HOST/DATABASE?log=NAME")
+	create := flags.Bool("create", false, "create the guard's state if there is none")
+	openWithin := flags.Duration("open-timeout", signsWithin, "time within which the guard's state must open")
+	listen := flags.String("listen", "", "`path` of a socket for nodes of this user or group. Without it, requests come over standard input")
+	err := flags.Parse(given)
+	if errors.Is(err, flag.ErrHelp) {
+		return 0
+	}
+	if err != nil || flags.NArg() > 0 || *key == "" {
+		fmt.Fprintln(to, "ctserve signer: --signing-key is missing, or there are words that are not settings (see --help)")
+		return 2
+	}
+	if err := serveSigner(*key, *guard, *state, *create, *openWithin, *listen, from, answers); err != nil {
+		fmt.Fprintln(to, err)
+		return 1
+	}
+	return 0
+}
+
+func serveSigner(keyAt string, guard bool, stateAt string, create bool, openWithin time.Duration, listen string, from io.Reader, answers io.Writer) error {
+	ctx := context.Background()
+	key, err := signer.OpenKey(keyAt)
+	if err != nil {
+		return err
+	}
+	var s signer.Signer = key
+	if guard {
+		state, err := stores.RegisterAt(ctx, stateAt)
+		if err != nil {
+			return err
+		}
+		defer state.Close()
+		opening, cancel := context.WithTimeout(ctx, openWithin)
+		guarded, err := signer.Behind(opening, key, signer.Guard{State: state, Create: create})
+		late := opening.Err()
+		cancel()
+		if err != nil && late != nil {
+			// (who operates it knows what doesn't answer: an address may have a password)
+			kind, _, _ := strings.Cut(stateAt, ":")
+			return fmt.Errorf("the guard's state (guard-state, of %s) isn't read: %w", kind, err)
+		}
+		if errors.Is(err, signer.ErrState) && listen == "" {
+			if told := signer.ServeState(err, from, answers); told != nil {
+				return told
+			}
+		}
+		if err != nil {
+			return err
+		}
+		s = guarded
+	}
+	if listen != "" {
+		return signer.Listen(ctx, s, listen)
+	}
+	return signer.Serve(ctx, s, from, answers)
+}

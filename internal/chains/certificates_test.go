@@ -1,0 +1,320 @@
+package chains
+
+import (
+	"bytes"
+	"crypto/ecdsa"
+	"crypto/rand"
+	"crypto/sha256"
+	"crypto/x509"
+	"crypto/x509/pkix"
+	"encoding/asn1"
+	"math/big"
+	"reflect"
+	"testing"
+	"time"
+
+	"wagtenib/internal/precert"
+)
+
+var oidAltNames = asn1.ObjectIdentifier{2, 5, 29, 17}
+
+// altNames is an extension subjectAltName with one GeneralName (RFC 5280, section 4.2.1.6): its tag, and its content.
+func altNames(tag byte, content string) pkix.Extension {
+	name := append([]byte{tag, byte(len(content))}, content...)
+	return pkix.Extension{Id: oidAltNames, Value: append([]byte{0x30, byte(len(name))}, name...)}
+}
+
+// signed is a certificate in DER whose parts are those of another one, changed, with a signature by the key.
+func signed(t testing.TB, der []byte, key *ecdsa.PrivateKey, change func(tbs []byte) []byte) []byte {
+	t.Helper()
+	parts, err := inside(der)
+	if err != nil || len(parts) != 3 {
+		t.Fatalf("%d parts, %v", len(parts), err)
+	}
+	tbs := change(append([]byte{}, parts[0].FullBytes...))
+	hash := sha256.Sum256(tbs)
+	signature, err := ecdsa.SignASN1(rand.Reader, key, hash[:])
+	if err != nil {
+		t.Fatal(err)
+	}
+	made, err := asn1.Marshal(struct {
+		TBS, Algorithm asn1.RawValue
+		Signature      asn1.BitString
+	}{asn1.RawValue{FullBytes: tbs}, parts[1], asn1.BitString{Bytes: signature, BitLength: 8 * len(signature)}})
+	if err != nil {
+		t.Fatal(err)
+	}
+	return made
+}
+
+// otherCurve has a key stand on a curve of the same length of name that nobody here knows: prime192v2 (ANSI X9.62).
+func otherCurve(t testing.TB) func([]byte) []byte {
+	return func(tbs []byte) []byte {
+		known := []byte{0x2a, 0x86, 0x48, 0xce, 0x3d, 0x03, 0x01, 0x07}
+		if bytes.Count(tbs, known) != 1 {
+			t.Fatal("not one key of P-256")
+		}
+		return bytes.Replace(tbs, known, []byte{0x2a, 0x86, 0x48, 0xce, 0x3d, 0x03, 0x01, 0x02}, 1)
+	}
+}
+
+// TestMisissuedAreShown: certificates that crypto/x509 doesn't read, and that an authority signed, are taken as they are.
+func TestMisissuedAreShown(t *testing.T) {
+	key := newKey(t)
+	root := authority("root")
+	roots, err := ParseRoots(inPEM(signedBy(t, root, root, &key.PublicKey, key)))
+	if err != nil {
+		t.Fatal(err)
+	}
+	c := NewChecker(roots, Rules{}, precert.New())
+	same := func(tbs []byte) []byte { return tbs }
+	unknown := pkix.Extension{Id: asn1.ObjectIdentifier{1, 2, 3}, Value: []byte{5, 0}}
+	poisonous := pkix.Extension{Id: oidPoison, Critical: true, Value: []byte{5, 0}}
+	for _, test := range []struct {
+		what       string
+		extensions []pkix.Extension
+		change     func([]byte) []byte
+	}{
+		{"a dNSName in UTF-8", []pkix.Extension{altNames(0x82, "bücher.example")}, same},
+		{"a mail in UTF-8", []pkix.Extension{altNames(0x81, "a@bücher.example")}, same},
+		{"an address of 5 octets", []pkix.Extension{altNames(0x87, "\x0a\x00\x00\x01\x05")}, same},
+		{"a URI that isn't one", []pkix.Extension{altNames(0x86, "http://[::1")}, same},
+		{"an extension that stands twice", []pkix.Extension{unknown, unknown}, same},
+		{"a curve that nobody knows", nil, otherCurve(t)},
+	} {
+		template := &x509.Certificate{
+			SerialNumber: big.NewInt(7), NotBefore: root.NotBefore, NotAfter: root.NotAfter, ExtraExtensions: test.extensions,
+		}
+		der := signed(t, signedBy(t, template, root, &newKey(t).PublicKey, key), key, test.change)
+		if _, err := x509.ParseCertificate(der); err == nil {
+			t.Errorf("%s: crypto/x509 reads it", test.what)
+		}
+		entry, err := c.Certificate([][]byte{der})
+		if want := (&Entry{Type: X509Entry, Certificate: der, Issuers: roots.Certificates()}); err != nil || !reflect.DeepEqual(entry, want) {
+			t.Errorf("%s: %v", test.what, err)
+		}
+		damaged := append([]byte{}, der...)
+		damaged[len(damaged)-1] ^= 1
+		if _, err := c.Certificate([][]byte{damaged}); RefusalOf(err) != UnknownRoot {
+			t.Errorf("%s, damaged: %v", test.what, err)
+		}
+		if _, err := NewChecker(roots, Rules{Window: Window{To: template.NotAfter}}, byASN1{}).Certificate([][]byte{der}); RefusalOf(err) != OutsideWindow {
+			t.Errorf("%s, outside of the window: %v", test.what, err)
+		}
+		template.ExtraExtensions = append(append([]pkix.Extension{}, test.extensions...), poisonous)
+		der = signed(t, signedBy(t, template, root, &newKey(t).PublicKey, key), key, test.change)
+		entry, err = c.Precertificate([][]byte{der})
+		if err != nil {
+			t.Errorf("%s, as a precertificate: %v", test.what, err)
+			continue
+		}
+		parts, err := inside(der)
+		if err != nil {
+			t.Fatal(err)
+		}
+		want, _, err := plainly(parts[0].FullBytes)
+		if err != nil || !bytes.Equal(entry.TBSCertificate, want) || !bytes.Equal(entry.Precertificate, der) {
+			t.Errorf("%s, as a precertificate: another entry, %v", test.what, err)
+		}
+	}
+}
+
+// TestOtherFormOfASignature: a signature (r, s) of ECDSA is as valid as (r, n - s), which who has the certificate can write without the key. Both are taken, and are
+// two entries: a precertificate's are one but for what was submitted, since its own signature isn't in it.
+func TestOtherFormOfASignature(t *testing.T) {
+	key := newKey(t)
+	root := authority("root")
+	roots, err := ParseRoots(inPEM(signedBy(t, root, root, &key.PublicKey, key)))
+	if err != nil {
+		t.Fatal(err)
+	}
+	c := NewChecker(roots, Rules{}, precert.New())
+	rewritten := func(der []byte) []byte {
+		t.Helper()
+		var whole struct {
+			TBS, Algorithm asn1.RawValue
+			Signature      asn1.BitString
+		}
+		var pair struct{ R, S *big.Int }
+		if _, err := asn1.Unmarshal(der, &whole); err != nil {
+			t.Fatal(err)
+		}
+		if _, err := asn1.Unmarshal(whole.Signature.Bytes, &pair); err != nil {
+			t.Fatal(err)
+		}
+		pair.S.Sub(key.Params().N, pair.S)
+		other, err := asn1.Marshal(pair)
+		if err != nil {
+			t.Fatal(err)
+		}
+		whole.Signature = asn1.BitString{Bytes: other, BitLength: 8 * len(other)}
+		made, err := asn1.Marshal(whole)
+		if err != nil {
+			t.Fatal(err)
+		}
+		return made
+	}
+	template := &x509.Certificate{SerialNumber: big.NewInt(7), NotBefore: root.NotBefore, NotAfter: root.NotAfter}
+	first := signedBy(t, template, root, &newKey(t).PublicKey, key)
+	second := rewritten(first)
+	for what, der := range map[string][]byte{"as it was signed": first, "rewritten": second} {
+		entry, err := c.Certificate([][]byte{der})
+		if err != nil || !bytes.Equal(entry.Certificate, der) {
+			t.Errorf("%s: %v", what, err)
+		}
+	}
+	if bytes.Equal(first, second) || !bytes.Equal(rewritten(second), first) {
+		t.Error("it isn't another form of the same signature")
+	}
+	template.ExtraExtensions = []pkix.Extension{{Id: oidPoison, Critical: true, Value: []byte{5, 0}}}
+	der := signedBy(t, template, root, &newKey(t).PublicKey, key)
+	one, err := c.Precertificate([][]byte{der})
+	if err != nil {
+		t.Fatal(err)
+	}
+	two, err := c.Precertificate([][]byte{rewritten(der)})
+	if err != nil {
+		t.Fatal(err)
+	}
+	if !bytes.Equal(one.TBSCertificate, two.TBSCertificate) || one.IssuerKeyHash != two.IssuerKeyHash || bytes.Equal(one.Precertificate, two.Precertificate) {
+		t.Error("a precertificate and its other form aren't one entry")
+	}
+}
+
+// TestReadAsByLibrary: of what crypto/x509 reads, the same is read here.
+func TestReadAsByLibrary(t *testing.T) {
+	a := madeByOpenssl(t)
+	all := seeds(t)
+	for _, name := range []string{"leaf", "precertificate", "root", "old-root", "of-rsa-sha1", "of-rsa-sha512", "of-rsa-md5", "of-ed25519", "ed25519", "long"} {
+		all = append(all, a.chain(t, name)...)
+	}
+	for i, der := range all {
+		want, err := x509.ParseCertificate(der)
+		if err != nil {
+			t.Fatal(err)
+		}
+		got, err := readCertificate(der)
+		if err != nil {
+			t.Errorf("certificate %d: %v", i, err)
+			continue
+		}
+		of := certificateOf(want)
+		if !got.notAfter.Equal(of.notAfter) {
+			t.Errorf("certificate %d ends %v", i, got.notAfter)
+		}
+		got.notAfter, of.notAfter = time.Time{}, time.Time{}
+		if len(got.extensions) != len(of.extensions) {
+			t.Fatalf("certificate %d: %d extensions", i, len(got.extensions))
+		}
+		for j := range of.extensions {
+			if !bytes.Equal(got.extensions[j].identifier, of.extensions[j].identifier) || !bytes.Equal(got.extensions[j].value, of.extensions[j].value) {
+				t.Errorf("certificate %d, extension %d", i, j)
+			}
+		}
+		got.extensions, of.extensions = nil, nil
+		if !reflect.DeepEqual(got, of) {
+			t.Errorf("certificate %d: %v, and by crypto/x509 %v", i, got, of)
+		}
+	}
+}
+
+// built is a certificate's parts, of which each may be another one.
+type built struct {
+	fields    []string // of the TBSCertificate
+	algorithm string
+	signature string
+	behind    string
+}
+
+func element(tag byte, parts ...string) string {
+	content := ""
+	for _, part := range parts {
+		content += part
+	}
+	if len(content) < 128 {
+		return string([]byte{tag, byte(len(content))}) + content
+	}
+	if len(content) < 256 {
+		return string([]byte{tag, 0x81, byte(len(content))}) + content
+	}
+	return string([]byte{tag, 0x82, byte(len(content) >> 8), byte(len(content))}) + content
+}
+
+func (b built) der() []byte {
+	return []byte(element(0x30, element(0x30, b.fields...), b.algorithm, b.signature, b.behind))
+}
+
+// TestUnreadCertificates: bytes that are no certificate in DER, in each place that is looked at.
+func TestUnreadCertificates(t *testing.T) {
+	const (
+		algorithm = "\x30\x05\x06\x03\x2b\x65\x70"
+		name      = "\x30\x00"
+		moments   = "\x17\x0d700101000000Z\x18\x0f20500101000000Z"
+		signature = "\x03\x02\x00\x01"
+		number    = "\x02\x01\x01"
+		version   = "\xa0\x03\x02\x01\x02"
+		item      = "\x30\x08\x06\x02\x2a\x03\x04\x02\x05\x00"
+	)
+	validity, list := element(0x30, moments), element(0xa3, element(0x30, item))
+	sound := func(change func(*built)) []byte {
+		b := built{[]string{version, number, algorithm, name, validity, name, string(anyKey), list}, algorithm, signature, ""}
+		if change != nil {
+			change(&b)
+		}
+		return b.der()
+	}
+	field := func(at int, text string) func(*built) { return func(b *built) { b.fields[at] = text } }
+	read, err := readCertificate(sound(nil))
+	if err != nil || !read.notAfter.Equal(time.Date(2050, 1, 1, 0, 0, 0, 0, time.UTC)) || len(read.extensions) != 1 || read.algorithm != x509.PureEd25519 {
+		t.Fatalf("a sound one: %v, %v", read, err)
+	}
+	for what, change := range map[string]func(*built){
+		"no version, no extensions": func(b *built) { b.fields = b.fields[1:7] },
+		"both unique identifiers":   field(7, "\x81\x01\x00\x82\x01\x00"+list),
+		"a critical extension":      field(7, element(0xa3, element(0x30, element(0x30, "\x06\x02\x2a\x03\x01\x01\xff\x04\x00")))),
+	} {
+		if _, err := readCertificate(sound(change)); err != nil {
+			t.Errorf("%s: %v", what, err)
+		}
+	}
+	for what, change := range map[string]func(*built){
+		"a byte behind the signature":      func(b *built) { b.behind = "\x05\x00" },
+		"another algorithm beside it":      func(b *built) { b.algorithm = "\x30\x07\x06\x03\x2b\x65\x70\x05\x00" },
+		"no bit string":                    func(b *built) { b.signature = "\x04\x02\x00\x01" },
+		"a signature with unused bits":     func(b *built) { b.signature = "\x03\x02\x01\x02" },
+		"a signature with too many":        func(b *built) { b.signature = "\x03\x02\x09\x02" },
+		"no serial number":                 field(1, ""),
+		"an issuer that is a set":          field(3, "\x31\x00"),
+		"a validity of one moment":         field(4, element(0x30, moments[:15])),
+		"a validity of three":              field(4, element(0x30, moments, moments[:15])),
+		"a moment that isn't one":          field(4, element(0x30, "\x17\x0d701301000000Z", moments[15:])),
+		"a moment of another kind":         field(4, element(0x30, "\x13\x0d700101000000Z", moments[15:])),
+		"a subject that is a set":          field(5, "\x31\x00"),
+		"no key":                           field(6, ""),
+		"a field behind the extensions":    field(7, list+"\x05\x00"),
+		"an extension's list that isn't":   field(7, element(0xa3, element(0x31, item))),
+		"bytes behind the extensions":      field(7, element(0xa3, element(0x30, item), "\x05\x00")),
+		"an extension without a value":     field(7, element(0xa3, element(0x30, "\x30\x04\x06\x02\x2a\x03"))),
+		"an extension with two":            field(7, element(0xa3, element(0x30, element(0x30, item[2:], "\x04\x00")))),
+		"an extension without a name":      field(7, element(0xa3, element(0x30, "\x30\x02\x04\x00"))),
+		"an extension that is a set":       field(7, element(0xa3, element(0x30, "\x31"+item[1:]))),
+		"a length that is padded":          field(4, "\x30\x81"+validity[1:]),
+		"a key's length that has no end":   field(6, "\x30\x80\x00\x00"),
+		"an algorithm that can't be read":  func(b *built) { b.fields[2], b.algorithm = "\x30\x02\x05\x00", "\x30\x02\x05\x00" },
+		"an algorithm that isn't there":    func(b *built) { b.fields[2], b.algorithm = "", "" },
+		"an extension's flag that is text": field(7, element(0xa3, element(0x30, element(0x30, "\x06\x02\x2a\x03\x0c\x00\x04\x00")))),
+	} {
+		if got, err := readCertificate(sound(change)); got != nil || RefusalOf(err) != NoCertificate {
+			t.Errorf("%s: %v, %v", what, got != nil, err)
+		}
+	}
+	whole := sound(nil)
+	for cut := range whole {
+		if _, err := readCertificate(whole[:cut]); RefusalOf(err) != NoCertificate {
+			t.Errorf("its first %d bytes: %v", cut, err)
+		}
+	}
+	if _, err := readCertificate(append(whole, 0)); RefusalOf(err) != NoCertificate {
+		t.Errorf("a byte behind it: %v", err)
+	}
+}

@@ -1,0 +1,201 @@
+package chains
+
+import (
+	"bytes"
+	"crypto/x509"
+	"encoding/asn1"
+	"errors"
+	"fmt"
+
+	"golang.org/x/crypto/cryptobyte"
+	tags "golang.org/x/crypto/cryptobyte/asn1"
+
+	"wagtenib/internal/precert"
+)
+
+var (
+	// The poison extension, and the purpose of a certificate that signs precertificates (RFC 6962, section 3.1).
+	oidPoison             = asn1.ObjectIdentifier{1, 3, 6, 1, 4, 1, 11129, 2, 4, 3}
+	oidSignPrecertificate = asn1.ObjectIdentifier{1, 3, 6, 1, 4, 1, 11129, 2, 4, 4}
+	// The authority key identifier (RFC 5280, section 4.2.1.1).
+	oidAuthorityKey = asn1.ObjectIdentifier{2, 5, 29, 35}
+)
+
+// The tags of a TBSCertificate's fields that may be left out (RFC 5280, section 4.1).
+var (
+	tagVersion       = tags.Tag(0).ContextSpecific().Constructed()
+	tagIssuerUnique  = tags.Tag(1).ContextSpecific()
+	tagSubjectUnique = tags.Tag(2).ContextSpecific()
+	tagExtensions    = tags.Tag(3).ContextSpecific().Constructed()
+)
+
+func hasPoison(certificate *certificate) bool {
+	_, has := certificate.value(oidPoison)
+	return has
+}
+
+// signsPrecertificates says whether a certificate is a precertificate signing certificate.
+func signsPrecertificates(certificate *x509.Certificate) bool {
+	for _, purpose := range certificate.UnknownExtKeyUsage {
+		if purpose.Equal(oidSignPrecertificate) {
+			return true
+		}
+	}
+	return false
+}
+
+// finalIssuer is what a TBSCertificate has of the issuer of the final certificate: its name, and the value of the authority key
+// identifier, or nil.
+type finalIssuer struct {
+	name, authorityKey []byte
+}
+
+// finalIssuerBehind gives what a precertificate signing certificate says of who issued it.
+func finalIssuerBehind(signing *x509.Certificate) *finalIssuer {
+	value, _ := certificateOf(signing).value(oidAuthorityKey)
+	return &finalIssuer{signing.RawIssuer, value}
+}
+
+// noDER is the error where bytes aren't what they have to be in DER.
+func noDER(what string) error {
+	return fmt.Errorf("%w: %s isn't as it has to be in DER", NoCertificate, what)
+}
+
+// Cutter makes the entry of a precertificate from its TBSCertificate: the same without the poison extension. All other bytes stay
+// as they are, except the lengths around them. A precert.Cutter is one, which is proved to.
+type Cutter interface {
+	WithoutPoison(tbs []byte) ([]byte, error)
+}
+
+// entryOf asks for the entry of a precertificate's TBSCertificate.
+func (c *Checker) entryOf(tbs []byte) ([]byte, error) {
+	entry, err := c.cutter.WithoutPoison(tbs)
+	switch {
+	case err == nil:
+		return entry, nil
+	case errors.Is(err, precert.ErrNoExtension), errors.Is(err, precert.ErrSecondExtension):
+		return nil, fmt.Errorf("%w: it has to be there once: %v", NoPoison, err)
+	case errors.Is(err, precert.ErrBadPoison):
+		return nil, fmt.Errorf("%w: it isn't critical, or its value isn't NULL", BadPoison)
+	case errors.Is(err, precert.ErrUnread):
+		return nil, fmt.Errorf("%w: a TBSCertificate isn't as it has to be in DER: %v", NoCertificate, err)
+	}
+	return nil, err
+}
+
+// withFinalIssuer gives a TBSCertificate that a precertificate signing certificate signed with the name and the authority key
+// identifier of the final issuer (RFC 6962, section 3.2). All other bytes stay as they are, but for the lengths around them.
+func withFinalIssuer(tbs []byte, final *finalIssuer) ([]byte, error) {
+	input := cryptobyte.String(tbs)
+	var fields cryptobyte.String
+	if !input.ReadASN1(&fields, tags.SEQUENCE) || !input.Empty() {
+		return nil, noDER("a TBSCertificate")
+	}
+	before, behind, extensions, err := fieldsOf(fields)
+	if err != nil {
+		return nil, err
+	}
+	issued, err := extensionsOf(extensions, final)
+	if err != nil {
+		return nil, err
+	}
+	var b cryptobyte.Builder
+	b.AddASN1(tags.SEQUENCE, func(b *cryptobyte.Builder) {
+		b.AddBytes(before)
+		b.AddBytes(final.name)
+		b.AddBytes(behind)
+		b.AddASN1(tagExtensions, func(b *cryptobyte.Builder) {
+			b.AddASN1(tags.SEQUENCE, func(b *cryptobyte.Builder) { b.AddBytes(issued) })
+		})
+	})
+	made, err := b.Bytes()
+	if err != nil {
+		return nil, fmt.Errorf("%w: %v", NoCertificate, err)
+	}
+	return made, nil
+}
+
+// fieldsOf cuts the fields of a TBSCertificate: those before the issuer and those behind it, each as all its bytes, and the
+// extensions one after the other.
+func fieldsOf(fields cryptobyte.String) (before, behind []byte, extensions cryptobyte.String, err error) {
+	read := func(into *[]byte, tag tags.Tag) bool {
+		var element cryptobyte.String
+		if !fields.ReadASN1Element(&element, tag) {
+			return false
+		}
+		*into = append(*into, element...)
+		return true
+	}
+	if fields.PeekASN1Tag(tagVersion) && !read(&before, tagVersion) {
+		return nil, nil, nil, noDER("a version")
+	}
+	var issuer []byte
+	// serialNumber, signature; issuer; validity, subject, subjectPublicKeyInfo
+	if !read(&before, tags.INTEGER) || !read(&before, tags.SEQUENCE) || !read(&issuer, tags.SEQUENCE) ||
+		!read(&behind, tags.SEQUENCE) || !read(&behind, tags.SEQUENCE) || !read(&behind, tags.SEQUENCE) {
+		return nil, nil, nil, noDER("a TBSCertificate's field")
+	}
+	for _, tag := range []tags.Tag{tagIssuerUnique, tagSubjectUnique} {
+		if fields.PeekASN1Tag(tag) && !read(&behind, tag) {
+			return nil, nil, nil, noDER("a unique identifier")
+		}
+	}
+	var explicit cryptobyte.String
+	if !fields.ReadASN1(&explicit, tagExtensions) || !fields.Empty() ||
+		!explicit.ReadASN1(&extensions, tags.SEQUENCE) || !explicit.Empty() {
+		return nil, nil, nil, noDER("a list of extensions")
+	}
+	return before, behind, extensions, nil
+}
+
+// extensionsOf gives the extensions with the authority key identifier of the final issuer, one after the other.
+func extensionsOf(extensions cryptobyte.String, final *finalIssuer) ([]byte, error) {
+	var issued []byte
+	for !extensions.Empty() {
+		var element, content, identifier cryptobyte.String
+		if !extensions.ReadASN1Element(&element, tags.SEQUENCE) {
+			return nil, noDER("an extension")
+		}
+		whole := element
+		if !element.ReadASN1(&content, tags.SEQUENCE) || !content.ReadASN1(&identifier, tags.OBJECT_IDENTIFIER) {
+			return nil, noDER("an extension")
+		}
+		if bytes.Equal(identifier, identifierOf(oidAuthorityKey)) {
+			replaced, err := withValue(whole, final.authorityKey)
+			if err != nil {
+				return nil, err
+			}
+			whole = replaced
+		}
+		issued = append(issued, whole...)
+	}
+	return issued, nil
+}
+
+// withValue gives an extension with another value; whether it is critical stays as it is.
+func withValue(extension cryptobyte.String, value []byte) ([]byte, error) {
+	if value == nil {
+		return nil, fmt.Errorf("%w: the precertificate has one", NoAuthorityKey)
+	}
+	var content, oid, critical, old cryptobyte.String
+	if !extension.ReadASN1(&content, tags.SEQUENCE) || !content.ReadASN1Element(&oid, tags.OBJECT_IDENTIFIER) {
+		return nil, noDER("an extension")
+	}
+	if content.PeekASN1Tag(tags.BOOLEAN) && !content.ReadASN1Element(&critical, tags.BOOLEAN) {
+		return nil, noDER("an extension")
+	}
+	if !content.ReadASN1(&old, tags.OCTET_STRING) || !content.Empty() {
+		return nil, noDER("an extension")
+	}
+	var b cryptobyte.Builder
+	b.AddASN1(tags.SEQUENCE, func(b *cryptobyte.Builder) {
+		b.AddBytes(oid)
+		b.AddBytes(critical)
+		b.AddASN1OctetString(value)
+	})
+	made, err := b.Bytes()
+	if err != nil {
+		return nil, fmt.Errorf("%w: %v", NoCertificate, err)
+	}
+	return made, nil
+}

@@ -1,0 +1,95 @@
+package chains
+
+import (
+	"bytes"
+	"crypto/sha256"
+	"encoding/csv"
+	"fmt"
+	"os"
+	"path/filepath"
+	"reflect"
+	"strings"
+	"testing"
+
+	"wagtenib/internal/trial"
+)
+
+// puts gives what writes files of a folder, and says where.
+func puts(t *testing.T, folder string) func(name string, text []byte) string {
+	return func(name string, text []byte) string {
+		t.Helper()
+		path := filepath.Join(folder, name)
+		trial.Must(t, os.MkdirAll(filepath.Dir(path), 0o700))
+		trial.Must(t, os.WriteFile(path, text, 0o600))
+		return path
+	}
+}
+
+// TestRootFiles: what the files have together are the roots; what isn't taken is named, and nothing else is lost.
+func TestRootFiles(t *testing.T) {
+	a := madeByOpenssl(t)
+	root, other := a.pem(t, "root"), a.pem(t, "other")
+	both := a.chain(t, "root", "other")
+	folder := t.TempDir()
+	put := puts(t, folder)
+	// As CCADB writes it: the PEM between apostrophes, in a column of that name.
+	var ccadb bytes.Buffer
+	rows := csv.NewWriter(&ccadb)
+	rows.WriteAll([][]string{{"CA Owner", "Common Name or Certificate Name", "PEM Info"}, {"An owner", "A root", "'" + string(root) + "'"},
+		{"An owner", "A strange one", "'" + string(inPEM([]byte("strange"))) + "'"}, {"An owner", "Another root", "'" + string(other) + "'"}})
+	strange, fingerprint := inPEM([]byte("strange")), sha256.Sum256([]byte("strange"))
+	removed := sha256.Sum256(both[0])
+	pemAt, otherAt, table := put("root.pem", root), put("other.pem", other), put("all.csv", ccadb.Bytes())
+	put("dir/1.crt", root)
+	put("dir/2.pem", append(append([]byte{}, strange...), other...))
+	put("dir/read.me", []byte("-----BEGIN nothing"))
+	list := put("without", []byte(fmt.Sprintf("# a root that went\n%X  # in capitals\n", removed)))
+	colons := put("colons", []byte(strings.TrimSuffix(strings.ReplaceAll(fmt.Sprintf("% x", removed), " ", ":"), ":")))
+	for _, c := range []struct {
+		of      RootFiles
+		roots   [][]byte
+		leftOut string
+	}{
+		{RootFiles{Paths: []string{pemAt}}, both[:1], "[]"},
+		{RootFiles{Paths: []string{pemAt, otherAt, pemAt}}, both, "[]"},
+		{RootFiles{Paths: []string{table}}, both, fmt.Sprintf(`[%s, certificate 2 ("A strange one", sha256 %x): x509: malformed certificate]`, table, fingerprint)},
+		{RootFiles{Paths: []string{filepath.Join(folder, "dir")}}, both, fmt.Sprintf(`[%s, certificate 1 (sha256 %x): x509: malformed certificate]`, filepath.Join(folder, "dir", "2.pem"), fingerprint)},
+		{RootFiles{Paths: []string{pemAt, otherAt}, Without: list}, both[1:], fmt.Sprintf(`[%s, certificate 1 (sha256 %x): it is taken out by its fingerprint]`, pemAt, removed)},
+		{RootFiles{Paths: []string{otherAt}, Without: colons}, both[1:], "[]"},
+	} {
+		roots, err := c.of.Load()
+		if err != nil {
+			t.Errorf("%v: %v", c.of, err)
+			continue
+		}
+		if got := roots.Certificates(); !reflect.DeepEqual(got, c.roots) {
+			t.Errorf("%v: %d roots", c.of, len(got))
+		}
+		if got := fmt.Sprint(roots.LeftOut()); got != c.leftOut {
+			t.Errorf("%v: left out are %s", c.of, got)
+		}
+	}
+	for what, of := range map[string]RootFiles{
+		"none":                       {},
+		"an absent file":             {Paths: []string{pemAt, filepath.Join(folder, "absent")}},
+		"an empty file":              {Paths: []string{pemAt, put("empty.pem", nil)}},
+		"none that is read":          {Paths: []string{put("strange.pem", strange)}},
+		"all taken out":              {Paths: []string{pemAt}, Without: list},
+		"a key":                      {Paths: []string{put("key.pem", append(append([]byte{}, root...), read(t, a.path("root.key"))...))}},
+		"cut off":                    {Paths: []string{put("cut.pem", append(append([]byte{}, root...), other[:200]...))}},
+		"too long":                   {Paths: []string{put("long.pem", append(make([]byte, MostRootBytes), root...))}},
+		"a table without PEM":        {Paths: []string{put("none.csv", []byte("a,b\n1,2\n"))}},
+		"a table of uneven rows":     {Paths: []string{put("rows.csv", []byte("a,PEM\n1\n"))}},
+		"a table without rows":       {Paths: []string{pemAt, put("head.csv", []byte("a,PEM\n"))}},
+		"a table with one cut off":   {Paths: []string{pemAt, put("cut.csv", []byte("PEM\n\"'"+string(other[:200])+"'\"\n"))}},
+		"a folder without roots":     {Paths: []string{filepath.Dir(put("bare/read.me", nil))}},
+		"an absent list":             {Paths: []string{pemAt}, Without: filepath.Join(folder, "absent")},
+		"a list with another line":   {Paths: []string{pemAt}, Without: put("words", []byte("root\n"))},
+		"a list with a short line":   {Paths: []string{pemAt}, Without: put("short", []byte("00ff\n"))},
+		"a file in a folder cut off": {Paths: []string{filepath.Dir(put("second/cut.pem", other[:200]))}},
+	} {
+		if roots, err := of.Load(); err == nil {
+			t.Errorf("%s: %d roots are read", what, len(roots.Certificates()))
+		}
+	}
+}

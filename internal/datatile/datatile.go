@@ -1,0 +1,119 @@
+// Package datatile reads the data tiles of a log (C2SP static-ct-api, "Log Entries"), for what serves and what carries one. What judges a log from
+// outside (wagtenib/internal/check, ctread) has a reader of its own.
+package datatile
+
+import (
+	"bytes"
+	"crypto/sha256"
+	"encoding/binary"
+	"errors"
+	"fmt"
+
+	"golang.org/x/crypto/cryptobyte"
+
+	"wagtenib/internal/chains"
+)
+
+// Width is how many entries a full tile has.
+const Width = 256
+
+// ErrTile: bytes are no data tile.
+var ErrTile = errors.New("datatile: no data tile")
+
+// Leaf is an entry of a data tile (TileLeaf). Its parts are the tile's bytes.
+type Leaf struct {
+	// Timestamp is in milliseconds since 1970.
+	Timestamp uint64
+	Type      chains.EntryType
+	// IssuerKeyHash is of a precertificate, 32 bytes; Certificate is a certificate, or a precertificate's TBSCertificate.
+	IssuerKeyHash, Certificate []byte
+	// Extensions are those of the timestamp, without their length.
+	Extensions []byte
+	// Entry is the TimestampedEntry (RFC 6962, section 3.4), from the timestamp to the extensions.
+	Entry []byte
+	// Precertificate is a precertificate's.
+	Precertificate []byte
+	// Chain has the SHA-256 fingerprints of the issuers, 32 bytes each.
+	Chain []byte
+
+	length int
+}
+
+// Length returns how many bytes of its tile the leaf takes.
+func (l *Leaf) Length() int { return l.length }
+
+// Input gives the bytes of the tree's leaf, a MerkleTreeLeaf: version v1 and the type timestamped_entry, two bytes of zero, before the entry
+// (RFC 6962, section 3.4).
+func (l *Leaf) Input() []byte { return append([]byte{0, 0}, l.Entry...) }
+
+// Hash is the leaf's (RFC 6962, section 2.1).
+func (l *Leaf) Hash() (hash [32]byte) {
+	of := sha256.New()
+	of.Write([]byte{0, 0, 0})
+	of.Write(l.Entry)
+	of.Sum(hash[:0])
+	return hash
+}
+
+// leafIndex begins the one extension leaf_index: its type 0, and two bytes of the length of an index.
+var leafIndex = []byte{0, 0, 5}
+
+// Index gives the index of the leaf in the log, where its extensions name it and nothing else.
+func (l *Leaf) Index() (index uint64, ok bool) {
+	if len(l.Extensions) != len(leafIndex)+5 || !bytes.HasPrefix(l.Extensions, leafIndex) {
+		return 0, false
+	}
+	return binary.BigEndian.Uint64(append([]byte{0, 0, 0}, l.Extensions[len(leafIndex):]...)), true
+}
+
+// Extensions are those that name an index below 2^40 and nothing else.
+func Extensions(index uint64) []byte {
+	return append(leafIndex[:len(leafIndex):len(leafIndex)], binary.BigEndian.AppendUint64(nil, index)[3:]...)
+}
+
+// Read reads a data tile: the leaves of all of it, of which it has at most Width, or ErrTile.
+func Read(tile []byte) (leaves []Leaf, err error) {
+	for rest := cryptobyte.String(tile); !rest.Empty(); {
+		leaf, ok := read(&rest)
+		if !ok {
+			return nil, fmt.Errorf("%w: entry %d isn't one", ErrTile, len(leaves))
+		}
+		if len(leaves) == Width {
+			return nil, fmt.Errorf("%w: it has more than %d entries", ErrTile, Width)
+		}
+		leaves = append(leaves, leaf)
+	}
+	return leaves, nil
+}
+
+// read reads the leaf with which bytes begin, and leaves those behind it.
+func read(tile *cryptobyte.String) (leaf Leaf, ok bool) {
+	whole := *tile
+	var certificate, extensions, precertificate, chain cryptobyte.String
+	var of uint16
+	if !tile.ReadUint64(&leaf.Timestamp) || !tile.ReadUint16(&of) {
+		return leaf, false
+	}
+	switch leaf.Type = chains.EntryType(of); leaf.Type {
+	case chains.X509Entry:
+	case chains.PrecertEntry:
+		if !tile.ReadBytes(&leaf.IssuerKeyHash, sha256.Size) {
+			return leaf, false
+		}
+	default:
+		return leaf, false
+	}
+	if !tile.ReadUint24LengthPrefixed(&certificate) || !tile.ReadUint16LengthPrefixed(&extensions) {
+		return leaf, false
+	}
+	leaf.Entry = whole[: len(whole)-len(*tile) : len(whole)-len(*tile)]
+	if leaf.Type == chains.PrecertEntry && !tile.ReadUint24LengthPrefixed(&precertificate) {
+		return leaf, false
+	}
+	if !tile.ReadUint16LengthPrefixed(&chain) || len(chain)%sha256.Size != 0 {
+		return leaf, false
+	}
+	leaf.Certificate, leaf.Extensions, leaf.Precertificate, leaf.Chain = certificate, extensions, precertificate, chain
+	leaf.length = len(whole) - len(*tile)
+	return leaf, true
+}

@@ -1,0 +1,175 @@
+package decider
+
+import (
+	"errors"
+	"fmt"
+	"strings"
+	"testing"
+
+	"wagtenib/bindings/go/wagtenib"
+	"wagtenib/internal/trial"
+)
+
+var must = trial.Must
+
+// line is a state's, of so many entries at a moment.
+func line(size, moment uint64) string {
+	return fmt.Sprintf("growth %016x%016x%s", size, moment, strings.Repeat("0", 256))
+}
+
+func textOf(size, moment, before, salt uint64) string {
+	return fmt.Sprintf("%s\nnode -\nsalt %016x%016x\n", line(size, moment), before, salt)
+}
+
+// TestWay goes all the way of a node that has a step made, with what each command is about.
+func TestWay(t *testing.T) {
+	t.Parallel()
+	c := New()
+	seen, new := Held{Text: textOf(3, 7, 5, 1), Moment: 7, Size: 3}, Held{Text: textOf(4, 9, 7, 2), Moment: 9, Size: 4}
+	seen.Bundle, new.Bundle = "staging/000000000000000700000000000000050000000000000001", "staging/000000000000000900000000000000070000000000000002"
+	objects := []string{"tile/0/000.p/4 aa", "tile/data/000.p/4 bb"}
+	command := Begin()
+	for _, step := range []struct {
+		told Told
+		want Command
+	}{
+		{WasRead(seen.Text), Command{Do: Look, Seen: seen}},
+		{Published(), Command{Do: Step, Seen: seen}},
+		{Listed("staging/000000000000000800000000000000070000000000000001"), Command{Do: Step, Seen: seen}},
+		{Listed("staging/000000000000000600000000000000040000000000000001"), Command{Do: Delete, Seen: seen, Bundle: "staging/000000000000000600000000000000040000000000000001"}},
+		{Done(), Command{Do: Step, Seen: seen}},
+		{Stepped(line(4, 7), "-", 2, objects), Command{Do: Step, Seen: seen}},
+		{Stepped(line(4, 9), "-", 2, objects), Command{Do: Stage, Seen: seen, New: new, Objects: objects}},
+		{Done(), Command{Do: Swap, Seen: seen, New: new, Objects: objects}},
+		{Done(), Command{Do: Put, New: new, Objects: objects}},
+		{Done(), Command{Do: Place, New: new}},
+		{Done(), Command{Do: Head, New: new}},
+		{Done(), Command{Do: Answer, New: new}},
+		{Done(), Command{Do: Read}},
+		{WasRead(seen.Text), Command{Do: Look, Seen: seen}},
+		{Bundled(nil), Command{Do: Put, New: seen, Objects: []string{}}},
+		{Lost(), Command{Do: Read}},
+	} {
+		next, err := c.Next(command, step.told)
+		must(t, err)
+		command = next
+		got := *next
+		got.node = step.want.node
+		if fmt.Sprintf("%q", got) != fmt.Sprintf("%q", step.want) {
+			t.Fatalf("after %+v comes %+v, and expected was %+v", step.told, got, step.want)
+		}
+	}
+}
+
+// TestRefusals: what is not a lock's text or the name of a staged batch is refused, and so is a line that is none.
+func TestRefusals(t *testing.T) {
+	t.Parallel()
+	c := New()
+	look, err := c.Next(Begin(), WasRead(textOf(3, 7, 5, 1)))
+	must(t, err)
+	step, err := c.Next(look, Published())
+	must(t, err)
+	for _, err := range []error{
+		second(c.Next(Begin(), WasRead("a text"))), second(c.Next(step, Listed("staging/0"))), second(c.Next(step, Stepped(strings.Repeat("x", 100_000), "-", 1, nil))),
+	} {
+		if !errors.Is(err, ErrRefused) {
+			t.Error(err)
+		}
+	}
+}
+
+func second(_ *Command, err error) error { return err }
+
+// TestStarts: what a node finds is gone on from, or refused by the name of what is ahead of the register's head.
+func TestStarts(t *testing.T) {
+	t.Parallel()
+	c := New()
+	root, other := [32]byte{}, [32]byte{1}
+	at := func(size, moment uint64) *Point { return &Point{size, moment} }
+	rooted := func(size, moment uint64, root [32]byte) *Rooted { return &Rooted{*at(size, moment), root} }
+	text := textOf(3, 7, 5, 1)
+	for _, it := range []struct {
+		found Found
+		want  string
+	}{
+		{Found{Register: text}, "goes"},
+		{Found{Register: text, Guarded: true}, "goes"},
+		{Found{Register: text, Stands: true, Creates: true}, "goes"},
+		{Found{Register: text, Seen: rooted(3, 7, root), Guard: rooted(3, 7, root), Guarded: true, Published: at(3, 7), Listed: at(3, 7)}, "goes"},
+		{Found{Register: text, Seen: rooted(3, 6, other), Guard: rooted(2, 6, other), Guarded: true, Published: at(2, 6), Listed: at(2, 6)}, "goes"},
+		{Found{Register: text, Seen: rooted(3, 7, other)}, "behind-seen"},
+		{Found{Register: text, Seen: rooted(2, 7, root)}, "behind-seen"},
+		{Found{Register: text, Seen: rooted(4, 6, root)}, "behind-seen"},
+		{Found{Register: text, Guard: rooted(3, 7, other), Guarded: true}, "two-roots"},
+		{Found{Register: text, Guard: rooted(3, 8, root), Guarded: true}, "behind-guard"},
+		{Found{Register: text, Listed: at(1, 1), Guarded: true}, "guard-behind"},
+		{Found{Register: text, Guard: rooted(1, 1, root), Listed: at(1, 2), Guarded: true}, "guard-behind"},
+		{Found{Register: text, Listed: at(3, 8)}, "behind-listed"},
+		{Found{Register: text, Published: at(4, 7)}, "behind-published"},
+		{Found{Creates: true}, "creates"},
+		{Found{Creates: true, Guarded: true}, "creates"},
+		{Found{}, "gone"},
+		{Found{Creates: true, Stands: true}, "gone"},
+		{Found{Creates: true, Seen: rooted(0, 1, root)}, "gone"},
+		{Found{Creates: true, Guard: rooted(0, 1, root), Guarded: true}, "gone"},
+		{Found{Creates: true, Published: at(0, 1)}, "gone"},
+		{Found{Creates: true, Listed: at(0, 1)}, "gone"},
+	} {
+		creates, err := c.Start(it.found)
+		got := "goes"
+		var refusal Refusal
+		switch {
+		case errors.As(err, &refusal):
+			got = string(refusal)
+		case err != nil:
+			got = err.Error()
+		case creates:
+			got = "creates"
+		}
+		if got != it.want {
+			t.Errorf("%+v: %s, and expected was %s", it.found, got, it.want)
+		}
+	}
+	for _, text := range []string{"a text", strings.Repeat("x", 100_000)} {
+		if _, err := c.Start(Found{Register: text}); !errors.Is(err, ErrRefused) {
+			t.Error(err)
+		}
+	}
+}
+
+// TestOtherCommands has a function return a command of another state or with another number of objects than the node has, and one that does not exist.
+func TestOtherCommands(t *testing.T) {
+	t.Parallel()
+	made := wagtenib.NodeState{Timestamp: 9, PreviousTimestamp: 7, Salt: 3}
+	for what, other := range map[string]func(*wagtenib.NodeCommand){
+		"another state that was read": func(c *wagtenib.NodeCommand) { c.Seen.Salt++ },
+		"another state that was made": func(c *wagtenib.NodeCommand) { c.Next = made },
+		"another number of objects":   func(c *wagtenib.NodeCommand) { c.Objects++ },
+		"a command that there is not": func(c *wagtenib.NodeCommand) { c.Kind = 10 },
+	} {
+		right, lies := New(), Over(func(command wagtenib.NodeCommand, outcome wagtenib.NodeOutcome) (wagtenib.NodeCommand, error) {
+			next, err := wagtenib.NodeNext(command, outcome)
+			other(&next)
+			return next, err
+		})
+		command := Begin()
+		for _, told := range []Told{WasRead(textOf(3, 7, 5, 1)), Published()} {
+			next, err := right.Next(command, told)
+			must(t, err)
+			command = next
+		}
+		stepped := Stepped(line(4, 9), "-", 2, []string{"tile/0/000.p/4 aa"})
+		if next, err := lies.Next(command, stepped); !errors.Is(err, ErrReply) || next != nil {
+			t.Errorf("%s: %+v, %v", what, next, err)
+		}
+		if next, err := right.Next(command, stepped); err != nil || next.Do != Stage {
+			t.Errorf("%s: %+v, %v", what, next, err)
+		}
+	}
+	fails := Over(func(wagtenib.NodeCommand, wagtenib.NodeOutcome) (wagtenib.NodeCommand, error) {
+		return wagtenib.NodeCommand{}, wagtenib.ErrCommand
+	})
+	if command, err := fails.Next(Begin(), Lost()); !errors.Is(err, wagtenib.ErrCommand) || command != nil {
+		t.Errorf("%+v, %v", command, err)
+	}
+}

@@ -1,0 +1,156 @@
+// Package log says what a front sees of a log: submissions that are answered with their places, the newest published head, and
+// the published objects. The log of wagtenib/internal/serve is one.
+package log
+
+import (
+	"context"
+	"errors"
+	"time"
+
+	"wagtenib/internal/chains"
+)
+
+// What Submit refuses by. Each is found by errors.Is; what it wraps says more.
+var (
+	// ErrBusy: so many wait already that no more is taken. To be sent again later (503 with Retry-After at a front).
+	ErrBusy = errors.New("log: busy")
+	// ErrTooLarge: the entry has more bytes than one of a log may have. It will never be taken.
+	ErrTooLarge = errors.New("log: entry too large")
+	// ErrElsewhere: another node makes the steps. A submission that may be forwarded must be, or be submitted again.
+	ErrElsewhere = errors.New("log: another node makes the steps")
+	// ErrEnded: the log takes no more.
+	ErrEnded = errors.New("log: ended")
+	// ErrClock: the machine's clock isn't where it was expected, and nothing is stepped until it is.
+	ErrClock = errors.New("log: the clock isn't where it was expected")
+	// ErrStore: a store, the register, the step or the signer doesn't answer, or gives what can't be.
+	ErrStore = errors.New("log: a store doesn't give what it has to")
+)
+
+// Entry is what chains.Checker gives of a submission, with its issuers' certificates.
+type Entry = chains.Entry
+
+// Place is where an entry stands, with the signed certificate timestamp that says so (RFC 6962, section 3.2).
+type Place struct {
+	// LeafIndex counts from 0; it is below 2^40.
+	LeafIndex uint64
+	// Timestamp is in milliseconds since 1970.
+	Timestamp uint64
+	// Extensions are the bytes of CtExtensions, without their length: the extension leaf_index (C2SP static-ct-api).
+	Extensions []byte
+	// Signature is the DigitallySigned: the two bytes of the algorithms, two of length, and the signature.
+	Signature []byte
+	// LogID is SHA-256 over the log's key (its SubjectPublicKeyInfo in DER).
+	LogID [32]byte
+}
+
+// Head is a published tree head.
+type Head struct {
+	// Note is the signed note (C2SP tlog-checkpoint and static-ct-api), with its signature lines.
+	Note []byte
+	// TreeSize is the number of entries, Timestamp in milliseconds since 1970.
+	TreeSize, Timestamp uint64
+	// RootHash is the Merkle Tree Hash of the entries (RFC 6962, section 2.1).
+	RootHash [32]byte
+	// Signature is the DigitallySigned over the TreeHeadSignature (RFC 6962, section 3.5), as Place.Signature is.
+	Signature []byte
+}
+
+// Figures are what an operator looks at. Those that count, count since the start of the process.
+type Figures struct {
+	// Queue is how many submissions wait, and MostQueue at how many no more is taken.
+	Queue, MostQueue int
+	// Entries is the size of the newest published head, and HeadAge its age by the machine's clock.
+	Entries uint64
+	HeadAge time.Duration
+	// Unpublished is how many entries more the newest decided state has that is known, and SinceRound how long ago it is that a round went well, behind which no fault
+	// stands: a node without submissions makes one each second.
+	Unpublished uint64
+	SinceRound  time.Duration
+	// Steps counts swaps that were won, LostSwaps those that another node was faster with, Unknown those whose outcome had to be
+	// settled by reading the register.
+	Steps, LostSwaps, Unknown uint64
+	// Repeats counts submissions that were answered with a place that they had, Helped the heads of others that were rolled out,
+	// HandedOver the submissions that another node answered.
+	Repeats, Helped, HandedOver uint64
+	// SignerStarts counts how often the signer was started, or was found.
+	SignerStarts uint64
+	// Swept counts partial tiles that were deleted behind their full one, SweptHeads heads that were behind a later one, and Scrubbed data
+	// tiles that were read again and were right.
+	Swept, SweptHeads, Scrubbed uint64
+	// Written counts the bytes that steps put, in their bundles and as objects.
+	Written uint64
+	// Phases are the parts of a step, in their order, and Batches how many submissions steps took in.
+	Phases  []Phase
+	Batches Batches
+	// SweptBundles counts bundles of steps that were deleted since nobody needs them, and Staged is how many there were when they were listed last.
+	SweptBundles, Staged uint64
+	// TendFailures counts what failed of sweeping, which is tried again, and TendFailure is the last of it, in one line.
+	TendFailures uint64
+	TendFailure  string
+	// SweptTo is up to how many entries no partial tile is left below the full ones, by what this node knows, and ReadNext is the data tile that it reads again
+	// next.
+	SweptTo, ReadNext uint64
+	// Damaged is how many data tiles, by what was read last, are missing, can't be read or aren't the log's, or stand below hash tiles of
+	// which one of these is so; the log goes on all the same. Damage is what was seen of one of them, in one line.
+	Damaged int
+	// DamagedIssuers is how many issuers are missing or have another content, by what was read last.
+	DamagedIssuers int
+	Damage         string
+	// Mended counts objects of the log that were missing or had another content and were made again, and LastMended says which was last.
+	Mended     uint64
+	LastMended string
+	// Witnesses are how those stand that cosign the log's heads.
+	Witnesses []Witness
+	// Fault is what keeps the log from going on, in one line; empty where nothing does.
+	Fault string
+	// Faults counts how often something began to keep it from that, and LastFault is the last of it: one may be over before anybody looks.
+	Faults    uint64
+	LastFault string
+}
+
+// Phase is a part of a step: how often it was done, or failed, and how long that took in all.
+type Phase struct {
+	Name  string
+	Count uint64
+	Took  time.Duration
+}
+
+// Batches say how many submissions those steps took in that were decided.
+type Batches struct {
+	// Steps counts them, and Submissions what they took in altogether.
+	Steps, Submissions uint64
+	// AtMost says of some numbers how many steps took in no more than that.
+	AtMost map[int]uint64
+}
+
+// Witness is how a witness stands to a log whose heads it cosigns.
+type Witness struct {
+	Name string
+	// Missed is how many heads it was asked to cosign since it last did, and Cosigned how many it cosigned.
+	Missed, Cosigned uint64
+	// SeenMore says that it cosigned a later head than it was shown last, or another one of its size.
+	SeenMore bool
+	// Fault is why it didn't cosign the last head, in one line.
+	Fault string
+}
+
+// Log is one log. Its methods may be called at once.
+type Log interface {
+	// Submit answers once the head that covers the entry is published; ErrBusy, ErrTooLarge, ErrEnded, ErrClock, ErrStore, or the
+	// context's error. An entry whose submission wasn't answered may stand in the log all the same.
+	Submit(ctx context.Context, entry Entry) (Place, error)
+	// Checkpoint is the newest published head.
+	Checkpoint(ctx context.Context) (Head, error)
+	// HeadOf is a published head of at least so many entries: the newest that is known, without a look at what is newer, where that has them; else it is
+	// the newest one, which may have fewer.
+	HeadOf(ctx context.Context, entries uint64) (Head, error)
+	// Object reads a published object by its name (tile/.., issuer/..); stores.TooLong where it has more than most bytes, of which none is read; stores.ErrAbsent where there is none, stores.ErrName
+	// where none can be. A full tile is the newest head's tree's; where it isn't, or the tree lacks one, it is ErrStore.
+	Object(ctx context.Context, name string, most int64) ([]byte, error)
+	// IndexOf gives where the leaf with this hash is said to stand; stores.ErrAbsent where that isn't known. It need not be true.
+	IndexOf(ctx context.Context, leafHash [32]byte) (uint64, error)
+	// End takes no more, publishes, and answers who waits, within the context.
+	End(ctx context.Context) error
+	// Figures are those of this moment.
+	Figures() Figures
+}

@@ -1,0 +1,194 @@
+package reader
+
+import (
+	"bytes"
+	"context"
+	"crypto/sha256"
+	"errors"
+	"fmt"
+	"testing"
+	"time"
+
+	"golang.org/x/mod/sumdb/tlog"
+
+	"wagtenib/internal/trial"
+)
+
+var must = trial.Must
+
+func limited(t testing.TB) context.Context { return trial.Limited(t, trial.Longest) }
+
+// TestTiles: a tile is read as the widest that stands in the tree, and what is given are the hashes that were asked for; what has another length is wrong, and what
+// is no tile of hashes of the tree isn't asked for.
+func TestTiles(t *testing.T) {
+	wide := make([]byte, 32*256)
+	for i := range wide {
+		wide[i] = byte(i / 32)
+	}
+	for _, of := range []struct {
+		size        uint64
+		name, asked string
+		has, gives  int
+	}{
+		{300, "tile/0/000", "tile/0/000", 256, 256},
+		{300, "tile/0/000.p/7", "tile/0/000", 256, 7},
+		{300, "tile/0/001.p/44", "tile/0/001.p/44", 44, 44},
+		{300, "tile/0/001.p/3", "tile/0/001.p/44", 44, 3},
+		{511, "tile/0/001.p/255", "tile/0/001.p/255", 255, 255},
+		{512, "tile/0/001.p/255", "tile/0/001", 256, 255},
+		{300, "tile/1/000.p/1", "tile/1/000.p/1", 1, 1},
+		{1 << 40, "tile/4/x001/000.p/1", "", 0, 0},
+		{256 * 1001, "tile/0/x001/000", "tile/0/x001/000", 256, 256},
+		{300, "tile/0/001.p/45", "", 0, 0},
+		{300, "tile/0/001", "", 0, 0},
+		{300, "tile/0/002.p/1", "", 0, 0},
+		{300, "tile/1/000.p/2", "", 0, 0},
+		{300, "tile/data/000", "", 0, 0},
+		{1 << 40, "tile/8/000.p/1", "", 0, 0},
+		{300, "tile/0/0", "", 0, 0},
+		{300, "heads/1", "", 0, 0},
+	} {
+		asked := ""
+		content := wide[:32*of.has]
+		r := New(func(_ context.Context, name string, most int64) ([]byte, error) {
+			if asked = name; most != 32*256 {
+				t.Errorf("%s of %d: at most %d bytes", of.name, of.size, most)
+			}
+			return content, nil
+		}, 1)
+		tiles := r.tiles(of.size)
+		read, err := tiles(limited(t), of.name)
+		if of.asked == "" {
+			if !errors.Is(err, ErrReply) || asked != "" {
+				t.Errorf("%s of %d: %q is asked for, %v", of.name, of.size, asked, err)
+			}
+			continue
+		}
+		if err != nil || asked != of.asked || !bytes.Equal(read, wide[:32*of.gives]) {
+			t.Errorf("%s of %d: of %s %d bytes, %v", of.name, of.size, asked, len(read), err)
+		}
+		for _, wrong := range [][]byte{nil, wide[:32*of.has-1], wide[:32*(of.has-1)], append(wide[:32*of.has:32*of.has], 0)} {
+			content = wrong
+			if _, err := tiles(limited(t), of.name); !errors.Is(err, ErrWrong) {
+				t.Errorf("%s of %d has %d bytes: %v", of.name, of.size, len(wrong), err)
+			}
+		}
+	}
+	broken := errors.New("the disk")
+	r := New(func(context.Context, string, int64) ([]byte, error) { return nil, broken }, 1)
+	if _, err := r.tiles(300)(limited(t), "tile/0/000"); !errors.Is(err, broken) {
+		t.Error(err)
+	}
+}
+
+// TestReadings reads a tree of three leaves, whose nodes are computed by hand (RFC 6962, section 2.1), out of the tiles of a larger one.
+func TestReadings(t *testing.T) {
+	ctx := limited(t)
+	leaf := func(i byte) [32]byte { return sha256.Sum256([]byte{0, i}) }
+	node := func(a, b [32]byte) [32]byte { return sha256.Sum256(append(append([]byte{1}, a[:]...), b[:]...)) }
+	zero, one, two, three := leaf(0), leaf(1), leaf(2), leaf(3)
+	tile := bytes.Join([][]byte{zero[:], one[:], two[:], three[:]}, nil)
+	r := New(func(_ context.Context, name string, _ int64) ([]byte, error) {
+		if name != "tile/0/000.p/4" {
+			return nil, fmt.Errorf("%s is asked for", name)
+		}
+		return tile, nil
+	}, 64)
+	root := node(node(zero, one), two)
+	path, err := r.Path(ctx, 2, 3, 4)
+	if err != nil || len(path) != 1 || path[0] != node(zero, one) {
+		t.Errorf("a path: %x, %v", path, err)
+	}
+	must(t, CheckPath(path, 3, root, 2, two))
+	proof, err := r.Proof(ctx, 1, 3, 4)
+	if err != nil || len(proof) != 2 || proof[0] != one || proof[1] != two {
+		t.Errorf("a proof: %x, %v", proof, err)
+	}
+	must(t, CheckProof(proof, 3, root, 1, zero))
+	if found, err := r.Root(ctx, 3, 4); err != nil || found != root {
+		t.Errorf("a root: %x, %v", found, err)
+	}
+	if found, err := r.Root(ctx, 1, 4); err != nil || found != zero {
+		t.Errorf("a root of one: %x, %v", found, err)
+	}
+	// What isn't the tree's is wrong, whatever differs.
+	for what, err := range map[string]error{
+		"a path to another leaf":           CheckPath(path, 3, root, 2, one),
+		"a path of another place":          CheckPath(path, 3, root, 1, two),
+		"a path to another root":           CheckPath(path, 3, zero, 2, two),
+		"no path":                          CheckPath(nil, 3, root, 2, two),
+		"no path of one leaf to another":   CheckPath(nil, 1, zero, 0, one),
+		"a proof from another root":        CheckProof(proof, 3, root, 1, one),
+		"a proof to another root":          CheckProof(proof, 3, zero, 1, zero),
+		"a proof from another size":        CheckProof(proof, 3, root, 2, zero),
+		"a proof that lacks a hash":        CheckProof(proof[:1], 3, root, 1, zero),
+		"no proof from a tree to its fork": CheckProof(nil, 1, zero, 1, one),
+	} {
+		if !errors.Is(err, ErrWrong) {
+			t.Errorf("%s: %v", what, err)
+		}
+	}
+	// Nothing is asked for what is empty.
+	nobody := New(nil, 0)
+	for _, sizes := range [][2]uint64{{0, 0}, {0, 3}, {3, 3}} {
+		if proof, err := nobody.Proof(ctx, sizes[0], sizes[1], 3); err != nil || len(proof) != 0 {
+			t.Errorf("from %d to %d: %x, %v", sizes[0], sizes[1], proof, err)
+		}
+	}
+}
+
+// TestClientGoes: a client that goes away ends the reading for it, and its place is free again. A client that is gone already asks for nothing, and if no
+// place is free no client waits.
+func TestClientGoes(t *testing.T) {
+	asked, tile := make(chan context.Context, 4), sha256.Sum256([]byte{0, 0})
+	isThere := false
+	r := New(func(ctx context.Context, _ string, _ int64) ([]byte, error) {
+		asked <- ctx
+		if !isThere {
+			<-ctx.Done()
+			return nil, ctx.Err()
+		}
+		return tile[:], nil
+	}, 1)
+	gone, cancel := context.WithCancel(limited(t))
+	cancel()
+	if _, err := r.Root(gone, 1, 1); !errors.Is(err, context.Canceled) || len(asked) != 0 || len(r.places) != 0 {
+		t.Errorf("a client that is gone: %v, and %d tiles are asked for", err, len(asked))
+	}
+	goes, cancel := context.WithCancel(limited(t))
+	came := make(chan error, 1)
+	go func() {
+		_, err := r.Root(goes, 1, 1)
+		came <- err
+	}()
+	own := <-asked
+	if until, isBounded := own.Deadline(); !isBounded || time.Until(until) > mostReading {
+		t.Errorf("the reading has until %v", until)
+	}
+	if _, err := r.Root(limited(t), 1, 1); !errors.Is(err, ErrBusy) {
+		t.Errorf("without a place: %v", err)
+	}
+	cancel()
+	if err := <-came; !errors.Is(err, context.Canceled) {
+		t.Errorf("a client that goes: %v", err)
+	}
+	trial.Eventually(t, "the place is free", func() bool { return len(r.places) == 0 })
+	isThere = true
+	if root, err := r.Root(limited(t), 1, 1); err != nil || root != tlog.Hash(tile) {
+		t.Errorf("after that: %x, %v", root, err)
+	}
+}
+
+// TestOneBehindAnother: where one thing is made at once, who asks for the next as soon as it has an answer, or an error, is always taken.
+func TestOneBehindAnother(t *testing.T) {
+	r, ctx, broken := New(nil, 1), limited(t), errors.New("the disk")
+	for i := 0; i < 20000; i++ {
+		var fails error
+		if i%2 == 1 {
+			fails = broken
+		}
+		if what, err := within(ctx, r, func(context.Context) (int, error) { return i, fails }); what != i || err != fails {
+			t.Fatalf("thing %d: %d, %v", i, what, err)
+		}
+	}
+}

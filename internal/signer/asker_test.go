@@ -1,0 +1,279 @@
+package signer
+
+import (
+	"bufio"
+	"context"
+	"errors"
+	"fmt"
+	"io"
+	"net"
+	"os"
+	"path/filepath"
+	"strconv"
+	"strings"
+	"syscall"
+	"testing"
+	"time"
+
+	"wagtenib/internal/trial"
+)
+
+func cat(context.Context) (*End, error) { return Start([]string{"cat"}) }
+
+// said returns what an asker reads.
+func said(c *asker, ctx context.Context, line string) (reply string, err error) {
+	err = c.ask(ctx, []byte(line), func(read []byte) error {
+		reply = string(read)
+		return nil
+	})
+	if err != nil {
+		return "", err
+	}
+	return reply, nil
+}
+
+// TestUnaskedReply has a program reply twice to its first line, as one does that reads a line in two parts: the second reply must not be taken for the one to
+// the next line. The program is started again, and no request fails.
+func TestUnaskedReply(t *testing.T) {
+	t.Parallel()
+	folder := t.TempDir()
+	second := filepath.Join(folder, "second")
+	must(t, syscall.Mkfifo(second, 0o600))
+	program := []string{"sh", "-c", `read -r x; echo "$x"; echo stale; echo said >"$1"; while read -r x; do echo "$x"; done`, "sh", second}
+	c := newAsker(func(context.Context) (*End, error) { return Start(program) }, trial.Longest)
+	defer c.close()
+	for i := 1; i <= 3; i++ {
+		reply, err := said(c, limited(t), "asked\n")
+		if err != nil || reply != "asked" {
+			t.Fatalf("%d: %q, %v", i, reply, err)
+		}
+		if read, err := os.ReadFile(second); err != nil || string(read) != "said\n" {
+			t.Fatalf("%q, %v", read, err)
+		}
+		if c.opens.Load() != uint64(i) {
+			t.Errorf("started %d times", c.opens.Load())
+		}
+	}
+	e := script(t, "echo early; read -r x; echo late")
+	trial.Eventually(t, "it speaks", e.hasUnread)
+	reply, err := e.exchange(limited(t), trial.Longest, []byte("x\n"))
+	if wants(t, err, ErrGone); reply != nil {
+		t.Errorf("%q", reply)
+	}
+}
+
+// TestWrongReplyEndsTheProgram has what reads a reply refuse it: the program is ended for a reply that is none, and for nothing else, before anybody else asks it.
+func TestWrongReplyEndsTheProgram(t *testing.T) {
+	t.Parallel()
+	c := newAsker(func(context.Context) (*End, error) {
+		return Start([]string{"sh", "-c", "while read -r x; do echo $$; done"})
+	}, trial.Longest)
+	defer c.close()
+	var pids []string
+	failed := errors.New("another fault")
+	for _, with := range []error{nil, failed, fmt.Errorf("of a test: %w", ErrReply), nil} {
+		err := c.ask(limited(t), []byte("x\n"), func(reply []byte) error {
+			pids = append(pids, string(reply))
+			return with
+		})
+		if err != with {
+			t.Errorf("%v in place of %v", err, with)
+		}
+	}
+	if len(pids) != 4 || pids[0] != pids[1] || pids[1] != pids[2] || pids[2] == pids[3] || c.opens.Load() != 2 {
+		t.Errorf("processes %q, started %d times", pids, c.opens.Load())
+	}
+	if pid, err := strconv.Atoi(pids[0]); err != nil || alive(pid) {
+		t.Errorf("process %s goes on, %v", pids[0], err)
+	}
+}
+
+// TestRestart kills the process between two exchanges: the first one behind that fails, and the next is answered.
+func TestRestart(t *testing.T) {
+	ctx, c := context.Background(), newAsker(cat, trial.Longest)
+	defer c.close()
+	if reply, err := said(c, ctx, "one\n"); err != nil || reply != "one" {
+		t.Fatalf("%q, %v", reply, err)
+	}
+	e := <-c.turn
+	e.Close()
+	c.turn <- e
+	if _, err := said(c, ctx, "three\n"); !errors.Is(err, ErrGone) {
+		t.Fatal(err)
+	}
+	if reply, err := said(c, ctx, "four\n"); err != nil || reply != "four" {
+		t.Fatalf("%q, %v", reply, err)
+	}
+	if c.opens.Load() != 2 {
+		t.Errorf("it was opened %d times", c.opens.Load())
+	}
+}
+
+// TestWhoIsGoneAsksNothing: who asks with a context that has ended gets nothing, and no end is killed for that, nor opened.
+func TestWhoIsGoneAsksNothing(t *testing.T) {
+	c := newAsker(cat, trial.Longest)
+	defer c.close()
+	gone, cancel := context.WithCancel(context.Background())
+	cancel()
+	// (of two that can be chosen one is by chance)
+	for i := 0; i < 100; i++ {
+		if reply, err := said(c, gone, "one\n"); !errors.Is(err, ErrGone) {
+			t.Fatalf("%q, %v", reply, err)
+		}
+	}
+	if reply, err := said(c, context.Background(), "two\n"); err != nil || reply != "two" {
+		t.Fatalf("%q, %v", reply, err)
+	}
+	for i := 0; i < 100; i++ {
+		if _, err := said(c, gone, "three\n"); !errors.Is(err, ErrGone) {
+			t.Fatal(err)
+		}
+	}
+	if reply, err := said(c, context.Background(), "four\n"); err != nil || reply != "four" || c.opens.Load() != 1 {
+		t.Errorf("%q, %v, opened %d times", reply, err, c.opens.Load())
+	}
+}
+
+// TestCallerLeaves has callers leave while the program works on what they asked: it must not be killed for them, since others share it, and its reply must
+// not be given to the next caller.
+func TestCallerLeaves(t *testing.T) {
+	t.Parallel()
+	folder := t.TempDir()
+	reads, goes := filepath.Join(folder, "reads"), filepath.Join(folder, "goes")
+	for _, fifo := range []string{reads, goes} {
+		must(t, syscall.Mkfifo(fifo, 0o600))
+	}
+	// The program says in one FIFO that it has read a line, and replies once the other one says so.
+	program := []string{"sh", "-c", `while read -r x; do echo "$x" >"$1"; read -r y <"$2"; echo "$x"; done`, "sh", reads, goes}
+	c := newAsker(func(context.Context) (*End, error) { return Start(program) }, trial.Longest)
+	defer c.close()
+	for i := 0; i < 5; i++ {
+		ctx, leave := context.WithCancel(context.Background())
+		left := make(chan error, 1)
+		go func() {
+			_, err := said(c, ctx, "of who leaves\n")
+			left <- err
+		}()
+		if read, err := os.ReadFile(reads); err != nil || string(read) != "of who leaves\n" {
+			t.Fatalf("%q, %v", read, err)
+		}
+		leave()
+		wants(t, <-left, ErrGone)
+		must(t, os.WriteFile(goes, []byte("\n"), 0))
+		stays := make(chan error, 1)
+		go func() {
+			reply, err := said(c, context.Background(), "of who stays\n")
+			if err == nil && reply != "of who stays" {
+				err = errors.New(reply)
+			}
+			stays <- err
+		}()
+		if read, err := os.ReadFile(reads); err != nil || string(read) != "of who stays\n" {
+			t.Fatalf("%q, %v", read, err)
+		}
+		must(t, os.WriteFile(goes, []byte("\n"), 0))
+		must(t, <-stays)
+	}
+	if c.opens.Load() != 1 {
+		t.Errorf("the program was started %d times", c.opens.Load())
+	}
+}
+
+// TestCloseInterrupts closes a client while its program works on what a caller asked that left: Close must not wait for the limit.
+func TestCloseInterrupts(t *testing.T) {
+	t.Parallel()
+	reads := filepath.Join(t.TempDir(), "reads")
+	must(t, syscall.Mkfifo(reads, 0o600))
+	c := newAsker(func(context.Context) (*End, error) {
+		return Start([]string{"sh", "-c", `read -r x; echo $$ >"$1"; sleep 100000`, "sh", reads})
+	}, 24*time.Hour)
+	ctx, leave := context.WithCancel(context.Background())
+	left := make(chan error, 1)
+	go func() {
+		_, err := said(c, ctx, "x\n")
+		left <- err
+	}()
+	text, err := os.ReadFile(reads)
+	must(t, err)
+	leave()
+	wants(t, <-left, ErrGone)
+	c.close()
+	pid, err := strconv.Atoi(strings.TrimSpace(string(text)))
+	must(t, err)
+	if alive(pid) {
+		t.Error("the process goes on")
+	}
+}
+
+// TestLongLine sends more than pipes hold, to a process that replies meanwhile.
+func TestLongLine(t *testing.T) {
+	c := newAsker(cat, trial.Longest)
+	defer c.close()
+	line := strings.Repeat("x", 5_000_000)
+	if reply, err := said(c, context.Background(), line+"\n"); err != nil || reply != line {
+		t.Errorf("%d bytes, %v", len(reply), err)
+	}
+}
+
+// TestSocket asks at a socket, which is closed and opened again.
+func TestSocket(t *testing.T) {
+	path, ctx := filepath.Join(t.TempDir(), "socket"), context.Background()
+	c := newAsker(func(ctx context.Context) (*End, error) { return Dial(ctx, path) }, trial.Longest)
+	defer c.close()
+	if _, err := said(c, ctx, "one\n"); !errors.Is(err, ErrGone) {
+		t.Fatal(err)
+	}
+	listener, err := net.Listen("unix", path)
+	if err != nil {
+		t.Fatal(err)
+	}
+	defer listener.Close()
+	go func() {
+		// Each connection has one line answered.
+		for {
+			connection, err := listener.Accept()
+			if err != nil {
+				return
+			}
+			line, _ := bufio.NewReader(connection).ReadString('\n')
+			_, _ = io.WriteString(connection, line)
+			connection.Close()
+		}
+	}()
+	for i := 0; i < 3; i++ {
+		if reply, err := said(c, ctx, "two\n"); err != nil || reply != "two" {
+			t.Errorf("%q, %v", reply, err)
+		}
+		if _, err := said(c, ctx, "three\n"); !errors.Is(err, ErrGone) {
+			t.Error(err)
+		}
+	}
+}
+
+// TestEndIsClosed: what gave no reply in time doesn't go on.
+func TestEndIsClosed(t *testing.T) {
+	file := filepath.Join(t.TempDir(), "pid")
+	e, err := Start([]string{"sh", "-c", "echo $$ >" + file + "; read -r x; echo; exec sleep 60"})
+	if err != nil {
+		t.Fatal(err)
+	}
+	// (one line it gives: by then it runs, and has written its number)
+	if _, err := e.exchange(context.Background(), trial.Longest, []byte("x\n")); err != nil {
+		t.Fatal(err)
+	}
+	if _, err := e.exchange(context.Background(), 10*time.Millisecond, []byte("x\n")); !errors.Is(err, ErrGone) {
+		t.Fatal(err)
+	}
+	text, err := os.ReadFile(file)
+	if err != nil {
+		t.Fatal(err)
+	}
+	pid, err := strconv.Atoi(strings.TrimSpace(string(text)))
+	if err != nil {
+		t.Fatal(err)
+	}
+	if err := syscall.Kill(pid, 0); !errors.Is(err, syscall.ESRCH) {
+		_ = syscall.Kill(pid, syscall.SIGKILL)
+		t.Errorf("process %d goes on: %v", pid, err)
+	}
+}

@@ -1,0 +1,302 @@
+package signer
+
+import (
+	"bufio"
+	"context"
+	"errors"
+	"fmt"
+	"io"
+	"net"
+	"os"
+	"path/filepath"
+	"strconv"
+	"strings"
+	"syscall"
+	"testing"
+	"time"
+
+	"golang.org/x/sys/unix"
+
+	"wagtenib/internal/trial"
+)
+
+// script starts a shell's lines.
+func script(t *testing.T, lines string, environment ...string) *End {
+	e, err := Start([]string{"sh", "-c", lines}, environment...)
+	must(t, err)
+	t.Cleanup(func() { e.Close() })
+	return e
+}
+
+// TestReadLine: a line has at most so many bytes with its end, in however many parts it comes, and one without an end is none.
+func TestReadLine(t *testing.T) {
+	t.Parallel()
+	most := strings.Repeat("x", MostLine-1)
+	for _, of := range []struct {
+		text, line string
+		err        error
+	}{
+		{"one\ntwo\n", "one", nil},
+		{"\n", "", nil},
+		{most + "\n", most, nil},
+		{"one", "", io.EOF},
+		{"", "", io.EOF},
+	} {
+		line, err := readLine(bufio.NewReader(strings.NewReader(of.text)))
+		if !errors.Is(err, of.err) || string(line) != of.line {
+			t.Errorf("of %d bytes: %d, %v", len(of.text), len(line), err)
+		}
+	}
+	for _, text := range []string{most + "x\n", most + "xx"} {
+		if line, err := readLine(bufio.NewReader(strings.NewReader(text))); err == nil || !strings.Contains(err.Error(), "more than 67108864 bytes") {
+			t.Errorf("of %d bytes: %d, %v", len(text), len(line), err)
+		}
+	}
+}
+
+// TestSaid: of what a process says on standard error the last is kept, however it says it, and stands in the error.
+func TestSaid(t *testing.T) {
+	t.Parallel()
+	said := &last{}
+	for _, part := range []string{strings.Repeat("a", 300), strings.Repeat("b", 300), "the end"} {
+		if n, err := said.Write([]byte(part)); n != len(part) || err != nil {
+			t.Errorf("%d, %v", n, err)
+		}
+	}
+	if text := string(said.bytes); len(text) != mostSaid || !strings.HasSuffix(text, strings.Repeat("b", 300)+"the end") || !strings.HasPrefix(text, "a") {
+		t.Errorf("%d bytes: %q", len(text), text)
+	}
+	e := script(t, "read x; for i in 1 2 3 4 5 6 7 8 9 10; do printf '%0100d' 0 >&2; done; echo why it ends >&2; exit 1")
+	if _, err := e.exchange(limited(t), trial.Longest, []byte("x\n")); !errors.Is(err, ErrGone) || !strings.Contains(err.Error(), "why it ends") {
+		t.Error(err)
+	}
+}
+
+// TestEnvironment: a process has this one's environment, and what is added.
+func TestEnvironment(t *testing.T) {
+	t.Setenv("PIPE_OWN", "own")
+	for _, of := range []struct {
+		more []string
+		says string
+	}{{nil, "own "}, {[]string{"PIPE_MORE=more"}, "own more"}} {
+		e := script(t, `read x; echo "$PIPE_OWN $PIPE_MORE"; read x`, of.more...)
+		reply, err := e.exchange(limited(t), trial.Longest, []byte("x\n"))
+		if err != nil || string(reply) != of.says {
+			t.Errorf("%q, %v", reply, err)
+		}
+	}
+}
+
+// TestNoProgram: what can't be started is a process that is gone, and so is a socket that isn't there.
+func TestNoProgram(t *testing.T) {
+	t.Parallel()
+	for _, words := range [][]string{nil, {"/nowhere/is"}, {filepath.Join(t.TempDir(), "nothing")}} {
+		_, err := Start(words)
+		wants(t, err, ErrGone)
+	}
+	_, err := Dial(limited(t), filepath.Join(t.TempDir(), "socket"))
+	wants(t, err, ErrGone)
+}
+
+// alive says whether a process runs.
+func alive(pid int) bool { return syscall.Kill(pid, 0) == nil }
+
+// TestCloseKills: a process ends with its end, whatever signals it ignores, and so does what it started.
+func TestCloseKills(t *testing.T) {
+	t.Parallel()
+	e, err := Start([]string{"sh", "-c", "trap '' TERM HUP INT; read -r x; sleep 600 & echo $$ $!; while :; do wait; done"})
+	must(t, err)
+	reply, err := e.exchange(limited(t), trial.Longest, []byte("x\n"))
+	must(t, err)
+	var pids []int
+	for _, text := range strings.Fields(string(reply)) {
+		pid, err := strconv.Atoi(text)
+		must(t, err)
+		pids = append(pids, pid)
+	}
+	closed := make(chan struct{})
+	go func() {
+		e.Close()
+		close(closed)
+	}()
+	select {
+	case <-closed:
+	case <-limited(t).Done():
+		t.Error("the process isn't killed")
+	}
+	for until := limited(t); ; time.Sleep(time.Millisecond) {
+		// (the child is reaped by whoever its parent is then)
+		state, _ := os.ReadFile("/proc/" + strconv.Itoa(pids[1]) + "/stat")
+		if !alive(pids[1]) || strings.Contains(string(state), ") Z ") {
+			break
+		}
+		if until.Err() != nil {
+			t.Error("what the process started goes on")
+			break
+		}
+	}
+	if alive(pids[0]) {
+		t.Error("the process goes on")
+	}
+	for _, pid := range pids {
+		_ = syscall.Kill(pid, syscall.SIGKILL)
+	}
+}
+
+// TestUnreadLines: who replies without having read what it is asked has replied to something else.
+func TestUnreadLines(t *testing.T) {
+	t.Parallel()
+	e := script(t, "head -c 1 >/dev/null; exec <&-; echo yes; exec sleep 600")
+	if reply, err := e.exchange(limited(t), trial.Longest, []byte(strings.Repeat("x", 1<<20)+"\n")); !errors.Is(err, ErrGone) || reply != nil {
+		t.Errorf("%q, %v", reply, err)
+	}
+}
+
+// TestDialCloses: an end at a socket is closed behind an error, and by Close.
+func TestDialCloses(t *testing.T) {
+	t.Parallel()
+	path := filepath.Join(t.TempDir(), "socket")
+	listener, err := net.Listen("unix", path)
+	must(t, err)
+	defer listener.Close()
+	gone := make(chan error, 2)
+	go func() {
+		for {
+			connection, err := listener.Accept()
+			if err != nil {
+				return
+			}
+			_, err = io.Copy(io.Discard, connection)
+			gone <- err
+		}
+	}()
+	waits := func(what string) {
+		t.Helper()
+		select {
+		case <-gone:
+		case <-limited(t).Done():
+			t.Fatalf("%s: the connection stays open", what)
+		}
+	}
+	e, err := Dial(limited(t), path)
+	must(t, err)
+	ended, cancel := context.WithCancel(context.Background())
+	cancel()
+	if _, err = e.exchange(ended, trial.Longest, []byte("x\n")); !errors.Is(err, ErrGone) || !strings.Contains(err.Error(), context.Canceled.Error()) {
+		t.Errorf("who is gone: %v", err)
+	}
+	waits("behind an error")
+	e, err = Dial(limited(t), path)
+	must(t, err)
+	e.Close()
+	waits("behind Close")
+}
+
+// TestWaiting: who waits for another's exchange goes with its context; a reply that doesn't come in time is told with its limit; behind Close the next exchange opens
+// an end anew, and where none can be opened the one behind that does.
+func TestWaiting(t *testing.T) {
+	t.Parallel()
+	c := newAsker(cat, 50*time.Millisecond)
+	defer c.close()
+	e := <-c.turn
+	gone, cancel := context.WithCancel(context.Background())
+	cancel()
+	came := make(chan error, 1)
+	go func() {
+		_, err := said(c, gone, "one\n")
+		came <- err
+	}()
+	select {
+	case err := <-came:
+		wants(t, err, ErrGone)
+	case <-limited(t).Done():
+		t.Error("who is gone waits")
+	}
+	c.turn <- e
+	if _, err := said(c, limited(t), "half a line"); !errors.Is(err, ErrGone) || !strings.Contains(err.Error(), "none in 50ms") {
+		t.Errorf("no reply: %v", err)
+	}
+	fails, opens := errors.New("it isn't there"), 0
+	c = newAsker(func(ctx context.Context) (*End, error) {
+		if opens++; opens == 1 {
+			return nil, fails
+		}
+		return cat(ctx)
+	}, trial.Longest)
+	defer c.close()
+	_, err := said(c, limited(t), "one\n")
+	wants(t, err, fails)
+	for i := 0; i < 2; i++ {
+		reply, err := said(c, limited(t), "two\n")
+		if err != nil || reply != "two" {
+			t.Fatalf("%q, %v", reply, err)
+		}
+		c.close()
+	}
+	if c.opens.Load() != 2 {
+		t.Errorf("opened %d times", c.opens.Load())
+	}
+}
+
+// TestClientCloses: a process ends with the client that asks it, and the next exchange starts another one.
+func TestClientCloses(t *testing.T) {
+	t.Parallel()
+	c := newAsker(func(context.Context) (*End, error) {
+		return Start([]string{"sh", "-c", "while read -r x; do echo $$; done"})
+	}, trial.Longest)
+	for i := 0; i < 2; i++ {
+		reply, err := said(c, limited(t), "x\n")
+		must(t, err)
+		pid, err := strconv.Atoi(reply)
+		must(t, err)
+		c.close()
+		if alive(pid) {
+			_ = syscall.Kill(pid, syscall.SIGKILL)
+			t.Errorf("process %d goes on", pid)
+		}
+	}
+	c.close()
+	if c.opens.Load() != 2 {
+		t.Errorf("opened %d times", c.opens.Load())
+	}
+}
+
+// TestOwnGroup: what a terminal sends to this process's group doesn't reach the other end.
+func TestOwnGroup(t *testing.T) {
+	t.Parallel()
+	e := script(t, "read -r x; echo $$; exec sleep 600")
+	reply, err := e.exchange(limited(t), trial.Longest, []byte("x\n"))
+	must(t, err)
+	pid, err := strconv.Atoi(string(reply))
+	must(t, err)
+	if group, err := syscall.Getpgid(pid); err != nil || group != pid {
+		t.Errorf("process %d is of the group %d, %v", pid, group, err)
+		// (which its end wouldn't reach)
+		_ = syscall.Kill(pid, syscall.SIGKILL)
+	}
+}
+
+// TestWidth: both pipes of a process hold a long line at once.
+func TestWidth(t *testing.T) {
+	e, err := cat(limited(t))
+	trial.Must(t, err)
+	defer e.Close()
+	raw, err := e.in.(syscall.Conn).SyscallConn()
+	trial.Must(t, err)
+	trial.Must(t, raw.Control(func(of uintptr) {
+		if holds, err := unix.FcntlInt(of, unix.F_GETPIPE_SZ, 0); err != nil || holds != width {
+			t.Errorf("a pipe holds %d bytes, %v", holds, err)
+		}
+	}))
+	// (as the process itself sees both: 1032 is F_GETPIPE_SZ)
+	seen, err := Start([]string{"python3", "-c", "import fcntl; input(); print(*(fcntl.fcntl(of, 1032) for of in (0, 1)), flush=True)"})
+	trial.Must(t, err)
+	defer seen.Close()
+	reply, err := seen.exchange(limited(t), trial.Longest, []byte("\n"))
+	if want := fmt.Sprintf("%d %d", width, width); err != nil || string(reply) != want {
+		t.Errorf("its pipes hold %q bytes, and not %s: %v", reply, want, err)
+	}
+	// (what isn't a pipe stays as it is)
+	widen(nil)
+	widen(&last{})
+}

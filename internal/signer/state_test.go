@@ -1,0 +1,264 @@
+package signer
+
+import (
+	"bytes"
+	"context"
+	"encoding/json"
+	"errors"
+	"os"
+	"os/exec"
+	"path/filepath"
+	"strings"
+	"testing"
+
+	"wagtenib/bindings/go/wagtenib"
+	"wagtenib/internal/stores"
+)
+
+// TestReadsOnlyItsTexts: the text of each state is read back, and no text that differs from it in a byte is read.
+func TestReadsOnlyItsTexts(t *testing.T) {
+	t.Parallel()
+	heads := []*Head{nil, {}, {1, 1, [32]byte{62, 63}}, {1<<64 - 1, 1<<64 - 1, [32]byte{31: 255}}, {1 << 53, 1<<53 + 1, [32]byte{9, 8, 7}}}
+	for _, head := range heads {
+		text := textOf(head)
+		state, err := ReadState(text)
+		must(t, err)
+		if last := state.Last(); state.Text() != text || (last == nil) != (head == nil) || last != nil && (*last != *head || !bytes.Equal(state.Signed(), head.message())) {
+			t.Errorf("%s is read as %+v", text, state)
+		}
+		if head == nil && len(state.Signed()) != 0 {
+			t.Errorf("before the first head %x is signed", state.Signed())
+		}
+		for i := range text {
+			for _, other := range []string{text[:i] + text[i+1:], text[:i] + " " + text[i:], text[:i] + string(text[i]^1) + text[i+1:]} {
+				if state, err := ReadState(other); err == nil && state.Text() != other || err != nil && !errors.Is(err, ErrState) {
+					t.Errorf("%s is read as %s, %v", other, state.Text(), err)
+				}
+			}
+		}
+	}
+	whole := textOf(heads[3])
+	for _, text := range []string{"", "\n", "null", "{}", `{"guard":1}`, `{"guard":1,"last":{}}`, whole + "\n", whole + whole, none + "{", strings.ToUpper(whole), strings.Replace(whole, `"guard":1,`, "", 1),
+		strings.Replace(whole, "18446744073709551615", "18446744073709551616", 1), strings.Replace(whole, "18446744073709551615", "1e3", 1), strings.Replace(whole, "P8=", "", 1), strings.Replace(whole, "=", "", 1),
+		`{"guard":1,"last":null,"last":null}`, strings.Replace(whole, `}}`, `},"guard":1}`, 1), strings.Replace(whole, "A", "\\u0041", 1), "\ufeff" + whole} {
+		if state, err := ReadState(text); !errors.Is(err, ErrState) {
+			t.Errorf("%q is read as %s, %v", text, state.Text(), err)
+		}
+	}
+}
+
+// TestIsRolledBack compares each reading of a state with an earlier one.
+func TestIsRolledBack(t *testing.T) {
+	t.Parallel()
+	state := func(head *Head) State {
+		state, err := ReadState(textOf(head))
+		must(t, err)
+		return state
+	}
+	for i, of := range []struct {
+		seen, now *Head
+		isBack    bool
+	}{
+		{nil, nil, false}, {nil, &Head{5, 50, [32]byte{1}}, false}, {&Head{5, 50, [32]byte{1}}, nil, true}, {&Head{0, 0, [32]byte{}}, nil, true},
+		{&Head{5, 50, [32]byte{1}}, &Head{5, 50, [32]byte{1}}, false}, {&Head{5, 50, [32]byte{1}}, &Head{5, 50, [32]byte{2}}, true},
+		{&Head{5, 50, [32]byte{1}}, &Head{5, 51, [32]byte{1}}, false}, {&Head{5, 50, [32]byte{1}}, &Head{6, 51, [32]byte{2}}, false},
+		{&Head{5, 50, [32]byte{1}}, &Head{6, 50, [32]byte{2}}, true}, {&Head{5, 50, [32]byte{1}}, &Head{4, 60, [32]byte{2}}, true},
+	} {
+		if err := state(of.now).Since(state(of.seen)); (err != nil) != of.isBack || err != nil && !errors.Is(err, ErrState) {
+			t.Errorf("%d: %v", i, err)
+		}
+	}
+}
+
+// TestFirstHead: before its first head with leaves a log gets the head of the empty tree in its register, which is not signed. A head of no leaves is the first
+// only if its root is that of the empty tree. After a head nothing begins again.
+func TestFirstHead(t *testing.T) {
+	t.Parallel()
+	ctx, l := limited(t), listOf(t, 9, 9)
+	g := behind(t, newKey(t), t.TempDir())
+	wrong := l.head(t, 0, 100)
+	wrong.Root[0] ^= 1
+	signed, err := g.SignHead(ctx, wrong, nil)
+	if refused(t, "not-first", err); signed != nil || kept(t, g) != none {
+		t.Errorf("a wrong empty head: %s", kept(t, g))
+	}
+	// (no head of the empty tree is before it)
+	signed, err = g.SignHead(ctx, l.head(t, 5, 0), nil)
+	if refused(t, "moment-not-later", err); signed != nil {
+		t.Error("a head of the year 1970 is signed")
+	}
+	g = behind(t, newKey(t), t.TempDir())
+	var texts []string
+	g.test.phase = func(string) { texts = append(texts, kept(t, g)) }
+	head, empty := l.head(t, 5, 100), l.head(t, 0, 99)
+	signed, err = g.SignHead(ctx, head, nil)
+	must(t, err)
+	must(t, CheckHead(g.Key(), head, signed))
+	if due := []string{textOf(&empty), textOf(&empty), textOf(&head)}; strings.Join(texts, "\n") != strings.Join(due, "\n") {
+		t.Errorf("the register had %q, and not %q", texts, due)
+	}
+	for _, text := range []string{textOf(&empty), textOf(&head)} {
+		state, err := ReadState(text)
+		must(t, err)
+		if next, err := state.Begin(head); !errors.Is(err, ErrState) || next.Text() != "" || state.Begins(head) {
+			t.Errorf("after %s the log begins again with %s, %v", text, next.Text(), err)
+		}
+	}
+	state, err := ReadState(none)
+	must(t, err)
+	if next, err := state.After(head, nil, 1<<63); next.Text() != "" {
+		t.Errorf("a head with leaves is the first: %s", next.Text())
+	} else {
+		refused(t, "not-first", err)
+	}
+}
+
+// TestKilledAfterTheEmptyHead kills (-9) a signer after its register got the head of the empty tree, which comes before the first head with leaves. The next one goes on.
+func TestKilledAfterTheEmptyHead(t *testing.T) {
+	t.Parallel()
+	program, err := os.Executable()
+	must(t, err)
+	folder, key := t.TempDir(), newKey(t)
+	must(t, os.WriteFile(filepath.Join(folder, "key.pem"), key.pem(t), 0o600))
+	run := func(phase string) (output []byte, err error) {
+		words, err := json.Marshal(child{Folder: folder, Phase: phase, On: 1})
+		must(t, err)
+		command := exec.Command(program)
+		command.Env = append(os.Environ(), childWords+"="+string(words))
+		return command.Output()
+	}
+	if output, err := run("begun"); err == nil || !strings.Contains(err.Error(), "killed") || len(output) != 0 {
+		t.Fatalf("%v, %s", err, output)
+	}
+	state, err := ReadState(strings.TrimSuffix(string(readText(t, folder)), "\n"))
+	must(t, err)
+	if last := state.Last(); last == nil || last.Size != 0 {
+		t.Errorf("the register has %s", state.Text())
+	}
+	if output, err := run(""); err != nil || len(output) == 0 {
+		t.Errorf("%v, %s", err, output)
+	}
+}
+
+func readText(t *testing.T, folder string) []byte {
+	t.Helper()
+	text, err := os.ReadFile(filepath.Join(folder, "guard", "text"))
+	must(t, err)
+	return text
+}
+
+// TestDamagedRegister: a register whose text was damaged or emptied below a running signer, or before it starts, is never one without a head. Nothing is signed,
+// and the text stays.
+func TestDamagedRegister(t *testing.T) {
+	t.Parallel()
+	ctx, l, fork := limited(t), listOf(t, 9, 9), listOf(t, 9, 0)
+	for _, damaged := range []string{"", "\n", " ", "{", "null", "{}", `{"guard":1}`, `{"guard":1,"last":{}}`, `{"guard":1,"last":null} `, "\x00"} {
+		folder := t.TempDir()
+		g := behind(t, newKey(t), folder)
+		_, err := g.SignHead(ctx, l.head(t, 5, 100), nil)
+		must(t, err)
+		must(t, stores.KeepFile(filepath.Join(folder, "guard", "text"), []byte(damaged)))
+		if last, err := g.Last(ctx); !errors.Is(err, ErrState) || last != nil {
+			t.Errorf("%q: the last head is %+v, %v", damaged, last, err)
+		}
+		for _, create := range []bool{false, true} {
+			if _, err := Behind(ctx, newKey(t), Guard{State: register(t, folder), Create: create}); !errors.Is(err, ErrState) {
+				t.Errorf("%q: a signer starts, %v", damaged, err)
+			}
+		}
+		for _, of := range []*list{l, fork} {
+			if signed, err := g.SignHead(ctx, of.head(t, 9, 101), of.proof(t, 5, 9)); !errors.Is(err, ErrState) || signed != nil {
+				t.Errorf("%q: a head: %v", damaged, err)
+			}
+		}
+		if signed, err := g.SignTimestamps(ctx, []Receipt{l.receipt(t, 1, 5)}); !errors.Is(err, ErrState) || signed != nil {
+			t.Errorf("%q: a timestamp: %v", damaged, err)
+		}
+		if text := readText(t, folder); string(text) != damaged {
+			t.Errorf("%q: %q stands", damaged, text)
+		}
+	}
+}
+
+// TestRefusedStays: what the guard refuses is not signed, and the register's text stays.
+func TestRefusedStays(t *testing.T) {
+	t.Parallel()
+	ctx, l, fork := limited(t), listOf(t, 9, 9), listOf(t, 9, 3)
+	g := behind(t, newKey(t), t.TempDir())
+	_, err := g.SignHead(ctx, l.head(t, 5, 100), nil)
+	must(t, err)
+	before := kept(t, g)
+	for fault, of := range map[string]struct {
+		head  Head
+		proof [][32]byte
+	}{
+		"root-mismatch":  {fork.head(t, 9, 101), l.proof(t, 5, 9)},
+		"first-mismatch": {l.head(t, 9, 101), fork.proof(t, 5, 9)},
+		"empty-path":     {l.head(t, 9, 101), nil},
+		"path-too-short": {l.head(t, 9, 101), l.proof(t, 5, 9)[:3]},
+		"path-too-long":  {l.head(t, 9, 101), append(l.proof(t, 5, 9), [32]byte{})},
+	} {
+		signed, err := g.SignHead(ctx, of.head, of.proof)
+		var refusal Refusal
+		if !errors.As(err, &refusal) || refusal != (Refusal{"inconsistent", fault}) || signed != nil || kept(t, g) != before {
+			t.Errorf("%s: %v, and %s stands", fault, err, kept(t, g))
+		}
+	}
+	receipt := l.receipt(t, 1, 5)
+	for fault, of := range map[string]Receipt{
+		"no-leaf truncated":            {receipt.Leaf[:4], 1, receipt.Path},
+		"no-leaf bad-version":          {append([]byte{1}, receipt.Leaf[1:]...), 1, receipt.Path},
+		"no-leaf bad-leaf-type":        {append([]byte{0, 1}, receipt.Leaf[2:]...), 1, receipt.Path},
+		"no-leaf trailing":             {append(bytes.Clone(receipt.Leaf), 0), 1, receipt.Path},
+		"no-leaf empty-vector":         {leaf(""), 1, receipt.Path},
+		"no-leaf bad-entry-type":       {append(append(bytes.Clone(receipt.Leaf[:10]), 0, 9), receipt.Leaf[12:]...), 1, receipt.Path},
+		"not-there index-out-of-range": {receipt.Leaf, 5, receipt.Path},
+		"not-there path-too-long":      {receipt.Leaf, 1, append(l.receipt(t, 1, 5).Path, [32]byte{})},
+		"not-there path-too-short":     {receipt.Leaf, 1, receipt.Path[:1]},
+		"not-there root-mismatch":      {receipt.Leaf, 0, receipt.Path},
+	} {
+		signed, err := g.SignTimestamps(ctx, []Receipt{receipt, of})
+		var refusal Refusal
+		if !errors.As(err, &refusal) || refusal.Name+" "+refusal.Fault != fault || signed != nil || kept(t, g) != before {
+			t.Errorf("%s: %v, and %s stands", fault, err, kept(t, g))
+		}
+	}
+}
+
+// TestAnswersOfTheGuard: each answer of the guard is an error, whose kind is by its code. An answer that is no refusal is none.
+func TestAnswersOfTheGuard(t *testing.T) {
+	t.Parallel()
+	for code, kind := range map[wagtenib.Code]error{wagtenib.ErrState: ErrState, wagtenib.ErrTimestampTooFar: TooFar, wagtenib.ErrFork: Refusal{Name: "fork"}, wagtenib.ErrMemory: wagtenib.ErrMemory, 4000: wagtenib.Code(4000)} {
+		if err := refusedHead(code); !errors.Is(err, kind) || errors.Is(err, ErrRefused) != errors.As(kind, &Refusal{}) {
+			t.Errorf("%v: %v", code, err)
+		}
+	}
+	for code, kind := range map[wagtenib.Code]error{wagtenib.ErrState: ErrState, wagtenib.ErrLaterLeaf: Refusal{Name: "later-leaf"}, wagtenib.ErrNotFirst: wagtenib.ErrNotFirst} {
+		if err := refusedReceipt(code); !errors.Is(err, kind) || errors.Is(err, ErrRefused) != errors.As(kind, &Refusal{}) {
+			t.Errorf("%v: %v", code, err)
+		}
+	}
+	if refusedHead(nil) != nil || refusedReceipt(nil) != nil {
+		t.Error("what is approved is refused")
+	}
+}
+
+// TestTimestampsEndBetween: after a caller has left, nothing more of its timestamps is judged or signed.
+func TestTimestampsEndBetween(t *testing.T) {
+	t.Parallel()
+	l, judged := listOf(t, 4, 4), 0
+	ctx, leave := context.WithCancel(limited(t))
+	defer leave()
+	g := behind(t, newKey(t), t.TempDir())
+	_, err := g.SignHead(ctx, l.head(t, 4, 100), nil)
+	must(t, err)
+	g.test.phase = func(name string) {
+		if judged++; name != "receipt" || judged == 2 {
+			leave()
+		}
+	}
+	signed, err := g.SignTimestamps(ctx, []Receipt{l.receipt(t, 0, 4), l.receipt(t, 1, 4), l.receipt(t, 2, 4)})
+	if wants(t, err, context.Canceled); signed != nil || judged != 2 {
+		t.Errorf("%d were signed, and the guard judged %d", len(signed), judged)
+	}
+}

@@ -1,0 +1,131 @@
+package signer
+
+import (
+	"encoding/pem"
+	"errors"
+	"os"
+	"os/exec"
+	"path/filepath"
+	"strings"
+	"testing"
+
+	"wagtenib/internal/softhsm"
+)
+
+// TestToken: a key in a token signs, openssl finds its signatures right, and what isn't there is named.
+func TestToken(t *testing.T) {
+	module, pin := softhsm.Token(t)
+	behind := "?module-path=" + module + "&pin-source=file:" + pin
+	// (before any key is open: who is logged in to a token isn't asked for a PIN again)
+	wrong := filepath.Join(t.TempDir(), "pin")
+	if err := os.WriteFile(wrong, []byte("0000"), 0o600); err != nil {
+		t.Fatal(err)
+	}
+	for what, uri := range map[string]string{
+		"another key":    "pkcs11:token=log-token;object=other" + behind,
+		"another token":  "pkcs11:token=other;object=key" + behind,
+		"another module": "pkcs11:token=log-token;object=key?module-path=/nowhere.so&pin-source=" + pin,
+		"another PIN":    "pkcs11:token=log-token;object=key?module-path=" + module + "&pin-source=" + wrong,
+		"no PIN":         "pkcs11:token=log-token;object=key?module-path=" + module + "&pin-source=" + wrong + ".absent",
+		"of P-384":       "pkcs11:token=log-token;object=large" + behind,
+	} {
+		if _, err := OpenKey(uri); err == nil {
+			t.Errorf("%s: it is taken", what)
+		}
+	}
+	message := []byte("what is signed")
+	var public []byte
+	for _, of := range []string{"pkcs11:token=log-token;object=key", "pkcs11:token=log-token;id=%01", "pkcs11:token=log-token;object=key;id=%01"} {
+		key, err := OpenKey(of + behind)
+		if err != nil {
+			t.Fatalf("%s: %v", of, err)
+		}
+		defer key.Close()
+		signed, err := key.sign(message)
+		if err != nil {
+			t.Fatal(err)
+		}
+		if err := Check(key.Key(), message, signed); err != nil {
+			t.Errorf("%s: %v", of, err)
+		}
+		if public != nil && string(public) != string(key.Key()) {
+			t.Errorf("%s is another key", of)
+		}
+		public = key.Key()
+		folder := t.TempDir()
+		for name, text := range map[string][]byte{"message": message, "signature": signed[4:], "key.pem": pem.EncodeToMemory(&pem.Block{Type: "PUBLIC KEY", Bytes: public})} {
+			if err := os.WriteFile(filepath.Join(folder, name), text, 0o600); err != nil {
+				t.Fatal(err)
+			}
+		}
+		command := exec.Command("openssl", "dgst", "-sha256", "-verify", "key.pem", "-signature", "signature", "message")
+		command.Dir = folder
+		if said, err := command.CombinedOutput(); err != nil {
+			t.Errorf("%s: openssl: %s", of, said)
+		}
+	}
+	if err := os.Chmod(pin, 0o644); err != nil {
+		t.Fatal(err)
+	}
+	if _, err := OpenKey("pkcs11:token=log-token;object=key" + behind); !errors.Is(err, ErrKey) {
+		t.Errorf("a PIN that others may read: %v", err)
+	}
+}
+
+// TestTokenIsLetGo: a token is named by its serial number too; behind the last key that is closed, and behind one that wasn't found, nobody is logged in to it.
+func TestTokenIsLetGo(t *testing.T) {
+	module, pin := softhsm.Token(t)
+	said, err := exec.Command("softhsm2-util", "--show-slots").CombinedOutput()
+	must(t, err)
+	_, serial, _ := strings.Cut(string(said), "Serial number:")
+	serial = strings.TrimSpace(strings.SplitN(serial, "\n", 2)[0])
+	wrong := filepath.Join(t.TempDir(), "pin")
+	must(t, os.WriteFile(wrong, []byte("0000"), 0o600))
+	of := func(path, pin string) string {
+		return "pkcs11:" + path + "?module-path=" + module + "&pin-source=file:" + pin
+	}
+	isLetGo := func(what string) {
+		t.Helper()
+		if key, err := OpenKey(of("token=log-token;object=key", wrong)); err == nil {
+			key.Close()
+			t.Errorf("behind %s a wrong PIN opens it", what)
+		}
+	}
+	isLetGo("nothing")
+	for _, path := range []string{"token=log-token;object=key", "serial=" + serial + ";object=key", "token=log-token;serial=" + serial + ";object=key"} {
+		key, err := OpenKey(of(path, pin))
+		if err != nil {
+			t.Fatalf("%s: %v", path, err)
+		}
+		signed, err := key.sign([]byte("a message"))
+		must(t, err)
+		must(t, Check(key.Key(), []byte("a message"), signed))
+		must(t, key.Close())
+		isLetGo(path)
+	}
+	for _, path := range []string{"token=log-token;object=other", "token=log-token;object=large"} {
+		if _, err := OpenKey(of(path, pin)); !errors.Is(err, ErrKey) {
+			t.Errorf("%s: %v", path, err)
+		}
+		isLetGo(path)
+	}
+	if _, err := OpenKey(of("serial="+serial+"0;object=key", pin)); err == nil {
+		t.Error("another serial number is taken")
+	}
+}
+
+func TestTokenURIs(t *testing.T) {
+	of, err := parseToken("pkcs11:token=A%20token;serial=12;object=key;id=%00%01?module-path=/m.so&pin-source=file:/pin")
+	if err != nil || of.label != "A token" || of.serial != "12" || of.object != "key" || string(of.id) != "\x00\x01" || of.module != "/m.so" || of.pinAt != "/pin" {
+		t.Errorf("%v: %+v", err, of)
+	}
+	for _, uri := range []string{
+		"pkcs11:", "pkcs11:token=a;object=k?module-path=/m", "pkcs11:token=a;object=k?pin-source=/p", "pkcs11:token=a?module-path=/m&pin-source=/p",
+		"pkcs11:object=k?module-path=/m&pin-source=/p", "pkcs11:token=a;token=b;object=k?module-path=/m&pin-source=/p", "pkcs11:token=;object=k?module-path=/m&pin-source=/p",
+		"pkcs11:token=%zz;object=k?module-path=/m&pin-source=/p", "pkcs11:token=a;object=k?module-path=/m&pin-source=/p&pin-value=1234", "pkcs11:token=a;object=k;colour=red?module-path=/m&pin-source=/p",
+	} {
+		if _, err := parseToken(uri); !errors.Is(err, ErrKey) {
+			t.Errorf("%s: %v", uri, err)
+		}
+	}
+}

@@ -1,0 +1,183 @@
+package stores
+
+import (
+	"bufio"
+	"context"
+	"fmt"
+	"math/rand"
+	"os"
+	"os/exec"
+	"strconv"
+	"strings"
+	"testing"
+	"time"
+
+	"wagtenib/internal/trial"
+)
+
+// writer is a child process's work on a store: it makes write number i, and returns once that is acknowledged. Numbers that
+// were written before may be written again.
+type writer func(ctx context.Context, i int) error
+
+// killed is where a process is told, by its environment, what to write: KIND IMPLEMENTATION PLACE FIRST.
+const killed = "STORES_WRITER"
+
+func TestMain(m *testing.M) {
+	if words := strings.Fields(os.Getenv(killed)); len(words) == 4 {
+		fmt.Fprintln(os.Stderr, write(words))
+		os.Exit(1)
+	}
+	os.Exit(m.Run())
+}
+
+// write writes until it is killed, and tells of each write that was acknowledged.
+func write(words []string) error {
+	ctx, cancel := context.WithTimeout(context.Background(), trial.Longest)
+	defer cancel()
+	make := map[string]func(context.Context, string, string) (writer, error){"objects": objectWriter, "register": registerWriter, "places": placeWriter}
+	do, err := make[words[0]](ctx, words[1], words[2])
+	if err != nil {
+		return err
+	}
+	first, err := strconv.Atoi(words[3])
+	for i := first; err == nil; i++ {
+		if err = do(ctx, i); err == nil {
+			fmt.Println(i)
+		}
+	}
+	return err
+}
+
+func find[T any](ctx context.Context, all []implementation[T], name, place string) (store T, err error) {
+	for _, one := range all {
+		if one.name == name {
+			return one.open(ctx, place)
+		}
+	}
+	return store, fmt.Errorf("no implementation %s", name)
+}
+
+func objectName(i int) string { return fmt.Sprintf("written/%02d/%03d/%d", i/1000, i/20, i) }
+
+// objectContent is of some bytes to some hundred thousand.
+func objectContent(i int) []byte {
+	return []byte(strings.Repeat(fmt.Sprintf("%d;", i), 1+i*7919%40000))
+}
+
+func objectWriter(ctx context.Context, name, place string) (writer, error) {
+	store, err := find(ctx, objectStores, name, place)
+	return func(ctx context.Context, i int) error { return store.Put(ctx, objectName(i), objectContent(i)) }, err
+}
+
+func registerWriter(ctx context.Context, name, place string) (writer, error) {
+	store, err := find(ctx, registers, name, place)
+	return func(ctx context.Context, i int) error {
+		old, err := store.Read(ctx)
+		if err != nil {
+			return err
+		}
+		if err := store.Swap(ctx, old, fmt.Sprintf("text %d", i)); err != nil {
+			return err
+		}
+		return store.Raise(ctx, Published{uint64(i), uint64(2 * i)})
+	}, err
+}
+
+// perWrite is how many identities one write has.
+const perWrite = 7
+
+func placeWriter(ctx context.Context, name, place string) (writer, error) {
+	store, err := find(ctx, placeStores, name, place)
+	return func(ctx context.Context, i int) error {
+		_, all, _ := someOf(perWrite*i, perWrite*(i+1))
+		return store.Add(ctx, all)
+	}, err
+}
+
+// killing starts a writer from a number on, kills it (-9) at a moment of chance behind one of its first acknowledged writes, and
+// gives the last number that it told.
+func killing(t *testing.T, kind, name, place string, first int) (last int) {
+	t.Helper()
+	program, err := os.Executable()
+	must(t, err)
+	child := exec.Command(program)
+	child.Env = append(os.Environ(), fmt.Sprintf("%s=%s %s %s %d", killed, kind, name, place, first))
+	child.Stderr = os.Stderr
+	output, err := child.StdoutPipe()
+	must(t, err)
+	must(t, child.Start())
+	last = first - 1
+	from := first + rand.Intn(5)
+	for lines := bufio.NewScanner(output); lines.Scan(); {
+		last, err = strconv.Atoi(lines.Text())
+		must(t, err)
+		if last == from {
+			time.AfterFunc(time.Duration(rand.Int63n(int64(40*time.Millisecond))), func() { child.Process.Kill() })
+		}
+	}
+	if err := child.Wait(); err == nil || !strings.Contains(err.Error(), "killed") {
+		t.Fatalf("the writer wasn't killed: %v", err)
+	}
+	return last
+}
+
+const kills = 8
+
+func TestObjectsOutliveKills(t *testing.T) {
+	eachOf(t, objectStores, func(t *testing.T, at tried[Objects]) {
+		if at.inMemory {
+			t.Skip("what it keeps ends with the process")
+		}
+		at.opened(t)
+		ctx, last := limited(t), 0
+		for kill := 0; kill < kills; kill++ {
+			last = killing(t, "objects", at.name, at.place, last+1)
+			store := at.opened(t)
+			for i := 1; i <= last+1; i++ {
+				got, err := store.Get(ctx, objectName(i), manyBytes)
+				// The one that it was at isn't there, or it is there as a whole.
+				if i <= last && err != nil || err == nil && string(got) != string(objectContent(i)) {
+					t.Fatalf("of %d writes that were acknowledged, number %d has %d bytes, %v", last, i, len(got), err)
+				}
+			}
+		}
+		t.Logf("%s: %d writes, %d kills", at.name, last, kills)
+	})
+}
+
+func TestRegisterOutlivesKills(t *testing.T) {
+	eachOf(t, registers, func(t *testing.T, at tried[Register]) {
+		ctx, last := limited(t), 0
+		must(t, at.opened(t).Create(ctx, "text 0"))
+		for kill := 0; kill < kills; kill++ {
+			last = killing(t, "register", at.name, at.place, last+1)
+			register := at.opened(t)
+			text, err := register.Read(ctx)
+			if stands := number(text); err != nil || stands != last && stands != last+1 {
+				t.Fatalf("%q stands, %v, and %d was acknowledged", text, err, last)
+			}
+			published, err := register.Published(ctx)
+			if n := published.Size; err != nil || n != uint64(last) && n != uint64(last)+1 || published.Moment != 2*n {
+				t.Fatalf("%v is published, %v, and %d was acknowledged", published, err, last)
+			}
+		}
+		t.Logf("%s: %d swaps and raises, %d kills", at.name, last, kills)
+	})
+}
+
+func TestPlacesOutliveKills(t *testing.T) {
+	eachOf(t, placeStores, func(t *testing.T, at tried[Places]) {
+		at.opened(t)
+		last := 0
+		for kill := 0; kill < kills; kill++ {
+			last = killing(t, "places", at.name, at.place, last+1)
+			store := at.opened(t)
+			must(t, parts(perWrite*last, MostPlaces, func(from, to int) error {
+				asked, _, want := someOf(perWrite+from, perWrite+to)
+				finds(t, store, asked, want)
+				return nil
+			}))
+		}
+		t.Logf("%s: %d places, %d kills", at.name, perWrite*last, kills)
+	})
+}

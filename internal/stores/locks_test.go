@@ -1,0 +1,103 @@
+package stores
+
+import (
+	"errors"
+	"os"
+	"os/exec"
+	"path/filepath"
+	"strings"
+	"testing"
+
+	"wagtenib/internal/trial"
+)
+
+// failingLocks is a library in C whose fcntl fails to unlock while a file is there: a file system of a network does, whose server is gone for a second.
+const failingLocks = `
+#define _GNU_SOURCE
+#include <dlfcn.h>
+#include <errno.h>
+#include <fcntl.h>
+#include <stdarg.h>
+#include <stdlib.h>
+#include <unistd.h>
+
+static int fails(int command, void *argument) {
+	const char *while_there = getenv("LOCKS_FAIL");
+	return command == F_SETLK && while_there && access(while_there, F_OK) == 0 && ((struct flock *)argument)->l_type == F_UNLCK;
+}
+
+#define WRAPPED(name) \
+int name(int file, int command, ...) { \
+	static int (*next)(int, int, ...); \
+	va_list more; \
+	va_start(more, command); \
+	void *argument = va_arg(more, void *); \
+	va_end(more); \
+	if (!next) next = (int (*)(int, int, ...))dlsym(RTLD_NEXT, #name); \
+	if (fails(command, argument)) { errno = ENOLCK; return -1; } \
+	return next(file, command, argument); \
+}
+WRAPPED(fcntl)
+WRAPPED(fcntl64)
+`
+
+// The child's words: the file of the database, and the one while which locks fail.
+const (
+	lockedKey = "LOCKED_DATABASE"
+	failKey   = "LOCKS_FAIL"
+)
+
+// TestLocksThatFailForAWhile has the file system's locks fail for a while, and then work again: the dedup index must work again, too, without a new process.
+func TestLocksThatFailForAWhile(t *testing.T) {
+	if os.Getenv(lockedKey) != "" {
+		beLocked(t)
+		return
+	}
+	compiler, err := exec.LookPath("gcc")
+	if err != nil {
+		t.Skip("for want of gcc")
+	}
+	folder := t.TempDir()
+	source, library := filepath.Join(folder, "locks.c"), filepath.Join(folder, "locks.so")
+	trial.Must(t, os.WriteFile(source, []byte(failingLocks), 0o600))
+	if said, err := exec.Command(compiler, "-shared", "-fPIC", "-o", library, source, "-ldl").CombinedOutput(); err != nil {
+		t.Fatalf("%v: %s", err, said)
+	}
+	child := exec.Command(os.Args[0], "-test.run=^TestLocksThatFailForAWhile$", "-test.v", "-test.timeout=10m")
+	child.Env = append(os.Environ(), "LD_PRELOAD="+library, lockedKey+"="+filepath.Join(folder, "places.db"), failKey+"="+filepath.Join(folder, "fails"))
+	said, err := child.CombinedOutput()
+	if err != nil || !strings.Contains(string(said), "a lock failed") {
+		t.Errorf("%v: %s", err, said)
+	}
+}
+
+// beLocked is the child.
+func beLocked(t *testing.T) {
+	ctx := limited(t)
+	one, err := OpenSQLite(ctx, os.Getenv(lockedKey))
+	trial.Must(t, err)
+	defer one.Close()
+	placed := func(i byte) []Placed {
+		return []Placed{{Identity: Identity{i}, Place: Place{Index: uint64(i), Timestamp: 7}}}
+	}
+	trial.Must(t, one.Add(ctx, placed(1)))
+	trial.Must(t, os.WriteFile(os.Getenv(failKey), nil, 0o600))
+	failed := false
+	for i := byte(2); i < 20; i++ {
+		err := one.Add(ctx, placed(i))
+		_, unread := one.Find(ctx, []Identity{{1}})
+		failed = failed || err != nil || unread != nil
+	}
+	if failed {
+		t.Log("a lock failed")
+	}
+	trial.Must(t, os.Remove(os.Getenv(failKey)))
+	for i := byte(20); i < 40; i++ {
+		trial.Must(t, one.Add(ctx, placed(i)))
+		found, err := one.Find(ctx, []Identity{{1}, {i}})
+		if err == nil && len(found) != 2 {
+			err = errors.New("a place is missing")
+		}
+		trial.Must(t, err)
+	}
+}

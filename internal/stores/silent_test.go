@@ -1,0 +1,85 @@
+package stores
+
+import (
+	"context"
+	"os"
+	"os/exec"
+	"testing"
+	"time"
+
+	"wagtenib/internal/trial"
+)
+
+// pause is the command that stops an engine's process (SIGSTOP) for some seconds, as tests/engines.sh tells it.
+var pause = os.Getenv("STORES_PAUSE")
+
+// paused is how long an engine is stopped.
+const paused = "4"
+
+// stop stops an engine, makes calls of a second until one fails, and gives that one's error; nil where the engine went on before.
+func stop(t *testing.T, engine string, call func(ctx context.Context) error) (err error) {
+	t.Helper()
+	all := processes[engine]
+	command := exec.Command("sh", "-c", pause+" "+all[len(all)-1]+" "+paused)
+	command.Stderr = os.Stderr
+	must(t, command.Start())
+	ended := make(chan error, 1)
+	go func() { ended <- command.Wait() }()
+	for err == nil && len(ended) == 0 {
+		ctx, cancel := context.WithTimeout(context.Background(), time.Second)
+		err = call(ctx)
+		cancel()
+	}
+	goesOn := len(ended) > 0
+	must(t, <-ended)
+	if goesOn {
+		return nil
+	}
+	return err
+}
+
+// whilePaused makes a call of a second on an engine that is stopped: it ends with its context, before the engine goes on, and says so. Once that goes
+// on, the call is made again until it is done.
+func whilePaused(t *testing.T, engine string, call func(ctx context.Context) error) {
+	t.Helper()
+	must(t, call(limited(t)))
+	// (on a machine that has much else to do none may begin, or be heard of, in that time)
+	for all := limited(t); stop(t, engine, call) == nil; {
+		if all.Err() != nil {
+			t.Fatalf("%s: no call on a silent engine fails before it goes on", engine)
+		}
+	}
+	start := time.Now()
+	for {
+		short, cancel := context.WithTimeout(limited(t), 5*time.Second)
+		err := call(short)
+		cancel()
+		if err == nil {
+			return
+		}
+		if time.Since(start) > trial.Longest {
+			t.Fatalf("%s: it goes on, and the call doesn't: %v", engine, err)
+		}
+	}
+}
+
+func TestSilentEngines(t *testing.T) {
+	inTurn(t, registers, func(t *testing.T, at tried[Register]) {
+		register := at.opened(t)
+		must(t, register.Create(limited(t), "text"))
+		whilePaused(t, at.name, func(ctx context.Context) error { return register.Raise(ctx, Published{Size: 5}) })
+		whilePaused(t, at.name, func(ctx context.Context) error { return register.Swap(ctx, "text", "other text") })
+		whilePaused(t, at.name, func(ctx context.Context) error { _, err := register.Read(ctx); return err })
+	})
+	inTurn(t, identityStores, func(t *testing.T, at tried[Places]) {
+		store := at.opened(t)
+		whilePaused(t, at.name, func(ctx context.Context) error { return store.Add(ctx, []Placed{placed(1)}) })
+		whilePaused(t, at.name, func(ctx context.Context) error { _, err := store.Find(ctx, []Identity{identity(1)}); return err })
+	})
+	inTurn(t, objectStores, func(t *testing.T, at tried[Objects]) {
+		store := at.opened(t)
+		whilePaused(t, at.name, func(ctx context.Context) error { return store.Put(ctx, "a", []byte("x")) })
+		whilePaused(t, at.name, func(ctx context.Context) error { _, err := store.Get(ctx, "a", 9); return err })
+		whilePaused(t, at.name, func(ctx context.Context) error { _, err := store.List(ctx, "", "", 9); return err })
+	})
+}

@@ -1,0 +1,221 @@
+package stores
+
+import (
+	"errors"
+	"os"
+	"path/filepath"
+	"reflect"
+	"strings"
+	"sync"
+	"syscall"
+	"testing"
+	"time"
+
+	"wagtenib/internal/trial"
+)
+
+// syncs are the paths that are written to the disk while a call is made, below a root, in their order. A file that isn't named
+// yet is "file", and with " (named)" behind it where the public name stands by then.
+func syncs(t *testing.T, root, public string, call func() error) (paths []string) {
+	t.Helper()
+	var mu sync.Mutex
+	fsync = func(file *os.File) error {
+		mu.Lock()
+		defer mu.Unlock()
+		path, err := filepath.Rel(root, file.Name())
+		must(t, err)
+		if strings.HasPrefix(path, temporary+"/") {
+			path = "file"
+		}
+		if _, err := os.Stat(filepath.Join(root, public)); err == nil {
+			path += " (named)"
+		}
+		paths = append(paths, path)
+		return file.Sync()
+	}
+	defer func() { fsync = (*os.File).Sync }()
+	must(t, call())
+	return paths
+}
+
+func syncedAs(t *testing.T, what string, got, want []string) {
+	t.Helper()
+	if !reflect.DeepEqual(got, want) {
+		t.Errorf("%s: synced %q, and %q should be", what, got, want)
+	}
+}
+
+// TestFolderSyncs: an object is on the disk before it has its name, and its folders with their names before Put returns.
+func TestFolderSyncs(t *testing.T) {
+	root, ctx := t.TempDir(), limited(t)
+	store, err := OpenFolder(root)
+	must(t, err)
+	put := func(name string) []string {
+		return syncs(t, root, name, func() error { return store.Put(ctx, name, []byte("x")) })
+	}
+	syncedAs(t, "an object in new folders", put("a/b/c"), []string{"file", "a/b (named)", "a (named)", ". (named)"})
+	syncedAs(t, "another one", put("a/b/d"), []string{"file", "a/b (named)"})
+	// Who put it first may have been killed before it was on the disk.
+	syncedAs(t, "the same once more", put("a/b/c"), []string{"file (named)", "a/b (named)"})
+	again, err := OpenFolder(root)
+	must(t, err)
+	store = again
+	syncedAs(t, "one in folders of others", put("a/b/e"), []string{"file", "a/b (named)", "a (named)", ". (named)"})
+	syncedAs(t, "one at the top", put("f"), []string{"file", ". (named)"})
+}
+
+// TestMadeFoldersSync: folders that are made are on the disk with their names, each before the one below it; one that is there stays as it is.
+func TestMadeFoldersSync(t *testing.T) {
+	root := t.TempDir()
+	folders := func() error { return MakeFolder(filepath.Join(root, "a/b")) }
+	syncedAs(t, "new folders", syncs(t, root, "none", folders), []string{".", "a"})
+	syncedAs(t, "the same once more", syncs(t, root, "none", folders), nil)
+	must(t, os.WriteFile(filepath.Join(root, "file"), nil, 0o600))
+	if err := MakeFolder(filepath.Join(root, "file/b")); err == nil {
+		t.Error("a folder is made below a file")
+	}
+}
+
+// TestFileSyncs: a text is on the disk before it has its name, and the folder before Swap and Read return.
+func TestFileSyncs(t *testing.T) {
+	root, ctx := t.TempDir(), limited(t)
+	register, err := OpenFile(root)
+	must(t, err)
+	got := syncs(t, root, textFile, func() error { return register.Create(ctx, "a") })
+	syncedAs(t, "Create", got, []string{"file", ".", "file", ". (named)"})
+	read := func() error { _, err := register.Read(ctx); return err }
+	syncedAs(t, "Read", syncs(t, root, "none", read), []string{"."})
+	// (what this process knows to be on the disk is synced once)
+	syncedAs(t, "Read of the same", syncs(t, root, "none", read), nil)
+	swap := func() error { return register.Swap(ctx, "a", "b") }
+	syncedAs(t, "Swap", syncs(t, root, "none", swap), []string{"file", "."})
+	syncedAs(t, "the same Swap", syncs(t, root, "none", swap), nil)
+	syncedAs(t, "Read of what was swapped", syncs(t, root, "none", read), nil)
+	raise := func() error { return register.Raise(ctx, Published{Size: 5}) }
+	syncedAs(t, "Raise", syncs(t, root, "none", raise), []string{"file", "."})
+	same := func() error { return register.Raise(ctx, Published{5, 1}) }
+	syncedAs(t, "Raise of one size", syncs(t, root, "none", same), []string{"file", "."})
+	published := func() error { _, err := register.Published(ctx); return err }
+	syncedAs(t, "Published", syncs(t, root, "none", published), nil)
+	// What another process set may not be on the disk, whoever was killed behind that.
+	other, err := OpenFile(root)
+	must(t, err)
+	register = other
+	syncedAs(t, "Published by another process", syncs(t, root, "none", published), []string{"."})
+	syncedAs(t, "the same Raise", syncs(t, root, "none", same), nil)
+	syncedAs(t, "Read by another process", syncs(t, root, "none", read), []string{"."})
+	third, err := OpenFile(root)
+	must(t, err)
+	register = third
+	syncedAs(t, "the same Swap by another process", syncs(t, root, "none", swap), []string{"."})
+	syncedAs(t, "the same Raise by another process", syncs(t, root, "none", same), []string{"."})
+}
+
+// TestFailedSyncs: where the disk doesn't take it, nothing is acknowledged; a swap is unknown once the text has its name.
+func TestFailedSyncs(t *testing.T) {
+	fault := errors.New("the disk is broken")
+	broken := func(folders bool) {
+		fsync = func(file *os.File) error {
+			if info, err := file.Stat(); err != nil || info.IsDir() == folders {
+				return fault
+			}
+			return file.Sync()
+		}
+	}
+	defer func() { fsync = (*os.File).Sync }()
+	root, ctx := t.TempDir(), limited(t)
+	store, err := OpenFolder(filepath.Join(root, "objects"))
+	must(t, err)
+	register, err := OpenFile(filepath.Join(root, "register"))
+	must(t, err)
+	must(t, register.Create(ctx, "a"))
+	for _, folders := range []bool{false, true} {
+		broken(folders)
+		if err := store.Put(ctx, "x", nil); !errors.Is(err, fault) {
+			t.Errorf("Put, folders %t: %v", folders, err)
+		}
+	}
+	broken(false)
+	if err := register.Swap(ctx, "a", "b"); !errors.Is(err, fault) || errors.Is(err, ErrUnknown) {
+		t.Errorf("Swap on a disk that takes no file: %v", err)
+	}
+	fsync = (*os.File).Sync
+	standsAs(t, register, "a", 0)
+	calls := 0
+	fsync = func(file *os.File) error {
+		if calls++; calls == 2 { // that of the folder, behind the file's
+			return fault
+		}
+		return file.Sync()
+	}
+	if err := register.Swap(ctx, "a", "b"); !errors.Is(err, ErrUnknown) {
+		t.Errorf("Swap on a disk that doesn't take its name: %v", err)
+	}
+	fsync = (*os.File).Sync
+	standsAs(t, register, "b", 0)
+}
+
+// TestKeptFile: a file that is kept has its content, or the one before; it is on the disk before it has its name, and the folder before
+// KeepFile returns. What a killed writer left goes.
+func TestKeptFile(t *testing.T) {
+	root := t.TempDir()
+	path := filepath.Join(root, "kept")
+	has := func(want string) {
+		t.Helper()
+		if content, err := KeptFile(path); err != nil || string(content) != want {
+			t.Errorf("%q, %v", content, err)
+		}
+	}
+	if _, err := KeptFile(path); !errors.Is(err, ErrAbsent) {
+		t.Errorf("none: %v", err)
+	}
+	left, writes := path+halfKept+"1", path+halfKept+"2"
+	must(t, os.WriteFile(left, nil, 0o600))
+	must(t, os.WriteFile(writes, nil, 0o600))
+	must(t, os.Chtimes(left, time.Now(), time.Now().Add(-2*abandoned)))
+	var isNamed []bool
+	fsync = func(file *os.File) error {
+		_, err := os.Stat(path)
+		isNamed = append(isNamed, err == nil)
+		return file.Sync()
+	}
+	defer func() { fsync = (*os.File).Sync }()
+	must(t, KeepFile(path, []byte("a")))
+	if !reflect.DeepEqual(isNamed, []bool{false, true}) {
+		t.Errorf("synced with the name there: %v", isNamed)
+	}
+	has("a")
+	fault := errors.New("the disk is broken")
+	fsync = func(*os.File) error { return fault }
+	if err := KeepFile(path, []byte("b")); !errors.Is(err, fault) {
+		t.Errorf("%v", err)
+	}
+	has("a")
+	if err := KeepFile(path, make([]byte, MostKept+1)); !errors.Is(err, ErrTooLong) {
+		t.Errorf("%v", err)
+	}
+	if names, err := filepath.Glob(path + "*"); err != nil || !reflect.DeepEqual(names, []string{path, writes}) {
+		t.Errorf("%v, %v", names, err)
+	}
+}
+
+// TestFileThatIsCutShort: where the disk takes half of a content, the one before stays, and nothing is left of the half. Who may read it is as before.
+func TestFileThatIsCutShort(t *testing.T) {
+	path := filepath.Join(t.TempDir(), "kept")
+	for mode, keep := range map[os.FileMode]func(string, []byte) error{0o600: KeepFile, 0o644: ShowFile} {
+		must(t, keep(path, []byte("before")))
+		err := trial.ShortFiles(t, 100, func() error { return keep(path, make([]byte, 200)) })
+		if !errors.Is(err, syscall.EFBIG) {
+			t.Errorf("%v: %v", mode, err)
+		}
+		if content, err := KeptFile(path); err != nil || string(content) != "before" {
+			t.Errorf("%v: %q, %v", mode, content, err)
+		}
+		info, err := os.Stat(path)
+		must(t, err)
+		if names, err := filepath.Glob(path + "*"); err != nil || len(names) != 1 || info.Mode() != mode {
+			t.Errorf("%v: %v, and %v, %v", mode, info.Mode(), names, err)
+		}
+	}
+	must(t, ShowFile(path, make([]byte, MostKept+1)))
+}

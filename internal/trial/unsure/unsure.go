@@ -1,0 +1,42 @@
+// Package unsure has a register that doesn't know what became of some of its swaps, for the tests of who stands over one.
+package unsure
+
+import (
+	"context"
+	"fmt"
+
+	"wagtenib/internal/stores"
+)
+
+// Register doesn't know the outcome of two swaps of each Every, which is at least three: of one that it didn't, and of one that it did. While Fails is an
+// error it does nothing, and answers that.
+type Register struct {
+	stores.Register
+	Every int
+	Fails error
+	swaps int
+}
+
+func (r *Register) Create(ctx context.Context, text string) error {
+	if r.Fails != nil {
+		return r.Fails
+	}
+	return r.Register.Create(ctx, text)
+}
+
+func (r *Register) Swap(ctx context.Context, old, new string) error {
+	r.swaps++
+	if r.Fails != nil {
+		return r.Fails
+	}
+	switch r.swaps % r.Every {
+	case 1:
+		return fmt.Errorf("%w: it wasn't done", stores.ErrUnknown)
+	case 2:
+		if err := r.Register.Swap(ctx, old, new); err != nil {
+			return err
+		}
+		return fmt.Errorf("%w: it was done", stores.ErrUnknown)
+	}
+	return r.Register.Swap(ctx, old, new)
+}

@@ -1,0 +1,30 @@
+// Package version says what was built: the version of VERSION, and the commit that it was built from.
+package version
+
+import "fmt"
+
+// number and commit are set by cmd/build.sh (go build -ldflags "-X ..").
+var number, commit string
+
+// Number is the version, as 0.1.0; "unreleased" where the build wasn't told.
+func Number() string { return or(number, "unreleased") }
+
+// Commit is the commit's first 12 digits, with + behind it where files differed from it; "unknown" where the build wasn't told.
+func Commit() string { return or(commit, "unknown") }
+
+// Line is what a program answers to --version.
+func Line(program string) string {
+	return fmt.Sprintf("%s %s (commit %s)\n", program, Number(), Commit())
+}
+
+// Asked says whether a command line asks for the version, and for nothing else.
+func Asked(words []string) bool {
+	return len(words) == 1 && (words[0] == "--version" || words[0] == "-version" || words[0] == "-V")
+}
+
+func or(text, other string) string {
+	if text == "" {
+		return other
+	}
+	return text
+}

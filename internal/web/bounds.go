@@ -1,0 +1,298 @@
+package web
+
+import (
+	"container/list"
+	"context"
+	"fmt"
+	"net"
+	"net/http"
+	"net/netip"
+	"sync"
+	"sync/atomic"
+
+	"wagtenib/internal/log"
+)
+
+// budget counts bytes up to a bound.
+type budget struct {
+	most int64
+	used atomic.Int64
+}
+
+func (b *budget) take(bytes int64) bool {
+	if b.used.Add(bytes) > b.most {
+		b.used.Add(-bytes)
+		return false
+	}
+	return true
+}
+
+func (b *budget) give(bytes int64) { b.used.Add(-bytes) }
+
+// held are the bytes of objects that one request has read and not yet answered, which count among those of all and of its client. A nil
+// one counts nothing.
+type held struct {
+	of       *budget
+	ofClient *counts
+	client   netip.Addr
+	bytes    int64
+}
+
+// heldKey is where a request's context has them.
+type heldKey struct{}
+
+func heldIn(ctx context.Context) *held {
+	h, _ := ctx.Value(heldKey{}).(*held)
+	return h
+}
+
+// change takes so many more, or refuses to, or gives back where that is below 0.
+func (h *held) change(bytes int64) error {
+	if h == nil {
+		return nil
+	}
+	if bytes <= 0 {
+		h.of.give(-bytes)
+		h.ofClient.giveSome(h.client, int(-bytes))
+	} else if !h.ofClient.takeSome(h.client, int(bytes)) {
+		return refusal{status: http.StatusTooManyRequests, name: "too-many-bytes", after: 1}
+	} else if !h.of.take(bytes) {
+		h.ofClient.giveSome(h.client, int(bytes))
+		return fmt.Errorf("%w: answers have %d bytes", log.ErrBusy, h.of.used.Load())
+	}
+	h.bytes += bytes
+	return nil
+}
+
+// giveAll gives back all that it took.
+func (h *held) giveAll() { _ = h.change(-h.bytes) }
+
+// Submitter is who has a bound of its own: all addresses of a prefix together have so many connections, or requests behind a proxy, at once.
+type Submitter struct {
+	Prefix netip.Prefix
+	Most   int
+}
+
+// counts counts by address, up to a bound for each. An address of IPv6 counts with its /64, which one customer has, and one of a submitter with
+// all of the submitter's.
+type counts struct {
+	most       int
+	submitters []Submitter
+	mutex      sync.Mutex
+	of         map[netip.Prefix]int
+}
+
+func (c *counts) take(address netip.Addr) bool { return c.takeSome(address, 1) }
+
+func (c *counts) takeSome(address netip.Addr, some int) bool {
+	group, most := c.groupOf(address)
+	c.mutex.Lock()
+	defer c.mutex.Unlock()
+	if c.of[group]+some > most {
+		return false
+	}
+	if c.of == nil {
+		c.of = map[netip.Prefix]int{}
+	}
+	c.of[group] += some
+	return true
+}
+
+func (c *counts) give(address netip.Addr) { c.giveSome(address, 1) }
+
+func (c *counts) giveSome(address netip.Addr, some int) {
+	if some == 0 {
+		return
+	}
+	group, _ := c.groupOf(address)
+	c.mutex.Lock()
+	defer c.mutex.Unlock()
+	if c.of[group] -= some; c.of[group] <= 0 {
+		delete(c.of, group)
+	}
+}
+
+// groupOf gives what an address counts with, and the bound of that.
+func (c *counts) groupOf(address netip.Addr) (group netip.Prefix, most int) {
+	if of, is := submitterOf(address, c.submitters); is {
+		return of.Prefix, of.Most
+	}
+	return groupOf(address), c.most
+}
+
+// groupOf gives the addresses that count as one with an address. What is no address is a group of its own, too.
+func groupOf(address netip.Addr) netip.Prefix {
+	bits := address.BitLen()
+	if address.Is6() {
+		bits = 64
+	}
+	return netip.PrefixFrom(address.WithZone(""), bits).Masked()
+}
+
+// submitterOf gives whose an address is: of those whose prefixes have it the one with the smallest.
+func submitterOf(address netip.Addr, among []Submitter) (found Submitter, is bool) {
+	for _, of := range among {
+		if of.Prefix.Contains(address) && (!is || of.Prefix.Bits() > found.Prefix.Bits()) {
+			found, is = of, true
+		}
+	}
+	return found, is
+}
+
+// addressOf reads an address and port. What isn't one is the zero address.
+func addressOf(text string) netip.Addr {
+	pair, err := netip.ParseAddrPort(text)
+	if err != nil {
+		return netip.Addr{}
+	}
+	return pair.Addr().Unmap().WithZone("")
+}
+
+// connections counts those that are open, and has those on which nothing is asked.
+type connections struct {
+	open      atomic.Int64
+	byAddress counts
+	mutex     sync.Mutex
+	// idle has them in the order in which they came to be so, and at where each stands there.
+	idle list.List
+	at   map[*open]*list.Element
+}
+
+// isIdle notes whether nothing is asked on a connection.
+func (c *connections) isIdle(connection *open, idle bool) {
+	c.mutex.Lock()
+	defer c.mutex.Unlock()
+	c.remove(connection)
+	if !idle || connection.isClosed {
+		return
+	}
+	if c.at == nil {
+		c.at = map[*open]*list.Element{}
+	}
+	c.at[connection] = c.idle.PushBack(connection)
+}
+
+// leave notes that a connection is closed.
+func (c *connections) leave(connection *open) {
+	c.mutex.Lock()
+	defer c.mutex.Unlock()
+	c.remove(connection)
+	connection.isClosed = true
+}
+
+// remove is called with the lock.
+func (c *connections) remove(connection *open) {
+	if at, there := c.at[connection]; there {
+		c.idle.Remove(at)
+		delete(c.at, connection)
+	}
+}
+
+// waiting is on how many connections nothing is asked.
+func (c *connections) waiting() int {
+	c.mutex.Lock()
+	defer c.mutex.Unlock()
+	return c.idle.Len()
+}
+
+// closeIdle closes the connection on which nothing was asked for the longest, and reports whether there was one. The lock is held until it is closed: another
+// request on it must not be taken in between.
+func (c *connections) closeIdle() bool {
+	c.mutex.Lock()
+	first := c.idle.Front()
+	if first == nil {
+		c.mutex.Unlock()
+		return false
+	}
+	connection := first.Value.(*open)
+	c.remove(connection)
+	_ = connection.Conn.Close()
+	c.mutex.Unlock()
+	connection.Close()
+	return true
+}
+
+// bounded is a listener that closes what comes above the bounds of a front. Those of a proxy count altogether alone.
+type bounded struct {
+	net.Listener
+	front *Front
+}
+
+func (l bounded) Accept() (net.Conn, error) {
+	for {
+		connection, err := l.Listener.Accept()
+		if err != nil {
+			return nil, err
+		}
+		if taken := l.front.takeConnection(connection); taken != nil {
+			return taken, nil
+		}
+		connection.Close()
+	}
+}
+
+func (f *Front) takeConnection(connection net.Conn) net.Conn {
+	address := addressOf(connection.RemoteAddr().String())
+	counted := !f.isProxy(address)
+	if counted && !f.connections.byAddress.take(address) {
+		f.metrics.refused.WithLabelValues("address").Inc()
+		return nil
+	}
+	for f.connections.open.Add(1) > int64(f.limits.Connections) {
+		f.connections.open.Add(-1)
+		if !f.connections.closeIdle() {
+			if counted {
+				f.connections.byAddress.give(address)
+			}
+			f.metrics.refused.WithLabelValues("all").Inc()
+			return nil
+		}
+		f.metrics.closedIdle.Inc()
+	}
+	taken := &open{Conn: connection, isClient: true}
+	taken.closed = func() {
+		f.connections.leave(taken)
+		f.connections.open.Add(-1)
+		if counted {
+			f.connections.byAddress.give(address)
+		}
+	}
+	f.connections.isIdle(taken, true)
+	return taken
+}
+
+// open is a connection that counts.
+type open struct {
+	net.Conn
+	once   sync.Once
+	closed func()
+	// isClient says that it is closed where there are too many and nothing is asked on it, and isClosed that it was.
+	isClient, isClosed bool
+}
+
+// Close gives the place back first: who sees that its connection is closed, and makes another one at once, isn't refused for its sake.
+func (o *open) Close() error {
+	o.once.Do(o.closed)
+	return o.Conn.Close()
+}
+
+// few is a listener that closes what comes above the room of a channel.
+type few struct {
+	net.Listener
+	room chan struct{}
+}
+
+func (l few) Accept() (net.Conn, error) {
+	for {
+		connection, err := l.Listener.Accept()
+		if err != nil {
+			return nil, err
+		}
+		select {
+		case l.room <- struct{}{}:
+			return &open{Conn: connection, closed: func() { <-l.room }}, nil
+		default:
+			connection.Close()
+		}
+	}
+}

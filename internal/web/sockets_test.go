@@ -1,0 +1,715 @@
+package web
+
+import (
+	"bufio"
+	"bytes"
+	"context"
+	"crypto/tls"
+	"encoding/pem"
+	"errors"
+	"fmt"
+	"io"
+	"net"
+	"net/http"
+	"net/http/httptest"
+	"net/netip"
+	"os"
+	"strings"
+	"syscall"
+	"testing"
+	"time"
+
+	"wagtenib/internal/trial"
+	"wagtenib/internal/web/standin"
+)
+
+// listening serves a front on loopback, and gives its address and how it is ended.
+func (f *fixture) listening(over *tls.Config) (address string, server *Server) {
+	f.t.Helper()
+	server = f.front.Serve(f.front)
+	return f.listeningBy(server, over), server
+}
+
+// listeningBy has a server listen, and gives where.
+func (f *fixture) listeningBy(server *Server, over *tls.Config) (address string) {
+	f.t.Helper()
+	listener, err := net.Listen("tcp", "127.0.0.1:0")
+	if err != nil {
+		f.t.Fatal(err)
+	}
+	done := make(chan error, 1)
+	go func() { done <- server.Listen(listener, over) }()
+	f.t.Cleanup(func() {
+		ctx, cancel := context.WithTimeout(context.Background(), 5*time.Second)
+		defer cancel()
+		server.End(ctx)
+		if err := <-done; err != nil {
+			f.t.Errorf("the server ended by %v", err)
+		}
+	})
+	return listener.Addr().String()
+}
+
+func dial(t testing.TB, address string) net.Conn {
+	t.Helper()
+	connection, err := net.Dial("tcp", address)
+	if err != nil {
+		t.Fatal(err)
+	}
+	connection.SetDeadline(time.Now().Add(trial.Longest))
+	t.Cleanup(func() { connection.Close() })
+	return connection
+}
+
+// said sends bytes on a connection of their own, and gives the statuses of all answers until the other side closes.
+func said(t testing.TB, address, text string) (statuses []int) {
+	t.Helper()
+	connection := dial(t, address)
+	if _, err := connection.Write([]byte(text)); err != nil {
+		t.Fatal(err)
+	}
+	// (who says that it closes behind an answer waits for it: to the server one that says nothing more may have gone)
+	if !strings.Contains(text, "Connection: close\r\n") {
+		connection.(*net.TCPConn).CloseWrite()
+	}
+	return answersOn(t, connection)
+}
+
+func answersOn(t testing.TB, connection net.Conn) (statuses []int) {
+	t.Helper()
+	reader := bufio.NewReader(connection)
+	for {
+		if _, err := reader.Peek(1); err != nil {
+			var late net.Error
+			if errors.As(err, &late) && late.Timeout() {
+				t.Errorf("after %v the other side waits", statuses)
+			}
+			return statuses
+		}
+		answer, err := http.ReadResponse(reader, nil)
+		if err != nil {
+			t.Errorf("after %v: %v", statuses, err)
+			return statuses
+		}
+		// Where the other side closes before it read all that came, the end of its answer may be lost.
+		if _, err := io.Copy(io.Discard, answer.Body); err != nil && !errors.Is(err, syscall.ECONNRESET) {
+			t.Errorf("an answer breaks off: %v", err)
+		}
+		statuses = append(statuses, answer.StatusCode)
+	}
+}
+
+// closed says whether the other side closed without a word, and doesn't only say nothing.
+func closed(t testing.TB, what string, from io.Reader) {
+	t.Helper()
+	n, err := from.Read(make([]byte, 1))
+	var late net.Error
+	if n != 0 || err == nil || errors.As(err, &late) && late.Timeout() {
+		t.Errorf("%s: %d bytes, %v, and not closed", what, n, err)
+	}
+}
+
+// One request or none comes of each of these, and what stands where a second one might be hidden is never answered.
+func TestUnclearRequests(t *testing.T) {
+	f := newFixture(t, 10*time.Millisecond, nil)
+	address, _ := f.listening(nil)
+	const hidden = "GET /healthz HTTP/1.1\r\nHost: hidden\r\n\r\n"
+	get := "GET /healthz HTTP/1.1\r\nHost: log\r\n"
+	post := "POST /ct/v1/add-chain HTTP/1.1\r\nHost: log\r\n"
+	for _, test := range []struct {
+		what, text string
+		statuses   []int
+	}{
+		{"two requests one behind the other", get + "\r\n" + get + "\r\n", []int{200, 200}},
+		{"a GET with a body", get + fmt.Sprintf("Content-Length: %d\r\n\r\n", len(hidden)) + hidden, []int{400}},
+		{"a GET with a body in chunks", get + "Transfer-Encoding: chunked\r\n\r\n0\r\n\r\n" + hidden, []int{411}},
+		{"a length and chunks at nobody's path", fmt.Sprintf("POST /nothing HTTP/1.1\r\nHost: log\r\nContent-Length: %d\r\nTransfer-Encoding: chunked\r\n\r\n0\r\n\r\n", 5+len(hidden)) + hidden, []int{411}},
+		{"a length and chunks where one reads", fmt.Sprintf("POST /checkpoint HTTP/1.1\r\nHost: log\r\nContent-Length: %d\r\nTransfer-Encoding: chunked\r\n\r\n0\r\n\r\n", 5+len(hidden)) + hidden, []int{411}},
+		{"a length and chunks, and a question before", fmt.Sprintf("OPTIONS /checkpoint HTTP/1.1\r\nHost: log\r\nContent-Length: %d\r\nTransfer-Encoding: chunked\r\n\r\n0\r\n\r\n", 5+len(hidden)) + hidden, []int{411}},
+		{"a GET with an announced body", get + "Content-Length: 100\r\n\r\n", []int{400}},
+		{"two lengths", post + fmt.Sprintf("Content-Length: 2\r\nContent-Length: %d\r\n\r\n{}", len(hidden)+2) + hidden, []int{400}},
+		{"two lengths in one", post + "Content-Length: 2, 3\r\n\r\n{}" + hidden, []int{400}},
+		{"a length twice", post + "Content-Length: 2\r\nContent-Length: 2\r\nConnection: close\r\n\r\n{}", []int{400}},
+		{"a length and chunks", post + "Content-Length: 2\r\nTransfer-Encoding: chunked\r\n\r\n0\r\n\r\n" + hidden, []int{411}},
+		{"chunks and a length", post + "Transfer-Encoding: chunked\r\nContent-Length: 5\r\n\r\n2\r\n{}\r\n0\r\n\r\n" + hidden, []int{411}},
+		{"chunks", post + "Transfer-Encoding: chunked\r\n\r\n2\r\n{}\r\n0\r\n\r\n" + hidden, []int{411}},
+		{"chunks by another name", post + "Transfer-Encoding: xchunked\r\n\r\n2\r\n{}\r\n0\r\n\r\n" + hidden, []int{501}},
+		{"chunks twice", post + "Transfer-Encoding: chunked\r\nTransfer-Encoding: identity\r\n\r\n" + hidden, []int{501}},
+		{"chunks behind a space", post + "Transfer-Encoding : chunked\r\n\r\n0\r\n\r\n" + hidden, []int{400}},
+		{"a length with a sign", post + "Content-Length: +2\r\n\r\n{}" + hidden, []int{400}},
+		{"a negative length", post + "Content-Length: -1\r\n\r\n" + hidden, []int{400}},
+		{"a length that is a word", post + "Content-Length: two\r\n\r\n" + hidden, []int{400}},
+		{"a huge length", post + "Content-Length: 99999999999999999999\r\n\r\n" + hidden, []int{400}},
+		{"a length above the bound", post + "Content-Length: 1048577\r\n\r\n" + hidden, []int{413}},
+		{"a body that breaks off", post + "Content-Length: 100\r\n\r\n{}", []int{408}},
+		{"no length", post + "\r\n" + hidden, []int{400, 200}},
+		{"a POST where one reads", "POST /checkpoint HTTP/1.1\r\nHost: log\r\nContent-Length: 2\r\n\r\n{}" + get + "\r\n", []int{405, 200}},
+		{"no host", "GET /healthz HTTP/1.1\r\n\r\n" + hidden, []int{400}},
+		{"two hosts", get + "Host: other\r\n\r\n" + hidden, []int{400}},
+		{"no version", "GET /healthz\r\n\r\n" + hidden, []int{400}},
+		{"another version", "GET /healthz HTTP/3.0\r\nHost: log\r\n\r\n" + hidden, []int{505}},
+		{"HTTP/2 without asking", "PRI * HTTP/2.0\r\n\r\nSM\r\n\r\n", []int{404}},
+		{"a space before the first header", "GET /healthz HTTP/1.1\r\n Host: log\r\n\r\n" + hidden, []int{400}},
+		{"a zero byte", "GET /healthz HTTP/1.1\r\nHost: log\r\nX: \x00\r\n\r\n" + hidden, []int{400}},
+		{"headers above the bound", get + "X: " + strings.Repeat("x", 2*MostHeader) + "\r\n\r\n", []int{431}},
+		{"not HTTP", "\x16\x03\x01\x02\x00\x01\x00\x01\xfc\r\n\r\n", []int{400}},
+		{"nothing", "", nil},
+	} {
+		if statuses := said(t, address, test.text); fmt.Sprint(statuses) != fmt.Sprint(test.statuses) {
+			t.Errorf("%s: %v, not %v", test.what, statuses, test.statuses)
+		}
+	}
+	if size := f.log.Figures().Entries; size != 0 {
+		t.Errorf("%d entries came of it", size)
+	}
+}
+
+// Who sends or takes too slowly is cut off, and others are answered meanwhile.
+func TestSlowClients(t *testing.T) {
+	f := newFixture(t, 10*time.Millisecond, func(o *Options) {
+		o.Limits.Headers, o.Limits.Request, o.Limits.Idle = 200*time.Millisecond, 400*time.Millisecond, 300*time.Millisecond
+		o.Limits.Submission, o.Limits.Answer = 100*time.Millisecond, time.Second
+	})
+	address, _ := f.listening(nil)
+	sizes := make([]int, fullWidth)
+	for i := range sizes {
+		sizes[i] = 128 << 10
+	}
+	f.log.Change("tile/data/000", dataTileOf(sizes...))
+	slow := map[string]func(net.Conn){
+		"nothing at all": func(net.Conn) {},
+		"headers, a byte at a time": func(c net.Conn) {
+			for _, sign := range []byte("GET /healthz HTTP/1.1\r\nHost: log\r\nX: " + strings.Repeat("x", 1000)) {
+				if _, err := c.Write([]byte{sign}); err != nil {
+					return
+				}
+				time.Sleep(20 * time.Millisecond)
+			}
+		},
+		"a body, a byte at a time": func(c net.Conn) {
+			fmt.Fprintf(c, "POST /ct/v1/add-chain HTTP/1.1\r\nHost: log\r\nContent-Length: 1000\r\n\r\n")
+			for i := 0; i < 1000; i++ {
+				if _, err := c.Write([]byte{'{'}); err != nil {
+					return
+				}
+				time.Sleep(20 * time.Millisecond)
+			}
+		},
+		"a body that doesn't come": func(c net.Conn) {
+			fmt.Fprintf(c, "POST /ct/v1/add-chain HTTP/1.1\r\nHost: log\r\nContent-Length: 1000\r\n\r\n")
+		},
+		"idle behind a request": func(c net.Conn) { fmt.Fprintf(c, "GET /healthz HTTP/1.1\r\nHost: log\r\n\r\n") },
+	}
+	ended := make(chan string, len(slow))
+	for what, send := range slow {
+		connection := dial(t, address)
+		go func(what string, send func(net.Conn)) {
+			go send(connection)
+			io.Copy(io.Discard, connection)
+			ended <- what
+		}(what, send)
+	}
+	// One that asks for a large object and takes none of it: its handler ends.
+	for began := (time.Time{}); f.front.answers.used.Load() < 32<<20; time.Sleep(time.Millisecond) {
+		// (on a busy machine it was cut off before that was seen)
+		if time.Since(began) > 5*time.Second {
+			greedy := dial(t, address)
+			greedy.(*net.TCPConn).SetReadBuffer(4096)
+			fmt.Fprintf(greedy, "GET /tile/data/000 HTTP/1.1\r\nHost: log\r\n\r\n")
+			began = time.Now()
+		}
+	}
+	// (who asks has no more time than they have)
+	eventually(t, "another one is answered", func() bool {
+		connection := dial(t, address)
+		defer connection.Close()
+		fmt.Fprintf(connection, "GET /healthz HTTP/1.1\r\nHost: log\r\nConnection: close\r\n\r\n")
+		answer, err := http.ReadResponse(bufio.NewReader(connection), nil)
+		return err == nil && answer.StatusCode == 200
+	})
+	left := map[string]bool{}
+	for what := range slow {
+		left[what] = true
+	}
+	for until := time.After(trial.Longest); len(left) > 0; {
+		select {
+		case what := <-ended:
+			delete(left, what)
+		case <-until:
+			t.Fatalf("not cut off: %v", left)
+		}
+	}
+	// (a connection is closed where a write on it fails, and what its request holds is given back behind that)
+	eventually(t, "all connections are closed, and no bytes are counted", func() bool {
+		return f.front.connections.open.Load() == 0 && f.front.waiting.used.Load() == 0 && f.front.answers.used.Load() == 0
+	})
+}
+
+func TestConnectionsAreBounded(t *testing.T) {
+	for _, test := range []struct {
+		what          string
+		all, by, most int
+		proxy         bool
+	}{
+		{"by address", 100, 3, 3, false},
+		{"altogether", 4, 100, 4, false},
+		{"of a proxy", 5, 1, 5, true},
+	} {
+		f := newFixture(t, 0, func(o *Options) {
+			o.Limits.Connections, o.Limits.ConnectionsByAddress, o.Limits.Reading = test.all, test.by, time.Hour
+			if test.proxy {
+				o.Proxies = []netip.Prefix{netip.MustParsePrefix("127.0.0.1/32")}
+			}
+		})
+		f.log.Slow = time.Hour
+		address, _ := f.listening(nil)
+		var open []net.Conn
+		for i := 0; i < test.most; i++ {
+			connection := dial(t, address)
+			fmt.Fprintf(connection, "GET /checkpoint HTTP/1.1\r\nHost: log\r\nX-Forwarded-For: 192.0.2.%d\r\n\r\n", i)
+			open = append(open, connection)
+		}
+		isAsked(f, int64(test.most))
+		above := dial(t, address)
+		closed(t, test.what+", one above the bound", above)
+		open[0].Close()
+		eventually(t, test.what+": where one went, one is taken", func() bool {
+			again := dial(t, address)
+			fmt.Fprintf(again, "GET /healthz HTTP/1.1\r\nHost: log\r\nConnection: close\r\n\r\n")
+			answer, err := http.ReadResponse(bufio.NewReader(again), nil)
+			return err == nil && answer.StatusCode == 200
+		})
+	}
+}
+
+// looked is a connection that does something as it is closed, and oneOf a listener to which it alone comes.
+type looked struct {
+	net.Conn
+	closes func()
+}
+
+func (l looked) Close() error {
+	l.closes()
+	return l.Conn.Close()
+}
+
+type oneOf struct {
+	net.Listener
+	connection net.Conn
+}
+
+func (o oneOf) Accept() (net.Conn, error) { return o.connection, nil }
+
+// TestClosedConnectionsHoldNoPlace: by the time that a connection is closed its place is given back, so that the other side may come again at once.
+func TestClosedConnectionsHoldNoPlace(t *testing.T) {
+	f, room := newFixture(t, 0, nil), make(chan struct{}, 1)
+	for what, test := range map[string]struct {
+		bounds func(net.Listener) net.Listener
+		held   func() int
+	}{
+		"a client's": {func(l net.Listener) net.Listener { return bounded{l, f.front} }, func() int {
+			return int(f.front.connections.open.Load()) + len(f.front.connections.byAddress.of) + f.front.connections.waiting()
+		}},
+		"an operator's": {func(l net.Listener) net.Listener { return few{l, room} }, func() int { return len(room) }},
+	} {
+		here, there := net.Pipe()
+		closed := 0
+		taken, err := test.bounds(oneOf{nil, looked{here, func() {
+			if closed++; test.held() != 0 {
+				t.Errorf("%s: %d are held", what, test.held())
+			}
+		}}}).Accept()
+		if err != nil || test.held() == 0 {
+			t.Fatalf("%s: %d are held, %v", what, test.held(), err)
+		}
+		for i := 0; i < 2; i++ {
+			taken.Close()
+		}
+		if closed != 2 || test.held() != 0 {
+			t.Errorf("%s: closed %d times, %d are held", what, closed, test.held())
+		}
+		there.Close()
+	}
+}
+
+// TestOperatorCountsApart: while one address has all the connections and requests that it may have, an operator at that address is answered; and who has all
+// of the operator's connections keeps no client out.
+func TestOperatorCountsApart(t *testing.T) {
+	f := newFixture(t, 0, func(o *Options) {
+		o.Limits.ConnectionsByAddress, o.Limits.Request, o.Limits.Headers, o.Limits.Idle = 3, time.Hour, time.Hour, time.Hour
+	})
+	clients, _ := f.listening(nil)
+	operator := f.listeningBy(f.front.ServeOthers(f.front.Operator()), nil)
+	status := func(address, path string) int {
+		t.Helper()
+		for until := time.Now().Add(trial.Longest); ; {
+			connection := dial(t, address)
+			fmt.Fprintf(connection, "GET %s HTTP/1.1\r\nHost: log\r\nConnection: close\r\n\r\n", path)
+			reader := bufio.NewReader(connection)
+			answer, err := http.ReadResponse(reader, nil)
+			// (until the other side closes, by when its place is free)
+			text, _ := io.ReadAll(reader)
+			connection.Close()
+			if err != nil {
+				return 0
+			}
+			// (/readyz has two seconds alone)
+			if answer.StatusCode != 503 || !bytes.Contains(text, []byte(`"late"`)) || time.Now().After(until) {
+				return answer.StatusCode
+			}
+		}
+	}
+	var open []net.Conn
+	for i := 0; i < 3; i++ {
+		connection := dial(t, clients)
+		fmt.Fprint(connection, "POST /ct/v1/add-chain HTTP/1.1\r\nHost: log\r\nContent-Length: 100\r\n\r\n{")
+		open = append(open, connection)
+	}
+	isAsked(f, 3)
+	if got := status(clients, "/healthz"); got == 200 {
+		t.Errorf("a fourth connection of the address is answered")
+	}
+	for _, path := range []string{"/healthz", "/readyz", "/metrics"} {
+		if got := status(operator, path); got != 200 {
+			t.Errorf("the operator's %s: %d", path, got)
+		}
+	}
+	for _, connection := range open {
+		connection.Close()
+	}
+	isAsked(f, 0)
+	for i := 0; i < mostOfOthers; i++ {
+		fmt.Fprint(dial(t, operator), "GET /healthz HTTP/1.1\r\nHost: log\r\n")
+	}
+	closed(t, "the operator's connections, one above the bound", dial(t, operator))
+	if got := status(clients, "/healthz"); got != 200 {
+		t.Errorf("a client beside an operator's connections: %d", got)
+	}
+}
+
+// isAsked waits until something is asked on so many connections, and on all of them.
+func isAsked(f *fixture, many int64) {
+	for f.front.connections.open.Load() != many || f.front.connections.waiting() != 0 {
+		time.Sleep(time.Millisecond)
+	}
+}
+
+// Where there are too many connections, the one goes on which nothing was asked for the longest, also over TLS; none goes on which something is.
+func TestIdleConnectionsGo(t *testing.T) {
+	for _, over := range []bool{false, true} {
+		f := newFixture(t, 0, func(o *Options) { o.Limits.Connections, o.Limits.Reading = 3, time.Hour })
+		var config *tls.Config
+		if over {
+			folder := t.TempDir()
+			writeKeyPair(t, folder, f.authority)
+			kept, err := LoadCertificate(folder+"/cert.pem", folder+"/key.pem")
+			if err != nil {
+				t.Fatal(err)
+			}
+			config = kept.Config()
+		}
+		address, _ := f.listening(config)
+		dialed := func() net.Conn {
+			if !over {
+				return dial(t, address)
+			}
+			connection, err := tls.Dial("tcp", address, &tls.Config{InsecureSkipVerify: true})
+			if err != nil {
+				t.Fatal(err)
+			}
+			t.Cleanup(func() { connection.Close() })
+			return connection
+		}
+		answered := func(connection net.Conn) error {
+			fmt.Fprintf(connection, "GET /healthz HTTP/1.1\r\nHost: log\r\n\r\n")
+			answer, err := http.ReadResponse(bufio.NewReader(connection), nil)
+			if err == nil {
+				io.Copy(io.Discard, answer.Body)
+			}
+			return err
+		}
+		var idle []net.Conn
+		for f.front.connections.waiting() < 2 {
+			connection := dialed()
+			if err := answered(connection); err != nil {
+				t.Fatal(err)
+			}
+			// (what is answered may still count as asked on for a moment)
+			for idle = append(idle, connection); f.front.connections.waiting() != len(idle); {
+				time.Sleep(time.Millisecond)
+			}
+		}
+		first, second := idle[0], idle[1]
+		f.log.Slow = time.Hour
+		busy := dialed()
+		fmt.Fprintf(busy, "GET /checkpoint HTTP/1.1\r\nHost: log\r\n\r\n")
+		for f.front.connections.waiting() != 2 {
+			time.Sleep(time.Millisecond)
+		}
+		// Something is asked on the first again: the second one is idle for longer.
+		if err := answered(first); err != nil {
+			t.Fatal(err)
+		}
+		for f.front.connections.waiting() != 2 {
+			time.Sleep(time.Millisecond)
+		}
+		if err := answered(dialed()); err != nil {
+			t.Errorf("over TLS %v: none is taken, though two are idle: %v", over, err)
+		}
+		closed(t, "the one that was idle for the longest", second)
+		if err := answered(first); err != nil {
+			t.Errorf("over TLS %v: another one went: %v", over, err)
+		}
+		busy.SetReadDeadline(time.Now().Add(50 * time.Millisecond))
+		if _, err := busy.Read(make([]byte, 1)); !errors.Is(err, os.ErrDeadlineExceeded) {
+			t.Errorf("over TLS %v: the one on which something is asked went: %v", over, err)
+		}
+	}
+}
+
+// Where the server ends, who waits is answered, and idle connections and those that say nothing are closed, within the bound.
+func TestServerEnds(t *testing.T) {
+	f := newFixture(t, 0, nil)
+	address, server := f.listening(nil)
+	idle, silent, half, waits := dial(t, address), dial(t, address), dial(t, address), dial(t, address)
+	fmt.Fprintf(idle, "GET /healthz HTTP/1.1\r\nHost: log\r\n\r\n")
+	idleReader := bufio.NewReader(idle)
+	if answer, err := http.ReadResponse(idleReader, nil); err != nil || answer.StatusCode != 200 {
+		t.Fatal(err)
+	} else {
+		io.Copy(io.Discard, answer.Body)
+	}
+	fmt.Fprintf(half, "GET /healthz HT")
+	body := standin.Submission(f.issue(false))
+	fmt.Fprintf(waits, "POST /ct/v1/add-chain HTTP/1.1\r\nHost: log\r\nContent-Length: %d\r\n\r\n%s", len(body), body)
+	for f.log.Figures().Queue == 0 || f.front.connections.open.Load() < 4 {
+		time.Sleep(time.Millisecond)
+	}
+	f.front.Refuse()
+	began := time.Now()
+	ctx, cancel := context.WithTimeout(context.Background(), trial.Longest)
+	defer cancel()
+	f.log.End(ctx)
+	if err := server.End(ctx); err != nil {
+		t.Errorf("it doesn't end: %v", err)
+	}
+	if took := time.Since(began); took > trial.Longest/2 {
+		t.Errorf("it took %v", took)
+	}
+	if statuses := answersOn(t, waits); fmt.Sprint(statuses) != "[200]" {
+		t.Errorf("who waited: %v", statuses)
+	}
+	for what, connection := range map[string]io.Reader{"idle": idleReader, "silent": silent, "half": half} {
+		closed(t, what, connection)
+	}
+	if _, err := net.Dial("tcp", address); err == nil {
+		t.Error("connections are still taken")
+	}
+}
+
+// A submission that isn't answered in time is closed with all others once the bound is over.
+func TestServerEndsWithinItsBound(t *testing.T) {
+	f := newFixture(t, 0, nil)
+	address, server := f.listening(nil)
+	waits := dial(t, address)
+	body := standin.Submission(f.issue(false))
+	fmt.Fprintf(waits, "POST /ct/v1/add-chain HTTP/1.1\r\nHost: log\r\nContent-Length: %d\r\n\r\n%s", len(body), body)
+	for f.log.Figures().Queue == 0 {
+		time.Sleep(time.Millisecond)
+	}
+	ctx, cancel := context.WithTimeout(context.Background(), 50*time.Millisecond)
+	defer cancel()
+	if err := server.End(ctx); !errors.Is(err, context.DeadlineExceeded) {
+		t.Errorf("End: %v", err)
+	}
+	closed(t, "who waited", waits)
+}
+
+// A submission may wait for longer than a request may take to be sent.
+func TestSubmissionsWaitLongerThanRequests(t *testing.T) {
+	// (on a busy machine the request itself takes longer than it may: then it may take longer)
+	for most := 150 * time.Millisecond; ; most *= 4 {
+		f := newFixture(t, 0, func(o *Options) { o.Limits.Headers, o.Limits.Request, o.Limits.Submission = most, most, trial.Longest })
+		address, _ := f.listening(nil)
+		body := standin.Submission(f.issue(false))
+		connection := dial(t, address)
+		fmt.Fprintf(connection, "POST /ct/v1/add-chain HTTP/1.1\r\nHost: log\r\nConnection: close\r\nContent-Length: %d\r\n\r\n%s", len(body), body)
+		came := make(chan []int, 1)
+		go func() { came <- answersOn(t, connection) }()
+		for len(came) == 0 && f.log.Figures().Queue == 0 {
+			time.Sleep(time.Millisecond)
+		}
+		if len(came) == 0 {
+			time.Sleep(2 * most)
+			f.log.Publish()
+			if statuses := <-came; fmt.Sprint(statuses) != "[200]" {
+				t.Errorf("%v, of a request that may take %v", statuses, most)
+			}
+			return
+		}
+		if most > trial.Longest/8 {
+			t.Fatalf("a request isn't taken within %v: %v", most, <-came)
+		}
+	}
+}
+
+// A client that goes while it waits is seen: its submission's context ends.
+func TestClientsThatGo(t *testing.T) {
+	f := newFixture(t, 0, nil)
+	address, _ := f.listening(nil)
+	body := standin.Submission(f.issue(false))
+	connection := dial(t, address)
+	fmt.Fprintf(connection, "POST /ct/v1/add-chain HTTP/1.1\r\nHost: log\r\nContent-Length: %d\r\n\r\n%s", len(body), body)
+	for f.log.Figures().Queue == 0 {
+		time.Sleep(time.Millisecond)
+	}
+	if f.front.waiting.used.Load() != int64(len(body)) {
+		t.Errorf("%d bytes wait", f.front.waiting.used.Load())
+	}
+	connection.Close()
+	eventually(t, "its bytes aren't counted any more", func() bool { return f.front.waiting.used.Load() == 0 })
+}
+
+// A client that goes before it is answered rings no alarm: it is counted by a status of its own, and not told.
+func TestClientsThatGoRingNoAlarm(t *testing.T) {
+	f := newFixture(t, 0, nil)
+	f.fill(1)
+	f.log.Slow = time.Hour
+	address, _ := f.listening(nil)
+	counts := func(line string) bool {
+		w := httptest.NewRecorder()
+		f.front.Operator().ServeHTTP(w, httptest.NewRequest("GET", "/metrics", nil))
+		return strings.Contains(w.Body.String(), "\n"+line+"\n")
+	}
+	for _, path := range []string{"/checkpoint", "/tile/0/000.p/1"} {
+		connection := dial(t, address)
+		fmt.Fprintf(connection, "GET %s HTTP/1.1\r\nHost: log\r\n\r\n", path)
+		for f.front.connections.open.Load() != 1 {
+			time.Sleep(time.Millisecond)
+		}
+		connection.Close()
+		for f.front.connections.open.Load() != 0 {
+			time.Sleep(time.Millisecond)
+		}
+	}
+	f.log.Slow = 0
+	for call, path := range map[string]string{"checkpoint": "/checkpoint", "tile": "/tile/0/000.p/1"} {
+		if !counts(`ctserve_requests_total{call="` + call + `",status="499"} 1`) {
+			t.Errorf("%s: who went isn't counted as gone", path)
+		}
+	}
+	if lines := f.lines.String(); strings.Contains(lines, `"event":"request"`) {
+		t.Errorf("it is told: %s", lines)
+	}
+}
+
+// writeKeyPair writes a new certificate and its key into a folder, and gives the certificate.
+func writeKeyPair(t testing.TB, folder string, authority *standin.Authority) []byte {
+	t.Helper()
+	certificate, key, err := authority.KeyPair()
+	if err != nil {
+		t.Fatal(err)
+	}
+	writeFile(t, folder+"/cert.pem", certificate)
+	writeFile(t, folder+"/key.pem", key)
+	block, _ := pem.Decode(certificate)
+	return block.Bytes
+}
+
+// Over TLS: from version 1.2 on, by HTTP/1.1, and a handshake has its time.
+func TestTLS(t *testing.T) {
+	f := newFixture(t, 0, nil)
+	folder := t.TempDir()
+	certificate := writeKeyPair(t, folder, f.authority)
+	kept, err := LoadCertificate(folder+"/cert.pem", folder+"/key.pem")
+	if err != nil {
+		t.Fatal(err)
+	}
+	address, _ := f.listening(kept.Config())
+	ask := func(config *tls.Config) (*tls.ConnectionState, error) {
+		config.InsecureSkipVerify = true
+		connection, err := tls.Dial("tcp", address, config)
+		if err != nil {
+			return nil, err
+		}
+		defer connection.Close()
+		fmt.Fprintf(connection, "GET /healthz HTTP/1.1\r\nHost: log\r\n\r\n")
+		answer, err := http.ReadResponse(bufio.NewReader(connection), nil)
+		if err == nil && answer.StatusCode != 200 {
+			err = errors.New(answer.Status)
+		}
+		state := connection.ConnectionState()
+		return &state, err
+	}
+	state, err := ask(&tls.Config{NextProtos: []string{"h2", "http/1.1"}})
+	if err != nil || state.NegotiatedProtocol != "http/1.1" || !bytes.Equal(state.PeerCertificates[0].Raw, certificate) {
+		t.Errorf("%v, %v", state, err)
+	}
+	if _, err := ask(&tls.Config{MaxVersion: tls.VersionTLS11}); err == nil {
+		t.Error("TLS 1.1 is taken")
+	}
+	// (of a front of its own: the others' handshakes have no such time)
+	brief := newFixture(t, 0, func(o *Options) { o.Limits.Headers = 200 * time.Millisecond })
+	silently, _ := brief.listening(kept.Config())
+	closed(t, "a handshake that doesn't come", dial(t, silently))
+	for _, one := range []*fixture{f, brief} {
+		failed := func() string {
+			measured := httptest.NewRecorder()
+			one.front.Operator().ServeHTTP(measured, httptest.NewRequest("GET", "/metrics", nil))
+			_, text, _ := strings.Cut(measured.Body.String(), "\nctserve_tls_handshakes_failed_total ")
+			count, _, _ := strings.Cut(text, "\n")
+			return count
+		}
+		// (a client has its alert before the server counts)
+		eventually(t, "a handshake that failed is counted", func() bool { return failed() != "0" })
+		if count := failed(); count != "1" || strings.Contains(one.lines.String(), "handshake") {
+			t.Errorf("handshakes that failed are to be counted, and not told: %s, %s", count, one.lines)
+		}
+	}
+	// A reload takes the new pair, and keeps the old one where that isn't one.
+	certificate = writeKeyPair(t, folder, f.authority)
+	if err := kept.Reload(); err != nil {
+		t.Fatal(err)
+	}
+	if state, err := ask(&tls.Config{}); err != nil || !bytes.Equal(state.PeerCertificates[0].Raw, certificate) {
+		t.Errorf("after a reload: %v", err)
+	}
+	writeFile(t, folder+"/key.pem", []byte("none"))
+	if err := kept.Reload(); err == nil {
+		t.Error("a key that is none is taken")
+	}
+	if state, err := ask(&tls.Config{}); err != nil || !bytes.Equal(state.PeerCertificates[0].Raw, certificate) {
+		t.Errorf("after a reload that failed: %v", err)
+	}
+}
+
+// watchedClose notes of each Close whether the lock of the connections is held.
+type watchedClose struct {
+	net.Conn
+	of   *connections
+	held []bool
+}
+
+func (w *watchedClose) Close() error {
+	isFree := w.of.mutex.TryLock()
+	if isFree {
+		w.of.mutex.Unlock()
+	}
+	w.held = append(w.held, !isFree)
+	return nil
+}
+
+// TestIdleIsClosedUnderTheLock: a connection that is closed since nothing is asked on it must be closed before anybody can note that something is.
+func TestIdleIsClosedUnderTheLock(t *testing.T) {
+	c := &connections{}
+	w := &watchedClose{of: c}
+	connection := &open{Conn: w}
+	connection.closed = func() { c.leave(connection) }
+	c.isIdle(connection, true)
+	if !c.closeIdle() || len(w.held) == 0 || !w.held[0] {
+		t.Errorf("it is closed without the lock: %v", w.held)
+	}
+	if c.isIdle(connection, true); c.waiting() != 0 || c.closeIdle() {
+		t.Error("a connection that is closed counts as one on which nothing is asked")
+	}
+}

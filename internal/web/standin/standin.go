@@ -1,0 +1,386 @@
+// Package standin has what the tests of a front stand on: a log in memory, an authority that issues certificates, and what a
+// reader makes of tiles. It serves no log: it forgets all at its end.
+package standin
+
+import (
+	"context"
+	"crypto/ecdsa"
+	"crypto/elliptic"
+	"crypto/rand"
+	"crypto/sha256"
+	"crypto/x509"
+	"encoding/base64"
+	"encoding/hex"
+	"fmt"
+	"sync"
+	"time"
+
+	"golang.org/x/crypto/cryptobyte"
+
+	"wagtenib/internal/chains"
+	"wagtenib/internal/log"
+	"wagtenib/internal/stores"
+)
+
+// Log is a log in memory. Its heads come when Publish is called, or by themselves.
+type Log struct {
+	Key   *ecdsa.PrivateKey
+	Every time.Duration
+	// MostQueue is how many submissions may wait.
+	MostQueue int
+	// Fault, where it isn't nil, is what each call gives.
+	Fault error
+	// Damage is what its figures say of a tile that is damaged.
+	Damage string
+	// Slow is how long each reading takes.
+	Slow time.Duration
+
+	mutex   sync.Mutex
+	id      [32]byte
+	objects map[string][]byte
+	leaves  [][]byte
+	hashes  [][32]byte
+	waiting []waiting
+	head    log.Head
+	// faults counts how often it was broken, and lastFault is by what it was last.
+	faults    uint64
+	lastFault string
+	ended     bool
+	stop      chan struct{}
+}
+
+type waiting struct {
+	entry log.Entry
+	place chan log.Place
+}
+
+// New makes a log without entries, which publishes every so often; with 0 only where Publish is called.
+func New(every time.Duration) (*Log, error) {
+	key, err := ecdsa.GenerateKey(elliptic.P256(), rand.Reader)
+	if err != nil {
+		return nil, err
+	}
+	public, err := x509.MarshalPKIXPublicKey(&key.PublicKey)
+	if err != nil {
+		return nil, err
+	}
+	l := &Log{Key: key, Every: every, MostQueue: 1024, id: sha256.Sum256(public), objects: map[string][]byte{}, stop: make(chan struct{})}
+	l.publish()
+	if every > 0 {
+		go l.run()
+	}
+	return l, nil
+}
+
+func (l *Log) run() {
+	timer := time.NewTicker(l.Every)
+	defer timer.Stop()
+	for {
+		select {
+		case <-timer.C:
+			l.Publish()
+		case <-l.stop:
+			return
+		}
+	}
+}
+
+// Submit is log.Log's.
+func (l *Log) Submit(ctx context.Context, entry log.Entry) (log.Place, error) {
+	w := waiting{entry, make(chan log.Place, 1)}
+	l.mutex.Lock()
+	var err error
+	switch {
+	case l.Fault != nil:
+		err = l.Fault
+	case l.ended:
+		err = log.ErrEnded
+	case len(l.waiting) >= l.MostQueue:
+		err = log.ErrBusy
+	default:
+		l.waiting = append(l.waiting, w)
+	}
+	l.mutex.Unlock()
+	if err != nil {
+		return log.Place{}, err
+	}
+	select {
+	case place := <-w.place:
+		return place, nil
+	case <-ctx.Done():
+		return log.Place{}, ctx.Err()
+	}
+}
+
+// Add publishes entries, whose places nobody waits for.
+func (l *Log) Add(entries []log.Entry) {
+	l.mutex.Lock()
+	defer l.mutex.Unlock()
+	for _, entry := range entries {
+		l.waiting = append(l.waiting, waiting{entry, make(chan log.Place, 1)})
+	}
+	l.publish()
+}
+
+// Publish publishes what waits.
+func (l *Log) Publish() {
+	l.mutex.Lock()
+	defer l.mutex.Unlock()
+	if len(l.waiting) > 0 {
+		l.publish()
+	}
+}
+
+func (l *Log) publish() {
+	now := uint64(time.Now().UnixMilli())
+	batch := l.waiting
+	l.waiting = nil
+	var places []log.Place
+	for _, w := range batch {
+		places = append(places, l.take(w.entry, now))
+	}
+	l.tiles()
+	root := MerkleTreeHash(l.hashes)
+	l.head = log.Head{TreeSize: uint64(len(l.leaves)), Timestamp: now, RootHash: root}
+	l.head.Note = []byte(fmt.Sprintf("log.example/stand-in\n%d\n%s\n\n— log.example/stand-in AAAAAA==\n", len(l.leaves), base64.StdEncoding.EncodeToString(root[:])))
+	l.head.Signature = l.sign(HeadSigned(l.head))
+	for i, w := range batch {
+		w.place <- places[i]
+	}
+}
+
+// take settles an entry.
+func (l *Log) take(entry log.Entry, now uint64) log.Place {
+	index := uint64(len(l.leaves))
+	extensions := []byte{0, 0, 5, byte(index >> 32), byte(index >> 24), byte(index >> 16), byte(index >> 8), byte(index)}
+	timestamped := timestampedEntry(entry, now, extensions)
+	leaf := cryptobyte.NewBuilder(append([]byte(nil), timestamped...))
+	if entry.Type == chains.PrecertEntry {
+		leaf.AddUint24LengthPrefixed(func(b *cryptobyte.Builder) { b.AddBytes(entry.Precertificate) })
+	}
+	leaf.AddUint16LengthPrefixed(func(b *cryptobyte.Builder) {
+		for _, issuer := range entry.Issuers {
+			fingerprint := sha256.Sum256(issuer)
+			l.objects["issuer/"+hex.EncodeToString(fingerprint[:])] = issuer
+			b.AddBytes(fingerprint[:])
+		}
+	})
+	l.leaves = append(l.leaves, leaf.BytesOrPanic())
+	l.hashes = append(l.hashes, LeafHash(append([]byte{0, 0}, timestamped...)))
+	return log.Place{LeafIndex: index, Timestamp: now, Extensions: extensions, LogID: l.id, Signature: l.sign(append([]byte{0, 0}, timestamped...))}
+}
+
+func timestampedEntry(entry log.Entry, now uint64, extensions []byte) []byte {
+	var b cryptobyte.Builder
+	b.AddUint64(now)
+	b.AddUint16(uint16(entry.Type))
+	certificate := entry.Certificate
+	if entry.Type == chains.PrecertEntry {
+		b.AddBytes(entry.IssuerKeyHash[:])
+		certificate = entry.TBSCertificate
+	}
+	b.AddUint24LengthPrefixed(func(b *cryptobyte.Builder) { b.AddBytes(certificate) })
+	b.AddUint16LengthPrefixed(func(b *cryptobyte.Builder) { b.AddBytes(extensions) })
+	return b.BytesOrPanic()
+}
+
+// tiles puts the tiles of levels 0 and 1 and the data tiles, and takes away the partial ones of a full one.
+func (l *Log) tiles() {
+	var above []byte
+	for first := 0; first+256 <= len(l.hashes); first += 256 {
+		root := MerkleTreeHash(l.hashes[first : first+256])
+		above = append(above, root[:]...)
+	}
+	if len(above) > 0 {
+		l.objects[fmt.Sprintf("tile/1/000.p/%d", len(above)/32)] = above
+	}
+	for first := 0; first < len(l.leaves); first += 256 {
+		last := first + 256
+		if last > len(l.leaves) {
+			last = len(l.leaves)
+		}
+		var data, hashes []byte
+		for i := first; i < last; i++ {
+			data = append(data, l.leaves[i]...)
+			hashes = append(hashes, l.hashes[i][:]...)
+		}
+		name, part := fmt.Sprintf("%03d", first/256), ""
+		if last-first < 256 {
+			part = fmt.Sprintf(".p/%d", last-first)
+		} else {
+			for width := 1; width < 256; width++ {
+				delete(l.objects, fmt.Sprintf("tile/data/%s.p/%d", name, width))
+				delete(l.objects, fmt.Sprintf("tile/0/%s.p/%d", name, width))
+			}
+		}
+		l.objects["tile/data/"+name+part], l.objects["tile/0/"+name+part] = data, hashes
+	}
+}
+
+func (l *Log) sign(signed []byte) []byte {
+	digest := sha256.Sum256(signed)
+	signature, err := ecdsa.SignASN1(rand.Reader, l.Key, digest[:])
+	if err != nil {
+		panic(err)
+	}
+	return append([]byte{4, 3, 0, byte(len(signature))}, signature...)
+}
+
+// Checkpoint is log.Log's.
+func (l *Log) Checkpoint(ctx context.Context) (log.Head, error) {
+	if err := l.slowly(ctx); err != nil {
+		return log.Head{}, err
+	}
+	l.mutex.Lock()
+	defer l.mutex.Unlock()
+	return l.head, l.Fault
+}
+
+// HeadOf is log.Log's.
+func (l *Log) HeadOf(ctx context.Context, _ uint64) (log.Head, error) { return l.Checkpoint(ctx) }
+
+// Object is log.Log's.
+func (l *Log) Object(ctx context.Context, name string, most int64) ([]byte, error) {
+	if err := l.slowly(ctx); err != nil {
+		return nil, err
+	}
+	l.mutex.Lock()
+	defer l.mutex.Unlock()
+	if l.Fault != nil {
+		return nil, l.Fault
+	}
+	content, there := l.objects[name]
+	if !there {
+		return nil, stores.ErrAbsent
+	}
+	if int64(len(content)) > most {
+		return nil, stores.TooLong{Length: int64(len(content))}
+	}
+	return content, nil
+}
+
+func (l *Log) slowly(ctx context.Context) error {
+	select {
+	case <-time.After(l.Slow):
+		return ctx.Err()
+	case <-ctx.Done():
+		return ctx.Err()
+	}
+}
+
+// Change changes what stands under a name; nil takes it away.
+func (l *Log) Change(name string, content []byte) {
+	l.mutex.Lock()
+	defer l.mutex.Unlock()
+	if content == nil {
+		delete(l.objects, name)
+	} else {
+		l.objects[name] = content
+	}
+}
+
+// Break has each call give an error; nil ends that.
+func (l *Log) Break(err error) {
+	l.mutex.Lock()
+	defer l.mutex.Unlock()
+	if err != nil {
+		l.faults++
+		l.lastFault = err.Error()
+	}
+	l.Fault = err
+}
+
+// Stumble has its figures tell of a fault that is over.
+func (l *Log) Stumble(fault string) {
+	l.mutex.Lock()
+	defer l.mutex.Unlock()
+	l.faults++
+	l.lastFault = fault
+}
+
+// Bend has its figures tell of damage; an empty text ends that.
+func (l *Log) Bend(damage string) {
+	l.mutex.Lock()
+	defer l.mutex.Unlock()
+	l.Damage = damage
+}
+
+// IndexOf is log.Log's.
+func (l *Log) IndexOf(ctx context.Context, leafHash [32]byte) (uint64, error) {
+	if err := l.slowly(ctx); err != nil {
+		return 0, err
+	}
+	l.mutex.Lock()
+	defer l.mutex.Unlock()
+	for index, hash := range l.hashes {
+		if hash == leafHash {
+			return uint64(index), nil
+		}
+	}
+	return 0, stores.ErrAbsent
+}
+
+// End is log.Log's.
+func (l *Log) End(ctx context.Context) error {
+	l.mutex.Lock()
+	defer l.mutex.Unlock()
+	if !l.ended {
+		l.ended = true
+		close(l.stop)
+		l.publish()
+	}
+	return ctx.Err()
+}
+
+// Figures is log.Log's.
+func (l *Log) Figures() log.Figures {
+	l.mutex.Lock()
+	defer l.mutex.Unlock()
+	figures := log.Figures{
+		Queue: len(l.waiting), MostQueue: l.MostQueue, Entries: l.head.TreeSize,
+		HeadAge: time.Since(time.UnixMilli(int64(l.head.Timestamp))), LostSwaps: 3, Unpublished: 18, SinceRound: 2500 * time.Millisecond,
+		Swept: 4, SweptHeads: 8, Scrubbed: 5, Damaged: 6, Damage: l.Damage, SignerStarts: 7,
+		Written: 16, Phases: []log.Phase{{Name: "stage", Count: 17, Took: 1500 * time.Millisecond}}, SweptBundles: 11, Staged: 12, TendFailures: 13, TendFailure: "nothing is deleted",
+		DamagedIssuers: 9, Mended: 10, LastMended: "issuer/07", SweptTo: 512, ReadNext: 19, Faults: l.faults, LastFault: l.lastFault,
+		Batches:   log.Batches{Steps: 20, Submissions: 21, AtMost: map[int]uint64{1: 18, 8: 20}},
+		Witnesses: []log.Witness{{Name: "w.example", Missed: 14, Cosigned: 15, SeenMore: true, Fault: "it has seen 7 entries"}},
+	}
+	if l.Fault != nil {
+		figures.Fault = l.Fault.Error()
+	}
+	return figures
+}
+
+// LeafHash and MerkleTreeHash are RFC 6962's, section 2.1, word for word.
+func LeafHash(leaf []byte) [32]byte { return sha256.Sum256(append([]byte{0}, leaf...)) }
+
+// MerkleTreeHash is over hashes of leaves.
+func MerkleTreeHash(hashes [][32]byte) [32]byte {
+	switch len(hashes) {
+	case 0:
+		return sha256.Sum256(nil)
+	case 1:
+		return hashes[0]
+	}
+	k := 1
+	for k*2 < len(hashes) {
+		k *= 2
+	}
+	left, right := MerkleTreeHash(hashes[:k]), MerkleTreeHash(hashes[k:])
+	return sha256.Sum256(append(append([]byte{1}, left[:]...), right[:]...))
+}
+
+// HeadSigned are the bytes under a head's signature (RFC 6962, section 3.5).
+func HeadSigned(head log.Head) []byte {
+	var b cryptobyte.Builder
+	b.AddUint16(1)
+	b.AddUint64(head.Timestamp)
+	b.AddUint64(head.TreeSize)
+	b.AddBytes(head.RootHash[:])
+	return b.BytesOrPanic()
+}
+
+// TimestampSigned are the bytes under a timestamp's signature (RFC 6962, section 3.2).
+func TimestampSigned(entry log.Entry, timestamp uint64, extensions []byte) []byte {
+	return append([]byte{0, 0}, timestampedEntry(entry, timestamp, extensions)...)
+}

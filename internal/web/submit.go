@@ -1,0 +1,135 @@
+package web
+
+import (
+	"context"
+	"encoding/json"
+	"errors"
+	"io"
+	"net/http"
+	"net/netip"
+
+	"wagtenib/internal/chains"
+	"wagtenib/internal/log"
+)
+
+// signedTimestamp is the answer to a submission (RFC 6962, section 4.1). Bytes are in base64.
+type signedTimestamp struct {
+	Version    int    `json:"sct_version"`
+	ID         []byte `json:"id"`
+	Timestamp  uint64 `json:"timestamp"`
+	Extensions []byte `json:"extensions"`
+	Signature  []byte `json:"signature"`
+}
+
+func (f *Front) addChain(w http.ResponseWriter, r *http.Request) error {
+	return f.add(w, r, f.checker.Certificate)
+}
+
+func (f *Front) addPreChain(w http.ResponseWriter, r *http.Request) error {
+	return f.add(w, r, f.checker.Precertificate)
+}
+
+func (f *Front) add(w http.ResponseWriter, r *http.Request, check func([][]byte) (*chains.Entry, error)) error {
+	if f.ending.Load() {
+		return refusal{status: http.StatusServiceUnavailable, name: "ended", after: 10, closes: true}
+	}
+	if f.options.ReadOnly {
+		return refusal{status: http.StatusForbidden, name: "read-only", detail: "the log takes no more submissions", closes: true}
+	}
+	client := f.clientOf(r)
+	body, taken, err := f.body(r, client)
+	// What of it is kept, the entry, has fewer bytes than it; so they count until the answer is there.
+	defer f.waiting.give(taken)
+	defer f.waitingOf.giveSome(client, int(taken))
+	if err != nil {
+		return err
+	}
+	ctx, cancel := context.WithTimeout(r.Context(), f.limits.Submission)
+	defer cancel()
+	entry, err := f.checked(ctx, body, check)
+	if err != nil {
+		return err
+	}
+	if f.options.Forward == nil || log.IsForwarded(ctx) {
+		// (the entry has its own bytes)
+		body = nil
+	}
+	return f.submit(ctx, w, r, client, *entry, body)
+}
+
+func timestampOf(place log.Place) signedTimestamp {
+	return signedTimestamp{0, place.LogID[:], place.Timestamp, place.Extensions, place.Signature}
+}
+
+// body reads a submission, and says how many bytes of the budget it took. A body whose length isn't said is refused: no client
+// of logs sends one.
+func (f *Front) body(r *http.Request, client netip.Addr) (body []byte, taken int64, err error) {
+	if r.ContentLength < 0 {
+		return nil, 0, refusal{status: http.StatusLengthRequired, name: "length-required", closes: true}
+	}
+	if r.ContentLength > MostBody {
+		return nil, 0, refusal{status: http.StatusRequestEntityTooLarge, name: "body-too-large", closes: true}
+	}
+	piece := make([]byte, 16<<10)
+	for {
+		n, err := r.Body.Read(piece)
+		if n > 0 {
+			// What came counts, and not what was announced: a client that sends nothing takes nothing.
+			if !f.waitingOf.takeSome(client, n) {
+				return nil, taken, refusal{status: http.StatusTooManyRequests, name: "too-many-bytes", after: 1, closes: true}
+			}
+			if !f.waiting.take(int64(n)) {
+				f.waitingOf.giveSome(client, n)
+				return nil, taken, refusal{status: http.StatusServiceUnavailable, name: "busy", after: 1, closes: true}
+			}
+			taken += int64(n)
+			body = append(body, piece[:n]...)
+		}
+		if errors.Is(err, io.EOF) {
+			return body, taken, nil
+		}
+		if err != nil {
+			return nil, taken, refusal{status: http.StatusRequestTimeout, name: "body-broken-off", closes: true, why: err}
+		}
+	}
+}
+
+// checked makes an entry of a submission. Only so many are checked at once.
+func (f *Front) checked(ctx context.Context, body []byte, check func([][]byte) (*chains.Entry, error)) (*chains.Entry, error) {
+	select {
+	case f.checks <- struct{}{}:
+	case <-ctx.Done():
+		return nil, ctx.Err()
+	}
+	defer func() { <-f.checks }()
+	var submission struct {
+		Chain [][]byte `json:"chain"`
+	}
+	if err := json.Unmarshal(body, &submission); err != nil {
+		return nil, refusal{status: http.StatusBadRequest, name: "no-submission", detail: "the body isn't a JSON object whose chain is a list of texts in base64"}
+	}
+	return check(submission.Chain)
+}
+
+// encodedRoots is the answer to get-roots for some roots.
+type encodedRoots struct {
+	of   *chains.Roots
+	text []byte
+}
+
+func (f *Front) getRoots(w http.ResponseWriter, r *http.Request) error {
+	roots, encoded := f.checker.Roots(), f.roots.Load()
+	if encoded == nil || encoded.of != roots {
+		text, err := json.Marshal(struct {
+			Certificates [][]byte `json:"certificates"`
+		}{roots.Certificates()})
+		if err != nil {
+			return err
+		}
+		encoded = &encodedRoots{roots, append(text, '\n')}
+		f.roots.Store(encoded)
+	}
+	w.Header().Set("Cache-Control", "public, max-age=60")
+	write(w, http.StatusOK, "application/json", encoded.text)
+	return nil
+}

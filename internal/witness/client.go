@@ -1,0 +1,41 @@
+package witness
+
+import (
+	"bytes"
+	"context"
+	"fmt"
+	"io"
+	"net/http"
+
+	"golang.org/x/mod/sumdb/note"
+)
+
+// maxAnswer is how much of an answer is read.
+const maxAnswer = 16 << 10
+
+// Client asks one witness over HTTP, once a call (C2SP tlog-witness).
+type Client struct {
+	One
+	HTTP *http.Client
+}
+
+// Verifier returns the key of the witness's cosignatures.
+func (c Client) Verifier() note.Verifier { return OfCosigner(c.Name, c.Key) }
+
+// AddCheckpoint posts the body of an add-checkpoint request, and returns the status and the beginning of the answer's body. It waits as long as the context lasts.
+func (c Client) AddCheckpoint(ctx context.Context, body []byte) (status int, answer string, err error) {
+	q, err := http.NewRequestWithContext(ctx, http.MethodPost, c.URL+"/add-checkpoint", bytes.NewReader(body))
+	if err != nil {
+		return 0, "", fmt.Errorf("witness: %s: %w", c.Name, err)
+	}
+	response, err := c.HTTP.Do(q)
+	if err != nil {
+		return 0, "", fmt.Errorf("witness: %s: %w", c.Name, err)
+	}
+	defer response.Body.Close()
+	text, err := io.ReadAll(io.LimitReader(response.Body, maxAnswer))
+	if err != nil {
+		return 0, "", fmt.Errorf("witness: %s: %w", c.Name, err)
+	}
+	return response.StatusCode, string(text), nil
+}

@@ -1,0 +1,88 @@
+package witness
+
+import (
+	"context"
+	"crypto/ed25519"
+	"errors"
+	"io"
+	"net/http"
+	"net/http/httptest"
+	"strconv"
+	"strings"
+	"testing"
+	"time"
+
+	"golang.org/x/mod/sumdb/note"
+)
+
+// TestClientAsksOnce has a client ask a witness over HTTP for a size that it did not see, and for the right one, and a witness that does not answer.
+func TestClientAsksOnce(t *testing.T) {
+	by, key, log := headKey(t, origin), newKey(t), grown(t, "a", "b", "c")
+	over := httptest.NewServer(witnessOf(t, t.TempDir(), key, by))
+	defer over.Close()
+	c := Client{One{URL: over.URL, Name: "w.example", Key: key.Public().(ed25519.PublicKey)}, over.Client()}
+	text := checkpoint(origin, 3, log.root(t, 3))
+	signed := by.sign(text)
+	if status, answer, err := c.AddCheckpoint(limited(t), request(2, nil, signed)); status != http.StatusConflict || answer != "0\n" || err != nil {
+		t.Errorf("from another size: %d %q, %v", status, answer, err)
+	}
+	status, answer, err := c.AddCheckpoint(limited(t), request(0, nil, signed))
+	if err != nil || status != http.StatusOK {
+		t.Fatalf("the first: %d %q, %v", status, answer, err)
+	}
+	if opened, err := note.Open([]byte(text+"\n"+answer), note.VerifierList(c.Verifier())); err != nil || len(opened.Sigs) != 1 {
+		t.Errorf("%q is no cosignature of the client's witness: %v", answer, err)
+	}
+	ended, cancel := context.WithCancel(limited(t))
+	cancel()
+	if _, _, err := c.AddCheckpoint(ended, request(3, nil, signed)); !errors.Is(err, context.Canceled) {
+		t.Errorf("after the context's end: %v", err)
+	}
+}
+
+// TestClientReadsWholeAnswers: an answer that breaks off is an error, and not the part that came. Of a long answer only the beginning is read.
+func TestClientReadsWholeAnswers(t *testing.T) {
+	var length int
+	var text string
+	over := httptest.NewServer(http.HandlerFunc(func(w http.ResponseWriter, _ *http.Request) {
+		w.Header().Set("Content-Length", strconv.Itoa(length))
+		w.WriteHeader(http.StatusConflict)
+		_, _ = io.WriteString(w, text)
+	}))
+	defer over.Close()
+	c := Client{One{URL: over.URL, Name: "w.example"}, over.Client()}
+	length, text = 100, "5"
+	if _, answer, err := c.AddCheckpoint(limited(t), nil); !errors.Is(err, io.ErrUnexpectedEOF) || answer != "" {
+		t.Errorf("%q, %v", answer, err)
+	}
+	text = strings.Repeat("12345678", 4096)
+	length = len(text)
+	if _, answer, err := c.AddCheckpoint(limited(t), nil); err != nil || answer != text[:16<<10] {
+		t.Errorf("%d bytes, %v", len(answer), err)
+	}
+}
+
+// TestMoments: a cosignature says whose it is and when it was made. No other line does.
+func TestMoments(t *testing.T) {
+	by, key := plainKey(t, origin), newKey(t)
+	s, list := witnessOf(t, t.TempDir(), key, by), grown(t, "a", "b", "c")
+	signed := by.sign(checkpoint(origin, 3, list.root(t, 3)))
+	before := time.Now().Add(-time.Second)
+	came := strings.TrimSuffix(posted(t, s, request(0, nil, signed)).Body.String(), "\n")
+	if name, at, ok := MomentOf(came); !ok || name != s.of.Name || at.Before(before) || at.After(time.Now()) {
+		t.Errorf("%q: %s at %v, %v", came, name, at, ok)
+	}
+	public := key.Public().(ed25519.PublicKey)
+	line := strings.TrimSuffix(cosignatureLine("w.example", public, 1234567890, ed25519.Sign(key, []byte("x"))), "\n")
+	if name, at, ok := MomentOf(line); !ok || name != "w.example" || at.Unix() != 1234567890 {
+		t.Errorf("%s at %v, %v", name, at, ok)
+	}
+	own := strings.Split(strings.TrimSuffix(string(signed), "\n"), "\n")
+	for _, line := range []string{
+		"", "— ", "— w.example", "— w.example AAAA", line[4:], line + "A", strings.Replace(line, " ", "", 2), own[len(own)-1],
+	} {
+		if name, at, ok := MomentOf(line); ok {
+			t.Errorf("%q: %s at %v", line, name, at)
+		}
+	}
+}

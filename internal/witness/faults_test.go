@@ -1,0 +1,298 @@
+package witness
+
+import (
+	"crypto/ecdsa"
+	"crypto/ed25519"
+	"crypto/elliptic"
+	"crypto/rand"
+	"crypto/rsa"
+	"crypto/x509"
+	"encoding/base64"
+	"encoding/binary"
+	"encoding/pem"
+	"errors"
+	"fmt"
+	"io"
+	"net/http/httptest"
+	"strings"
+	"testing"
+	"testing/iotest"
+	"time"
+
+	"golang.org/x/mod/sumdb/note"
+
+	"wagtenib/bindings/go/wagtenib"
+	"wagtenib/internal/stores"
+)
+
+var errTried = errors.New("tried")
+
+// TestFaultyRegister: whatever a register does in place of a call, nothing is signed whose state isn't kept; what is lost is decided anew, and what is unknown
+// is settled by swapping again.
+func TestFaultyRegister(t *testing.T) {
+	by, one := headKey(t, origin), grown(t, "a", "b", "c")
+	body := request(0, nil, by.sign(checkpoint(origin, 3, one.root(t, 3))))
+	for name, test := range map[string]struct {
+		call        string
+		err         error
+		times       int
+		status      int
+		text, tells string
+		calls, lost int
+	}{
+		"it can't be read":               {"read", errTried, 1, 503, "state\n", "state", 1, 0},
+		"it can't be swapped":            {"swap", errTried, 1, 503, "state\n", "state", 1, 0},
+		"another stands once":            {"swap", stores.ErrLost, 1, 200, "— w.example ", "", 2, 1},
+		"another stands four times":      {"swap", stores.ErrLost, 4, 200, "— w.example ", "", 5, 4},
+		"another stands each time":       {"swap", stores.ErrLost, 99, 503, "busy\n", "", 5, 5},
+		"it isn't known once":            {"swap", stores.ErrUnknown, 1, 200, "— w.example ", "", 2, 0},
+		"it isn't known four times":      {"swap", stores.ErrUnknown, 4, 200, "— w.example ", "", 5, 0},
+		"it is never known":              {"swap", stores.ErrUnknown, 99, 503, "state\n", "state", 5, 0},
+		"it is gone where it is swapped": {"swap", stores.ErrAbsent, 1, 503, "state\n", "state", 1, 0},
+	} {
+		state, calls, told := &held{}, 0, []string{}
+		s := witnessOver(t, state, newKey(t), by)
+		s.of.Tell = func(event string, _ ...any) { told = append(told, event) }
+		before := state.text
+		test := test
+		state.does = func(call string) error {
+			if call != test.call {
+				return nil
+			}
+			if calls++; calls <= test.times {
+				return fmt.Errorf("%w, again", test.err)
+			}
+			return nil
+		}
+		w := posted(t, s, body)
+		if w.Code != test.status || !strings.HasPrefix(w.Body.String(), test.text) || strings.Join(told, " ") != test.tells || calls != test.calls {
+			t.Errorf("%s: %d %q behind %d calls, and %q is told", name, w.Code, w.Body, calls, told)
+		}
+		if (state.text == before) != (test.status != 200) {
+			t.Errorf("%s: the state moved, or not: %s", name, state.text)
+		}
+		if line := fmt.Sprintf("ctwitness_lost_swaps_total %d\n", test.lost); !strings.Contains(figures(s), line) {
+			t.Errorf("%s: no %s", name, line)
+		}
+	}
+	// What a start finds.
+	s := witnessOver(t, &held{}, newKey(t), by)
+	for _, test := range []struct{ err, kind error }{{stores.ErrAbsent, ErrState}, {errTried, errTried}} {
+		of := Log{Origin: origin, Keys: []note.Verifier{by.key}, State: &held{does: func(string) error { return test.err }}}
+		if err := s.Check(limited(t), of); !errors.Is(err, test.kind) || errors.Is(test.kind, errTried) && errors.Is(err, ErrState) {
+			t.Errorf("%v: %v", test.err, err)
+		}
+		if err := of.Create(limited(t)); !errors.Is(err, test.err) {
+			t.Errorf("%v: created: %v", test.err, err)
+		}
+	}
+}
+
+// figures are what Prometheus reads.
+func figures(s *Server) string {
+	w := httptest.NewRecorder()
+	s.Operator().ServeHTTP(w, httptest.NewRequest("GET", "/metrics", nil))
+	return w.Body.String()
+}
+
+// TestKept: what is kept is the tree, the origin and the moment; no two swaps have one text, also of one tree in one second. The figures say so.
+func TestKept(t *testing.T) {
+	by, one, state := headKey(t, origin), grown(t, "a", "b", "c"), &held{}
+	s := witnessOver(t, state, newKey(t), by)
+	s.now = func() uint64 { return 1234567 }
+	signed := by.sign(checkpoint(origin, 3, one.root(t, 3)))
+	texts := map[string]bool{state.text: true}
+	for _, old := range []int64{0, 3, 3} {
+		if w := posted(t, s, request(old, nil, signed)); w.Code != 200 {
+			t.Fatalf("%d %s", w.Code, w.Body)
+		}
+		if texts[state.text] {
+			t.Error("two swaps have one text")
+		}
+		texts[state.text] = true
+		kept, err := readState(state.text, origin)
+		if err != nil || kept.tree != (wagtenib.WitnessedTree{TreeSize: 3, Time: 1234567, Root: one.root(t, 3)}) || string(kept.message) != string(Message(1234567, checkpoint(origin, 3, one.root(t, 3)))) {
+			t.Errorf("%s: %v", state.text, err)
+		}
+	}
+	for _, line := range []string{`ctwitness_entries{origin="` + origin + `"} 3`, `ctwitness_last_cosignature_seconds{origin="` + origin + `"} 1.234567e+06`,
+		`ctwitness_cosignatures_total{origin="` + origin + `"} 3`, `ctwitness_requests_total{status="200"} 3`} {
+		if !strings.Contains(figures(s), line+"\n") {
+			t.Errorf("no %s", line)
+		}
+	}
+	// Another process knows it from its start on, and forgets it with the log.
+	other := witnessOver(t, state, newKey(t), by)
+	for _, line := range []string{`ctwitness_entries{origin="` + origin + `"} 3`, `ctwitness_last_cosignature_seconds{origin="` + origin + `"} 1.234567e+06`} {
+		if !strings.Contains(figures(other), line+"\n") {
+			t.Errorf("at a start no %s", line)
+		}
+	}
+	other.SetLogs(nil)
+	if text := figures(other); strings.Contains(text, "ctwitness_entries{") || strings.Contains(text, "ctwitness_last_cosignature_seconds{") {
+		t.Error("a log that isn't witnessed any more has figures")
+	}
+}
+
+// TestAnswers: no answer is kept by caches or taken for a page, each request leaves its room, and a body that breaks off is none.
+func TestAnswers(t *testing.T) {
+	s := witnessOver(t, &held{}, newKey(t), plainKey(t, origin))
+	for _, body := range []io.Reader{strings.NewReader("x"), iotest.ErrReader(errTried)} {
+		w := httptest.NewRecorder()
+		s.ServeHTTP(w, httptest.NewRequest("POST", "/add-checkpoint", body))
+		if w.Code != 400 || w.Header().Get("Cache-Control") != "no-store" || w.Header().Get("X-Content-Type-Options") != "nosniff" || w.Header().Get("Retry-After") != "" {
+			t.Errorf("%d %q %s", w.Code, w.Header(), w.Body)
+		}
+		if len(s.room) != 0 {
+			t.Error("a request is over, and its room isn't free")
+		}
+	}
+	w := httptest.NewRecorder()
+	s.ServeHTTP(w, httptest.NewRequest("POST", "/add-checkpoint", iotest.ErrReader(errTried)))
+	if w.Body.String() != "the body breaks off\n" {
+		t.Errorf("%s", w.Body)
+	}
+	w = httptest.NewRecorder()
+	s.ServeHTTP(w, httptest.NewRequest("PUT", "/add-checkpoint", nil))
+	if w.Code != 405 || w.Header().Get("Allow") != "POST" {
+		t.Errorf("%d %q", w.Code, w.Header())
+	}
+	w = httptest.NewRecorder()
+	s.Operator().ServeHTTP(w, httptest.NewRequest("GET", "/healthz", nil))
+	if w.Code != 200 || w.Body.String() != "ok\n" {
+		t.Errorf("/healthz: %d %s", w.Code, w.Body)
+	}
+	if at := s.now(); at < uint64(time.Now().Add(-time.Hour).Unix()) || at > uint64(time.Now().Add(time.Hour).Unix()) {
+		t.Errorf("its clock says %d", at)
+	}
+	// Exactly as many bytes and hashes as may be are read.
+	if _, err := ParseRequest([]byte("old 0\n\n" + strings.Repeat("x", MostBody-7))); !errors.Is(err, ErrRequest) || strings.Contains(err.Error(), "more than") {
+		t.Errorf("the longest body: %v", err)
+	}
+	if _, err := ParseRequest([]byte("old 0\n\n" + strings.Repeat("x", MostBody-6))); !errors.Is(err, ErrRequest) || !strings.Contains(err.Error(), "more than") {
+		t.Errorf("a byte more: %v", err)
+	}
+	signed := plainKey(t, origin).sign(checkpoint(origin, 9, [32]byte{}))
+	if r, err := ParseRequest(request(3, make([][32]byte, MostProof), signed)); err != nil || len(r.Proof) != MostProof || r.Old != 3 || r.Origin() != origin {
+		t.Errorf("the longest proof: %v", err)
+	}
+	if _, err := ParseRequest(request(3, make([][32]byte, MostProof+1), signed)); !errors.Is(err, ErrRequest) {
+		t.Errorf("a hash more: %v", err)
+	}
+}
+
+// TestTexts: numbers, hashes and checkpoints are taken in their one text.
+func TestTexts(t *testing.T) {
+	for _, wrong := range []string{"", "+5", "-1", " 5", "5 ", "05", "00", "5\n", "0x5", "1e3", "9223372036854775808", "18446744073709551616"} {
+		if n, err := number(wrong); !errors.Is(err, ErrRequest) {
+			t.Errorf("%q is %d", wrong, n)
+		}
+	}
+	for text, n := range map[string]uint64{"0": 0, "5": 5, "9223372036854775807": 1<<63 - 1} {
+		if read, err := number(text); err != nil || read != n {
+			t.Errorf("%q: %d, %v", text, read, err)
+		}
+	}
+	right := base64.StdEncoding.EncodeToString(make([]byte, 32))
+	if h, err := hash(right); err != nil || h != [32]byte{} {
+		t.Error(err)
+	}
+	for _, wrong := range []string{"", right[:43], right[:42] + "B=", right + "\n", strings.TrimRight(right, "="), base64.StdEncoding.EncodeToString(make([]byte, 31)),
+		base64.StdEncoding.EncodeToString(make([]byte, 33)), "-" + right[1:]} {
+		if _, err := hash(wrong); !errors.Is(err, ErrRequest) {
+			t.Errorf("%q is a hash", wrong)
+		}
+	}
+	if size, _, err := TreeOf("o\n5\n" + right + "\n"); err != nil || size != 5 {
+		t.Error(err)
+	}
+	for _, wrong := range []string{"", "\n5\n" + right + "\n", "o\n5\n" + right, "o\n5\n" + right + "\nmore\n", "o\n05\n" + right + "\n", "o\n5\n\n", "o\n5\n" + right + "\n\n", "o\n\n" + right + "\n"} {
+		if _, _, err := TreeOf(wrong); !errors.Is(err, ErrRequest) {
+			t.Errorf("%q is a checkpoint", wrong)
+		}
+	}
+}
+
+// TestOtherKeys: keys of another kind, or under another's name, are none, and no signature of any length is one of nothing.
+func TestOtherKeys(t *testing.T) {
+	inPEM := func(kind string, der []byte, err error) string {
+		must(t, err)
+		return string(pem.EncodeToMemory(&pem.Block{Type: kind, Bytes: der}))
+	}
+	wide, err := ecdsa.GenerateKey(elliptic.P384(), rand.Reader)
+	must(t, err)
+	old, err := rsa.GenerateKey(rand.Reader, 2048)
+	must(t, err)
+	key := newKey(t)
+	publicOf := func(key any) ([]byte, error) { return x509.MarshalPKIXPublicKey(key) }
+	for _, public := range []any{&wide.PublicKey, &old.PublicKey} {
+		der, err := publicOf(public)
+		if _, err := LogKey(origin, inPEM("PUBLIC KEY", der, err)); !errors.Is(err, ErrKey) {
+			t.Errorf("%T is a log's key: %v", public, err)
+		}
+	}
+	der, err := publicOf(key.Public())
+	if read, err := LogKey(origin, inPEM("PUBLIC KEY", der, err)); err != nil || read.Name() != origin {
+		t.Errorf("a key of Ed25519 in PEM: %v", err)
+	}
+	secret, err := x509.MarshalPKCS8PrivateKey(key)
+	if read, err := ReadKey([]byte(inPEM("PRIVATE KEY", secret, err))); err != nil || !read.Equal(key) {
+		t.Errorf("its own key: %v", err)
+	}
+	if _, err := ReadKey([]byte(inPEM("ED25519 KEY", secret, nil))); !errors.Is(err, ErrKey) {
+		t.Errorf("a private key under another name: %v", err)
+	}
+	der, err = x509.MarshalPKCS8PrivateKey(wide)
+	if _, err := ReadKey([]byte(inPEM("PRIVATE KEY", der, err))); !errors.Is(err, ErrKey) {
+		t.Errorf("a private key of P-384: %v", err)
+	}
+	public := key.Public().(ed25519.PublicKey)
+	id := idOf("w.example", algCosignature, public)
+	written := func(name string, kind byte) string {
+		return fmt.Sprintf("%s+%08x+%s", name, id, base64.StdEncoding.EncodeToString(append([]byte{kind}, public...)))
+	}
+	if name, read, err := ReadVerifierKey(written("w.example", algCosignature)); err != nil || name != "w.example" || !read.Equal(public) {
+		t.Error(err)
+	}
+	for what, wrong := range map[string]string{"of type 1": written("w.example", 1), "of another name": written("v.example", algCosignature), "with a space": VerifierKey("w example", public)} {
+		if _, _, err := ReadVerifierKey(wrong); !errors.Is(err, ErrKey) {
+			t.Errorf("a verifier key %s: %v", what, err)
+		}
+	}
+	text := []byte(checkpoint(origin, 3, [32]byte{}))
+	der, err = publicOf(&wide.PublicKey)
+	must(t, err)
+	for length := 0; length < 80; length++ {
+		for _, of := range []note.Verifier{OfCosigner("w.example", public), OfRFC6962(origin, der), headKey(t, origin).key} {
+			if of.Verify(text, make([]byte, length)) {
+				t.Errorf("%d bytes of 0 are a signature", length)
+			}
+		}
+	}
+	// A moment is what a cosignature says, and the text is all of it.
+	signed := ed25519.Sign(key, Message(7, string(text)))
+	blob := append(binary.BigEndian.AppendUint64(nil, 7), signed...)
+	of := OfCosigner("w.example", public)
+	if !of.Verify(text, blob) || of.Verify(text, append(binary.BigEndian.AppendUint64(nil, 8), signed...)) || of.Verify(text[:len(text)-1], blob) || of.Verify(text, append(blob, 0)) {
+		t.Error("a cosignature is taken for another one")
+	}
+}
+
+// TestLeads has the second look at a request, by x/mod's tlog, refuse what does not lead from the last tree to the checkpoint's.
+func TestLeads(t *testing.T) {
+	one := grown(t, "a", "b", "c", "d", "e")
+	of := func(n int64) wagtenib.WitnessedTree {
+		return wagtenib.WitnessedTree{TreeSize: uint64(n), Root: one.root(t, n)}
+	}
+	for old, right := range map[uint64]bool{3: true, 2: false, 4: false} {
+		if err := leads(of(3), Request{Old: old, Proof: one.proof(t, 3, 5)}, 5, one.root(t, 5)); (err == nil) != right {
+			t.Errorf("from %d: %v", old, err)
+		}
+	}
+	if err := leads(of(3), Request{Old: 3}, 4, one.root(t, 4)); err == nil {
+		t.Error("one more entry needs no proof")
+	}
+	if err := leads(of(5), Request{Old: 5}, 4, one.root(t, 4)); err == nil {
+		t.Error("a smaller tree follows")
+	}
+}

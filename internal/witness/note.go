@@ -1,0 +1,265 @@
+// Package witness has both sides of C2SP tlog-witness: a witness over HTTP, whose decisions are proved code (docs/WITNESS.md), and what a log asks
+// several of them.
+package witness
+
+import (
+	"bytes"
+	"crypto/ecdsa"
+	"crypto/ed25519"
+	"crypto/elliptic"
+	"crypto/sha256"
+	"crypto/x509"
+	"encoding/base64"
+	"encoding/binary"
+	"encoding/hex"
+	"encoding/pem"
+	"errors"
+	"fmt"
+	"strconv"
+	"strings"
+	"time"
+
+	"golang.org/x/mod/sumdb/note"
+
+	"wagtenib/internal/signer"
+)
+
+// The bounds, and the types of keys that lines of signatures name (C2SP signed-note, tlog-cosignature, static-ct-api).
+const (
+	// MostBody is how many bytes a request has, and MostProof how many hashes (C2SP tlog-witness).
+	MostBody  = 64 << 10
+	MostProof = 63
+
+	algCosignature = 4
+	algRFC6962     = 5
+)
+
+// What is refused of texts. Each is found by errors.Is.
+var (
+	// ErrRequest: a text isn't a request's, or a note's.
+	ErrRequest = errors.New("witness: not a request")
+	// ErrKey: a text is no key of the kind.
+	ErrKey = errors.New("witness: no such key")
+)
+
+// Request is what add-checkpoint is asked: the size that the proof is from, the proof, and the signed note, whose text is Text.
+type Request struct {
+	Old   uint64
+	Proof [][32]byte
+	Note  []byte
+	Text  string
+}
+
+// Origin is a checkpoint's first line; it may be empty.
+func (r Request) Origin() string {
+	origin, _, _ := strings.Cut(r.Text, "\n")
+	return origin
+}
+
+// number reads a number as it is written: decimal, without leading zeros, below 2^63.
+func number(text string) (uint64, error) {
+	n, err := strconv.ParseUint(text, 10, 63)
+	if err != nil || strconv.FormatUint(n, 10) != text {
+		return 0, fmt.Errorf("%w: no number", ErrRequest)
+	}
+	return n, nil
+}
+
+// hash reads a hash of 32 bytes in base64.
+func hash(text string) (h [32]byte, err error) {
+	read, err := base64.StdEncoding.DecodeString(text)
+	if err != nil || len(read) != len(h) || base64.StdEncoding.EncodeToString(read) != text {
+		return h, fmt.Errorf("%w: no hash", ErrRequest)
+	}
+	return *(*[32]byte)(read), nil
+}
+
+// ParseRequest reads the body of add-checkpoint: "old N", the proof's hashes, an empty line, the signed note.
+func ParseRequest(body []byte) (r Request, err error) {
+	if len(body) > MostBody {
+		return r, fmt.Errorf("%w: more than %d bytes", ErrRequest, MostBody)
+	}
+	head, signed, found := bytes.Cut(body, []byte("\n\n"))
+	if !found {
+		return r, fmt.Errorf("%w: no empty line", ErrRequest)
+	}
+	lines := strings.Split(string(head), "\n")
+	if !strings.HasPrefix(lines[0], "old ") || len(lines) > 1+MostProof {
+		return r, fmt.Errorf("%w: no old size, or more than %d hashes", ErrRequest, MostProof)
+	}
+	if r.Old, err = number(strings.TrimPrefix(lines[0], "old ")); err != nil {
+		return r, err
+	}
+	for _, line := range lines[1:] {
+		h, err := hash(line)
+		if err != nil {
+			return r, err
+		}
+		r.Proof = append(r.Proof, h)
+	}
+	r.Note = signed
+	r.Text, err = TextOf(signed)
+	return r, err
+}
+
+// Body returns the bytes of a request.
+func (r Request) Body() []byte {
+	body := []byte("old " + strconv.FormatUint(r.Old, 10) + "\n")
+	for i := range r.Proof {
+		body = append(body, base64.StdEncoding.EncodeToString(r.Proof[i][:])+"\n"...)
+	}
+	return append(append(body, '\n'), r.Note...)
+}
+
+// TextOf is the text of a signed note, whoever signed it.
+func TextOf(signed []byte) (string, error) {
+	var unknown *note.UnverifiedNoteError
+	if _, err := note.Open(signed, nil); !errors.As(err, &unknown) {
+		return "", fmt.Errorf("%w: no signed note", ErrRequest)
+	}
+	return unknown.Note.Text, nil
+}
+
+// TreeOf is the tree of a checkpoint's text of three lines (C2SP tlog-checkpoint, without extension lines).
+func TreeOf(text string) (size uint64, root [32]byte, err error) {
+	lines := strings.Split(text, "\n")
+	if len(lines) != 4 || lines[0] == "" || lines[3] != "" {
+		return 0, root, fmt.Errorf("%w: no checkpoint of three lines", ErrRequest)
+	}
+	if size, err = number(lines[1]); err != nil {
+		return 0, root, err
+	}
+	root, err = hash(lines[2])
+	return size, root, err
+}
+
+// idOf names a key by its name, its type and its bytes (C2SP signed-note).
+func idOf(name string, kind byte, key []byte) uint32 {
+	sum := sha256.Sum256(append(append([]byte(name+"\n"), kind), key...))
+	return binary.BigEndian.Uint32(sum[:4])
+}
+
+// verifier is a key of a type that x/mod's note doesn't know.
+type verifier struct {
+	name   string
+	id     uint32
+	verify func(text, signature []byte) bool
+}
+
+func (v verifier) Name() string                       { return v.name }
+func (v verifier) KeyHash() uint32                    { return v.id }
+func (v verifier) Verify(text, signature []byte) bool { return v.verify(text, signature) }
+
+// OfRFC6962 is the key of a log of RFC 6962 (type 5; a SubjectPublicKeyInfo of P-256 in DER): the signature is over the tree head at the moment
+// that its line says. Origin and extension lines aren't signed, so the one is compared, and of the others there may be none.
+func OfRFC6962(origin string, der []byte) note.Verifier {
+	logID := sha256.Sum256(der)
+	return verifier{origin, idOf(origin, algRFC6962, logID[:]), func(text, signature []byte) bool {
+		size, root, err := TreeOf(string(text))
+		if err != nil || !bytes.HasPrefix(text, []byte(origin+"\n")) || len(signature) <= 8 {
+			return false
+		}
+		head := signer.Head{Size: size, Moment: binary.BigEndian.Uint64(signature[:8]), Root: root}
+		return signer.CheckHead(der, head, signature[8:]) == nil
+	}}
+}
+
+// LogKey reads a log's public key: a verifier key of a signed note (type 1, Ed25519), or a SubjectPublicKeyInfo in PEM, of Ed25519 (type 1) or
+// P-256 (type 5).
+func LogKey(origin, text string) (note.Verifier, error) {
+	block, _ := pem.Decode([]byte(text))
+	if block == nil {
+		key, err := note.NewVerifier(strings.TrimSpace(text))
+		if err != nil {
+			return nil, fmt.Errorf("%w: neither a verifier key of Ed25519 nor one in PEM", ErrKey)
+		}
+		return key, nil
+	}
+	parsed, err := x509.ParsePKIXPublicKey(block.Bytes)
+	if err != nil {
+		return nil, fmt.Errorf("%w: %v", ErrKey, err)
+	}
+	switch key := parsed.(type) {
+	case ed25519.PublicKey:
+		written, err := note.NewEd25519VerifierKey(origin, key)
+		if err != nil {
+			return nil, fmt.Errorf("%w: %v", ErrKey, err)
+		}
+		return note.NewVerifier(written)
+	case *ecdsa.PublicKey:
+		if key.Curve == elliptic.P256() {
+			return OfRFC6962(origin, block.Bytes), nil
+		}
+	}
+	return nil, fmt.Errorf("%w: it is neither of Ed25519 nor of P-256", ErrKey)
+}
+
+// Message is what a cosignature is over (C2SP tlog-cosignature, "cosignature/v1"): the moment in seconds, and the checkpoint's text.
+func Message(seconds uint64, text string) []byte {
+	return []byte("cosignature/v1\ntime " + strconv.FormatUint(seconds, 10) + "\n" + text)
+}
+
+// OfCosigner is a witness's key (type 4): the signature's line says the moment, and the signature is over Message.
+func OfCosigner(name string, key ed25519.PublicKey) note.Verifier {
+	return verifier{name, idOf(name, algCosignature, key), func(text, signature []byte) bool {
+		return len(signature) == 8+ed25519.SignatureSize && ed25519.Verify(key, Message(binary.BigEndian.Uint64(signature[:8]), string(text)), signature[8:])
+	}}
+}
+
+// cosignatureLine is a cosignature as a line of a note.
+func cosignatureLine(name string, key ed25519.PublicKey, seconds uint64, signature []byte) string {
+	blob := binary.BigEndian.AppendUint32(nil, idOf(name, algCosignature, key))
+	blob = append(binary.BigEndian.AppendUint64(blob, seconds), signature...)
+	return "— " + name + " " + base64.StdEncoding.EncodeToString(blob) + "\n"
+}
+
+// MomentOf reads whose a cosignature's line is, and its moment; nothing where it is none.
+func MomentOf(line string) (name string, at time.Time, ok bool) {
+	name, text, _ := strings.Cut(strings.TrimPrefix(line, "— "), " ")
+	blob, err := base64.StdEncoding.DecodeString(text)
+	if err != nil || len(blob) != 4+8+ed25519.SignatureSize || !strings.HasPrefix(line, "— ") {
+		return "", time.Time{}, false
+	}
+	return name, time.Unix(int64(binary.BigEndian.Uint64(blob[4:12])), 0), true
+}
+
+// VerifierKey writes a witness's key: its name, its key's four bytes in hexadecimal, and base64 of the type and the key.
+func VerifierKey(name string, key ed25519.PublicKey) string {
+	return fmt.Sprintf("%s+%08x+%s", name, idOf(name, algCosignature, key), base64.StdEncoding.EncodeToString(append([]byte{algCosignature}, key...)))
+}
+
+// ReadVerifierKey reads one.
+func ReadVerifierKey(text string) (name string, key ed25519.PublicKey, err error) {
+	name, rest, _ := strings.Cut(text, "+")
+	id, written, _ := strings.Cut(rest, "+")
+	raw, err := base64.StdEncoding.DecodeString(written)
+	if err != nil || len(raw) != 1+ed25519.PublicKeySize || raw[0] != algCosignature || !isName(name) {
+		return "", nil, fmt.Errorf("%w: no verifier key of a witness", ErrKey)
+	}
+	if given, err := hex.DecodeString(id); err != nil || len(given) != 4 || binary.BigEndian.Uint32(given) != idOf(name, algCosignature, raw[1:]) {
+		return "", nil, fmt.Errorf("%w: a verifier key of another name or key", ErrKey)
+	}
+	return name, raw[1:], nil
+}
+
+// isName says whether a text can be a key's name in a note.
+func isName(name string) bool {
+	return name != "" && !strings.ContainsAny(name, "+") && len(strings.Fields(name)) == 1 && strings.TrimSpace(name) == name
+}
+
+// ReadKey reads a witness's private key out of PEM: Ed25519, as openssl genpkey writes it.
+func ReadKey(text []byte) (ed25519.PrivateKey, error) {
+	block, _ := pem.Decode(text)
+	if block == nil || block.Type != "PRIVATE KEY" {
+		return nil, fmt.Errorf("%w: there is no private key in PEM", ErrKey)
+	}
+	parsed, err := x509.ParsePKCS8PrivateKey(block.Bytes)
+	if err != nil {
+		return nil, fmt.Errorf("%w: %v", ErrKey, err)
+	}
+	key, ok := parsed.(ed25519.PrivateKey)
+	if !ok {
+		return nil, fmt.Errorf("%w: it isn't one of Ed25519", ErrKey)
+	}
+	return key, nil
+}
