@@ -25,10 +25,17 @@ type model struct {
 	mutex      sync.Mutex
 	now        time.Time
 	unread     int // pieces that have no answer yet
-	asked      int
-	refused    int
+	seen       seen
 	requesting []event // requests in flight
 	waiting    []event // waits of the client
+}
+
+// seen is what the server saw.
+type seen struct {
+	asked    int
+	refusals int
+	refused  map[string]time.Time // by the address, when a request was refused
+	early    int                  // requests that were made again before their second was over
 }
 
 // event is what happens at a time of the model.
@@ -58,8 +65,11 @@ func (m *model) Wait(_ context.Context, d time.Duration) error {
 // RoundTrip answers a request after the latency.
 func (m *model) RoundTrip(r *http.Request) (*http.Response, error) {
 	m.mutex.Lock()
-	m.asked++
-	refused := m.refuses && m.asked > m.inFlight && m.asked%5 == 0
+	m.seen.asked++
+	if at, found := m.seen.refused[r.URL.String()]; found && m.now.Before(at.Add(time.Second)) {
+		m.seen.early++
+	}
+	refused := m.refuses && m.seen.asked > m.inFlight && m.seen.asked%5 == 0
 	one := event{m.now.Add(m.latency), make(chan struct{})}
 	m.requesting = append(m.requesting, one)
 	m.advance()
@@ -67,7 +77,8 @@ func (m *model) RoundTrip(r *http.Request) (*http.Response, error) {
 	<-one.done
 	if refused {
 		m.mutex.Lock()
-		m.refused++
+		m.seen.refusals++
+		m.seen.refused[r.URL.String()] = m.now
 		m.mutex.Unlock()
 		return &http.Response{StatusCode: http.StatusTooManyRequests, Header: http.Header{"Retry-After": {"1"}},
 			Body: io.NopCloser(strings.NewReader("")), Request: r}, nil
@@ -133,7 +144,7 @@ func TestRefusalsDoNotDoubleTheTime(t *testing.T) {
 		took := map[bool]time.Duration{}
 		for _, refuses := range []bool{false, true} {
 			m := &model{log: log, latency: time.Second / 2, refuses: refuses, inFlight: inFlight, now: begun,
-				unread: (size + logclient.TileWidth - 1) / logclient.TileWidth}
+				seen: seen{refused: map[string]time.Time{}}, unread: (size + logclient.TileWidth - 1) / logclient.TileWidth}
 			c, err := logclient.New("https://log.example", logclient.Options{Transport: m, Clock: m,
 				Limits: logclient.Limits{InFlight: inFlight}})
 			if err != nil {
@@ -147,11 +158,14 @@ func TestRefusalsDoNotDoubleTheTime(t *testing.T) {
 				next += uint64(count)
 				return nil
 			})
-			if err != nil || next != size || (m.refused < 20) == refuses {
-				t.Fatalf("%s: %d entries after %d refusals: %v", kind, next, m.refused, err)
+			if err != nil || next != size || (m.seen.refusals < 20) == refuses {
+				t.Fatalf("%s: %d entries after %d refusals: %v", kind, next, m.seen.refusals, err)
+			}
+			if m.seen.early > 0 {
+				t.Errorf("%s: %d requests were made again in less than the second that the log named", kind, m.seen.early)
 			}
 			took[refuses] = m.now.Sub(begun)
-			t.Logf("%s: %d requests, %d of them refused: %v", kind, m.asked, m.refused, took[refuses])
+			t.Logf("%s: %d requests, %d of them refused: %v", kind, m.seen.asked, m.seen.refusals, took[refuses])
 		}
 		if took[false] != 15*time.Second/2 {
 			t.Errorf("%s: without refusals it takes %v, and 15 times half a second are due", kind, took[false])
