@@ -55,15 +55,6 @@ type logSettings struct {
 	policy    policyFlags
 }
 
-// outputSettings say where alerts go.
-type outputSettings struct {
-	mail               []string
-	mailFrom, sendmail string
-	webhooks, commands []string
-	json               string
-	quiet              bool
-}
-
 // serveSettings say where the page is.
 type serveSettings struct {
 	listen string
@@ -114,17 +105,7 @@ func (s *settings) define(flags *flag.FlagSet) {
 	flags.StringVar(&s.logs.accepted, "accepted-folder", "",
 		"`folder` that gets the head of each tiled log that was accepted last, for a witness (ctwitness-serve --accepted-by)")
 	s.logs.policy.define(flags)
-	flags.Func("mail", "mail `address` for alerts. May be given several times", appendTo(&s.outputs.mail))
-	flags.StringVar(&s.outputs.mailFrom, "mail-from", "", "mail `address` of the sender; by default the first --mail")
-	flags.StringVar(&s.outputs.sendmail, "sendmail", "/usr/sbin/sendmail",
-		"`program` with the interface of sendmail, or smtp://HOST:PORT")
-	flags.Func("webhook", "`URL` to which each alert is posted as JSON. May be given several times",
-		appendTo(&s.outputs.webhooks))
-	flags.Func("command", "`program` and its arguments, separated by spaces, that is run for each alert without a "+
-		"shell. May be given several times", appendTo(&s.outputs.commands))
-	flags.StringVar(&s.outputs.json, "json", "",
-		"`file` to which each alert is appended as a line of JSON; - is standard output")
-	flags.BoolVar(&s.outputs.quiet, "quiet", false, "write no alert to standard output")
+	s.outputs.define(flags)
 	flags.Func("expect-key", "SHA-256 `hash` of a public key (SubjectPublicKeyInfo) whose certificates cause no "+
 		"alert. May be given several times", s.addKey)
 	flags.Func("expect-issuer", "`organization`, common name or whole name of a CA whose certificates cause no alert. "+
