@@ -55,9 +55,10 @@ type logSettings struct {
 	policy    policyFlags
 }
 
-// serveSettings say where the page is.
+// serveSettings say where the page is, and in which file the settings are.
 type serveSettings struct {
 	listen string
+	config string // empty if all settings are flags
 }
 
 // parse reads the command line, and the file that it names. If both have a setting, the command line counts; of
@@ -81,7 +82,8 @@ func parse(words []string, out io.Writer) (*settings, error) {
 }
 
 func (s *settings) define(flags *flag.FlagSet) {
-	flags.String("config", "", "`file` with a line 'name value' for each of these settings. A comment begins with #")
+	flags.StringVar(&s.serve.config, "config", "", "`file` with a line 'name value' for each of these settings. A comment begins with #. "+
+		"SIGHUP has it read again")
 	flags.Func("name", "watched `name`: example.org covers all names below it, =example.org only that name. May be "+
 		"given several times", s.addName)
 	flags.Func("names", "`file` with watched names, one a line (ctwatch names FILE checks it)",
