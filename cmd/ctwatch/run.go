@@ -260,11 +260,13 @@ func (w *watching) once(ctx context.Context) error {
 	if err != nil {
 		return err
 	}
+	isAccused := after.Evidence > before.Evidence
 	for name, fault := range faults {
 		w.lines.Error("log", "name", name, "fault", fault)
+		isAccused = isAccused || errors.As(fault, new(*watch.AccusedError))
 	}
 	switch {
-	case after.Evidence > before.Evidence:
+	case isAccused:
 		return &statusError{statusAccused, "ctwatch: a log did wrong (ctwatch health lists the evidence)"}
 	case len(failed) > 0:
 		return &statusError{statusFault, "ctwatch: " + strings.Join(failed, "; ")}
