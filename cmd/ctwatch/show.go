@@ -164,7 +164,7 @@ func prove(ctx context.Context, reader *watch.Reader, head watch.Head, entry wat
 	if index != entry.Index {
 		also = fmt.Sprintf(" (the log proves the same leaf at index %d)", index)
 	}
-	_, err = fmt.Fprintf(out, "The log's tree has this entry: the proof leads to the head of %d leaves that the log "+
+	_, err = fmt.Fprintf(out, "The log's tree has this entry: the proof leads to the tree head of size %d that the log "+
 		"signed at %s%s.\n", head.TreeSize, time.UnixMilli(int64(head.Timestamp)).UTC().Format(time.RFC3339), also)
 	return err
 }

@@ -30,7 +30,7 @@ func TestShowsAnEntry(t *testing.T) {
 			block, _ := pem.Decode([]byte(out))
 			if status != 0 || block == nil || !slices.Equal(block.Bytes, due) ||
 				!strings.Contains(out, "Name:                  shop.example.org\n") ||
-				!strings.Contains(out, "the head of 404 leaves") || strings.Contains(out, "does not cover") {
+				!strings.Contains(out, "the tree head of size 404") || strings.Contains(out, "does not cover") {
 				t.Errorf("tiled %v, entry %s: status %d: %s%s", isTiled, index, status, out, faults)
 			}
 		}
