@@ -46,7 +46,7 @@ make() {
   for name in log root leaf; do openssl ecparam -name prime256v1 -genkey -noout -out "$name.key"; done
   openssl ec -in log.key -pubout -out log.pem 2>/dev/null
   openssl req -x509 -key root.key -subj "/CN=a root to try a log with" -days 3650 -out root.pem
-  openssl req -new -key leaf.key -subj /CN=www.example.org |
+  openssl req -new -key leaf.key -subj /CN=shop.example.org |
     openssl x509 -req -CA root.pem -CAkey root.key -set_serial 1 -days 90 -out leaf.pem 2>/dev/null
   printf '{"chain":["%s","%s"]}\n' "$(openssl x509 -in leaf.pem -outform DER | base64 -w 0)" "$(openssl x509 -in root.pem -outform DER | base64 -w 0)" >chain.json
   cp root.pem roots.pem

@@ -131,7 +131,7 @@ HERE, BARE, PAGES, LONG, GATE = "readme.py", "make bare", "make pages", "pages.p
 ELSEWHERE = {
     "docs/LINES.md": {"crates/ctlog/out/ctlog": HERE},
     "docs/OPERATING.md": {"": BARE},
-    "docs/WATCH.md": {"make serve": HERE, "curl -s -d @ct-log/chain.json": HERE, "ctwatch run --once": HERE},
+    "docs/WATCH.md": {"make serve": HERE, "curl -s -d @ct-log/chain.json": HERE, "cmd/out/ctwatch run --once": HERE},
     "examples/README.md": {"examples/pem_lines.py": HERE, "examples/bad_lines.py": HERE},
     "examples/link/README.md": {"make link": PAGES, "make install": PAGES, "ldconfig": PAGES, "cc program.c": PAGES},
     "release/README.md": {"make programs release": PAGES, "cd release/out && sha256sum": PAGES, "apt-get install": BARE},
@@ -199,7 +199,7 @@ def pem_lines(page):
 
 SIGNED = r'\{"sct_version":0,.*"signature":"[A-Za-z0-9+/=]+"\}\s*'
 CHECKPOINT = "ct-log.example\n1\n[A-Za-z0-9+/=]{44}\n\n\u2014 ct-log.example [A-Za-z0-9+/=]+\n"
-ALERT = r"FOUND (?:www\.)?example\.org: www\.example\.org \(1 name\); issued by .*; certificate 0 of 127\.0\.0\.1:[0-9]+; .*\n"
+ALERT = r"FOUND example\.org: shop\.example\.org \(1 name\); issued by .*; certificate 0 of 127\.0\.0\.1:[0-9]+; .*\n"
 # The commands by how they begin: what has to run before them, and what they are to do.
 KNOWN = [
     ("make serve", lambda page, command: page.serve(command)),
@@ -232,8 +232,8 @@ def main():
                 watching = commands(ROOT / "docs" / "WATCH.md")
                 page.run(next(command for command in watching if command.startswith("curl")), 0, SIGNED)
                 # (in a folder of its own: the store of README.md's ctwatch has the alert already)
-                watches = next(command for command in watching if command.startswith("ctwatch run"))
-                page.run("PATH=cmd/out:$PATH; " + watches.replace("ctwatch run", "ctwatch run --folder another-store"), 8, ALERT)
+                watches = next(command for command in watching if command.startswith("cmd/out/ctwatch run"))
+                page.run(watches.replace("ctwatch run", "ctwatch run --folder another-store"), 8, ALERT)
                 pem_lines(page)
         finally:
             page.end()

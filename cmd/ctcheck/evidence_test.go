@@ -1,15 +1,22 @@
 package main
 
 import (
+	"context"
+	"crypto/sha256"
 	"encoding/json"
 	"encoding/pem"
+	"errors"
+	"net/http/httptest"
 	"os"
 	"path/filepath"
 	"strings"
 	"testing"
 
+	"wagtenib/internal/finding"
 	"wagtenib/internal/testlog"
 	"wagtenib/internal/trial"
+	"wagtenib/internal/watch"
+	"wagtenib/internal/watchstore"
 )
 
 // TestEvidence: a fork is shown by two signed heads and the log's key, and by no other key and no other files.
@@ -49,5 +56,50 @@ func TestEvidence(t *testing.T) {
 	if status, _, problem := trial.Runs(t, "evidence", folder, own); status != 1 ||
 		!strings.Contains(problem, "head-2 is missing") {
 		t.Errorf("no head: status %d: %s", status, problem)
+	}
+}
+
+// TestEvidenceOfAFork: a log that ctwatch follows signs another root. What the store of ctwatch then has convinces
+// ctcheck, with the log's key and without the log, in one command.
+func TestEvidenceOfAFork(t *testing.T) {
+	for _, kind := range []string{"tiled", "RFC 6962"} {
+		log, err := testlog.New("log.example/2027")
+		must(t, err)
+		for i := range uint64(300) {
+			log.Add(testlog.Entry{Timestamp: 1000 + i, Certificate: []byte{0x30, 3, 1, byte(i >> 8), byte(i)}})
+		}
+		log.Publish(300, 2000)
+		server := httptest.NewServer(log)
+		of := watch.Log{ID: sha256.Sum256(log.PublicKey()), Name: "a log", URL: server.URL, PublicKey: log.PublicKey()}
+		if kind == "tiled" {
+			of.Origin = log.Origin
+		}
+		store, err := watchstore.Open(t.TempDir(), watchstore.Options{Searcher: finding.NewSearcher(nil)})
+		must(t, err)
+		follower, err := watch.NewFollower(of, store, watch.Options{FromStart: true})
+		must(t, err)
+		must(t, follower.Pass(context.Background()))
+		log.PublishRoot(300, 3000, [32]byte{1})
+		if err := follower.Pass(context.Background()); !errors.As(err, new(*watch.AccusedError)) {
+			t.Fatalf("%s: the log forks, and the pass ends with %v", kind, err)
+		}
+		evidence, _, err := store.Evidence(1)
+		must(t, err)
+		must(t, store.Close())
+		server.Close()
+		folder, key := t.TempDir(), filepath.Join(t.TempDir(), "key")
+		for name, content := range evidence.Files {
+			must(t, os.WriteFile(filepath.Join(folder, name), content, 0o600))
+		}
+		must(t, os.WriteFile(key, pem.EncodeToMemory(&pem.Block{Type: "PUBLIC KEY", Bytes: log.PublicKey()}), 0o600))
+		if status, out, problem := trial.Runs(t, "evidence", folder, key); status != 0 ||
+			!strings.Contains(out, "two roots of 300 leaves") {
+			t.Errorf("%s: status %d: %s%s", kind, status, out, problem)
+		}
+		head := filepath.Join(folder, watch.FileHead)
+		must(t, os.WriteFile(head, evidence.Files[watch.FileFirst], 0o600))
+		if status, out, problem := trial.Runs(t, "evidence", folder, key); status != 1 {
+			t.Errorf("%s: the same head twice: status %d: %s%s", kind, status, out, problem)
+		}
 	}
 }

@@ -6,9 +6,11 @@ import (
 	"fmt"
 	"io"
 	"os"
+	"os/signal"
 	"slices"
 	"strings"
 	"sync"
+	"syscall"
 	"time"
 
 	"github.com/coreos/go-systemd/v22/daemon"
@@ -35,13 +37,66 @@ type watching struct {
 	wakes    []chan struct{}
 }
 
-// runWatch follows logs until the context ends, or with --once up to their newest heads.
-func runWatch(ctx context.Context, words []string, out io.Writer) (err error) {
+// runWatch follows logs until the context ends, or with --once up to their newest heads. After a SIGHUP it goes on with
+// the settings that the file then has.
+func runWatch(ctx context.Context, words []string, out io.Writer) error {
 	s, err := parse(words, out)
 	if err != nil {
 		return err
 	}
 	lines := web.NewLines(os.Stderr)
+	if s.logs.once || s.serve.config == "" {
+		return s.watch(ctx, out, lines)
+	}
+	hangups := make(chan os.Signal, 1)
+	signal.Notify(hangups, syscall.SIGHUP)
+	defer signal.Stop(hangups)
+	for err == nil && s != nil {
+		running, stop := context.WithCancel(ctx)
+		next := make(chan *settings, 1)
+		go func() {
+			next <- readAgain(running, words, hangups, lines)
+			stop()
+		}()
+		err = s.watch(running, out, lines)
+		stop()
+		s = <-next
+	}
+	return err
+}
+
+// readAgain reads the settings again at each SIGHUP, and returns those that are right. It returns nil after the context
+// has ended.
+func readAgain(ctx context.Context, words []string, hangups <-chan os.Signal, lines *web.Lines) *settings {
+	for {
+		select {
+		case <-ctx.Done():
+			return nil
+		case <-hangups:
+		}
+		s, err := parse(words, io.Discard)
+		if err == nil {
+			err = s.check(lines)
+		}
+		if err == nil {
+			return s
+		}
+		lines.Error("settings", "fault", err, "remedy", "the old ones hold until a SIGHUP after the file is right")
+	}
+}
+
+// check opens what the settings name, as far as another run can have it open too.
+func (s *settings) check(lines *web.Lines) error {
+	_, closeOutputs, err := s.outputs.open(io.Discard, s.logs.contact)
+	if err == nil {
+		_, err = newFollower(s.logs, nil, lines)
+	}
+	return errors.Join(err, closeOutputs())
+}
+
+// watch opens the store and the outputs, and follows logs until the context ends, or with --once up to their newest
+// heads.
+func (s *settings) watch(ctx context.Context, out io.Writer, lines *web.Lines) (err error) {
 	outputs, closeOutputs, err := s.outputs.open(out, s.logs.contact)
 	if err != nil {
 		return err
@@ -205,11 +260,13 @@ func (w *watching) once(ctx context.Context) error {
 	if err != nil {
 		return err
 	}
+	isAccused := after.Evidence > before.Evidence
 	for name, fault := range faults {
 		w.lines.Error("log", "name", name, "fault", fault)
+		isAccused = isAccused || errors.As(fault, new(*watch.AccusedError))
 	}
 	switch {
-	case after.Evidence > before.Evidence:
+	case isAccused:
 		return &statusError{statusAccused, "ctwatch: a log did wrong (ctwatch health lists the evidence)"}
 	case len(failed) > 0:
 		return &statusError{statusFault, "ctwatch: " + strings.Join(failed, "; ")}

@@ -55,18 +55,10 @@ type logSettings struct {
 	policy    policyFlags
 }
 
-// outputSettings say where alerts go.
-type outputSettings struct {
-	mail               []string
-	mailFrom, sendmail string
-	webhooks, commands []string
-	json               string
-	quiet              bool
-}
-
-// serveSettings say where the page is.
+// serveSettings say where the page is, and in which file the settings are.
 type serveSettings struct {
 	listen string
+	config string // empty if all settings are flags
 }
 
 // parse reads the command line, and the file that it names. If both have a setting, the command line counts; of
@@ -90,7 +82,8 @@ func parse(words []string, out io.Writer) (*settings, error) {
 }
 
 func (s *settings) define(flags *flag.FlagSet) {
-	flags.String("config", "", "`file` with a line 'name value' for each of these settings. A comment begins with #")
+	flags.StringVar(&s.serve.config, "config", "", "`file` with a line 'name value' for each of these settings. A comment begins with #. "+
+		"SIGHUP has it read again")
 	flags.Func("name", "watched `name`: example.org covers all names below it, =example.org only that name. May be "+
 		"given several times", s.addName)
 	flags.Func("names", "`file` with watched names, one a line (ctwatch names FILE checks it)",
@@ -114,17 +107,7 @@ func (s *settings) define(flags *flag.FlagSet) {
 	flags.StringVar(&s.logs.accepted, "accepted-folder", "",
 		"`folder` that gets the head of each tiled log that was accepted last, for a witness (ctwitness-serve --accepted-by)")
 	s.logs.policy.define(flags)
-	flags.Func("mail", "mail `address` for alerts. May be given several times", appendTo(&s.outputs.mail))
-	flags.StringVar(&s.outputs.mailFrom, "mail-from", "", "mail `address` of the sender; by default the first --mail")
-	flags.StringVar(&s.outputs.sendmail, "sendmail", "/usr/sbin/sendmail",
-		"`program` with the interface of sendmail, or smtp://HOST:PORT")
-	flags.Func("webhook", "`URL` to which each alert is posted as JSON. May be given several times",
-		appendTo(&s.outputs.webhooks))
-	flags.Func("command", "`program` and its arguments, separated by spaces, that is run for each alert without a "+
-		"shell. May be given several times", appendTo(&s.outputs.commands))
-	flags.StringVar(&s.outputs.json, "json", "",
-		"`file` to which each alert is appended as a line of JSON; - is standard output")
-	flags.BoolVar(&s.outputs.quiet, "quiet", false, "write no alert to standard output")
+	s.outputs.define(flags)
 	flags.Func("expect-key", "SHA-256 `hash` of a public key (SubjectPublicKeyInfo) whose certificates cause no "+
 		"alert. May be given several times", s.addKey)
 	flags.Func("expect-issuer", "`organization`, common name or whole name of a CA whose certificates cause no alert. "+

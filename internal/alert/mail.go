@@ -9,9 +9,7 @@ import (
 	"fmt"
 	"mime"
 	"mime/quotedprintable"
-	"net"
 	"net/mail"
-	"net/smtp"
 	"os/exec"
 	"strings"
 	"time"
@@ -31,9 +29,19 @@ type Mail struct {
 	now   func() time.Time
 }
 
-// NewMail returns an output that sends mail from an address to others. The carrier is the path of a program with the
-// interface of sendmail, or smtp://HOST:PORT.
-func NewMail(from string, to []string, carrier string) (*Mail, error) {
+// Carrier says how mail leaves this machine.
+type Carrier struct {
+	// Place is the path of a program with the interface of sendmail, smtp://HOST:PORT or smtps://HOST:PORT.
+	Place string
+	// User and PasswordFile are those of the mail server. Both are empty if it wants no authentication.
+	User, PasswordFile string
+	// RootsFile has the certificates of CAs, in PEM, that may have issued the mail server's certificate. If it is
+	// empty, those of the system are used.
+	RootsFile string
+}
+
+// NewMail returns an output that sends mail from an address to others.
+func NewMail(from string, to []string, carrier Carrier) (*Mail, error) {
 	for _, address := range append([]string{from}, to...) {
 		if parsed, err := mail.ParseAddress(address); err != nil || parsed.Address != address ||
 			strings.HasPrefix(address, "-") {
@@ -44,17 +52,18 @@ func NewMail(from string, to []string, carrier string) (*Mail, error) {
 		return nil, errors.New("mail has no address (write NAME@HOST)")
 	}
 	m := &Mail{from: from, to: to, now: time.Now}
-	if host, found := strings.CutPrefix(carrier, "smtp://"); found {
-		if _, _, err := net.SplitHostPort(host); err != nil {
-			return nil, fmt.Errorf("%q has no port (write smtp://HOST:25)", carrier)
-		}
-		m.carry = bySMTP(host)
+	server, found, err := newServer(carrier)
+	if err != nil {
+		return nil, err
+	}
+	if found {
+		m.carry = server.carry
 		return m, nil
 	}
-	path, err := exec.LookPath(carrier)
+	path, err := exec.LookPath(carrier.Place)
 	if err != nil {
 		return nil, fmt.Errorf("sendmail %q cannot be run: %w (install a mail server, or write smtp://HOST:25)",
-			carrier, err)
+			carrier.Place, err)
 	}
 	m.carry = bySendmail(path)
 	return m, nil
@@ -128,30 +137,5 @@ func bySendmail(path string) func(context.Context, string, []string, []byte) err
 			return fmt.Errorf("%s: %w: %s", path, err, Safe(complaint.text.String()))
 		}
 		return nil
-	}
-}
-
-// bySMTP hands a mail to a mail server (RFC 5321). If the server offers TLS, it is used.
-func bySMTP(address string) func(context.Context, string, []string, []byte) error {
-	return func(ctx context.Context, from string, to []string, message []byte) error {
-		connection, err := (&net.Dialer{}).DialContext(ctx, "tcp", address)
-		if err != nil {
-			return err
-		}
-		defer connection.Close()
-		if deadline, ok := ctx.Deadline(); ok {
-			if err := connection.SetDeadline(deadline); err != nil {
-				return err
-			}
-		}
-		host, _, err := net.SplitHostPort(address)
-		if err != nil {
-			return err
-		}
-		client, err := smtp.NewClient(connection, host)
-		if err != nil {
-			return err
-		}
-		return talk(client, host, from, to, message)
 	}
 }

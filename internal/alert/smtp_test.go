@@ -65,7 +65,7 @@ func talk(connection net.Conn, refuses string) []string {
 func TestMailBySMTP(t *testing.T) {
 	address, got := mailServer(t, "")
 	output, err := alert.NewMail("owner@example.org", []string{"owner@example.org", "other@example.org"},
-		"smtp://"+address)
+		alert.Carrier{Place: "smtp://" + address})
 	must(t, err)
 	if sent, _, err := output.Send(context.Background(),
 		[]alert.Alert{certificateOf("\r\n.\r\nRCPT TO:<victim@example.net>")}); sent != 1 || err != nil {
@@ -86,14 +86,15 @@ func TestMailBySMTP(t *testing.T) {
 // TestMailThatIsRefused: if the server refuses an address, nothing is sent.
 func TestMailThatIsRefused(t *testing.T) {
 	address, _ := mailServer(t, "RCPT")
-	output, err := alert.NewMail("owner@example.org", []string{"owner@example.org"}, "smtp://"+address)
+	output, err := alert.NewMail("owner@example.org", []string{"owner@example.org"},
+		alert.Carrier{Place: "smtp://" + address})
 	must(t, err)
 	if sent, _, err := output.Send(context.Background(), []alert.Alert{certificateOf("a")}); sent != 0 ||
 		err == nil || !strings.Contains(err.Error(), "550") {
 		t.Errorf("%d sent: %v", sent, err)
 	}
 	if _, err := alert.NewMail("owner@example.org", []string{"owner@example.org"},
-		"smtp://mail.example"); err == nil || !strings.Contains(err.Error(), "smtp://HOST:25") {
+		alert.Carrier{Place: "smtp://mail.example"}); err == nil || !strings.Contains(err.Error(), "smtp://HOST:25") {
 		t.Error(err)
 	}
 }

@@ -12,10 +12,11 @@ type room struct {
 	free  int64
 }
 
-// holding is what one answer takes of the room.
+// holding is what one answer takes of the room, and the order in which it is needed.
 type holding struct {
 	room  *room
 	bytes int64
+	order uint64
 }
 
 // take reports whether there was room for n bytes more, and takes it.
@@ -87,7 +88,7 @@ func inOrder[T any](ctx context.Context, c *Client, next func() (piece, bool),
 		running.Add(1)
 		go func() {
 			defer running.Done()
-			held := &holding{room: c.room}
+			held := &holding{room: c.room, order: one.start}
 			value, err := fetch(ctx, one, held)
 			came <- outcome[T]{value, err, held}
 		}()

@@ -112,6 +112,29 @@ type RawEntry struct {
 	ExtraData []byte `json:"extra_data"` // the chain; of a precertificate it begins with the precertificate
 }
 
+// entryList reads the first entries of an answer. A log can put millions of empty ones into the bytes of an answer, so
+// those that were not asked for take no memory.
+type entryList struct {
+	most    int
+	entries []RawEntry
+}
+
+// UnmarshalJSON reads the first entries of an array.
+func (l *entryList) UnmarshalJSON(content []byte) error {
+	from := json.NewDecoder(bytes.NewReader(content))
+	if token, err := from.Token(); err != nil || token != json.Delim('[') {
+		return fmt.Errorf("it is no array (%.40q)", content)
+	}
+	for from.More() && len(l.entries) < l.most {
+		var one RawEntry
+		if err := from.Decode(&one); err != nil {
+			return err
+		}
+		l.entries = append(l.entries, one)
+	}
+	return nil
+}
+
 // Page holds entries that follow each other.
 type Page struct {
 	Start   uint64 // the index of the first one
@@ -139,16 +162,17 @@ func (c *Client) page(ctx context.Context, of piece, held *holding) (Page, error
 	for at := of.start; at < of.end; at = of.start + uint64(len(found.Entries)) {
 		query := url.Values{"start": {strconv.FormatUint(at, 10)}, "end": {strconv.FormatUint(of.end-1, 10)}}
 		var answer struct {
-			Entries []RawEntry `json:"entries"`
+			Entries entryList `json:"entries"`
 		}
+		answer.Entries.most = int(of.end - at)
 		if _, err := c.call(ctx, name, query, maxEntries, held, &answer); err != nil {
 			return Page{}, err
 		}
-		if len(answer.Entries) == 0 {
+		if len(answer.Entries.entries) == 0 {
 			return Page{}, fmt.Errorf("ct/v1/%s: %w: no entries from %d on, and the log has signed %d", name, ErrNonsense, at,
 				of.end)
 		}
-		found.Entries = append(found.Entries, answer.Entries[:min(len(answer.Entries), int(of.end-at))]...)
+		found.Entries = append(found.Entries, answer.Entries.entries...)
 	}
 	return found, nil
 }

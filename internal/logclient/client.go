@@ -6,15 +6,12 @@
 package logclient
 
 import (
-	"context"
 	"errors"
 	"fmt"
-	"math/rand/v2"
 	"net"
 	"net/http"
 	"net/url"
 	"strings"
-	"sync"
 	"time"
 )
 
@@ -23,7 +20,7 @@ type Limits struct {
 	Request  time.Duration // for one request and its whole answer; 2 minutes
 	Grace    time.Duration // after which an answer must keep the minimum pace; 10 seconds
 	Pace     int           // bytes a second that an answer must come by at least; 4,096
-	Attempts int           // requests for one answer, if the log is busy or fails; 8
+	Attempts int           // requests for one answer, if the log is busy or fails; 10
 	Wait     time.Duration // the longest time between two attempts. A log that asks for a longer one is busy; 5 minutes
 	InFlight int           // requests at a time; 8
 	Buffer   int64         // bytes of entries that are read ahead, beside one whole answer; 32 MiB
@@ -44,7 +41,7 @@ func (l Limits) withDefaults() Limits {
 		}
 	}
 	number(&l.Pace, 4096)
-	number(&l.Attempts, 8)
+	number(&l.Attempts, 10)
 	number(&l.InFlight, 8)
 	if l.Buffer <= 0 {
 		l.Buffer = 32 << 20
@@ -67,7 +64,7 @@ type Client struct {
 	agent   string
 	clock   Clock
 	limits  Limits
-	slots   chan struct{} // one for each request in flight
+	slots   *slots
 	room    *room
 	refused refusals
 }
@@ -104,7 +101,7 @@ func New(address string, options Options) (*Client, error) {
 	base.Path = strings.TrimSuffix(base.Path, "/")
 	limits := options.Limits.withDefaults()
 	c := &Client{base: base, agent: options.UserAgent, clock: options.Clock, limits: limits,
-		slots: make(chan struct{}, limits.InFlight), room: &room{free: limits.Buffer}}
+		slots: &slots{free: limits.InFlight}, room: &room{free: limits.Buffer}}
 	if c.agent == "" {
 		c.agent = "wagtenib"
 	}
@@ -151,68 +148,4 @@ func (c *Client) checkRedirect(next *http.Request, before []*http.Request) error
 		return fmt.Errorf("%w: from https to %s", ErrRedirect, next.URL.Scheme)
 	}
 	return nil
-}
-
-// A Clock tells the time, and waits between the attempts of a request.
-type Clock interface {
-	Now() time.Time
-	// Wait returns nil after a time, or the error of the context as soon as that ends.
-	Wait(ctx context.Context, d time.Duration) error
-}
-
-// MachineClock is the clock of this machine.
-type MachineClock struct{}
-
-// Now returns the time.
-func (MachineClock) Now() time.Time { return time.Now() }
-
-// Wait returns nil after a time, or the error of the context.
-func (MachineClock) Wait(ctx context.Context, d time.Duration) error {
-	timer := time.NewTimer(d)
-	defer timer.Stop()
-	select {
-	case <-timer.C:
-		return nil
-	case <-ctx.Done():
-		return context.Cause(ctx)
-	}
-}
-
-// refusals counts how often a log was busy. A log that refuses a request now and then is asked on at once by the other
-// requests. After several refusals without an answer between them, no request is made until the time that the log
-// names.
-type refusals struct {
-	mutex sync.Mutex
-	inRow int
-	until time.Time
-}
-
-// refusalsInRow is the number of refusals after which all requests wait.
-const refusalsInRow = 3
-
-func (r *refusals) answered() {
-	r.mutex.Lock()
-	defer r.mutex.Unlock()
-	r.inRow = 0
-}
-
-func (r *refusals) add(until time.Time) {
-	r.mutex.Lock()
-	defer r.mutex.Unlock()
-	if r.inRow++; r.inRow >= refusalsInRow && until.After(r.until) {
-		r.until = until
-	}
-}
-
-// wait returns how long a request must wait.
-func (r *refusals) wait(now time.Time) time.Duration {
-	r.mutex.Lock()
-	defer r.mutex.Unlock()
-	return r.until.Sub(now)
-}
-
-// jittered returns a random time between half of d and d, so that requests that failed together are not made again
-// together.
-func jittered(d time.Duration) time.Duration {
-	return d/2 + rand.N(d/2+1)
 }

@@ -265,8 +265,7 @@ func TestReadsBehindRefusals(t *testing.T) {
 		w.WriteHeader(http.StatusTooManyRequests)
 		return true
 	})
-	at := newClock()
-	c := client(t, log, logclient.Options{Clock: at})
+	c := client(t, log, logclient.Options{Clock: newClock()})
 	next := uint64(0)
 	err := c.Entries(context.Background(), 0, size, func(page logclient.Page, _ bool) error {
 		for i, entry := range page.Entries {
@@ -293,14 +292,5 @@ func TestReadsBehindRefusals(t *testing.T) {
 	})
 	if err != nil || tiles != 118 || refused.Load()-refusedByCalls < 20 {
 		t.Errorf("%d tiles behind %d refusals: %v", tiles, refused.Load()-refusedByCalls, err)
-	}
-	kept := int64(0)
-	for _, wait := range at.waits {
-		if wait >= time.Second {
-			kept++
-		}
-	}
-	if kept < refused.Load() {
-		t.Errorf("%d waits of a second, and the log refused %d requests", kept, refused.Load())
 	}
 }

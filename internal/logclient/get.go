@@ -54,8 +54,12 @@ func (e *BusyError) Is(target error) bool { return target == ErrBusy }
 // the next one.
 var errNoRoom = errors.New("logclient: no room to read ahead")
 
-// firstBackoff is the wait before the second attempt, if the log names none. It doubles with each attempt.
-const firstBackoff = 500 * time.Millisecond
+// The wait before the second attempt, if the log names none: of a log that cannot be reached or fails, and of one that
+// refuses the request because there are too many. It doubles with each attempt.
+const (
+	firstBackoff = 500 * time.Millisecond
+	firstRefused = 100 * time.Millisecond
+)
 
 // address returns the address of a path of the log. The query may be nil.
 func (c *Client) address(path string, query url.Values) string {
@@ -110,8 +114,9 @@ func (c *Client) waitAfter(err error, attempt int) (wait time.Duration, again bo
 	var busy *BusyError
 	switch {
 	case errors.As(err, &busy):
+		wait = jittered(firstRefused << min(attempt-1, 10))
 		if named := busy.Until.Sub(c.clock.Now()); named > 0 {
-			wait = named + jittered(firstBackoff/4)
+			wait = named + jittered(firstRefused)
 		}
 		if wait > c.limits.Wait {
 			return 0, false
@@ -129,12 +134,14 @@ var errFailed = fmt.Errorf("%w: the server fails", ErrStatus)
 
 // attempt makes one request, in one of the client's slots.
 func (c *Client) attempt(ctx context.Context, address string, most int64, ahead *holding) ([]byte, error) {
-	select {
-	case c.slots <- struct{}{}:
-		defer func() { <-c.slots }()
-	case <-ctx.Done():
-		return nil, context.Cause(ctx)
+	order := uint64(0)
+	if ahead != nil {
+		order = ahead.order
 	}
+	if err := c.slots.take(ctx, order); err != nil {
+		return nil, err
+	}
+	defer c.slots.giveBack()
 	within, cancel := context.WithCancelCause(ctx)
 	defer cancel(nil)
 	whole := time.AfterFunc(c.limits.Request, func() {

@@ -61,6 +61,31 @@ func (r *Reader) Place(ctx context.Context, head Head, leafHash wagtenib.Hash, n
 	return named, path, err
 }
 
+// Entry returns the entry at an index of a head's tree. It is not checked. The error wraps ErrAbsent if the tree has no
+// such entry, or is one of package logclient.
+func (r *Reader) Entry(ctx context.Context, head Head, index uint64) (Entry, error) {
+	if index >= head.TreeSize {
+		return Entry{}, fmt.Errorf("%w: its tree has %d entries, numbered from 0 on", ErrAbsent, head.TreeSize)
+	}
+	end := index + 1
+	if r.Log.IsTiled() {
+		// (the whole tile, by the name that it has in the head's tree)
+		end = min((index/logclient.TileWidth+1)*logclient.TileWidth, head.TreeSize)
+	}
+	var found []Entry
+	err := r.source.entries(ctx, index, end, func(b batch, _ bool) error {
+		found = append(found, b.entries...)
+		return nil
+	})
+	if err == nil && (len(found) == 0 || found[0].Index != index) {
+		err = fmt.Errorf("%w: entry %d is not in it", errDamaged, index)
+	}
+	if err != nil {
+		return Entry{}, err
+	}
+	return found[0], nil
+}
+
 // LeafHash returns the hash of the leaf at an index of a tiled log's tree, which is compared with the head's root. The
 // error wraps ErrAbsent for the other kind of log.
 func (r *Reader) LeafHash(ctx context.Context, head Head, index uint64) (wagtenib.Hash, error) {

@@ -3,10 +3,12 @@ package watch
 import (
 	"bytes"
 	"context"
+	"crypto/sha256"
 	"encoding/binary"
 	"fmt"
 	"strings"
 
+	"golang.org/x/crypto/cryptobyte"
 	"golang.org/x/mod/sumdb/tlog"
 
 	"wagtenib/bindings/go/wagtenib"
@@ -76,7 +78,7 @@ func (t *tiles) entries(ctx context.Context, start, size uint64, use func(b batc
 // readDataTile reads a data tile, which must have as many entries as its name says at least. Those after them are left
 // out.
 func readDataTile(tile logclient.DataTile) ([]wagtenib.TileEntry, error) {
-	entries, err := wagtenib.DataTileLeaves(tile.Bytes)
+	entries, err := wagtenib.DataTileLeaves(firstEntries(tile.Bytes, tile.Width))
 	if err != nil {
 		return nil, fmt.Errorf("%s: %w: %v", tile.Name, errDamaged, err)
 	}
@@ -84,6 +86,29 @@ func readDataTile(tile logclient.DataTile) ([]wagtenib.TileEntry, error) {
 		return nil, fmt.Errorf("%s: %w: %d entries, and %d are expected", tile.Name, errDamaged, len(entries), tile.Width)
 	}
 	return entries[:tile.Width], nil
+}
+
+// firstEntries cuts a data tile after its first entries (C2SP static-ct-api, "Log Entries"). A log can put millions of
+// tiny ones into the bytes of a tile, and those that were not asked for must take no memory. If an entry cannot be read,
+// nothing is cut: the library decides on the form, and reads no further than to that entry.
+func firstEntries(tile []byte, count int) []byte {
+	rest := cryptobyte.String(tile)
+	for range count {
+		var entryType uint16
+		var vector cryptobyte.String
+		if !rest.Skip(8) || !rest.ReadUint16(&entryType) {
+			return tile
+		}
+		isPrecertificate := wagtenib.EntryType(entryType) == wagtenib.PrecertEntry
+		if isPrecertificate && !rest.Skip(sha256.Size) {
+			return tile
+		}
+		if !rest.ReadUint24LengthPrefixed(&vector) || !rest.ReadUint16LengthPrefixed(&vector) ||
+			isPrecertificate && !rest.ReadUint24LengthPrefixed(&vector) || !rest.ReadUint16LengthPrefixed(&vector) {
+			return tile
+		}
+	}
+	return tile[:len(tile)-len(rest)]
 }
 
 // leafIndex returns the CtExtensions that name an index and nothing else (C2SP static-ct-api), without their length.

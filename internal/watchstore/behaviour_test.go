@@ -183,6 +183,42 @@ func TestKeepsEvidence(t *testing.T) {
 	}
 }
 
+// TestKeepsEvidenceOnce: after a restart a follower finds the same evidence again, which causes no second alert. A log
+// cannot fill the store with evidence that nobody looks at.
+func TestKeepsEvidenceOnce(t *testing.T) {
+	folder := t.TempDir()
+	store := open(t, folder, watchstore.Options{})
+	must(t, store.UseOutputs([]string{"test"}))
+	of := func(minute int64, head string) watch.Evidence {
+		evidence, err := watch.NewEvidence(logOf(2), time.Unix(60*minute, 0), watch.VerdictFork, "two roots",
+			map[string][]byte{watch.FileHead: []byte(head)})
+		must(t, err)
+		return evidence
+	}
+	wants := func(due int) {
+		t.Helper()
+		if alerts := next(t, store); len(alerts) != due {
+			t.Errorf("%d alerts, and %d are due", len(alerts), due)
+		}
+	}
+	must(t, store.Accuse(logOf(2), watch.State{Read: 5}, of(1, "a")))
+	must(t, store.Accuse(logOf(2), watch.State{Read: 6}, of(2, "a")))
+	wants(1)
+	if state, err := store.Load(logOf(2).ID); err != nil || state.Read != 6 {
+		t.Errorf("the state of the second call: %+v %v", state, err)
+	}
+	must(t, store.Accuse(logOf(2), watch.State{}, of(3, "b")))
+	must(t, store.Accuse(logOf(1), watch.State{}, of(4, "a")))
+	wants(3)
+	for i := range int64(40) {
+		must(t, store.Accuse(logOf(2), watch.State{}, of(5, fmt.Sprint("head ", i))))
+	}
+	wants(17)
+	must(t, store.MarkSeen(1))
+	must(t, store.Accuse(logOf(2), watch.State{}, of(6, "after somebody has looked")))
+	wants(18)
+}
+
 // TestAlertsToSilence: a log that cannot be read for a day causes an alert, and another one a day later.
 func TestAlertsToSilence(t *testing.T) {
 	now := time.UnixMilli(1_770_000_000_000).UTC()

@@ -55,10 +55,18 @@ func (s *Store) Keep(log watch.Log, next watch.State, entries []watch.Entry) err
 	})
 }
 
-// Accuse stores evidence against a log together with the next state, and an alert.
+// maxAccusations is the number of pieces of evidence against one log by one verdict that nobody has looked at. A
+// dishonest log must not fill the disk of its monitor.
+const maxAccusations = 16
+
+// Accuse stores evidence against a log together with the next state, and an alert. Of evidence that shows what stored
+// evidence shows, which a follower finds again after a restart, only the state is stored.
 func (s *Store) Accuse(log watch.Log, next watch.State, evidence watch.Evidence) error {
 	return s.write(func(w *writer) error {
 		if err := s.keepState(w, log, next); err != nil {
+			return err
+		}
+		if found, err := isKnown(w, log, evidence); err != nil || found {
 			return err
 		}
 		if _, err := w.exec("insert into evidence (log, time, verdict, text) values (?, ?, ?, ?)",
@@ -79,6 +87,37 @@ func (s *Store) Accuse(log watch.Log, next watch.State, evidence watch.Evidence)
 		}
 		return s.addAlert(w, alert.Evidence, nil, id, log.ID[:], "")
 	})
+}
+
+// isKnown reports whether the store has this evidence, or as much of this kind as it keeps.
+func isKnown(w *writer, log watch.Log, evidence watch.Evidence) (bool, error) {
+	unseen, _, err := w.number("select count(*) from evidence where log = ? and verdict = ? and not is_seen", log.ID[:],
+		evidence.Verdict)
+	if err != nil || unseen >= maxAccusations {
+		return err == nil, err
+	}
+	known := map[int64]*watch.Evidence{}
+	rows, err := w.tx.Query(`select e.id, f.name, f.content from evidence e join evidence_files f on f.evidence = e.id
+		where e.log = ? and e.verdict = ?`, log.ID[:], evidence.Verdict)
+	err = eachRow(rows, err, func(rows *sql.Rows) error {
+		var id int64
+		var name string
+		var content []byte
+		if err := rows.Scan(&id, &name, &content); err != nil {
+			return err
+		}
+		if known[id] == nil {
+			known[id] = &watch.Evidence{Verdict: evidence.Verdict, Files: map[string][]byte{}}
+		}
+		known[id].Files[name] = content
+		return nil
+	})
+	for _, one := range known {
+		if one.Key() == evidence.Key() {
+			return true, err
+		}
+	}
+	return false, err
 }
 
 // keepState stores a log, its state and the head that it accepted last.

@@ -5,6 +5,7 @@ import (
 	"context"
 	"fmt"
 	"sync"
+	"syscall"
 	"testing"
 	"time"
 
@@ -14,7 +15,8 @@ import (
 	"wagtenib/internal/watchstore"
 )
 
-// The load: so many issuances in each of three logs at once, and how long they may take.
+// The load: so many issuances in each of three logs at once, and how much time of a processor they may take. The time of
+// day would count what else the machine does.
 const (
 	manyIssuances = 10_000
 	batchOfLoad   = 512
@@ -22,7 +24,8 @@ const (
 )
 
 // TestReportsManyFindingsFromThreeLogs keeps 10,000 issuances, each as a precertificate and as a certificate, in
-// three logs at once: there is one alert for each, with its host name, and all of it takes less than a minute.
+// three logs at once: there is one alert for each, with its host name, and all of it takes less than a minute of a
+// processor.
 func TestReportsManyFindingsFromThreeLogs(t *testing.T) {
 	authority := testcert.NewAuthority(t)
 	var entries []watch.Entry
@@ -31,7 +34,7 @@ func TestReportsManyFindingsFromThreeLogs(t *testing.T) {
 	}
 	store := open(t, t.TempDir(), watchstore.Options{Searcher: searcher("example.org")})
 	must(t, store.UseOutputs([]string{"terminal"}))
-	began := time.Now()
+	began := processorTime(t)
 	var reading sync.WaitGroup
 	for number := range byte(3) {
 		reading.Add(1)
@@ -48,7 +51,7 @@ func TestReportsManyFindingsFromThreeLogs(t *testing.T) {
 	reading.Wait()
 	var out bytes.Buffer
 	must(t, alert.Deliver(context.Background(), store, alert.NewTerminal(&out)))
-	took := time.Since(began)
+	took := processorTime(t) - began
 	seen := map[string]int{}
 	for _, line := range bytes.Split(bytes.TrimSpace(out.Bytes()), []byte("\n")) {
 		var host string
@@ -63,7 +66,15 @@ func TestReportsManyFindingsFromThreeLogs(t *testing.T) {
 		}
 	}
 	if took > maxLoad {
-		t.Errorf("it took %v, and may take %v", took, maxLoad)
+		t.Errorf("it took %v of a processor, and may take %v", took, maxLoad)
 	}
-	t.Logf("%d entries were kept and %d alerts sent in %v", 3*len(entries), manyIssuances, took)
+	t.Logf("%d entries were kept and %d alerts sent in %v of a processor", 3*len(entries), manyIssuances, took)
+}
+
+// processorTime returns how long processors have worked for this process.
+func processorTime(t *testing.T) time.Duration {
+	t.Helper()
+	var usage syscall.Rusage
+	must(t, syscall.Getrusage(syscall.RUSAGE_SELF, &usage))
+	return time.Duration(usage.Utime.Nano() + usage.Stime.Nano())
 }

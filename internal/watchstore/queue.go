@@ -93,19 +93,24 @@ func (s *Store) Outputs() ([]Output, error) {
 // each calls do for each row of a query.
 func (s *Store) each(query string, values []any, do func(*sql.Rows) error) error {
 	rows, err := s.db.Query(query, values...)
-	if err != nil {
+	if err := eachRow(rows, err, do); err != nil {
 		return s.describe(err)
+	}
+	return nil
+}
+
+// eachRow calls do for each row of a query's answer, unless that is an error.
+func eachRow(rows *sql.Rows, err error, do func(*sql.Rows) error) error {
+	if err != nil {
+		return err
 	}
 	defer rows.Close()
 	for rows.Next() {
 		if err := do(rows); err != nil {
-			return s.describe(err)
+			return err
 		}
 	}
-	if err := rows.Err(); err != nil {
-		return s.describe(err)
-	}
-	return nil
+	return rows.Err()
 }
 
 // alerts returns the alerts of a condition, with all that belongs to them.

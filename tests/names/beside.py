@@ -1,9 +1,10 @@
 #!/usr/bin/env python3
 """Runs ctwatch and certspotter (SSLMate's) beside each other over the same logs, and compares which certificates each reports.
 
-    beside.py [--ctwatch PROGRAM] [--many N] [--write]
+    beside.py [--ctwatch PROGRAM] [--certspotter PROGRAM] [--many N] [--write]
 
-certspotter must be installed. ctwatch is cmd/out/ctwatch, which `make service` builds. The entries are the certificates of table.py, made by openssl and by
+certspotter is the one that is installed, unless --certspotter names another one, which may be that of a later Debian's package. The page must name its version.
+ctwatch is cmd/out/ctwatch, which `make service` builds. The entries are the certificates of table.py, made by openssl and by
 python's `cryptography`; odd names on which monitors differ; the certificates of examples/real-chains.jsonl; and N (1000) made-up ones, each with its precertificate. Three
 logs have all of them, and both programs watch the three at once. ctwatch must report everything that certspotter reports, each issuance once, and nothing
 else except names of the kinds that certspotter does not read. With --write the table of docs/WATCH.md is written; otherwise it must be there.
@@ -35,8 +36,8 @@ MADE, END = "<!-- Made by tests/names/beside.py --write. -->\n\n", "\n<!-- Made 
 # A watch list of certspotter: a name with all below it, an exact name, and one with other letters than ASCII's; and what ctwatch calls them.
 WATCHED = {".example.org": "example.org", "www.example.org": "=www.example.org", "bücher.example": "=xn--bcher-kva.example"}
 LOGS = 3
-# How long a program may take, in seconds.
-PATIENCE = 120
+# How long a program may take, in seconds: so long, and so long for each entry of a log.
+PATIENCE, PATIENCE_OF_ENTRY = 120, 0.03
 # The names of real certificates that are watched too: short ones, of which the bytes of many certificates of others have a part.
 REAL = (".t.co", ".letsencrypt.org", ".digicert.com", ".microsoft.com")
 
@@ -111,16 +112,20 @@ def is_verified(state, sizes):
     return sorted(it["size"] for it in positions if it) == sorted(sizes.values())
 
 
-def spot(lists, folder, names, sizes):
+def patience(entries):
+    return PATIENCE + PATIENCE_OF_ENTRY * entries
+
+
+def spot(program, lists, folder, names, sizes):
     """Which entries certspotter reports: pairs of a log's number and an index."""
     logs = {"version": "1.0.0", "log_list_timestamp": "2026-01-01T00:00:00Z", "operators": [{"name": "an operator", "email": [], "logs": [it for log in lists for it in log["operators"][0]["logs"]]}]}
     (folder / "logs.json").write_text(json.dumps(logs))
     (folder / "watchlist").write_text("".join(f"{name}\n" for name in names))
     said, state = folder / "spotted", folder / "certspotter"
-    words = ["certspotter", "-verbose", "-stdout", "-no_save", "-logs", folder / "logs.json", "-state_dir", state, "-watchlist", folder / "watchlist"]
+    words = [program, "-verbose", "-stdout", "-no_save", "-logs", folder / "logs.json", "-state_dir", state, "-watchlist", folder / "watchlist"]
     with said.open("w") as file:
         running = subprocess.Popen(words, stdout=file, stderr=subprocess.STDOUT)
-    ends = time.monotonic() + PATIENCE
+    ends = time.monotonic() + patience(sum(sizes.values()))
     while not is_verified(state, sizes):
         if running.poll() is not None or time.monotonic() > ends:
             fail(f"certspotter does not verify the heads: {said.read_text()[-2000:]}")
@@ -137,7 +142,7 @@ def watch(program, folder, names, logs, urls):
     words = [program, "run", "--once", "--from-start", "--quiet", "--folder", folder / "ctwatch", "--json", folder / "alerts", "--certspotter-watchlist", folder / "names"]
     for log, url in zip(logs, urls):
         words += ["--log", f"{url} {base64.b64encode(log.public).decode()}"]
-    ran = subprocess.run(words, capture_output=True, text=True, timeout=PATIENCE)
+    ran = subprocess.run(words, capture_output=True, text=True, timeout=patience(sum(len(log.leaves) for log in logs)))
     if ran.returncode not in (0, 8):
         fail(f"ctwatch ends with status {ran.returncode}: {ran.stdout}{ran.stderr}")
     return [json.loads(line) for line in (folder / "alerts").read_text().splitlines()]
@@ -158,13 +163,21 @@ def table_of(rows, cells):
     return "\n".join(lines + [f"| {row.what} | {' | '.join(cells[i])} |" for i, row in enumerate(rows)]) + "\n"
 
 
-def check_page(text, write):
+def version_of(program):
+    """The version that certspotter prints."""
+    found = re.search(r"[0-9]+(\.[0-9]+)+", subprocess.run([program, "-version"], capture_output=True, text=True).stdout)
+    return found.group() if found else fail(f"{program} -version prints no version")
+
+
+def check_page(text, version, write):
     before, rest = PAGE.read_text().split(MADE)
     page = before + MADE + text + END + rest.split(END)[1]
     if write:
         PAGE.write_text(page)
     elif PAGE.read_text() != page:
         fail(f"{PAGE.name} has another table than was made (beside.py --write writes it)")
+    if f"certspotter {version}" not in before:
+        fail(f"{PAGE.name} does not say that its table was compared with certspotter {version} (add the version before the table)")
 
 
 def by_index(alerts, urls):
@@ -206,7 +219,7 @@ def compare_rows(given, folder, rows):
     for number, (spotted_name, name) in enumerate(WATCHED.items()):
         below = folder / f"run.{number}"
         below.mkdir()
-        told = {index for _, index in spot([log.listed(url)], below, [spotted_name], {url: len(log.leaves)})}
+        told = {index for _, index in spot(given.certspotter, [log.listed(url)], below, [spotted_name], {url: len(log.leaves)})}
         for i, row in enumerate(rows):
             ours, theirs = place_of(places[i], alerts, name), "x" if places[i] in told else "."
             cells[i] += [ours, theirs]
@@ -230,7 +243,7 @@ def compare_many(given, folder):
     began = time.monotonic()
     alerts = by_index(watch(given.ctwatch, folder, names, logs, urls), urls)
     took = time.monotonic() - began
-    told = spot([log.listed(url) for log, url in zip(logs, urls)], folder, names, {url: len(entries) for url in urls})
+    told = spot(given.certspotter, [log.listed(url) for log, url in zip(logs, urls)], folder, names, {url: len(entries) for url in urls})
     numbers = issuances(entries)
     ours, theirs = {numbers[index] for index in alerts}, {numbers[index] for _, index in told}
     if ours != theirs:
@@ -241,18 +254,19 @@ def compare_many(given, folder):
 def main():
     words = argparse.ArgumentParser()
     words.add_argument("--ctwatch", default=ROOT / "cmd" / "out" / "ctwatch")
+    words.add_argument("--certspotter", default="certspotter")
     words.add_argument("--many", type=int, default=1000)
     words.add_argument("--write", action="store_true")
     given = words.parse_args()
+    version = version_of(given.certspotter)
     with tempfile.TemporaryDirectory() as name:
         folder = pathlib.Path(name)
         for part in ("rows", "many"):
             (folder / part).mkdir()
         text = compare_rows(given, folder / "rows", [*table.ROWS, *ODD])
         told = compare_many(given, folder / "many")
-    check_page(text, given.write)
-    version = re.search(r"[0-9][0-9.]*", subprocess.run(["certspotter", "-version"], capture_output=True, text=True).stdout)
-    print(f"tests/names: beside certspotter {version and version.group()}, {len(table.ROWS) + len(ODD) + 1} rows and {told}.")
+    check_page(text, version, given.write)
+    print(f"tests/names: beside certspotter {version}, {len(table.ROWS) + len(ODD) + 1} rows and {told}.")
 
 
 if __name__ == "__main__":

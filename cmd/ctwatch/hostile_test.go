@@ -1,0 +1,52 @@
+package main
+
+import (
+	"bytes"
+	"net/http"
+	"strings"
+	"syscall"
+	"testing"
+
+	"wagtenib/internal/testcert"
+	"wagtenib/internal/trial"
+)
+
+// maxMemory bounds the memory of ctwatch while a log answers as badly as it can, in bytes. The systemd unit allows twice
+// as much for all logs.
+const maxMemory = 1 << 30
+
+// TestHostileAnswersTakeBoundedMemory: a log that answers with millions of tiny entries, as many as the bytes of an
+// answer may have, is refused, and ctwatch takes no more memory than its bound.
+func TestHostileAnswersTakeBoundedMemory(t *testing.T) {
+	authority := testcert.NewAuthority(t)
+	// (a TileLeaf of an x509_entry with a certificate of one byte; C2SP static-ct-api)
+	tiny := []byte{0, 0, 0, 0, 0, 0, 0, 1, 0, 0, 0, 0, 1, 0x30, 0, 0, 0, 0}
+	for what, answer := range map[string][]byte{
+		"get-entries": []byte(`{"entries":[` + strings.Repeat("{},", 16<<20) + "{}]}"),
+		"tile/data/":  bytes.Repeat(tiny, 48<<20/len(tiny)-1),
+	} {
+		log := serveLog(t, "a.example")
+		for range 100 {
+			log.add(authority, authority.Issue("shop.example.org"))
+		}
+		log.Intercept(func(w http.ResponseWriter, r *http.Request) bool {
+			if !strings.Contains(r.URL.Path, what) {
+				return false
+			}
+			// (ctwatch may end the connection)
+			_, _ = w.Write(answer)
+			return true
+		})
+		program := trial.Program(t, "run", "--once", "--from-start", "--name", "example.org", "--folder", t.TempDir(), "--log",
+			log.setting(what == "tile/data/"))
+		out, err := program.CombinedOutput()
+		if program.ProcessState.ExitCode() != statusUnread && program.ProcessState.ExitCode() != statusAccused {
+			t.Errorf("%s: %v: %s", what, err, out)
+		}
+		usage := program.ProcessState.SysUsage().(*syscall.Rusage)
+		t.Logf("%s: status %d, %d MiB", what, program.ProcessState.ExitCode(), usage.Maxrss>>10)
+		if usage.Maxrss<<10 > maxMemory {
+			t.Errorf("%s: ctwatch took %d MiB: %s", what, usage.Maxrss>>10, out)
+		}
+	}
+}

@@ -1,0 +1,159 @@
+package main
+
+import (
+	"bytes"
+	"encoding/json"
+	"flag"
+	"fmt"
+	"math/rand/v2"
+	"net/http"
+	"os"
+	"path/filepath"
+	"strings"
+	"testing"
+	"time"
+
+	"wagtenib/internal/alert"
+	"wagtenib/internal/check"
+	"wagtenib/internal/testcert"
+	"wagtenib/internal/trial"
+)
+
+// A long run is: go test ./cmd/ctwatch -run Killed -v -args -kills 200
+var (
+	kills = flag.Int("kills", 8, "how often the program is killed")
+	seed  = flag.Uint64("seed", 1, "seed of the moments")
+)
+
+// TestKilledProgram kills ctwatch by SIGKILL at random moments of reading two logs, one of which forks in the middle. At
+// the end each issuance had its alert, and no alert came twice without the word "again". The fork alerted once, and its
+// evidence convinces the judge of ctcheck.
+func TestKilledProgram(t *testing.T) {
+	authority, chance, folder := testcert.NewAuthority(t), rand.New(rand.NewPCG(*seed, 0)), t.TempDir()
+	first, second := serveLog(t, "a.example"), serveLog(t, "b.example")
+	asked, wanted, isGrowing, forked := make(chan struct{}, 1<<16), map[string]bool{}, true, false
+	turn := make(chan struct{}, 1) // (whoever has it may look at what the logs have)
+	turn <- struct{}{}
+	grow := func(log served) {
+		<-turn
+		defer func() { turn <- struct{}{} }()
+		if !isGrowing || forked && log.Log == second.Log {
+			return
+		}
+		for range 3 {
+			host := fmt.Sprintf("h%d.example.org", len(wanted))
+			wanted[host] = true
+			one := authority.Issue(host)
+			first.add(authority, one)
+			if !forked {
+				second.add(authority, one)
+			}
+		}
+	}
+	for _, log := range []served{first, second} {
+		log.add(authority, authority.Issue("other.net"))
+		log.Intercept(func(_ http.ResponseWriter, r *http.Request) bool {
+			if strings.HasSuffix(r.URL.Path, "checkpoint") || strings.HasSuffix(r.URL.Path, "get-sth") {
+				grow(log)
+			}
+			asked <- struct{}{}
+			return false
+		})
+	}
+	alerts := filepath.Join(folder, "alerts")
+	words := []string{"run", "--from-start", "--name", "example.org", "--folder", folder, "--pause", "1s", "--listen", "",
+		"--quiet", "--json", alerts, "--log", first.setting(true), "--log", second.setting(false)}
+	for round := range *kills {
+		if round == *kills/2 {
+			<-turn
+			forked = true
+			turn <- struct{}{}
+			// (the last head before the fork is accepted, so that the next one has another root of the same size)
+			if status, out, faults := ctwatch(t, append(words, "--once")...); status != statusFoundByOnce {
+				t.Fatalf("before the fork: status %d: %s%s", status, out, faults)
+			}
+			second.PublishRoot(second.Size(), uint64(time.Now().UnixMilli())+1, [32]byte{1})
+		}
+		killAt(t, words, asked, 1+chance.IntN(6), time.Duration(chance.IntN(60))*time.Millisecond)
+	}
+	<-turn
+	isGrowing = false
+	turn <- struct{}{}
+	if status, out, faults := ctwatch(t, append(words, "--once")...); status != statusAccused {
+		t.Errorf("the last run: status %d: %s%s", status, out, faults)
+	}
+	again, cut := judgeAlerts(t, alerts, wanted)
+	if cut > *kills {
+		t.Errorf("%d lines are cut off, and only %d programs were killed", cut, *kills)
+	}
+	t.Logf("%d kills, %d issuances, %d alerts again, %d lines cut off", *kills, len(wanted), again, cut)
+	evidence := filepath.Join(folder, "evidence")
+	status, out, faults := ctwatch(t, "evidence", "1", evidence, "--folder", folder)
+	if status != 0 || !strings.Contains(out, "fork") {
+		t.Fatalf("the evidence: status %d: %s%s", status, out, faults)
+	}
+	if shown, err := check.Evidence(evidence, second.PublicKey()); err != nil || !strings.Contains(shown, "two roots") {
+		t.Errorf("the judge says %q, %v", shown, err)
+	}
+}
+
+// killAt starts the program, and kills it a while after it has made so many requests. While it runs it must not end.
+func killAt(t *testing.T, words []string, asked chan struct{}, requests int, later time.Duration) {
+	t.Helper()
+	for len(asked) > 0 {
+		<-asked
+	}
+	program := trial.Program(t, words...)
+	var faults bytes.Buffer
+	program.Stderr = &faults
+	must(t, program.Start())
+	ended := make(chan error, 1)
+	go func() { ended <- program.Wait() }()
+	for range requests {
+		select {
+		case <-asked:
+		case err := <-ended:
+			t.Fatalf("the program ended by itself: %v: %s", err, faults.String())
+		}
+	}
+	time.Sleep(later) // (this is the moment of the kill, not what the test waits for)
+	must(t, program.Process.Kill())
+	<-ended
+}
+
+// judgeAlerts looks at the lines of the alerts: each host must have one, and the fork. It returns how many say "again",
+// and how many lines are cut off.
+func judgeAlerts(t *testing.T, path string, wanted map[string]bool) (again, cut int) {
+	t.Helper()
+	content, err := os.ReadFile(path)
+	must(t, err)
+	sent, hosts, accusations := map[int64]bool{}, map[string]int64{}, map[int64]bool{}
+	for _, line := range bytes.Split(bytes.TrimSpace(content), []byte("\n")) {
+		var one alert.Alert
+		if json.Unmarshal(line, &one) != nil {
+			cut++
+			continue
+		}
+		if sent[one.ID] && !one.Again {
+			t.Errorf("alert %d came twice, and does not say so", one.ID)
+		}
+		if one.Again {
+			again++
+		}
+		sent[one.ID] = true
+		if one.Kind == alert.Evidence {
+			accusations[one.ID] = true
+			continue
+		}
+		host := one.Certificate.Names[0]
+		if id, found := hosts[host]; found && id != one.ID || !wanted[host] {
+			t.Errorf("%s has the alerts %d and %d", host, id, one.ID)
+		}
+		hosts[host] = one.ID
+	}
+	if len(hosts) != len(wanted) || len(accusations) != 1 {
+		t.Errorf("%d hosts of %d have an alert, and there are %d alerts to the fork", len(hosts), len(wanted),
+			len(accusations))
+	}
+	return again, cut
+}

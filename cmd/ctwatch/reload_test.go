@@ -1,0 +1,83 @@
+package main
+
+import (
+	"bytes"
+	"encoding/json"
+	"fmt"
+	"os"
+	"path/filepath"
+	"strings"
+	"syscall"
+	"testing"
+
+	"wagtenib/internal/alert"
+	"wagtenib/internal/testcert"
+	"wagtenib/internal/trial"
+)
+
+// TestReadsSettingsAgain: after a SIGHUP, ctwatch goes on with the settings that the file then has. If they are refused,
+// it says why and goes on with the old ones. No alert is sent to an output twice.
+func TestReadsSettingsAgain(t *testing.T) {
+	authority, folder := testcert.NewAuthority(t), t.TempDir()
+	log := serveLog(t, "a.example")
+	log.add(authority, authority.Issue("other.net"))
+	config, first, second := filepath.Join(folder, "settings"), filepath.Join(folder, "1"), filepath.Join(folder, "2")
+	write := func(alerts string, names ...string) {
+		must(t, os.WriteFile(config, []byte(fmt.Sprintf("name %s\nlog %s\nfolder %s\npause 1s\nlisten\njson %s\nquiet true\n",
+			strings.Join(names, "\nname "), log.setting(true), folder, alerts)), 0o600))
+	}
+	write(first, "example.org")
+	program := trial.Program(t, "run", "--config", config)
+	said, err := os.Create(filepath.Join(folder, "said"))
+	must(t, err)
+	defer said.Close()
+	program.Stderr = said
+	must(t, program.Start())
+	says := func(text string) {
+		t.Helper()
+		trial.Eventually(t, text, func() bool {
+			content, err := os.ReadFile(said.Name())
+			return err == nil && bytes.Contains(content, []byte(text))
+		})
+	}
+	trial.Eventually(t, "the log is read to its end", func() bool {
+		status, out, _ := ctwatch(t, "health", "--folder", folder)
+		return status == 0 && strings.HasPrefix(out, "1 log;")
+	})
+	write(first, "*.example.net")
+	must(t, program.Process.Signal(syscall.SIGHUP))
+	says("write example.net")
+	log.add(authority, authority.Issue("a.example.org"))
+	wantsHosts(t, first, "a.example.org")
+	write(second, "example.org", "example.net")
+	must(t, program.Process.Signal(syscall.SIGHUP))
+	says(`"names":2`)
+	log.add(authority, authority.Issue("b.example.net"))
+	wantsHosts(t, second, "b.example.net")
+	must(t, program.Process.Signal(syscall.SIGTERM))
+	if err := program.Wait(); err != nil {
+		t.Error(err)
+	}
+	wantsHosts(t, first, "a.example.org")
+	wantsHosts(t, second, "b.example.net")
+}
+
+// wantsHosts waits until a file has an alert for each host, and for no other.
+func wantsHosts(t *testing.T, path string, hosts ...string) {
+	t.Helper()
+	trial.Eventually(t, "the alert is sent", func() bool {
+		content, err := os.ReadFile(path)
+		return err == nil && bytes.Count(content, []byte("\n")) >= len(hosts)
+	})
+	content, err := os.ReadFile(path)
+	must(t, err)
+	var found []string
+	for _, line := range bytes.Split(bytes.TrimSpace(content), []byte("\n")) {
+		var one alert.Alert
+		must(t, json.Unmarshal(line, &one))
+		found = append(found, one.Certificate.Matches[0].Hosts...)
+	}
+	if strings.Join(found, " ") != strings.Join(hosts, " ") {
+		t.Errorf("%s has alerts for %q, and %q are due", filepath.Base(path), found, hosts)
+	}
+}

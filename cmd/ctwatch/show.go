@@ -1,0 +1,170 @@
+package main
+
+import (
+	"context"
+	"crypto/sha256"
+	"encoding/hex"
+	"encoding/pem"
+	"errors"
+	"fmt"
+	"io"
+	"slices"
+	"strconv"
+	"strings"
+	"time"
+
+	"golang.org/x/crypto/cryptobyte"
+	"golang.org/x/crypto/cryptobyte/asn1"
+
+	"wagtenib/bindings/go/wagtenib"
+	"wagtenib/internal/alert"
+	"wagtenib/internal/finding"
+	"wagtenib/internal/watch"
+)
+
+var _ = addCommand("show", "LOG INDEX prints an entry of a log, and checks that the log's tree has it", runShow)
+
+// runShow prints an entry, and checks its inclusion proof at the log's newest head. The status is statusAccused if the
+// proof does not lead to the head, and statusUnread if the log does not answer.
+func runShow(ctx context.Context, words []string, out io.Writer) error {
+	s := &auditSettings{}
+	flags := flagsOf("show", "", out)
+	s.defineLogs(flags)
+	words, err := parseFlags(flags, words, 2, out)
+	if err != nil {
+		return err
+	}
+	index, err := strconv.ParseUint(words[1], 10, 64)
+	if err != nil {
+		return fmt.Errorf("%w: %q is no index of an entry (write a number, as an alert has it)", errUsage, words[1])
+	}
+	client, err := s.client()
+	if err != nil {
+		return err
+	}
+	logs, err := s.readLogs(ctx, client)
+	if err != nil {
+		return err
+	}
+	log, err := logOf(logs, words[0])
+	if err != nil {
+		return err
+	}
+	reader, err := watch.NewReader(log, client)
+	if err != nil {
+		return err
+	}
+	head, err := reader.Head(ctx)
+	if err != nil {
+		return unread(log, err)
+	}
+	entry, err := reader.Entry(ctx, head, index)
+	if errors.Is(err, watch.ErrAbsent) {
+		return fmt.Errorf("ctwatch: %s: entry %d: %w", log.Name, index, err)
+	}
+	if err != nil {
+		return unread(log, err)
+	}
+	if err := printEntry(log, entry, out); err != nil {
+		return err
+	}
+	return prove(ctx, reader, head, entry, out)
+}
+
+// unread reports that a log does not answer, or not with what it was asked for.
+func unread(log watch.Log, err error) error {
+	return &statusError{statusUnread, fmt.Sprintf("ctwatch: %s: %v", alert.Safe(log.Name), err)}
+}
+
+// logOf returns the log with a name or an address.
+func logOf(logs []watch.Log, text string) (watch.Log, error) {
+	address := strings.TrimSuffix(strings.TrimPrefix(text, "tiled+"), "/")
+	at := slices.IndexFunc(logs, func(log watch.Log) bool {
+		return log.Name == text || strings.TrimSuffix(log.URL, "/") == address
+	})
+	if at < 0 {
+		return watch.Log{}, fmt.Errorf("%w: none of %s is called %.200q or has this address (write a log's name as an "+
+			"alert has it, or give the log by --log)", errUsage, alert.Count(int64(len(logs)), "log"), text)
+	}
+	return logs[at], nil
+}
+
+// printEntry prints an entry as an alert has it, and its certificate in PEM.
+func printEntry(log watch.Log, entry watch.Entry, out io.Writer) error {
+	shown := &alert.Certificate{}
+	if entry.Fault != nil {
+		shown.Fault = alert.Safe(entry.Fault.Error())
+		_, err := fmt.Fprint(out, alert.Paragraphs(alert.Alert{Certificate: shown}))
+		return err
+	}
+	names, fault := wagtenib.CertificateNames(entry.Type, entry.Certificate)
+	if fault != nil {
+		shown.Fault = alert.Safe(fault.Error())
+	}
+	shown.NameCount = len(names)
+	for _, name := range names[:min(len(names), alert.MaxNames)] {
+		shown.Names = append(shown.Names, alert.Safe(finding.Text(name)))
+	}
+	details := finding.ReadDetails(entry.Type, entry.Certificate)
+	shown.Fields = alert.Fields{Subject: alert.Safe(details.Subject), Issuer: alert.Safe(details.Issuer),
+		SerialNumber: alert.Safe(details.SerialNumber), NotBefore: details.NotBefore, NotAfter: details.NotAfter,
+		KeySHA256: details.KeySHA256}
+	sighting := alert.Sighting{Log: alert.Safe(log.Name), Index: entry.Index,
+		Timestamp: time.UnixMilli(int64(entry.Timestamp)), Type: "certificate"}
+	der := entry.Certificate
+	if entry.Type == wagtenib.PrecertEntry {
+		sighting.Type, der = "precertificate", entry.Precertificate
+	}
+	shown.Sightings = []alert.Sighting{sighting}
+	if der == nil {
+		_, err := fmt.Fprint(out, alert.Paragraphs(alert.Alert{Certificate: shown}), "The log has no precertificate beside "+
+			"the leaf that can be read.\n")
+		return err
+	}
+	digest := sha256.Sum256(der)
+	shown.SHA256 = hex.EncodeToString(digest[:])
+	text := alert.Paragraphs(alert.Alert{Certificate: shown})
+	if entry.Type == wagtenib.PrecertEntry && !isOfLeaf(der, entry.Certificate) {
+		text += "The proof does not cover the precertificate below, whose TBSCertificate is not that of the leaf. A " +
+			"precertificate signing certificate may have issued it, or the log gives another one.\n"
+	}
+	if _, err := fmt.Fprint(out, text); err != nil {
+		return err
+	}
+	return pem.Encode(out, &pem.Block{Type: "CERTIFICATE", Bytes: der})
+}
+
+// isOfLeaf reports whether a precertificate has the TBSCertificate of its leaf, if the poison is left out.
+func isOfLeaf(precertificate, tbs []byte) bool {
+	from := cryptobyte.String(precertificate)
+	var own cryptobyte.String
+	if !from.ReadASN1(&from, asn1.SEQUENCE) || !from.ReadASN1Element(&own, asn1.SEQUENCE) {
+		return false
+	}
+	cut, err := wagtenib.PrecertificateEntry(own)
+	return err == nil && slices.Equal(cut, tbs)
+}
+
+// prove checks with the library that the tree of a head has the entry at its index, and prints the outcome.
+func prove(ctx context.Context, reader *watch.Reader, head watch.Head, entry watch.Entry, out io.Writer) error {
+	leafHash := wagtenib.LeafHash(entry.Leaf)
+	index, path, err := reader.Place(ctx, head, leafHash, entry.Index)
+	switch {
+	case errors.Is(err, watch.ErrAbsent):
+		return &statusError{statusAccused, fmt.Sprintf("ctwatch: %s: the log gives entry %d, and its tree does not have "+
+			"this leaf: %v", alert.Safe(reader.Log.Name), entry.Index, err)}
+	case err != nil:
+		return unread(reader.Log, err)
+	}
+	if err := wagtenib.VerifyInclusion(leafHash, index, head.TreeSize, path, head.Root); err != nil {
+		return &statusError{statusAccused, fmt.Sprintf("ctwatch: %s: the log's proof does not lead from entry %d to the "+
+			"root of its head of %d leaves: %v", alert.Safe(reader.Log.Name), entry.Index, head.TreeSize, err)}
+	}
+	also := ""
+	if index != entry.Index {
+		also = fmt.Sprintf(" (the log proves the same leaf at index %d)", index)
+	}
+	_, err = fmt.Fprintf(out, "The log's tree has this entry: the proof leads to the tree head of size %d that the log "+
+		"signed at %s%s.\n", head.TreeSize, time.UnixMilli(int64(head.Timestamp)).UTC().Format(time.RFC3339), also)
+	return err
+}

@@ -1,0 +1,96 @@
+package main
+
+import (
+	"encoding/pem"
+	"fmt"
+	"net/http"
+	"net/http/httptest"
+	"slices"
+	"strings"
+	"testing"
+
+	"wagtenib/internal/testcert"
+	"wagtenib/internal/testlog"
+)
+
+// TestShowsAnEntry: an entry of either kind of log is printed with its names and its certificate, byte for byte, and
+// with the head whose tree has it.
+func TestShowsAnEntry(t *testing.T) {
+	authority := testcert.NewAuthority(t)
+	one := authority.Issue("shop.example.org")
+	log := serveLog(t, "a.example")
+	for range 200 {
+		log.add(authority, authority.Issue("other.net"))
+	}
+	log.add(authority, one) // (entries 400 and 401, in the tile behind the first one)
+	log.add(authority, authority.Issue("other.net"))
+	for _, isTiled := range []bool{false, true} {
+		for index, due := range map[string][]byte{"400": one.Precertificate.Raw, "401": one.Certificate.Raw} {
+			status, out, faults := ctwatch(t, "show", log.address, index, "--log", log.setting(isTiled))
+			block, _ := pem.Decode([]byte(out))
+			if status != 0 || block == nil || !slices.Equal(block.Bytes, due) ||
+				!strings.Contains(out, "Name:                  shop.example.org\n") ||
+				!strings.Contains(out, "the tree head of size 404") || strings.Contains(out, "does not cover") {
+				t.Errorf("tiled %v, entry %s: status %d: %s%s", isTiled, index, status, out, faults)
+			}
+		}
+		status, out, faults := ctwatch(t, "show", log.address, "404", "--log", log.setting(isTiled))
+		if status != statusFault || out != "" || !strings.Contains(faults, "404 entries, numbered from 0 on") {
+			t.Errorf("tiled %v, entry 404: status %d: %s%s", isTiled, status, out, faults)
+		}
+	}
+	for words, due := range map[string]string{"nowhere 1": "give the log by --log", log.address + " x": "write a number",
+		log.address: "needs 2 words"} {
+		status, _, faults := ctwatch(t, append(append([]string{"show"}, strings.Fields(words)...), "--log",
+			log.setting(true))...)
+		if status != statusUsage || !strings.Contains(faults, due) {
+			t.Errorf("%s: status %d: %s", words, status, faults)
+		}
+	}
+}
+
+// TestShowsWhatIsNotProved: an entry that the tree does not have, and a precertificate that is not the leaf's, are
+// reported as such.
+func TestShowsWhatIsNotProved(t *testing.T) {
+	authority := testcert.NewAuthority(t)
+	one, other := authority.Issue("shop.example.org"), authority.Issue("b.example.org")
+	log := serveLog(t, "a.example")
+	log.add(authority, one)
+	issuer := authority.IssuerKeyHash()
+	log.Add(testlog.Entry{Timestamp: 5, Certificate: one.TBS, IssuerKeyHash: issuer[:],
+		Precertificate: other.Precertificate.Raw})
+	log.Publish(3, 1000)
+	forged, err := testlog.New("a.example")
+	must(t, err)
+	forged.Add(testlog.Entry{Timestamp: 1, Certificate: other.Certificate.Raw},
+		testlog.Entry{Certificate: []byte{1}}, testlog.Entry{Certificate: []byte{2}})
+	forged.Publish(3, 1000)
+	log.Intercept(func(w http.ResponseWriter, r *http.Request) bool {
+		if r.URL.Query().Get("start") != "0" && !strings.HasPrefix(r.URL.Path, "/tile/data/") {
+			return false
+		}
+		recorded := httptest.NewRecorder()
+		forged.ServeHTTP(recorded, r)
+		_, err := w.Write(recorded.Body.Bytes())
+		return err == nil
+	})
+	for _, isTiled := range []bool{false, true} {
+		status, out, faults := ctwatch(t, "show", log.address, "0", "--log", log.setting(isTiled))
+		if status != statusAccused || !strings.Contains(out, "b.example.org") || !strings.Contains(faults, "entry 0") {
+			t.Errorf("tiled %v: a forged entry: status %d: %s%s", isTiled, status, out, faults)
+		}
+	}
+	log.Intercept(nil)
+	status, out, faults := ctwatch(t, "show", log.address, "2", "--log", log.setting(true))
+	if status != 0 || !strings.Contains(out, "The proof does not cover the precertificate below") {
+		t.Errorf("another precertificate: status %d: %s%s", status, out, faults)
+	}
+	log.Intercept(func(w http.ResponseWriter, _ *http.Request) bool {
+		w.WriteHeader(http.StatusForbidden)
+		_, err := fmt.Fprint(w, "no")
+		return err == nil
+	})
+	if status, _, faults = ctwatch(t, "show", log.address, "0", "--log", log.setting(true)); status != statusUnread {
+		t.Errorf("a log that does not answer: status %d: %s", status, faults)
+	}
+}
