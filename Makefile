@@ -1,4 +1,4 @@
-.PHONY: help demo test check deps service service-test service-race service-engines service-soak service-clients cluster cluster-status cluster-stop link dist install install-library install-ctlog fuzz load sweep wrong sources serve serve-witness programs release reproduce bare container pages
+.PHONY: help demo test check deps service service-test service-race service-engines service-soak service-clients cluster cluster-status cluster-stop link link-emulated dist install install-library install-ctlog fuzz load sweep wrong sources serve serve-witness programs release reproduce bare container pages
 
 SECONDS ?= 60
 RUNS ?= 20
@@ -83,6 +83,10 @@ cluster-stop: ## ends it, and judges what it published and answered
 link: ## builds libwagtenib, the proof checkers for C, and runs programs in C and Python over it
 	@checks/needs.sh link
 	@examples/link/link.sh
+
+# As root, it installs qemu-user and a C compiler for arm64, and fetches Python and Rust for arm64, all of them from Debian.
+link-emulated: ## runs programs in C and the Go, Python and Rust packages over the code for arm64 of dist/, under qemu on an amd64; without the kit
+	@SETUP=$(or $(SETUP),yes) PYTHONDONTWRITEBYTECODE=1 python3 tests/library/arm64.py
 
 dist: ## makes the assembly of libwagtenib in dist/ from the proved crates, for amd64 and arm64, with what it is made of and its licences
 	@checks/needs.sh dist

@@ -3,13 +3,13 @@
 
     dist.py [--sources | --write]
 
-The generated files of dist/ are the assembly of libwagtenib for each processor, as the kit's compiler makes it, without its comments; NOTICE, with the licences
+The generated files of dist/ are the assembly of libwagtenib for each processor, as the kit's compiler makes it, without its comments, and with the lines of a build option that is off by default (sha_instructions.c); NOTICE, with the licences
 of the kit's crates whose code is in it; and SOURCES, which says what all of this is made of. With --sources, or without the kit, the script compares SOURCES
 with the checkout: a sum over the code of each crate that the library is made of (without comments and clauses, from which no code is made), and with the kit
 the kit's name. Otherwise it builds the library once more for each processor, over the crates as they are proved and built in crates/*/out, and compares each
 byte. It also has the kit's assembler make an object of the text, which must be the very object that the proved library is. With --write it writes the files.
-The Go package in bindings/go/wagtenib has copies of the assembly, of memory.c and of include/wagtenib.h, because `go build` compiles what its folder has. The
-script always compares these copies, byte for byte, and with --write it writes them too.
+The Go package in bindings/go/wagtenib has copies of the assembly, of memory.c, of sha_instructions.c and of include/wagtenib.h, because `go build` compiles what its
+folder has. The script always compares these copies, byte for byte, and with --write it writes them too.
 It prints what differs, and ends with status 1 if something does.
 """
 import hashlib
@@ -30,9 +30,26 @@ TARGETS = {"amd64": ("x86_64-unknown-linux-gnu", "x86-64"), "arm64": ("aarch64-u
 # What the kit's assembler needs to fill gaps as its compiler does.
 PADDING = {"amd64": ["-march=x86-64-v2"], "arm64": []}
 REMEDY = "make dist makes it anew, with the kit"
-# The folder of the Go package, and the files of which it has copies.
+# The folder of the Go package, and the files of which it has copies. `go build` has the C preprocessor read a file .S, by which a build tag can set the option below.
 BINDINGS = ROOT / "bindings" / "go" / "wagtenib"
-COPIED = [*(DIST / f"{LIBRARY}_linux_{processor}.s" for processor in TARGETS), DIST / "memory.c", ROOT / "include" / "wagtenib.h"]
+COPIED = {
+    **{DIST / f"{LIBRARY}_linux_{processor}.s": BINDINGS / f"{LIBRARY}_linux_{processor}.S" for processor in TARGETS},
+    **{of: BINDINGS / of.name for of in (DIST / "memory.c", DIST / "sha_instructions.c", ROOT / "include" / "wagtenib.h")},
+}
+# A build option of dist/sha_instructions.c, at the start of the function that hashes a block. These lines make no code if the file is assembled as it is: the texts
+# are equal only if the C preprocessor has put 1 for the name.
+COMPRESS = '"sha2::block256::compress":\n'
+JUMPS = {"amd64": "jmp", "arm64": "b"}
+OPTION = """\
+	.ifc WAGTENIB_SHA_INSTRUCTIONS,1
+	.hidden	wagtenib_compress
+	{jump}	wagtenib_compress
+	.globl	wagtenib_proved_compress
+	.hidden	wagtenib_proved_compress
+	.type	wagtenib_proved_compress,@function
+wagtenib_proved_compress:
+	.endif
+"""
 COMMENT = re.compile(r"//[^\n]*|/\*.*?\*/|(\"(?:\\.|[^\"\\])*\"|'(?:\\.|[^'\\])')", re.S)
 # What the compiler calls once with -c, and once more for the text.
 CLANG = """#!/bin/sh
@@ -151,6 +168,13 @@ def plain(text):
     return "".join(f"{line}\n" for line in found)
 
 
+def with_option(text, processor):
+    """The assembly with the lines of the build option."""
+    if text.count(COMPRESS) != 1:
+        sys.exit(f"checks/dist.py: the assembly for {processor} has {text.count(COMPRESS)} functions that hash a block: change COMPRESS in this script")
+    return text.replace(COMPRESS, COMPRESS + OPTION.format(jump=JUMPS[processor]))
+
+
 def is_the_object(text, processor, kept, clang, work):
     """Whether the kit's assembler makes of this text the object that the library has, once the lines .addrsig are back."""
     marks = "".join(f"{line}\n" for line in (kept / "code.s").read_text().splitlines() if re.match(r"\s*\.addrsig", line))
@@ -176,7 +200,7 @@ def assembly(processor, top, work):
     ran = subprocess.run([top / "bin" / "rattle", *words, "-o", folder / "made.a"], cwd=CRATES / LIBRARY, stdout=subprocess.PIPE, stderr=subprocess.STDOUT, text=True)
     if ran.returncode:
         sys.exit(f"{ran.stdout}checks/dist.py: {LIBRARY} was not built for {target}: status {ran.returncode}")
-    text = plain((kept / "code.s").read_text())
+    text = with_option(plain((kept / "code.s").read_text()), processor)
     if not is_the_object(text, processor, kept, top / "toolchain" / "bin" / "clang", folder):
         sys.exit(f"checks/dist.py: the assembly for {processor} is not the object that the library has: a line that it needs was left out")
     return text
@@ -223,8 +247,8 @@ def differing(said, due):
 
 
 def stale_copies():
-    """The copied files whose copy in the Go package is absent or has other bytes."""
-    return [of for of in COPIED if not (BINDINGS / of.name).exists() or (BINDINGS / of.name).read_bytes() != of.read_bytes()]
+    """The copied files whose copy in the Go package is absent or has other bytes, each with its copy."""
+    return [(of, copy) for of, copy in COPIED.items() if not copy.exists() or copy.read_bytes() != of.read_bytes()]
 
 
 def main():
@@ -237,15 +261,15 @@ def main():
     if words == ["--write"]:
         for name, text in due.items():
             (DIST / name).write_text(text)
-        for of in COPIED:
-            shutil.copyfile(of, BINDINGS / of.name)
+        for of, copy in COPIED.items():
+            shutil.copyfile(of, copy)
     wrong = [(name, text) for name, text in due.items() if not (DIST / name).exists() or (DIST / name).read_text() != text]
     for name, text in wrong:
         print(f"dist/{name} is not what the sources make: {differing((DIST / name).read_text(), text) if (DIST / name).exists() else 'it is not there'} ({REMEDY})")
     stale = stale_copies()
-    for of in stale:
-        there, here = (path.relative_to(ROOT) for path in (of, BINDINGS))
-        print(f"{here}/{of.name} is not the copy of {there} that it must be (make dist writes the copies; so does cp {there} {here}/)")
+    for of, copy in stale:
+        there, here = (path.relative_to(ROOT) for path in (of, copy))
+        print(f"{here} is not the copy of {there} that it must be (make dist writes the copies; so does cp {there} {here})")
     sys.exit(1 if wrong or stale else 0)
 
 

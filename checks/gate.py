@@ -4,8 +4,8 @@ more, with the tests of the Go part in it, of which the file COUNT in the enviro
 programs once `rt ci` has built them: all by words of their own (tests/command_lines.py), ctlog over sessions (tests/sessions.py), all while some growths
 of memory are refused (tests/sweep.py), and the parts of the demo (examples/demo.sh); dist/ is made again and compared (checks/dist.py),
 its guard, step, witness, node, names, data tiles and texts with models (tests/library/guard.py, step.py, witness.py, node.py, names.py, data_tiles.py, texts.py), the Rust crate with some of
-these (tests/library/rust.py), and called without memory (tests/library/refusals.py), with NULL and in many threads (tests/library/replays.py), and the Python package
-with models (bindings/python/tests/compare.py); the Go, Python and Rust packages are run for arm64 (tests/library/arm64.py). The status is that of `rt ci`, or 1 where one of these failed.
+these (tests/library/rust.py), its build option with the proved code (tests/library/sha_instructions.py), and called without memory (tests/library/refusals.py), with NULL and in many threads (tests/library/replays.py), and the Python package
+with models (bindings/python/tests/compare.py); the programs in C and the Go, Python and Rust packages are run for arm64 (tests/library/arm64.py). The status is that of `rt ci`, or 1 where one of these failed.
 
 `rt ci` tells of a crate when it is done, and not how many of its functions are proved so far; while it tells nothing, a line a minute says
 how long it has been at work. Behind it a line says how many processor minutes it took.
@@ -60,6 +60,7 @@ OF_DIST = (
     "tests/library/refusals.py",
     "tests/library/replays.py",
     "tests/library/rust.py",
+    "tests/library/sha_instructions.py",
     "bindings/python/tests/compare.py",
     "tests/library/arm64.py",
     "tests/linear.py",

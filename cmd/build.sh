@@ -11,9 +11,10 @@ shift || true
 export GO111MODULE=on GOTOOLCHAIN=local GOWORK=off CGO_ENABLED=1
 programs=(ctserve ctcheck ctload ctread ctwitness-serve ctwatch)
 main_packages=("${programs[@]/#/./cmd/}")
-# The tests stop nodes and signers between what they do, for which no program is built (phases_hooked.go).
-tags=
-case $what in test | vet) tags=phases ;; esac
+# The tests stop nodes and signers between what they do, for which no program is built (phases_hooked.go). TAGS adds the tags of a build option
+# (bindings/go/wagtenib/README.md).
+tags=${TAGS:-}
+case $what in test | vet) tags=phases${tags:+,$tags} ;; esac
 # vet must not run with -trimpath: Go's cache would then give it the paths of another checkout's files, and that checkout may be gone.
 trimmed=-trimpath
 [ "$what" != vet ] || trimmed=

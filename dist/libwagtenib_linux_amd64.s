@@ -3512,6 +3512,14 @@
 	.p2align	4
 	.type	"sha2::block256::compress",@function
 "sha2::block256::compress":
+	.ifc WAGTENIB_SHA_INSTRUCTIONS,1
+	.hidden	wagtenib_compress
+	jmp	wagtenib_compress
+	.globl	wagtenib_proved_compress
+	.hidden	wagtenib_proved_compress
+	.type	wagtenib_proved_compress,@function
+wagtenib_proved_compress:
+	.endif
 	pushq	%rbp
 	pushq	%r15
 	pushq	%r14

@@ -3205,6 +3205,14 @@
 	.p2align	2
 	.type	"sha2::block256::compress",@function
 "sha2::block256::compress":
+	.ifc WAGTENIB_SHA_INSTRUCTIONS,1
+	.hidden	wagtenib_compress
+	b	wagtenib_compress
+	.globl	wagtenib_proved_compress
+	.hidden	wagtenib_proved_compress
+	.type	wagtenib_proved_compress,@function
+wagtenib_proved_compress:
+	.endif
 	sub	sp, sp, #192
 	ldp	w6, w17, [x0, #16]
 	ldp	w16, w14, [x0, #24]

@@ -42,6 +42,13 @@ extern "C" {
 #define WAGTENIB_VERSION 1000
 uint32_t wagtenib_version(void);
 
+#ifdef WAGTENIB_SHA_INSTRUCTIONS
+/* A build option, which is off by default (dist/README.md): SHA-256 runs by the processor's SHA instructions in place of the proved code, if the processor has them.
+ * The proof does not speak of these instructions or of dist/sha_instructions.c, which has them. This function exists only with the option. It returns whether the
+ * processor has the instructions, so that they are used. */
+bool wagtenib_has_sha_instructions(void);
+#endif
+
 /* The answers. */
 enum {
     WAGTENIB_OK = 0,

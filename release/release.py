@@ -112,11 +112,11 @@ class Release:
         return found + [f"{path.name} (make link)" for path in (self.linked.with_suffix(".a"), self.linked.with_suffix(".so")) if not path.is_file()]
 
     def others(self):
-        """The programs that say at --version that they are of another version than VERSION, or in Go of another commit than this one."""
+        """The programs that say at --version that they are of another version than VERSION, or in Go of another commit than this one or with a build option."""
         for name, path in self.programs.items():
             said = run(path, "--version").stdout.strip()
-            of_commit = f" (commit {self.commit[:12]}" if name in SERVICE else ""
-            if not f"{said} ".startswith(f"{name} {self.version}{of_commit or ' '}"):
+            of_commit = rf" \(commit {self.commit[:12]}\+?\)" if name in SERVICE else "( .*)?"
+            if not re.fullmatch(re.escape(f"{name} {self.version}") + of_commit, said):
                 yield f"{name} ({said or 'nothing'})"
 
     def proved(self, files):
@@ -412,7 +412,7 @@ def main():
     if lacking := release.lacking():
         stop(f"this isn't built: {', '.join(lacking)}")
     if not given.quickly and (others := list(release.others())):
-        stop(f"of another version than {release.version}, or another commit than {release.commit[:12]}: {', '.join(others)}")
+        stop(f"of another version than {release.version}, or another commit than {release.commit[:12]}, or with a build option: {', '.join(others)}")
     shutil.rmtree(release.to, ignore_errors=True)
     release.to.mkdir(parents=True)
     top = f"wagtenib-{release.version}"

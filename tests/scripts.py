@@ -301,10 +301,11 @@ def try_release(folder):
         path.parent.mkdir(parents=True, exist_ok=True)
         path.write_text(texts.get(name, f"made up: {name}"))
         path.chmod(0o755)
-    for name, other in (("ctlog", "ctlog 0.1.1"), ("ctcheck", f"ctcheck 0.1.0 (commit {commit[::-1]})")):
+    optional = f"ctserve 0.1.0 (commit {commit}, with SHA instructions, which are not proved)"
+    for name, other in (("ctlog", "ctlog 0.1.1"), ("ctcheck", f"ctcheck 0.1.0 (commit {commit[::-1]})"), ("ctserve", optional)):
         programs[name].write_text(f"#!/bin/sh\necho '{other}'\n")
         ran = make("none")
-        if ran.returncode != 1 or f"of another version than 0.1.0, or another commit than {commit}: {name} ({other})" not in ran.stderr or (folder / "none").exists():
+        if ran.returncode != 1 or f"of another version than 0.1.0, or another commit than {commit}, or with a build option: {name} ({other})" not in ran.stderr or (folder / "none").exists():
             fail(f"release.py, with a program that says {other}: status {ran.returncode}: {ran.stdout}{ran.stderr}")
         programs[name].write_text(texts[name])
     ran = make("first")

@@ -12,9 +12,9 @@ func Number() string { return or(number, "unreleased") }
 // Commit is the commit's first 12 digits, with + behind it where files differed from it; "unknown" where the build wasn't told.
 func Commit() string { return or(commit, "unknown") }
 
-// Line is what a program answers to --version.
+// Line returns what a program answers to --version. It names the build tag wagtenib_sha_instructions if the build has it.
 func Line(program string) string {
-	return fmt.Sprintf("%s %s (commit %s)\n", program, Number(), Commit())
+	return fmt.Sprintf("%s %s (commit %s%s)\n", program, Number(), Commit(), option)
 }
 
 // Asked says whether a command line asks for the version, and for nothing else.

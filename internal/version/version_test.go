@@ -1,3 +1,5 @@
+//go:build !wagtenib_sha_instructions
+
 package version
 
 import "testing"

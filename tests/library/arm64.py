@@ -1,11 +1,12 @@
 #!/usr/bin/env python3
-"""Runs the Go package, the Python package and the Rust crate over the code for arm64 of dist/, by qemu's emulation of a program.
+"""Runs the programs in C, the Go package, the Python package and the Rust crate over the code for arm64 of dist/, by qemu's emulation of a program.
 
     arm64.py
 
-1. The tests of bindings/go/wagtenib are compiled for arm64 and run.
-2. bindings/python/tests/compare.py runs in Debian's Python for arm64, over a shared library for arm64.
-3. The tests of bindings/rust/wagtenib are compiled with Debian's Rust and its standard library for arm64, and run. 2,000 random calls are compared with models, as rust.py does.
+1. The programs verify.c and follow.c of examples/link are compiled for arm64, and run over the cases of cases.py.
+2. The tests of bindings/go/wagtenib are compiled for arm64 and run.
+3. bindings/python/tests/compare.py runs in Debian's Python for arm64, over a shared library for arm64.
+4. The tests of bindings/rust/wagtenib are compiled with Debian's Rust and its standard library for arm64, and run. 2,000 random calls are compared with models, as rust.py does.
 
 replays.py compares the same code with that for amd64, called from C. Debian's packages qemu-user, gcc-aarch64-linux-gnu and libc6-dev-arm64-cross must be installed. With SETUP=yes in the
 environment, root installs them, and apt fetches Python and Rust into a folder that is removed at the end. A part whose packages cannot be had is left out, and the script says so in one line.
@@ -102,6 +103,19 @@ class Packages:
         return self.unpack(["download", *names])
 
 
+def try_c(folder):
+    """The programs of examples/link."""
+    link = ROOT / "examples" / "link"
+    cases = ran("cases.py", [sys.executable, link / "cases.py"])
+    (folder / "hashes.h").write_text(ran("cases.py", [sys.executable, link / "cases.py", "--header"]))
+    code = [DIST / "memory.c", DIST / "libwagtenib_linux_arm64.s"]
+    words = [COMPILER, "-std=c99", "-Wall", "-Wextra", "-Werror", "-O1", "-static", f"-I{ROOT / 'include'}", f"-I{folder}"]
+    ran("verify.c", [*words, link / "verify.c", *code, "-o", folder / "verify"])
+    ran("follow.c", [*words, link / "follow.c", *code, "-pthread", "-Wl,--wrap=malloc,--wrap=realloc", "-o", folder / "follow"])
+    told = ran("verify.c", [QEMU, folder / "verify"], input=cases) + ran("follow.c", [QEMU, folder / "follow"])
+    say(" ".join(told.split()))
+
+
 def try_go(folder):
     """The tests of the Go package."""
     if os.environ.get("GO") == "no":
@@ -193,6 +207,7 @@ def main():
         return
     with tempfile.TemporaryDirectory(prefix="wagtenib-arm64-") as folder:
         folder = pathlib.Path(folder)
+        try_c(folder)
         try_go(folder)
         try_python(folder)
         try_rust(folder)

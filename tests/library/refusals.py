@@ -41,7 +41,7 @@ def memory_of(name):
 def library_in(folder):
     """The library whose functions refusals.c wraps."""
     code = pathlib.Path(subprocess.run([ROOT / "dist" / "processor.sh"], capture_output=True, text=True, check=True).stdout.strip()).read_text()
-    names = sorted(set(re.findall(r"\.globl\s+(wagtenib_\w+)", code)))
+    names = sorted(name for name, _, _ in signatures.functions())
     (folder / "real.s").write_text(re.sub(rf"\b({'|'.join(names)})\b", r"real_\1", code))
     (folder / "functions.h").write_text(signatures.table())
     (folder / "multiples.h").write_text("".join(f"#define MULTIPLE_{name} {memory_of(name)[0]}\n" for name in names))

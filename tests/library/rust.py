@@ -48,6 +48,9 @@ pub mod code {{
 {structs}
 extern "C" {{
 {functions}
+    /// It exists only with the feature, and returns whether the processor's SHA instructions are used in place of the proved code.
+    #[cfg(feature = "sha-instructions")]
+    pub fn wagtenib_has_sha_instructions() -> bool;
 }}
 """
 

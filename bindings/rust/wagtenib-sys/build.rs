@@ -1,5 +1,7 @@
 //! Compiles the assembly of dist/ with the C compiler, without the network and without another crate.
 //!
+//! With the feature `sha-instructions`, dist/sha_instructions.c is compiled too, and the assembly calls it.
+//!
 //! `CC` names the compiler and `AR` the archiver; they are gcc and ar if nothing is set, and those of the target's prefix if cargo builds for another processor.
 
 use std::env;
@@ -37,13 +39,23 @@ fn main() {
     };
     let dist: PathBuf = Path::new(&set_by_cargo("CARGO_MANIFEST_DIR")).join("../../../dist");
     let out = PathBuf::from(set_by_cargo("OUT_DIR"));
-    let sources = [dist.join(format!("libwagtenib_linux_{named}.s")), dist.join("memory.c")];
+    let mut sources = vec![dist.join(format!("libwagtenib_linux_{named}.s")), dist.join("memory.c")];
+    // Only the preprocessor puts the option into the assembly.
+    let mut option: [&[&str]; 2] = [&[], &[]];
+    let include = format!("-I{}", dist.join("../include").display());
+    let defined = ["-DWAGTENIB_SHA_INSTRUCTIONS", &include];
+    let preprocessed = ["-DWAGTENIB_SHA_INSTRUCTIONS", "-x", "assembler-with-cpp"];
+    if env::var_os("CARGO_FEATURE_SHA_INSTRUCTIONS").is_some() {
+        sources.push(dist.join("sha_instructions.c"));
+        option = [&defined, &preprocessed];
+    }
     let compiler = tool("CC", "gcc", &processor);
     let mut objects = Vec::new();
     for source in &sources {
         println!("cargo:rerun-if-changed={}", source.display());
         let object = out.join(source.file_name().expect("a file has a name")).with_extension("o");
-        run(Command::new(&compiler).args(["-std=c11", "-O2", "-fPIC", "-c"]).arg(source).arg("-o").arg(&object));
+        let is_assembly = source.extension() == Some("s".as_ref());
+        run(Command::new(&compiler).args(["-std=c11", "-O2", "-fPIC", "-c"]).args(option[usize::from(is_assembly)]).arg(source).arg("-o").arg(&object));
         objects.push(object);
     }
     let archive = out.join("libwagtenib.a");

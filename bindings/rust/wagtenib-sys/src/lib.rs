@@ -235,4 +235,7 @@ extern "C" {
     pub fn wagtenib_monitor_head(state: *const u8, state_length: usize, head: *const wagtenib_head, verdict: *mut wagtenib_monitor_verdict, out: *mut u8, room: usize, length: *mut u64) -> u32;
     pub fn wagtenib_monitor_entries(state: *const u8, state_length: usize, start: u64, leaves: *const u8, leaves_length: usize, lengths: *const u64, count: usize, verdict: *mut wagtenib_monitor_verdict, report: *mut wagtenib_entry_report, out: *mut u8, room: usize, length: *mut u64) -> u32;
     pub fn wagtenib_monitor_proof(state: *const u8, state_length: usize, path: *const u8, path_length: usize, verdict: *mut wagtenib_monitor_verdict, out: *mut u8, room: usize, length: *mut u64) -> u32;
+    /// It exists only with the feature, and returns whether the processor's SHA instructions are used in place of the proved code.
+    #[cfg(feature = "sha-instructions")]
+    pub fn wagtenib_has_sha_instructions() -> bool;
 }

@@ -97,3 +97,15 @@ pub fn version() -> u32 {
     // SAFETY: the call has no arguments.
     unsafe { sys::wagtenib_version() }
 }
+
+/// Reports whether SHA-256 runs by the processor's SHA instructions in place of the proved code.
+///
+/// That needs the feature `sha-instructions` and a processor that has them. The proof does not speak of these instructions.
+#[must_use]
+pub fn has_sha_instructions() -> bool {
+    #[cfg(feature = "sha-instructions")]
+    // SAFETY: the call has no arguments.
+    return unsafe { sys::wagtenib_has_sha_instructions() };
+    #[cfg(not(feature = "sha-instructions"))]
+    false
+}

@@ -5,6 +5,7 @@ mod common;
 use common::{bytes, hash, hashes, leaf_hashes, LEAVES, PATH, PROOF, ROOTS};
 use wagtenib::guard::{self, TreeHead};
 use wagtenib::leaf::{self, Entry};
+use wagtenib::texts;
 use wagtenib::tree::{self, Subtrees};
 use wagtenib::Error;
 
@@ -98,4 +99,14 @@ fn calls_can_be_made_from_many_threads_at_once() {
 fn errors_have_words() {
     assert_eq!(Error::Fork.to_string(), "wagtenib: the head has the size of the last one, and another root");
     assert_eq!(Error::Fork.code(), 34);
+}
+
+#[test]
+fn sha_instructions_are_used_only_if_asked() {
+    if !cfg!(feature = "sha-instructions") {
+        assert!(!texts::has_sha_instructions());
+    } else if let Ok(due) = std::env::var("WAGTENIB_INSTRUCTIONS") {
+        // (the caller says whether the processor has them)
+        assert_eq!(texts::has_sha_instructions(), due == "yes");
+    }
 }

@@ -1,0 +1,15 @@
+//go:build wagtenib_sha_instructions
+
+package version_test
+
+import (
+	"testing"
+
+	"wagtenib/internal/version"
+)
+
+func TestLineNamesTheSHAInstructions(t *testing.T) {
+	if got, want := version.Line("ctserve"), "ctserve unreleased (commit unknown, with SHA instructions, which are not proved)\n"; got != want {
+		t.Errorf("with the build tag: %q, and %q is due", got, want)
+	}
+}
