@@ -63,7 +63,7 @@ case $what in
     for target in FuzzHandlers FuzzConnections; do
       go test ./internal/web -run '^$' -fuzz "^$target\$" -fuzztime "${1:-60}s" -fuzzminimizetime 1s -parallel "${PROCESSORS:-2}"
     done
-    go test ./internal/datatile -run '^$' -fuzz '^FuzzRead$' -fuzztime "${1:-60}s" -fuzzminimizetime 1s -parallel "${PROCESSORS:-2}"
+    go test ./internal/tile -run '^$' -fuzz '^FuzzRead$' -fuzztime "${1:-60}s" -fuzzminimizetime 1s -parallel "${PROCESSORS:-2}"
     go test ./internal/finding -run '^$' -fuzz '^FuzzSearch$' -fuzztime "${1:-60}s" -fuzzminimizetime 1s -parallel "${PROCESSORS:-2}"
     go test ./internal/alert -run '^$' -fuzz '^FuzzSafe$' -fuzztime "${1:-60}s" -fuzzminimizetime 1s -parallel "${PROCESSORS:-2}"
     # (each decoder of libwagtenib)

@@ -24,10 +24,10 @@ import (
 
 	"wagtenib/internal/chains"
 	"wagtenib/internal/log"
-	"wagtenib/internal/reader"
 	"wagtenib/internal/serve"
 	"wagtenib/internal/settingsfile"
 	"wagtenib/internal/stores"
+	"wagtenib/internal/tile"
 	"wagtenib/internal/version"
 	"wagtenib/internal/web"
 )
@@ -36,7 +36,7 @@ import (
 type opened struct {
 	log log.Log
 	// proofs makes proofs from its tiles, and cutter a precertificate's entry.
-	proofs *reader.Reader
+	proofs *tile.Prover
 	cutter chains.Cutter
 	// nodes returns the handler of what other nodes forward, forward forwards to them, and secured has the certificates for both. All are nil if the log has one node.
 	nodes   func(front http.Handler) http.Handler

@@ -5,10 +5,10 @@ import (
 	"path/filepath"
 	"time"
 
-	"wagtenib/internal/precert"
-	"wagtenib/internal/reader"
+	"wagtenib/internal/chains"
 	"wagtenib/internal/serve"
 	"wagtenib/internal/stores"
+	"wagtenib/internal/tile"
 )
 
 // shared are the stores that all nodes of a log share, and what closes them.
@@ -89,7 +89,7 @@ func openNode(ctx context.Context, n node) (of *opened, err error) {
 	}
 	config := n.config(s.Stores)
 	config.Signer = asked
-	of = &opened{cutter: precert.New(), key: asked.Key(), calls: s.calls}
+	of = &opened{cutter: chains.NewCutter(), key: asked.Key(), calls: s.calls}
 	if of.secured, err = n.peers.secure(); err != nil {
 		return nil, err
 	}
@@ -97,7 +97,7 @@ func openNode(ctx context.Context, n node) (of *opened, err error) {
 	if err != nil {
 		return nil, err
 	}
-	of.log, of.proofs, of.close = log, reader.New(log.Object, n.mostProofs), closeAll
+	of.log, of.proofs, of.close = log, tile.NewProver(log.Object, n.mostProofs), closeAll
 	if of.secured != nil {
 		forwarder := log.Forward(of.secured.dials)
 		of.forward, of.nodes = forwarder, log.OfNodes

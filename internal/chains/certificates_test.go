@@ -12,8 +12,6 @@ import (
 	"reflect"
 	"testing"
 	"time"
-
-	"wagtenib/internal/precert"
 )
 
 var oidAltNames = asn1.ObjectIdentifier{2, 5, 29, 17}
@@ -66,7 +64,7 @@ func TestMisissuedAreShown(t *testing.T) {
 	if err != nil {
 		t.Fatal(err)
 	}
-	c := NewChecker(roots, Rules{}, precert.New())
+	c := NewChecker(roots, Rules{}, NewCutter())
 	same := func(tbs []byte) []byte { return tbs }
 	unknown := pkix.Extension{Id: asn1.ObjectIdentifier{1, 2, 3}, Value: []byte{5, 0}}
 	poisonous := pkix.Extension{Id: oidPoison, Critical: true, Value: []byte{5, 0}}
@@ -128,7 +126,7 @@ func TestOtherFormOfASignature(t *testing.T) {
 	if err != nil {
 		t.Fatal(err)
 	}
-	c := NewChecker(roots, Rules{}, precert.New())
+	c := NewChecker(roots, Rules{}, NewCutter())
 	rewritten := func(der []byte) []byte {
 		t.Helper()
 		var whole struct {

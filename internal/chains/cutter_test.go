@@ -10,7 +10,6 @@ import (
 	"testing"
 
 	"wagtenib/bindings/go/wagtenib"
-	"wagtenib/internal/precert"
 )
 
 // The one form of the poison extension: its OID, critical, and NULL in an OCTET STRING.
@@ -28,18 +27,18 @@ func (byASN1) WithoutPoison(tbs []byte) ([]byte, error) {
 func listOf(tbs []byte) (fields, extensions []asn1.RawValue, err error) {
 	fields, err = inside(tbs)
 	if err != nil || len(fields) == 0 {
-		return nil, nil, fmt.Errorf("%w: %v", precert.ErrUnread, err)
+		return nil, nil, fmt.Errorf("%w: %v", errUnread, err)
 	}
 	last := len(fields) - 1
 	if fields[last].Class != asn1.ClassContextSpecific || fields[last].Tag != 3 {
-		return nil, nil, precert.ErrNoExtension
+		return nil, nil, wagtenib.ErrNoExtension
 	}
 	lists, err := values(fields[last].Bytes)
 	if err == nil && len(lists) == 1 {
 		extensions, err = values(lists[0].Bytes)
 	}
 	if err != nil || len(lists) != 1 {
-		return nil, nil, fmt.Errorf("%w: %v", precert.ErrUnread, err)
+		return nil, nil, fmt.Errorf("%w: %v", errUnread, err)
 	}
 	return fields[:last], extensions, nil
 }
@@ -61,11 +60,11 @@ func plainly(tbs []byte) (made []byte, place int, err error) {
 	}
 	switch {
 	case len(cut) == 0:
-		return nil, 0, precert.ErrNoExtension
+		return nil, 0, wagtenib.ErrNoExtension
 	case len(cut) > 1:
-		return nil, 0, precert.ErrSecondExtension
+		return nil, 0, wagtenib.ErrSecondExtension
 	case !bytes.Equal(cut[0].FullBytes, poison):
-		return nil, 0, precert.ErrBadPoison
+		return nil, 0, wagtenib.ErrBadPoison
 	}
 	if len(kept) > 0 {
 		fields = append(fields, wrapped(asn1.ClassContextSpecific, 3, []asn1.RawValue{wrapped(asn1.ClassUniversal, asn1.TagSequence, kept)}))
@@ -90,8 +89,8 @@ func TestCutters(t *testing.T) {
 		err  error
 		want Refusal
 	}{
-		{precert.ErrNoExtension, NoPoison}, {precert.ErrSecondExtension, NoPoison}, {precert.ErrBadPoison, BadPoison},
-		{fmt.Errorf("%w: trailing in tbs of the certificate", precert.ErrUnread), NoCertificate}, {wagtenib.ErrMemory, ""}, {gone, ""},
+		{wagtenib.ErrNoExtension, NoPoison}, {wagtenib.ErrSecondExtension, NoPoison}, {wagtenib.ErrBadPoison, BadPoison},
+		{fmt.Errorf("%w: trailing in tbs of the certificate", errUnread), NoCertificate}, {wagtenib.ErrMemory, ""}, {gone, ""},
 	} {
 		entry, err := NewChecker(a.roots(t, "root"), Rules{}, answers{[]byte("an entry"), test.err}).Precertificate(chain)
 		if entry != nil || RefusalOf(err) != test.want || test.want == "" && !errors.Is(err, test.err) {
@@ -106,7 +105,7 @@ func TestCutters(t *testing.T) {
 
 // TestPoisonTwice: of two poison extensions none is cut out, by the proved function and by encoding/asn1.
 func TestPoisonTwice(t *testing.T) {
-	cutters := []Cutter{precert.New(), byASN1{}}
+	cutters := []Cutter{NewCutter(), byASN1{}}
 	for _, line := range realPrecertificates(t)[:1] {
 		certificate, err := x509.ParseCertificate(line.Chain[0])
 		if err != nil {
@@ -119,13 +118,13 @@ func TestPoisonTwice(t *testing.T) {
 				t.Fatal(err)
 			}
 			again := poisoned(t, poisoned(t, entry, 0), 1)
-			if _, err := cutter.WithoutPoison(again); !errors.Is(err, precert.ErrSecondExtension) {
+			if _, err := cutter.WithoutPoison(again); !errors.Is(err, wagtenib.ErrSecondExtension) {
 				t.Errorf("%T: two of them: %v", cutter, err)
 			}
-			if _, err := cutter.WithoutPoison(entry); !errors.Is(err, precert.ErrNoExtension) {
+			if _, err := cutter.WithoutPoison(entry); !errors.Is(err, wagtenib.ErrNoExtension) {
 				t.Errorf("%T: none of them: %v", cutter, err)
 			}
-			if _, err := cutter.WithoutPoison(append(append([]byte{}, tbs...), 0)); !errors.Is(err, precert.ErrUnread) {
+			if _, err := cutter.WithoutPoison(append(append([]byte{}, tbs...), 0)); !errors.Is(err, errUnread) {
 				t.Errorf("%T: a byte behind it: %v", cutter, err)
 			}
 		}

@@ -10,7 +10,7 @@ import (
 	"golang.org/x/crypto/cryptobyte"
 	tags "golang.org/x/crypto/cryptobyte/asn1"
 
-	"wagtenib/internal/precert"
+	"wagtenib/bindings/go/wagtenib"
 )
 
 var (
@@ -62,7 +62,7 @@ func noDER(what string) error {
 }
 
 // Cutter makes the entry of a precertificate from its TBSCertificate: the same without the poison extension. All other bytes stay
-// as they are, except the lengths around them. A precert.Cutter is one, which is proved to.
+// as they are, except the lengths around them. NewCutter returns one, which is proved to do so.
 type Cutter interface {
 	WithoutPoison(tbs []byte) ([]byte, error)
 }
@@ -73,11 +73,11 @@ func (c *Checker) entryOf(tbs []byte) ([]byte, error) {
 	switch {
 	case err == nil:
 		return entry, nil
-	case errors.Is(err, precert.ErrNoExtension), errors.Is(err, precert.ErrSecondExtension):
+	case errors.Is(err, wagtenib.ErrNoExtension), errors.Is(err, wagtenib.ErrSecondExtension):
 		return nil, fmt.Errorf("%w: it has to be there once: %v", NoPoison, err)
-	case errors.Is(err, precert.ErrBadPoison):
+	case errors.Is(err, wagtenib.ErrBadPoison):
 		return nil, fmt.Errorf("%w: it isn't critical, or its value isn't NULL", BadPoison)
-	case errors.Is(err, precert.ErrUnread):
+	case errors.Is(err, errUnread):
 		return nil, fmt.Errorf("%w: a TBSCertificate isn't as it has to be in DER: %v", NoCertificate, err)
 	}
 	return nil, err

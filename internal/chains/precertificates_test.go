@@ -11,8 +11,6 @@ import (
 	"os/exec"
 	"reflect"
 	"testing"
-
-	"wagtenib/internal/precert"
 )
 
 func inPEM(certificates ...[]byte) (text []byte) {
@@ -26,7 +24,7 @@ func inPEM(certificates ...[]byte) (text []byte) {
 // dates, the final certificate. The entry's TBSCertificate is the final one's, as openssl cuts it.
 func TestPrecertificatesAreTheirFinalCertificates(t *testing.T) {
 	a := madeByOpenssl(t)
-	c := NewChecker(a.roots(t, "root"), Rules{}, precert.New())
+	c := NewChecker(a.roots(t, "root"), Rules{}, NewCutter())
 	for _, test := range []struct {
 		final, issuer      string
 		submitted, issuers []string
@@ -171,7 +169,7 @@ func TestPrecertificatesAgreeWithPython(t *testing.T) {
 	for _, test := range tests {
 		chains = append(chains, a.chain(t, test.names...))
 	}
-	cutter := precert.New()
+	cutter := NewCutter()
 	for i, there := range askPython(t, chains, roots.Certificates()) {
 		test := tests[i]
 		entry, err := NewChecker(roots, Rules{}, cutter).Precertificate(chains[i])
@@ -215,7 +213,7 @@ type real struct {
 }
 
 func TestRealPrecertificates(t *testing.T) {
-	cutter := precert.New()
+	cutter := NewCutter()
 	for i, line := range realPrecertificates(t) {
 		roots, err := ParseRoots(inPEM(line.Chain[1]))
 		if err != nil {

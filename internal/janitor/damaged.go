@@ -3,7 +3,6 @@ package janitor
 import (
 	"context"
 
-	"wagtenib/internal/datatile"
 	"wagtenib/internal/tile"
 )
 
@@ -65,7 +64,7 @@ func (j *Janitor) look(ctx context.Context, fingerprint [32]byte) error {
 }
 
 // readIssuersOf reads the issuers of entries again that were not read yet.
-func (j *Janitor) readIssuersOf(ctx context.Context, leaves []datatile.Leaf) {
+func (j *Janitor) readIssuersOf(ctx context.Context, leaves []tile.Leaf) {
 	if j.config.Issuers == nil {
 		return
 	}

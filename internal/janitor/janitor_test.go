@@ -13,7 +13,6 @@ import (
 
 	"golang.org/x/mod/sumdb/tlog"
 
-	"wagtenib/internal/datatile"
 	"wagtenib/internal/decider"
 	"wagtenib/internal/signer"
 	"wagtenib/internal/stores"
@@ -72,7 +71,7 @@ func logOf256(t *testing.T) (kept, signer.Head) {
 	var data []byte
 	objects := kept{}
 	for i := range uint64(tile.Width) {
-		extensions := datatile.Extensions(i)
+		extensions := tile.Extensions(i)
 		entry := append(binary.BigEndian.AppendUint64(nil, 1800000000000+i), 0, 0, 0, 0, 1, byte(i))
 		entry = append(binary.BigEndian.AppendUint16(entry, uint16(len(extensions))), extensions...)
 		data = append(append(data, entry...), 0, 0)

@@ -20,10 +20,10 @@ import (
 	"path/filepath"
 
 	"wagtenib/bindings/go/wagtenib"
-	"wagtenib/internal/datatile"
 	"wagtenib/internal/logclient"
 	"wagtenib/internal/signature"
 	"wagtenib/internal/stores"
+	datatile "wagtenib/internal/tile"
 	"wagtenib/internal/watch"
 )
 
@@ -152,7 +152,7 @@ func (m *Mirror) readTile(ctx context.Context, index, size uint64) (of tile, err
 	if err != nil {
 		return of, fmt.Errorf("mirror: %s: %w", name, err)
 	}
-	leaves, err := datatile.Read(content)
+	leaves, err := datatile.ReadData(content)
 	if err != nil || len(leaves) < width {
 		return of, fmt.Errorf("%w: %s has %d entries: %v", ErrOther, name, len(leaves), err)
 	}

@@ -6,7 +6,6 @@ import (
 	"errors"
 	"fmt"
 
-	"wagtenib/internal/datatile"
 	"wagtenib/internal/stores"
 	"wagtenib/internal/tile"
 )
@@ -81,7 +80,7 @@ func (l *Loop) indexWorks(ctx context.Context, k *state) error {
 
 // newestLeaf returns a state's newest entry, or nil if there is none, or if it cannot be read or is not the tree's: then the step says so, and a damaged edge is made
 // again.
-func (l *Loop) newestLeaf(ctx context.Context, k *state) *datatile.Leaf {
+func (l *Loop) newestLeaf(ctx context.Context, k *state) *tile.Leaf {
 	if k.Size == 0 {
 		return nil
 	}

@@ -8,7 +8,6 @@ import (
 	"time"
 
 	"wagtenib/internal/chains"
-	"wagtenib/internal/datatile"
 	"wagtenib/internal/decider"
 	"wagtenib/internal/signer"
 	"wagtenib/internal/step"
@@ -89,7 +88,7 @@ func HeadIn(text string) (signer.Head, error) {
 }
 
 // Identity returns the identity of a leaf's entry: SHA-256 over its type, and the certificate, or the issuer's key hash and the TBSCertificate.
-func Identity(leaf *datatile.Leaf) stores.Identity {
+func Identity(leaf *tile.Leaf) stores.Identity {
 	return identity(leaf.Type, leaf.IssuerKeyHash, leaf.Certificate)
 }
 

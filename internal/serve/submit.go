@@ -7,10 +7,10 @@ import (
 	"fmt"
 
 	"wagtenib/internal/chains"
-	"wagtenib/internal/datatile"
 	"wagtenib/internal/log"
 	"wagtenib/internal/node"
 	"wagtenib/internal/step"
+	"wagtenib/internal/tile"
 )
 
 // Submit is log.Log's. A submission that the log has already is answered with the first timestamp of its entry, without
@@ -89,7 +89,7 @@ func (l *Log) why(ctx context.Context, err error) error {
 
 // placeOf returns a place as package log has it.
 func (l *Log) placeOf(of node.Place) log.Place {
-	return log.Place{LeafIndex: of.Index, Timestamp: of.Timestamp, Extensions: datatile.Extensions(of.Index),
+	return log.Place{LeafIndex: of.Index, Timestamp: of.Timestamp, Extensions: tile.Extensions(of.Index),
 		Signature: of.Signature, LogID: l.running.logID}
 }
 

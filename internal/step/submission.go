@@ -6,15 +6,15 @@ import (
 	"wagtenib/bindings/go/wagtenib"
 )
 
-// Submission is one entry of a batch. Nodes hand it over to each other as JSON.
+// Submission is one entry of a batch.
 type Submission struct {
 	// Chain are the fingerprints of the issuers.
-	Chain [][]byte `json:"chain"`
+	Chain [][]byte
 	// LeafCertificate is the certificate; or the other three are there, of a precertificate.
-	LeafCertificate []byte `json:"leaf_certificate,omitempty"`
-	IssuerKeyHash   []byte `json:"issuer_key_hash,omitempty"`
-	PreCertificate  []byte `json:"pre_certificate,omitempty"`
-	TBSCertificate  []byte `json:"tbs_certificate,omitempty"`
+	LeafCertificate []byte
+	IssuerKeyHash   []byte
+	PreCertificate  []byte
+	TBSCertificate  []byte
 }
 
 // hashOf returns the hash that some bytes are.

@@ -8,7 +8,6 @@ import (
 	"fmt"
 	"testing"
 
-	"wagtenib/internal/datatile"
 	"wagtenib/internal/stores"
 )
 
@@ -17,7 +16,7 @@ func leafOf(index uint64, certificate string) []byte {
 	leaf := binary.BigEndian.AppendUint64(nil, 1800000000000+index)
 	leaf = append(leaf, 0, 0, 0, 0, byte(len(certificate)))
 	leaf = append(leaf, certificate...)
-	extensions := datatile.Extensions(index)
+	extensions := Extensions(index)
 	leaf = append(binary.BigEndian.AppendUint16(leaf, uint16(len(extensions))), extensions...)
 	return append(leaf, 0, 0)
 }

@@ -15,9 +15,9 @@ import (
 	"golang.org/x/crypto/cryptobyte"
 
 	"wagtenib/internal/chains"
-	"wagtenib/internal/datatile"
 	"wagtenib/internal/log"
 	"wagtenib/internal/stores"
+	"wagtenib/internal/tile"
 )
 
 // getSTH answers the newest published head (RFC 6962, section 4.3).
@@ -122,7 +122,7 @@ func (f *Front) entries(ctx context.Context, start, end uint64) ([]entryOf, erro
 
 // dataTile reads the tile of an entry as a head has it that has all of it up to an end, or as the newest. A partial tile may go between the head and the
 // read, where the full one came to stand.
-func (f *Front) dataTile(ctx context.Context, index, end uint64) ([]datatile.Leaf, error) {
+func (f *Front) dataTile(ctx context.Context, index, end uint64) ([]tile.Leaf, error) {
 	if last := index - index%fullWidth + fullWidth - 1; end > last {
 		end = last
 	}
@@ -145,7 +145,7 @@ func (f *Front) dataTile(ctx context.Context, index, end uint64) ([]datatile.Lea
 		if err != nil {
 			return nil, missing(err)
 		}
-		leaves, err := datatile.Read(content)
+		leaves, err := tile.ReadData(content)
 		if err != nil || uint64(len(leaves)) != name.width {
 			return nil, fmt.Errorf("%w: %s isn't a tile of %d entries", log.ErrStore, name, name.width)
 		}
@@ -155,7 +155,7 @@ func (f *Front) dataTile(ctx context.Context, index, end uint64) ([]datatile.Lea
 
 // entryOf makes of a leaf what RFC 6962 answers: a MerkleTreeLeaf (section 3.4), and the chain (section 4.6: of a precertificate
 // a PrecertChainEntry, of a certificate its certificate_chain alone).
-func (f *Front) entryOf(ctx context.Context, leaf *datatile.Leaf) (entryOf, error) {
+func (f *Front) entryOf(ctx context.Context, leaf *tile.Leaf) (entryOf, error) {
 	var extra cryptobyte.Builder
 	if leaf.Type == chains.PrecertEntry {
 		extra.AddUint24LengthPrefixed(func(b *cryptobyte.Builder) { b.AddBytes(leaf.Precertificate) })

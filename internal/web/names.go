@@ -4,7 +4,7 @@ import (
 	"strconv"
 	"strings"
 
-	"wagtenib/internal/datatile"
+	"wagtenib/internal/tile"
 )
 
 // tileName is a tile's name, read (C2SP tlog-tiles and static-ct-api): its level, or the data tiles', its index, and its width,
@@ -21,7 +21,7 @@ const (
 	mostLevel = 5
 	// mostGroups is how many groups of three digits an index has: it is below 2^32.
 	mostGroups = 4
-	fullWidth  = datatile.Width
+	fullWidth  = tile.Width
 )
 
 // readTileName reads what stands behind "tile/"; each tile has one name.
@@ -92,7 +92,7 @@ func (n tileName) isOf(content []byte) bool {
 	if !n.data {
 		return uint64(len(content)) == 32*n.width
 	}
-	leaves, err := datatile.Read(content)
+	leaves, err := tile.ReadData(content)
 	return err == nil && uint64(len(leaves)) == n.width
 }
 

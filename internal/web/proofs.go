@@ -11,8 +11,8 @@ import (
 
 	"wagtenib/bindings/go/wagtenib"
 	"wagtenib/internal/log"
-	"wagtenib/internal/reader"
 	"wagtenib/internal/stores"
+	"wagtenib/internal/tile"
 )
 
 // noSuchLeaf: a hash is that of no leaf of the tree.
@@ -44,7 +44,7 @@ func (f *Front) getSTHConsistency(w http.ResponseWriter, r *http.Request) error 
 		if proof, err = f.reader.Proof(ctx, first, second, head.TreeSize); err != nil {
 			return err
 		}
-		return reader.CheckProof(proof, second, two, first, one)
+		return tile.CheckProof(proof, second, two, first, one)
 	})
 	return answerProof(w, err, struct {
 		Consistency [][]byte `json:"consistency"`
@@ -170,7 +170,7 @@ func faultOf(err error) error {
 	switch {
 	case err == nil, errors.As(err, &known), errors.Is(err, context.DeadlineExceeded), errors.Is(err, context.Canceled), errors.Is(err, log.ErrStore), errors.Is(err, log.ErrBusy):
 		return err
-	case errors.Is(err, reader.ErrBusy), errors.Is(err, wagtenib.ErrMemory):
+	case errors.Is(err, tile.ErrBusy), errors.Is(err, wagtenib.ErrMemory):
 		return fmt.Errorf("%w: %v", log.ErrBusy, err)
 	}
 	return fmt.Errorf("%w: %v", log.ErrStore, err)
@@ -196,7 +196,7 @@ func (f *Front) rootAt(ctx context.Context, head log.Head, size uint64) ([32]byt
 	if err != nil {
 		return root, err
 	}
-	return root, reader.CheckProof(proof, head.TreeSize, head.RootHash, size, root)
+	return root, tile.CheckProof(proof, head.TreeSize, head.RootHash, size, root)
 }
 
 // path is the audit path from a leaf's hash to the root of the first size leaves.
@@ -209,7 +209,7 @@ func (f *Front) path(ctx context.Context, head log.Head, index, size uint64, lea
 	if err != nil {
 		return nil, err
 	}
-	return path, reader.CheckPath(path, size, root, index, leaf)
+	return path, tile.CheckPath(path, size, root, index, leaf)
 }
 
 // leafAt is the hash of a leaf as its tile has it.

@@ -17,8 +17,8 @@ import (
 
 	"wagtenib/bindings/go/wagtenib"
 	"wagtenib/internal/log"
-	"wagtenib/internal/reader"
 	"wagtenib/internal/stores"
+	"wagtenib/internal/tile"
 	"wagtenib/internal/trial"
 	"wagtenib/internal/web/standin"
 )
@@ -190,12 +190,12 @@ func TestProofsThatAreRefused(t *testing.T) {
 			refused(t, what+": "+call, f.get("/ct/v1/"+call), status, name)
 		}
 	}
-	tile, err := f.log.Object(context.Background(), "tile/0/000.p/5", stores.MostObject)
+	content, err := f.log.Object(context.Background(), "tile/0/000.p/5", stores.MostObject)
 	if err != nil {
 		t.Fatal(err)
 	}
 	for place := range leaves {
-		bent := append([]byte{}, tile...)
+		bent := append([]byte{}, content...)
 		bent[32*place+7] ^= 1
 		f.log.Change("tile/0/000.p/5", bent)
 		for i, call := range calls {
@@ -207,20 +207,20 @@ func TestProofsThatAreRefused(t *testing.T) {
 			refused(t, fmt.Sprintf("tile bent at %d: %s", place, call), f.get("/ct/v1/"+call), 503, "store")
 		}
 	}
-	f.log.Change("tile/0/000.p/5", tile[:len(tile)-1])
+	f.log.Change("tile/0/000.p/5", content[:len(content)-1])
 	each("a short tile", 503, "store")
 	f.log.Change("tile/0/000.p/5", nil)
 	each("no tile", 503, "store")
-	f.log.Change("tile/0/000.p/5", tile)
+	f.log.Change("tile/0/000.p/5", content)
 	for _, call := range calls {
 		f.reads(call, &struct{}{})
 	}
-	f.front.reader = reader.New(f.log.Object, 0)
+	f.front.reader = tile.NewProver(f.log.Object, 0)
 	each("no place", 503, "busy")
-	dry := reader.Proved()
+	dry := tile.ProvedFunctions()
 	dry.PathOfTiles = func(uint64, uint64, [][]byte) ([][32]byte, error) { return nil, wagtenib.ErrMemory }
 	dry.ProofOf = dry.PathOfTiles
-	f.front.reader = reader.Over(dry, f.log.Object, 1)
+	f.front.reader = tile.ProverOver(dry, f.log.Object, 1)
 	each("no memory", 503, "busy")
 	f.log.Break(errors.New("the disk"))
 	if w := f.get("/ct/v1/" + calls[0]); w.Code < 500 || strings.Contains(w.Body.String(), "disk") {
@@ -240,7 +240,7 @@ func TestProofsByAddress(t *testing.T) {
 		return w
 	}
 	let := make(chan struct{})
-	f.front.reader = reader.New(func(ctx context.Context, name string, most int64) ([]byte, error) {
+	f.front.reader = tile.NewProver(func(ctx context.Context, name string, most int64) ([]byte, error) {
 		<-let
 		return f.log.Object(ctx, name, most)
 	}, 64)
@@ -283,7 +283,7 @@ func TestProofsThatAreLate(t *testing.T) {
 
 // heldReader has one proof be made at a time, of objects that don't come before that is closed.
 func (f *fixture) heldReader(comes chan struct{}) {
-	f.front.reader = reader.New(func(ctx context.Context, name string, most int64) ([]byte, error) {
+	f.front.reader = tile.NewProver(func(ctx context.Context, name string, most int64) ([]byte, error) {
 		<-comes
 		return f.log.Object(ctx, name, most)
 	}, 1)

@@ -18,8 +18,8 @@ import (
 
 	"wagtenib/internal/chains"
 	"wagtenib/internal/log"
-	"wagtenib/internal/reader"
 	"wagtenib/internal/stores"
+	"wagtenib/internal/tile"
 )
 
 // The bounds that no option moves.
@@ -106,7 +106,7 @@ type Options struct {
 // Front answers the calls of one log. It is an http.Handler, for clients; Operator is the one for operators.
 type Front struct {
 	log         log.Log
-	reader      *reader.Reader
+	reader      *tile.Prover
 	checker     *chains.Checker
 	options     Options
 	limits      Limits
@@ -127,7 +127,7 @@ type Front struct {
 }
 
 // New makes a front of a log, and of what makes proofs out of its tiles.
-func New(of log.Log, proofs *reader.Reader, checker *chains.Checker, options Options) *Front {
+func New(of log.Log, proofs *tile.Prover, checker *chains.Checker, options Options) *Front {
 	limits := options.Limits
 	if limits.Checks < 1 {
 		limits.Checks = 1

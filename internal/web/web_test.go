@@ -23,9 +23,8 @@ import (
 	"wagtenib/bindings/go/wagtenib"
 	"wagtenib/internal/chains"
 	"wagtenib/internal/log"
-	"wagtenib/internal/precert"
-	"wagtenib/internal/reader"
 	"wagtenib/internal/stores"
+	"wagtenib/internal/tile"
 	"wagtenib/internal/trial"
 	"wagtenib/internal/web/standin"
 )
@@ -83,8 +82,8 @@ func newFixture(t testing.TB, every time.Duration, change func(*Options)) *fixtu
 	if change != nil {
 		change(&options)
 	}
-	f.checker = chains.NewChecker(roots, chains.Rules{Window: window}, precert.New())
-	f.front = New(of, reader.New(of.Object, 4), f.checker, options)
+	f.checker = chains.NewChecker(roots, chains.Rules{Window: window}, chains.NewCutter())
+	f.front = New(of, tile.NewProver(of.Object, 4), f.checker, options)
 	return f
 }
 
@@ -161,9 +160,9 @@ func (f *fixture) verifies(signed, signature []byte) bool {
 // TestPrecertificatesWithoutMemory: if there is no memory to cut the poison out, a precertificate is for later, and certificates are taken.
 func TestPrecertificatesWithoutMemory(t *testing.T) {
 	f := newFixture(t, 10*time.Millisecond, nil)
-	dry := precert.Over(func([]byte) ([]byte, error) { return nil, wagtenib.ErrMemory })
+	dry := chains.CutterOver(func([]byte) ([]byte, error) { return nil, wagtenib.ErrMemory })
 	checker := chains.NewChecker(f.checker.Roots(), chains.Rules{}, dry)
-	f.front = New(f.log, reader.New(f.log.Object, 4), checker, Options{Limits: DefaultLimits(), Lines: NewLines(f.lines)})
+	f.front = New(f.log, tile.NewProver(f.log.Object, 4), checker, Options{Limits: DefaultLimits(), Lines: NewLines(f.lines)})
 	w := f.do("POST", "/ct/v1/add-pre-chain", standin.Submission(f.issue(true), f.authority.Root.Raw))
 	if w.Code != 503 || w.Header().Get("Retry-After") != "1" || !strings.Contains(w.Body.String(), `"busy"`) {
 		t.Errorf("%d %v %s", w.Code, w.Header(), w.Body)
@@ -321,7 +320,7 @@ func TestErrorsOfTheLog(t *testing.T) {
 		{log.ErrStore, 503, "store", "5"},
 		{fmt.Errorf("deep inside: %w", log.ErrStore), 503, "store", "5"},
 		{fmt.Errorf("deep inside: %w", wagtenib.ErrMemory), 503, "busy", "1"},
-		{fmt.Errorf("deep inside: %w", reader.ErrReply), 500, "internal", ""},
+		{fmt.Errorf("deep inside: %w", tile.ErrReply), 500, "internal", ""},
 		{context.DeadlineExceeded, 503, "late", "5"},
 		{errors.New("secret of the machine"), 500, "internal", ""},
 	} {

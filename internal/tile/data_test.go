@@ -1,4 +1,4 @@
-package datatile
+package tile
 
 import (
 	"bytes"
@@ -32,7 +32,7 @@ func unhex(t testing.TB, text string) []byte {
 }
 
 func TestRead(t *testing.T) {
-	leaves, err := Read(unhex(t, plain+pre))
+	leaves, err := ReadData(unhex(t, plain+pre))
 	if err != nil || len(leaves) != 2 {
 		t.Fatalf("%d leaves, %v", len(leaves), err)
 	}
@@ -79,24 +79,24 @@ func TestReadRefuses(t *testing.T) {
 		"257 leaves":                 strings.Repeat(plain, Width+1),
 	}
 	for what, text := range refused {
-		if leaves, err := Read(unhex(t, text)); !errors.Is(err, ErrTile) || leaves != nil {
+		if leaves, err := ReadData(unhex(t, text)); !errors.Is(err, ErrTile) || leaves != nil {
 			t.Errorf("%s: %d leaves, %v", what, len(leaves), err)
 		}
 	}
 	for _, whole := range [][]byte{unhex(t, plain), unhex(t, pre)} {
 		for n := 1; n < len(whole); n++ {
-			if leaves, err := Read(whole[:n]); !errors.Is(err, ErrTile) || leaves != nil {
+			if leaves, err := ReadData(whole[:n]); !errors.Is(err, ErrTile) || leaves != nil {
 				t.Errorf("the first %d bytes of %x: %d leaves, %v", n, whole, len(leaves), err)
 			}
 		}
 	}
-	if _, err := Read(unhex(t, pre+plain+"00")); err == nil || !strings.Contains(err.Error(), "entry 2 ") {
+	if _, err := ReadData(unhex(t, pre+plain+"00")); err == nil || !strings.Contains(err.Error(), "entry 2 ") {
 		t.Errorf("the third entry isn't named: %v", err)
 	}
-	if leaves, err := Read(unhex(t, strings.Repeat(plain, Width))); err != nil || len(leaves) != Width {
+	if leaves, err := ReadData(unhex(t, strings.Repeat(plain, Width))); err != nil || len(leaves) != Width {
 		t.Errorf("a full tile is %d leaves, %v", len(leaves), err)
 	}
-	if leaves, err := Read(nil); err != nil || len(leaves) != 0 {
+	if leaves, err := ReadData(nil); err != nil || len(leaves) != 0 {
 		t.Errorf("no bytes are %d leaves, %v", len(leaves), err)
 	}
 }
@@ -122,7 +122,7 @@ func FuzzRead(f *testing.F) {
 	f.Add(whole[:len(whole)-1])
 	f.Add([]byte{0, 0, 0, 0, 0, 0, 0, 1, 0, 1})
 	f.Fuzz(func(t *testing.T, content []byte) {
-		leaves, err := Read(content)
+		leaves, err := ReadData(content)
 		if err != nil {
 			if leaves != nil {
 				t.Fatal("entries of no tile")

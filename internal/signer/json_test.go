@@ -1,4 +1,4 @@
-package jsonline
+package signer
 
 import (
 	"encoding/json"
@@ -8,11 +8,11 @@ import (
 	"testing"
 )
 
-// TestAppend compares what is written with what encoding/json writes.
-func TestAppend(t *testing.T) {
+// TestAppendsBase64 compares what is written with what encoding/json writes.
+func TestAppendsBase64(t *testing.T) {
 	for _, contents := range [][][]byte{{}, {{}}, {{1}, {2, 3}, {255, 254, 253}}, {[]byte(strings.Repeat("x", 1000))}} {
 		want, err := json.Marshal(contents)
-		if got := AppendList([]byte("before"), contents); err != nil || string(got) != "before"+string(want) {
+		if got := appendBase64List([]byte("before"), contents); err != nil || string(got) != "before"+string(want) {
 			t.Errorf("%s, and %s is expected; %v", got, want, err)
 		}
 	}
@@ -22,49 +22,45 @@ func TestAppend(t *testing.T) {
 			texts[i] = hashes[i][:]
 		}
 		want, err := json.Marshal(texts)
-		if got := AppendHashes(nil, hashes); err != nil || string(got) != string(want) {
+		if got := appendHashes(nil, hashes); err != nil || string(got) != string(want) {
 			t.Errorf("%s, and %s is expected; %v", got, want, err)
 		}
 	}
 }
 
-// read reads an object of one form.
-func read(line string) (numbers []uint64, texts []string, ok bool) {
-	c := Over([]byte(line))
-	c.Want(`{"of":`)
-	c.Each(func() {
-		c.Want(`{`)
-		if c.Has(`"text":`) {
-			texts = append(texts, string(c.Bytes()))
-			c.Want(`,`)
+// readForm reads an object of one form.
+func readForm(line string) (numbers []uint64, texts []string, ok bool) {
+	c := over([]byte(line))
+	c.want(`{"of":`)
+	c.each(func() {
+		c.want(`{`)
+		if c.has(`"text":`) {
+			texts = append(texts, string(c.bytes()))
+			c.want(`,`)
 		}
-		c.Want(`"number":`)
-		numbers = append(numbers, c.Number())
-		c.Want(`}`)
+		c.want(`"number":`)
+		numbers = append(numbers, c.number())
+		c.want(`}`)
 	})
-	c.Want(`}`)
-	_, rest := c.Rest()
-	if rest && !c.AtEnd() {
-		return nil, nil, false
-	}
-	return numbers, texts, c.AtEnd()
+	c.want(`}`)
+	return numbers, texts, c.atEnd()
 }
 
-// TestCursor reads what is of the form, and nothing else.
-func TestCursor(t *testing.T) {
+// TestCursorReadsOneForm reads what is of the form, and nothing else.
+func TestCursorReadsOneForm(t *testing.T) {
 	for line, want := range map[string][]uint64{
 		`{"of":[]}`:             nil,
 		`{"of":[{"number":0}]}`: {0},
 		`{"of":[{"text":"eA==","number":7},{"number":18446744073709551615}]}`: {7, math.MaxUint64},
 	} {
-		if numbers, texts, ok := read(line); !ok || !reflect.DeepEqual(numbers, want) || strings.Contains(line, "eA==") && !reflect.DeepEqual(texts, []string{"x"}) {
+		if numbers, texts, ok := readForm(line); !ok || !reflect.DeepEqual(numbers, want) || strings.Contains(line, "eA==") && !reflect.DeepEqual(texts, []string{"x"}) {
 			t.Errorf("%s: %v, %q, %v", line, numbers, texts, ok)
 		}
 	}
 	for _, line := range []string{``, `{`, `{"of":[}`, `{"of":[]`, `{"of":[]} `, `{"of":[{"number":07}]}`, `{"of":[{"number":-1}]}`, `{"of":[{"number":}]}`,
 		`{"of":[{"number":18446744073709551616}]}`, `{"of":[{"number":1}{"number":2}]}`, `{"of":[{"number":1},]}`, `{"of":[{"text":"eA=","number":1}]}`,
 		`{"of":[{"text":"e\u0041==","number":1}]}`, `{"of":[{"text":"eA==,"number":1}]}`, "{\"of\":[{\"text\":\"eA\r==\",\"number\":1}]}", `{"of":[{"text":"eA==`, `{"of":[{"text":7,"number":1}]}`, `{"of": []}`} {
-		if numbers, texts, ok := read(line); ok {
+		if numbers, texts, ok := readForm(line); ok {
 			t.Errorf("%s: %v, %q", line, numbers, texts)
 		}
 	}

@@ -1,6 +1,4 @@
-// Package datatile reads the data tiles of a log (C2SP static-ct-api, "Log Entries"), for what serves and what carries one. What judges a log from
-// outside (wagtenib/internal/check, ctread) has a reader of its own.
-package datatile
+package tile
 
 import (
 	"bytes"
@@ -14,11 +12,8 @@ import (
 	"wagtenib/internal/chains"
 )
 
-// Width is how many entries a full tile has.
-const Width = 256
-
 // ErrTile: bytes are no data tile.
-var ErrTile = errors.New("datatile: no data tile")
+var ErrTile = errors.New("tile: no data tile")
 
 // Leaf is an entry of a data tile (TileLeaf). Its parts are the tile's bytes.
 type Leaf struct {
@@ -71,10 +66,10 @@ func Extensions(index uint64) []byte {
 	return append(leafIndex[:len(leafIndex):len(leafIndex)], binary.BigEndian.AppendUint64(nil, index)[3:]...)
 }
 
-// Read reads a data tile: the leaves of all of it, of which it has at most Width, or ErrTile.
-func Read(tile []byte) (leaves []Leaf, err error) {
+// ReadData returns the leaves of a data tile, at most Width. The error is ErrTile. A judge of a log from outside (internal/check, cmd/ctread) has a reader of its own.
+func ReadData(tile []byte) (leaves []Leaf, err error) {
 	for rest := cryptobyte.String(tile); !rest.Empty(); {
-		leaf, ok := read(&rest)
+		leaf, ok := readLeaf(&rest)
 		if !ok {
 			return nil, fmt.Errorf("%w: entry %d isn't one", ErrTile, len(leaves))
 		}
@@ -86,8 +81,8 @@ func Read(tile []byte) (leaves []Leaf, err error) {
 	return leaves, nil
 }
 
-// read reads the leaf with which bytes begin, and leaves those behind it.
-func read(tile *cryptobyte.String) (leaf Leaf, ok bool) {
+// readLeaf reads the leaf with which bytes begin, and leaves those behind it.
+func readLeaf(tile *cryptobyte.String) (leaf Leaf, ok bool) {
 	whole := *tile
 	var certificate, extensions, precertificate, chain cryptobyte.String
 	var of uint16

@@ -1,4 +1,4 @@
-package precert
+package chains
 
 import (
 	"bytes"
@@ -9,9 +9,6 @@ import (
 
 // poisonID is the poison extension's OBJECT IDENTIFIER, 1.3.6.1.4.1.11129.2.4.3, without its header (RFC 6962, section 3.1).
 var poisonID = []byte{0x2b, 6, 1, 4, 1, 0xd6, 0x79, 2, 4, 3}
-
-// tagExtensions is that of a TBSCertificate's extensions, which are its last field (RFC 5280, section 4.1).
-var tagExtensions = asn1.Tag(3).ContextSpecific().Constructed()
 
 // extensionsIn splits a TBSCertificate into all bytes of the fields before its extensions, and the extensions one after the other; none if it has no such field.
 func extensionsIn(tbs []byte) (before, extensions cryptobyte.String, ok bool) {

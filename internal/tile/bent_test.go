@@ -1,4 +1,4 @@
-package hashtiles
+package tile
 
 import (
 	"fmt"

@@ -1,4 +1,4 @@
-package precert
+package chains
 
 import (
 	"bytes"
@@ -27,7 +27,7 @@ func tbsWith(t *testing.T, extensions string) []byte {
 
 // TestPrecertificates has the proved function cut out the poison.
 func TestPrecertificates(t *testing.T) {
-	c := New()
+	c := NewCutter()
 	const poison, number, other = "3013060a2b06010401d6790204030101ff04020500", "3013060a2b06010401d6790204030101ff04020201", "3009060355041d0402aabb"
 	for extensions, want := range map[string]string{poison: "", poison + other: other, other + poison: other, other + poison + other: other + other} {
 		entry, err := c.WithoutPoison(tbsWith(t, extensions))
@@ -35,13 +35,13 @@ func TestPrecertificates(t *testing.T) {
 			t.Errorf("%s: %x, %v", extensions, entry, err)
 		}
 	}
-	for extensions, want := range map[string]error{"": ErrNoExtension, other: ErrNoExtension, poison + other + poison: ErrSecondExtension, number: ErrBadPoison, other[:len(other)-2]: ErrUnread} {
+	for extensions, want := range map[string]error{"": wagtenib.ErrNoExtension, other: wagtenib.ErrNoExtension, poison + other + poison: wagtenib.ErrSecondExtension, number: wagtenib.ErrBadPoison, other[:len(other)-2]: errUnread} {
 		if entry, err := c.WithoutPoison(tbsWith(t, extensions)); !errors.Is(err, want) {
 			t.Errorf("%s: %x, %v", extensions, entry, err)
 		}
 	}
 	_, err := c.WithoutPoison(append(tbsWith(t, poison), 0))
-	if !errors.Is(err, ErrUnread) || !strings.Contains(err.Error(), "bytes follow the last element of DER (in tbsCertificate of the certificate)") {
+	if !errors.Is(err, errUnread) || !strings.Contains(err.Error(), "bytes follow the last element of DER (in tbsCertificate of the certificate)") {
 		t.Error(err)
 	}
 }
@@ -73,15 +73,15 @@ func TestWrongCuts(t *testing.T) {
 		entry []byte
 		right bool
 	}{{right, true}, {another, false}, {nil, false}, {tbs[:1], false}} {
-		if entry, err := returning(of.entry, nil).WithoutPoison(tbs); of.right != (err == nil) || of.right != (entry != nil) || !of.right && !errors.Is(err, ErrReply) {
+		if entry, err := returning(of.entry, nil).WithoutPoison(tbs); of.right != (err == nil) || of.right != (entry != nil) || !of.right && !errors.Is(err, errCut) {
 			t.Errorf("%x: %x, %v", of.entry, entry, err)
 		}
 	}
 }
 
 // returning returns a cutter over a function that returns this for every TBSCertificate.
-func returning(entry []byte, err error) *Cutter {
-	return Over(func([]byte) ([]byte, error) { return entry, err })
+func returning(entry []byte, err error) Cutter {
+	return CutterOver(func([]byte) ([]byte, error) { return entry, err })
 }
 
 // TestRefusalsAreFound: each error of the function is found by its name, and comes with no entry.
@@ -90,8 +90,8 @@ func TestRefusalsAreFound(t *testing.T) {
 	tbs := tbsWith(t, "")
 	unfit := func(code wagtenib.Code) error { return &wagtenib.CertificateError{Code: code, Field: 14} }
 	for _, of := range []struct{ err, want error }{
-		{unfit(wagtenib.ErrNoExtension), ErrNoExtension}, {unfit(wagtenib.ErrSecondExtension), ErrSecondExtension}, {unfit(wagtenib.ErrBadPoison), ErrBadPoison},
-		{unfit(wagtenib.ErrDERTruncated), ErrUnread}, {unfit(wagtenib.ErrDERTrailing), ErrUnread}, {wagtenib.ErrMemory, wagtenib.ErrMemory},
+		{unfit(wagtenib.ErrNoExtension), wagtenib.ErrNoExtension}, {unfit(wagtenib.ErrSecondExtension), wagtenib.ErrSecondExtension}, {unfit(wagtenib.ErrBadPoison), wagtenib.ErrBadPoison},
+		{unfit(wagtenib.ErrDERTruncated), errUnread}, {unfit(wagtenib.ErrDERTrailing), errUnread}, {wagtenib.ErrMemory, wagtenib.ErrMemory},
 	} {
 		if entry, err := returning(tbs, of.err).WithoutPoison(tbs); !errors.Is(err, of.want) || !errors.Is(err, of.err) || entry != nil {
 			t.Errorf("%v: %x, %v", of.err, entry, err)

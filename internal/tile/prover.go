@@ -1,5 +1,4 @@
-// Package reader makes audit paths, consistency proofs and roots out of a log's tiles, by proved functions in this process. If the tiles are wrong, so are these: a caller that has a root checks them, as the Check functions do.
-package reader
+package tile
 
 import (
 	"context"
@@ -11,17 +10,18 @@ import (
 	"golang.org/x/mod/sumdb/tlog"
 )
 
-// The errors of readings, beside those of reading the tiles, refusals and ErrReply. Each is found by errors.Is.
+// The errors of a Prover, beside those of reading the tiles, refusals and ErrReply. Each is found by errors.Is.
 var (
 	// ErrBusy: so many are made already that no more is taken.
-	ErrBusy = errors.New("reader: busy")
+	ErrBusy = errors.New("tile: busy")
 	// ErrWrong: what was made isn't of the tree with the root that was named.
-	ErrWrong = errors.New("reader: the tiles aren't those of the tree")
+	ErrWrong = errors.New("tile: the tiles aren't those of the tree")
 )
 
-// Reader makes proofs for readers. Its methods may be called at once.
-type Reader struct {
-	functions Functions
+// Prover makes audit paths, consistency proofs and roots out of the tiles of a log, by the proved functions. If the tiles are wrong, so are these: a caller that has a root
+// checks them by CheckPath and CheckProof. Its methods may be called at once.
+type Prover struct {
+	functions ProofFunctions
 	object    Objects
 	// places has a place for each thing that is being made.
 	places chan struct{}
@@ -33,12 +33,12 @@ const mostReading = 20 * time.Second
 // Objects reads a published object of at most so many bytes.
 type Objects func(ctx context.Context, name string, most int64) ([]byte, error)
 
-// New takes what reads a published object, and how many things are made at once.
-func New(object Objects, most int) *Reader { return Over(Proved(), object, most) }
+// NewProver takes what reads a published object, and how many things are made at once.
+func NewProver(object Objects, most int) *Prover { return ProverOver(ProvedFunctions(), object, most) }
 
-// Over returns a reader over other functions than the proved ones, for tests.
-func Over(functions Functions, object Objects, most int) *Reader {
-	return &Reader{functions, object, make(chan struct{}, most)}
+// ProverOver returns a prover over other functions than the proved ones, for tests.
+func ProverOver(functions ProofFunctions, object Objects, most int) *Prover {
+	return &Prover{functions, object, make(chan struct{}, most)}
 }
 
 // made is what was asked for.
@@ -49,7 +49,7 @@ type made[T any] struct {
 
 // within has something made, in its time, if a place is free. It returns once the context ends. A reading that doesn't heed the end of its context keeps its
 // place until it is done.
-func within[T any](ctx context.Context, r *Reader, ask func(context.Context) (T, error)) (what T, err error) {
+func within[T any](ctx context.Context, r *Prover, ask func(context.Context) (T, error)) (what T, err error) {
 	if err := ctx.Err(); err != nil {
 		return what, err
 	}
@@ -77,7 +77,7 @@ func within[T any](ctx context.Context, r *Reader, ask func(context.Context) (T,
 
 // tiles reads the tiles of a tree out of those of one of `of` leaves: a partial tile is the beginning of a wider one, and of each
 // tile only the widest may stand.
-func (r *Reader) tiles(of uint64) tiles {
+func (r *Prover) tiles(of uint64) tiles {
 	return func(ctx context.Context, name string) ([]byte, error) {
 		// tlog writes the height of tiles, and C2SP doesn't.
 		tile, err := tlog.ParseTilePath("tile/8/" + strings.TrimPrefix(name, "tile/"))
@@ -104,13 +104,13 @@ func (r *Reader) tiles(of uint64) tiles {
 }
 
 // Path is the audit path of a leaf in the tree of size leaves, made of the tiles of the tree of `of` leaves, at least as many.
-func (r *Reader) Path(ctx context.Context, index, size, of uint64) ([][32]byte, error) {
+func (r *Prover) Path(ctx context.Context, index, size, of uint64) ([][32]byte, error) {
 	return within(ctx, r, func(ctx context.Context) ([][32]byte, error) { return r.path(ctx, index, size, r.tiles(of)) })
 }
 
 // Proof is the consistency proof from the tree of the first leaves to that of size. From none, and between trees of one size, it
 // is empty.
-func (r *Reader) Proof(ctx context.Context, first, size, of uint64) ([][32]byte, error) {
+func (r *Prover) Proof(ctx context.Context, first, size, of uint64) ([][32]byte, error) {
 	if first == 0 || first == size {
 		return nil, nil
 	}
@@ -118,7 +118,7 @@ func (r *Reader) Proof(ctx context.Context, first, size, of uint64) ([][32]byte,
 }
 
 // Root is the Merkle Tree Hash of the first size leaves.
-func (r *Reader) Root(ctx context.Context, size, of uint64) ([32]byte, error) {
+func (r *Prover) Root(ctx context.Context, size, of uint64) ([32]byte, error) {
 	return within(ctx, r, func(ctx context.Context) ([32]byte, error) { return r.root(ctx, size, r.tiles(of)) })
 }
 

@@ -1,4 +1,4 @@
-package reader
+package tile
 
 import (
 	"bytes"
@@ -50,7 +50,7 @@ func TestTiles(t *testing.T) {
 	} {
 		asked := ""
 		content := wide[:32*of.has]
-		r := New(func(_ context.Context, name string, most int64) ([]byte, error) {
+		r := NewProver(func(_ context.Context, name string, most int64) ([]byte, error) {
 			if asked = name; most != 32*256 {
 				t.Errorf("%s of %d: at most %d bytes", of.name, of.size, most)
 			}
@@ -75,7 +75,7 @@ func TestTiles(t *testing.T) {
 		}
 	}
 	broken := errors.New("the disk")
-	r := New(func(context.Context, string, int64) ([]byte, error) { return nil, broken }, 1)
+	r := NewProver(func(context.Context, string, int64) ([]byte, error) { return nil, broken }, 1)
 	if _, err := r.tiles(300)(limited(t), "tile/0/000"); !errors.Is(err, broken) {
 		t.Error(err)
 	}
@@ -88,7 +88,7 @@ func TestReadings(t *testing.T) {
 	node := func(a, b [32]byte) [32]byte { return sha256.Sum256(append(append([]byte{1}, a[:]...), b[:]...)) }
 	zero, one, two, three := leaf(0), leaf(1), leaf(2), leaf(3)
 	tile := bytes.Join([][]byte{zero[:], one[:], two[:], three[:]}, nil)
-	r := New(func(_ context.Context, name string, _ int64) ([]byte, error) {
+	r := NewProver(func(_ context.Context, name string, _ int64) ([]byte, error) {
 		if name != "tile/0/000.p/4" {
 			return nil, fmt.Errorf("%s is asked for", name)
 		}
@@ -129,7 +129,7 @@ func TestReadings(t *testing.T) {
 		}
 	}
 	// Nothing is asked for what is empty.
-	nobody := New(nil, 0)
+	nobody := NewProver(nil, 0)
 	for _, sizes := range [][2]uint64{{0, 0}, {0, 3}, {3, 3}} {
 		if proof, err := nobody.Proof(ctx, sizes[0], sizes[1], 3); err != nil || len(proof) != 0 {
 			t.Errorf("from %d to %d: %x, %v", sizes[0], sizes[1], proof, err)
@@ -142,7 +142,7 @@ func TestReadings(t *testing.T) {
 func TestClientGoes(t *testing.T) {
 	asked, tile := make(chan context.Context, 4), sha256.Sum256([]byte{0, 0})
 	isThere := false
-	r := New(func(ctx context.Context, _ string, _ int64) ([]byte, error) {
+	r := NewProver(func(ctx context.Context, _ string, _ int64) ([]byte, error) {
 		asked <- ctx
 		if !isThere {
 			<-ctx.Done()
@@ -181,7 +181,7 @@ func TestClientGoes(t *testing.T) {
 
 // TestOneBehindAnother: where one thing is made at once, who asks for the next as soon as it has an answer, or an error, is always taken.
 func TestOneBehindAnother(t *testing.T) {
-	r, ctx, broken := New(nil, 1), limited(t), errors.New("the disk")
+	r, ctx, broken := NewProver(nil, 1), limited(t), errors.New("the disk")
 	for i := 0; i < 20000; i++ {
 		var fails error
 		if i%2 == 1 {

@@ -1,4 +1,4 @@
-package reader
+package tile
 
 import (
 	"context"
@@ -12,7 +12,7 @@ import (
 
 // TestMade reads a tree of three leaves, whose nodes are computed by hand (RFC 6962, section 2.1).
 func TestMade(t *testing.T) {
-	c, ctx := New(nil, 1), limited(t)
+	c, ctx := NewProver(nil, 1), limited(t)
 	leaf := func(i byte) [32]byte { return sha256.Sum256([]byte{0, i}) }
 	node := func(a, b [32]byte) [32]byte { return sha256.Sum256(append(append([]byte{1}, a[:]...), b[:]...)) }
 	zero, one, two := leaf(0), leaf(1), leaf(2)
@@ -63,10 +63,10 @@ func TestMade(t *testing.T) {
 }
 
 // returning returns a reader over functions that return these names and hashes.
-func returning(names []string, hashes [][32]byte, err error) *Reader {
+func returning(names []string, hashes [][32]byte, err error) *Prover {
 	two := func(uint64, uint64) ([]string, error) { return names, err }
 	of := func(uint64, uint64, [][]byte) ([][32]byte, error) { return hashes, err }
-	return Over(Functions{
+	return ProverOver(ProofFunctions{
 		RootTiles: func(uint64) ([]string, error) { return names, err }, PathTiles: two, ProofTiles: two,
 		RootOfTiles: func(uint64, [][]byte) ([32]byte, error) { return [32]byte{1}, err }, PathOfTiles: of, ProofOf: of,
 	}, nil, 1)
