@@ -11,8 +11,8 @@ import (
 	"wagtenib/internal/trial"
 )
 
-// maxMemory bounds the memory of ctwatch while a log answers as badly as it can, in bytes. The systemd unit allows twice
-// as much for all logs.
+// maxMemory bounds the memory of ctwatch while a log answers as badly as it can, in bytes. The systemd unit allows
+// twice as much for all logs.
 const maxMemory = 1 << 30
 
 // TestHostileAnswersTakeBoundedMemory: a log that answers with millions of tiny entries, as many as the bytes of an
@@ -37,8 +37,8 @@ func TestHostileAnswersTakeBoundedMemory(t *testing.T) {
 			_, _ = w.Write(answer)
 			return true
 		})
-		program := trial.Program(t, "run", "--once", "--from-start", "--name", "example.org", "--folder", t.TempDir(), "--log",
-			log.setting(what == "tile/data/"))
+		program := trial.Program(t, "run", "--once", "--from-start", "--name", "example.org", "--folder", t.TempDir(),
+			"--log", log.setting(what == "tile/data/"))
 		out, err := program.CombinedOutput()
 		if program.ProcessState.ExitCode() != statusUnread && program.ProcessState.ExitCode() != statusAccused {
 			t.Errorf("%s: %v: %s", what, err, out)

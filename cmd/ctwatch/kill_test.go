@@ -25,8 +25,8 @@ var (
 	seed  = flag.Uint64("seed", 1, "seed of the moments")
 )
 
-// TestKilledProgram kills ctwatch by SIGKILL at random moments of reading two logs, one of which forks in the middle. At
-// the end each issuance had its alert, and no alert came twice without the word "again". The fork alerted once, and its
+// TestKilledProgram kills ctwatch by SIGKILL at random moments of reading two logs, one of which forks in the middle.
+// At the end each issuance had its alert, and no alert came twice without the word "again". The fork alerted once, and its
 // evidence convinces the judge of ctcheck.
 func TestKilledProgram(t *testing.T) {
 	authority, chance, folder := testcert.NewAuthority(t), rand.New(rand.NewPCG(*seed, 0)), t.TempDir()

@@ -15,8 +15,8 @@ import (
 	"wagtenib/internal/trial"
 )
 
-// TestReadsSettingsAgain: after a SIGHUP, ctwatch goes on with the settings that the file then has. If they are refused,
-// it says why and goes on with the old ones. No alert is sent to an output twice.
+// TestReadsSettingsAgain: after a SIGHUP, ctwatch goes on with the settings that the file then has. If they are
+// refused, it says why and goes on with the old ones. No alert is sent to an output twice.
 func TestReadsSettingsAgain(t *testing.T) {
 	authority, folder := testcert.NewAuthority(t), t.TempDir()
 	log := serveLog(t, "a.example")

@@ -82,8 +82,8 @@ func parse(words []string, out io.Writer) (*settings, error) {
 }
 
 func (s *settings) define(flags *flag.FlagSet) {
-	flags.StringVar(&s.serve.config, "config", "", "`file` with a line 'name value' for each of these settings. A comment begins with #. "+
-		"SIGHUP has it read again")
+	flags.StringVar(&s.serve.config, "config", "", "`file` with a line 'name value' for each of these settings. A "+
+		"comment begins with #. SIGHUP has it read again")
 	flags.Func("name", "watched `name`: example.org covers all names below it, =example.org only that name. May be "+
 		"given several times", s.addName)
 	flags.Func("names", "`file` with watched names, one a line (ctwatch names FILE checks it)",

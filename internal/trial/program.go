@@ -20,7 +20,8 @@ func Main(m *testing.M, program func()) {
 	os.Exit(m.Run())
 }
 
-// Program returns the program that the tests are of (Main), with these words. It is not started yet, and does not outlive the test.
+// Program returns the program that the tests are of (Main), with these words. It is not started yet, and does not
+// outlive the test.
 func Program(t testing.TB, words ...string) *exec.Cmd {
 	t.Helper()
 	program, err := os.Executable()

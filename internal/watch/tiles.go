@@ -89,8 +89,8 @@ func readDataTile(tile logclient.DataTile) ([]wagtenib.TileEntry, error) {
 }
 
 // firstEntries cuts a data tile after its first entries (C2SP static-ct-api, "Log Entries"). A log can put millions of
-// tiny ones into the bytes of a tile, and those that were not asked for must take no memory. If an entry cannot be read,
-// nothing is cut: the library decides on the form, and reads no further than to that entry.
+// tiny ones into the bytes of a tile, and those that were not asked for must take no memory. If an entry cannot be
+// read, nothing is cut: the library decides on the form, and reads no further than to that entry.
 func firstEntries(tile []byte, count int) []byte {
 	rest := cryptobyte.String(tile)
 	for range count {

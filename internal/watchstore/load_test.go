@@ -15,8 +15,8 @@ import (
 	"wagtenib/internal/watchstore"
 )
 
-// The load: so many issuances in each of three logs at once, and how much time of a processor they may take. The time of
-// day would count what else the machine does.
+// The load: so many issuances in each of three logs at once, and how much time of a processor they may take. The time
+// of day would count what else the machine does.
 const (
 	manyIssuances = 10_000
 	batchOfLoad   = 512
