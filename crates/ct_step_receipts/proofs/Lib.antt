@@ -1,0 +1,2 @@
+pub mod StepReceipts
+pub mod StepBodies

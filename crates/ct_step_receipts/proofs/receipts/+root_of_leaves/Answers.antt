@@ -1,0 +1,23 @@
+use Rattle.std.proofs.Common.{ℕ, List, arith, ◌∙◌, ap, Vec, Global}
+use Rattle.ct_tree.specs.Tree.{hash_leaf}
+use Rattle.ct_step_receipts.proofs.StepBodies.{root_of_one, root_of_both}
+use Rattle.ct_step_receipts.proofs.receipts.+root_of_leaves.Goals as goal
+
+abbrev bytes : Vec ℕ Global → List ℕ
+bytes leaf = leaf.items
+
+pub returns-then-leaves-eq1 : goal.returns-then-leaves-eq1
+returns-then-leaves-eq1 g t c =
+    let H = g.H.NodeHash.digest in
+    c.leaf_hash.ensures ∙ ap (hash_leaf H) c.deref.ensures.value
+    ∙ root_of_one H bytes c.args.leaves.now c.index-leaves-0.result c.if-leaves-eq1.true c.index-leaves-0.is
+
+pub returns : goal.returns
+returns g t c =
+    root_of_both g.H.NodeHash.digest bytes c.args.leaves.now c.split_at.result.0.now c.split_at.result.1.now
+    c.largest_power_below-k.result
+    c.root_of_leaves-left.result c.root_of_leaves-right.result c.node_hash.result
+    (omega (arith, c.requires, c.if-leaves-eq1.false))
+    c.largest_power_below-k.ensures.split c.split_at.ensures.front c.split_at.ensures.back
+    c.root_of_leaves-left.ensures c.root_of_leaves-right.ensures
+    c.node_hash.ensures
