@@ -140,7 +140,7 @@ ELSEWHERE = {
 }
 # What the pages name in their text, README.md's tables too.
 TARGETS = {
-    "make test": GATE, "make test TURN=0": GATE, "make sources": GATE, "make service-test": GATE, "make bare": "itself", "make container": "itself", "make pages": "itself",
+    "make test": GATE, "make test TURN=0": GATE, "make sources": GATE, "make service-test": GATE, "make link-emulated": GATE, "make bare": "itself", "make container": "itself", "make pages": "itself",
     **dict.fromkeys(("make check", "make wrong CRATE=ct_guard", "make service-race", "make service-soak", "make load", "make sweep", "make fuzz SECONDS=180", "make dist"), LONG),
     **dict.fromkeys(("make deps", "make serve", "make demo", "make install", "make release", "make programs", "make link", "make service", "make service-clients",
                      "make service-engines", "make serve-witness", "make cluster", "make fuzz", "make reproduce"), PAGES),
