@@ -227,7 +227,8 @@ func TestReportsDuringAPass(t *testing.T) {
 		status := <-k.reported
 		read = append(read, status.Read)
 	}
-	if len(read) < 3 || !slices.IsSorted(read) || read[0] == 0 || read[0] == 20_000 || read[len(read)-1] != 20_000 {
+	// (how many entries come at once depends on the machine, but never all of them do)
+	if len(read) < 2 || !slices.IsSorted(read) || read[0] == 0 || read[0] == 20_000 || read[len(read)-1] != 20_000 {
 		t.Errorf("the reports say that %v entries are read", read)
 	}
 }

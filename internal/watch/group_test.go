@@ -12,6 +12,7 @@ import (
 
 	"wagtenib/internal/logclient"
 	"wagtenib/internal/testlog"
+	"wagtenib/internal/trial"
 	"wagtenib/internal/watch"
 )
 
@@ -137,9 +138,13 @@ func drip(w http.ResponseWriter, r *http.Request) {
 // A log that answers nonsense is reported with the reason, is accused of nothing, and is followed again after it has
 // come back.
 func TestNonsenseIsNamed(t *testing.T) {
-	limits := logclient.Limits{Request: 2 * time.Second, Grace: 100 * time.Millisecond, Attempts: 2}
 	for _, kind := range kinds {
 		for what, of := range nonsense {
+			// Only the drip must be too slow, however slow the machine is.
+			limits := logclient.Limits{Request: trial.Longest, Grace: trial.Longest, Attempts: 2}
+			if what == "a drip" {
+				limits.Request, limits.Grace = 2*time.Second, 100*time.Millisecond
+			}
 			for _, part := range []string{"head", "entries"} {
 				t.Run(kind+" "+part+" "+what, func(t *testing.T) {
 					s := newScene(t, kind, 0)
@@ -166,8 +171,11 @@ func TestNonsenseIsNamed(t *testing.T) {
 					}
 					wantsVerdicts(t, s.keeper, s.of.ID)
 					s.log.Intercept(nil)
-					if err := s.follower.Pass(context.Background()); err != nil {
-						t.Error(err)
+					late := trial.Limited(t, trial.Longest)
+					for err := s.follower.Pass(late); err != nil; err = s.follower.Pass(late) {
+						if late.Err() != nil {
+							t.Fatal(err)
+						}
 					}
 					wantsEntries(t, s.keeper, s.of.ID, count(0, 320))
 				})
