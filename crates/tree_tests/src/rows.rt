@@ -12,6 +12,9 @@ use std::fmt::Debug;
 // the leaves 41 to 45: `A`, `AB`, `ABC`, `ABCD` and `ABCDE` are the roots of its first leaves, `B` and `C` the hashes of
 // two of them, and `ALL_1100` and `ALL_3000` are the roots of the 1,100 and 3,000 leaves that are the numbers from 0 on, in four bytes
 // each. `SESSION` is the root of the two leaves of README.md's first session, and `SESSION_0` the hash of its first leaf.
+// `STEP_01` is the node over the first two of seven leaves that are MerkleTreeLeaf structures, `STEP_2` the hash of the third
+// one, and so on; `STEP_7` is the root of all seven, `STEP_TWO` that of the first and the sixth one, and `STEP_BAD` that of
+// the first one and the byte 00. Another program (Python's hashlib) computed them.
 // The others are no hashes of anything.
 const NAMED: &str = "\
 L0 6e340b9cffb37a989ca544e6bb780a2c78901d3fb33738768511a30617afa01d
@@ -44,6 +47,13 @@ ALL_1100 0042f3cbb00b374fbbdc5a18bafb7fb39539bdfc70fdb05e7bdaf9c0829ac7ec
 ALL_3000 f9fc8dfe4d2f23f05c67608f610ba557dc4480a72be92b9c96aafbe1a74896ef
 SESSION 636c30e76abe557dc6702502dff6f66dcb8e8c7a7d9466ae3d58ae204605cb29
 SESSION_0 e706867067a42ed483cf26ccd4dcc35463bb635f1afee23db546b72f19f280e6
+STEP_01 f18dfec2c35534060100b127afd5dc823acced4072223abd3a08572317584b5d
+STEP_0123 73e735a65af593123d6b9d5d45af4e7e12bb023bd6a12c03096468d36ab13cc9
+STEP_2 84b650f18448f7b546479d7a543d8a086d3c36937f6e18692b1785e95ba6236f
+STEP_45 eeccb40546e029b9fc043271857b9e87bc96f52feb9e711c6619b678b9d4eff8
+STEP_7 1de2d36cbbb257be5796ed7f25f3dd19053c2a7e5bfc644c6ada5b8507907be1
+STEP_TWO 489cac24804a14efe5fbb883ed83a5368fc43ee5c4e34e7d516a596e85fe1831
+STEP_BAD e2fc1f3153b23f873248470b972e8015b847fd2909416dd11361b09dc73b5cd8
 ZEROS 0000000000000000000000000000000000000000000000000000000000000000
 ONES 0101010101010101010101010101010101010101010101010101010101010101
 SEVENS 0707070707070707070707070707070707070707070707070707070707070707";
