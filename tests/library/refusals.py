@@ -26,6 +26,9 @@ HEADER = (ROOT / "include" / "wagtenib.h").read_text()
 # What the header says of stack, in bytes, whichever function is called.
 STACK = 16 << 10
 
+# The function that is there only in a build with the processor's SHA instructions, which sha_instructions.py tries. It takes no memory.
+ONLY_WITH_THE_OPTION = {"wagtenib_has_sha_instructions"}
+
 # The lines in which it says of groups of functions how many bytes of memory a call takes at most for each byte of its arguments, and how much beyond these.
 MEMORY = re.compile(r"^ \*   (wagtenib_[\w*]+(?:, wagtenib_[\w*]+)*) +(\d+) bytes? and (\d+) (KB|MB)$", re.M)
 
@@ -66,7 +69,7 @@ def runs(library):
 
 def faults(told):
     """What is not as it must be."""
-    names = set(re.findall(r"^\w+ (wagtenib_\w+)\(", HEADER, re.M))
+    names = set(re.findall(r"^\w+ (wagtenib_\w+)\(", HEADER, re.M)) - ONLY_WITH_THE_OPTION
     said = re.search(r"The stack has (\d+) KB left\.", HEADER)
     if not said or int(said[1]) << 10 != STACK:
         yield "the header has another sentence about the stack"
