@@ -1,4 +1,4 @@
--- A node goes on exactly where none is ahead of the register's head, and what is shown never goes back.
+-- A node continues if and only if no head is ahead of the lock's. The head that is shown never goes back.
 use Rattle.std.proofs.Common.{refl, subst, ◌⊎◌, inl, inr, ⊎_elim, ◌≡◌, ℕ, ◌<◌, ◌≤◌, sym, ◌∙◌, ap, arith, eqb-true, eq-eqb, ltb-true, lt-ltb, leb-true, le-leb, List, [], ◌∷◌, All, AllPairs}
 use Rattle.std.specs.Prelude.{⊤, Bool, true, false, not, ◌&&◌, ◌||◌, ◌==◌, nat_lt, nat_le, if◌then◌else◌, Option, Some, None}
 use Rattle.std.proofs.lemmas.List.Elements.{All-nil, All-cons, All-weaker}
@@ -207,7 +207,7 @@ creates_if : (t : Bool) → IsCreates (if t then Creates else Gone) → t ≡ tr
 creates_if true h = refl
 creates_if false h = absurd h
 
--- what stands behind a test
+-- the result of a test that is true
 pub if_true : (t : Bool) (x rest : Beginning) → t ≡ true → (if t then x else rest) ≡ x
 if_true true x rest e = refl
 if_true false x rest e = absurd (no_false e)
@@ -272,7 +272,7 @@ creates_over_nothing f = (
   λ n. ap (started_by f) n.register ∙ if_true (may_create f) Creates Gone (nothing_known f n),
 )
 
--- ---- what is shown
+-- ---- the heads that are shown
 no_further_than : (x y z : Point) → IsNoFurther x y → IsNoFurther y z → IsNoFurther x z
 no_further_than x y z (inl e) h = subst (λ (w : Point). IsNoFurther w z) (sym e) h
 no_further_than x y z (inr h) (inl e) = subst (λ (w : Point). IsNoFurther x w) e (inr h)

@@ -1,4 +1,4 @@
--- Of any two states that the register took no identity is both's.
+-- No two states that the lock took add the same identity.
 use Rattle.std.proofs.Common.{subst, inl, inr, ⊎_elim, ◌≡◌, ℕ, zero, suc, ◌<◌, ◌≤◌, sym, ap, arith, List, [], ◌∷◌, length, get_or, AllPairs, refl}
 use Rattle.std.proofs.lemmas.List.Kept.{AllPairs-cons}
 use Rattle.ct_node.specs.declared.state.State.{State}
@@ -21,7 +21,7 @@ module _ (count : State → ℕ) (b : State) (ids : State → List (List ℕ)) w
   abbrev Fresh : World → Made → Type 0
   Fresh w m = Has m.seen w.past × ((x : State) → Has x w.past → x.moment ≤ m.seen.moment → Adds m.new x)
 
-  -- what is kept where each step is looked up
+  -- the invariant if each step is looked up
   record Others (w : World) : Type 0 where
     made : (m : Made) → Has m w.made → Fresh w m
     pairs : AllPairs Adds w.past
@@ -33,7 +33,7 @@ module _ (count : State → ℕ) (b : State) (ids : State → List (List ℕ)) w
       (λ (c : x.moment ≤ w.held.before). omega (arith, c, a.sound.later))
       (a.sound.order x h)
 
-  -- the register takes the state of a step
+  -- the lock takes the state of a step
   takes : (w : World) (k l : State) (n : ℕ) → Kept count b w → Has (Swapping k l n) w.sent → w.held ≡ k → Others w → Others (comes w (Swapping k l n))
   takes w k l n a s e o =
       let r = a.sent (Swapping k l n) s in
@@ -72,7 +72,7 @@ module _ (count : State → ℕ) (b : State) (ids : State → List (List ℕ)) w
   comes_others w (Stepping k) a h m o = o
   comes_others w (Deleting k l) a h m o = o
 
-  -- a step is made, behind a look: it finds all places of what came before
+  -- a step is made after a look-up, which finds all index entries of what came before
   makes_others : (w : World) (k l : State) → Kept count b w → IsLookedUp ids w k l → Others w → Others (happens w (Makes k l))
   makes_others w k l a u o =
       let r = a.sent (Stepping k) u.stepping in

@@ -1,4 +1,4 @@
--- What is kept by all that may happen.
+-- The invariant that holds whatever happens.
 use Rattle.std.proofs.Common.{refl, subst, ◌⊎◌, inl, inr, ⊎_elim, ◌≡◌, ℕ, zero, suc, ◌+◌, ◌<◌, ◌≤◌, sym, ◌∙◌, ap, arith, eqb-true, eq-eqb, ltb-true, ltb-false, List, [], ◌∷◌}
 use Rattle.std.specs.Prelude.{⊤, Bool, true, false, not, ◌&&◌, ◌==◌, nat_lt, if◌then◌else◌}
 use Rattle.ct_node.specs.declared.state.State.{State}
@@ -9,7 +9,7 @@ use Rattle.ct_node.specs.declared.node.Outcome.TheVariants.{Done, Promise, Lost,
 use Rattle.ct_node.specs.Nodes.{after, follows, is_behind, on_reading, on_looking, on_stepping, on_staging, on_swapping, on_promising, on_deleting, on_putting, on_placing, on_heading, on_answering}
 use Rattle.ct_node.specs.Worlds.{Has, Object, Made, World, beginning, Happening, Comes, Makes, Puts, Goes, Told, IsChain, PastsAreChains, StepsFindAll, CanBePublished, comes, happens, MayCome, MayBeTold, MayHappen, LeadTo, IsSoundWorld, IsFirstState, WorldsAreSound, HeadsAreWhole, NamesHaveOneContent, HoldsNewest, StagedStand, AskedAreTaken}
 
--- the object at a place of a state's bundle
+-- the object at an index of a state's staged batch
 abbrev pub at : State → ℕ → Object
 at l i = record { state = l; index = i }
 
@@ -78,7 +78,7 @@ module _ (count : State → ℕ) (b : State) where
   abbrev pub Dead : World → State → Type 0
   Dead w l = (l ≡ w.held → ⊥) × (l.before < w.held.moment)
 
-  -- the first objects of the state stand
+  -- the first objects of the state exist
   abbrev pub Out : World → State → ℕ → Type 0
   Out w l n = (i : ℕ) → i < n → Has (at l i) w.objects
 
@@ -91,7 +91,7 @@ module _ (count : State → ℕ) (b : State) where
   abbrev pub Stands : World → State → Type 0
   Stands w l = Has l w.bundles ⊎ Dead w l
 
-  -- what holds of a command that was given
+  -- the knowledge of a node that was given this command
   abbrev pub Knows : World → Node → Type 0
   Knows w Reading = ⊤
   Knows w (Looking k) = Has k w.past
@@ -105,7 +105,7 @@ module _ (count : State → ℕ) (b : State) where
   Knows w (Heading l) = Has l w.past × Out w l (count l) × Has l w.places
   Knows w (Answering l) = Has l w.heads
 
-  -- what holds of a command that came
+  -- the effect of a command that took effect
   abbrev pub Did : World → Node → Type 0
   Did w (Staging k l n) = Stands w l
   Did w (Swapping k l n) = Has l w.past
@@ -114,7 +114,7 @@ module _ (count : State → ℕ) (b : State) where
   Did w (Heading l) = Has l w.heads
   Did w s = ⊤
 
-  -- nothing of what commands rest on is lost from one world to another
+  -- no fact that commands rely on is lost from one world to another
   record Grows (w v : World) : Type 0 where
     past : (l : State) → Has l w.past → Has l v.past
     heads : (l : State) → Has l w.heads → Has l v.heads
@@ -150,7 +150,7 @@ module _ (count : State → ℕ) (b : State) where
   did_on w v (Heading l) g k = g.heads l k
   did_on w v (Answering l) g k = tt
 
-  -- what is kept
+  -- the invariant
   pub record Kept (w : World) : Type 0 where
     pub sound : IsSoundWorld count w
     pub newest : Has w.held w.past
@@ -160,7 +160,7 @@ module _ (count : State → ℕ) (b : State) where
     pub sent : (s : Node) → Has s w.sent → Knows w s
     pub came : (s : Node) → Has s w.came → Did w s
 
-  -- what stands is sound whatever else was given, came and was made
+  -- the world is sound whatever else was given, took effect and was made
   sound_beside : (w : World) (made : List Made) (sent came : List Node) → IsSoundWorld count w
       → IsSoundWorld count (record w { made = made; sent = sent; came = came })
   sound_beside w made sent came s =
@@ -177,7 +177,7 @@ module _ (count : State → ℕ) (b : State) where
         bundle = s.bundle;
       }
 
-  -- ---- a node goes on
+  -- ---- a node continues
   tell_reading : (w : World) (o : Outcome) → Kept w → MayBeTold count w Reading o → Knows w (on_reading o)
   tell_reading w (Read k) a m = m
   tell_reading w o a m = tt
@@ -292,7 +292,7 @@ module _ (count : State → ℕ) (b : State) where
         came = λ x h. did_on w v x g (a.came x h);
       }
 
-  -- ---- a command comes
+  -- ---- a command takes effect
   abbrev Added : World → World → Node → Type 0
   Added w v s = (x : Node) → Has x v.came → (x ≡ s) ⊎ Has x w.came
 
@@ -562,7 +562,7 @@ module _ (count : State → ℕ) (b : State) where
   come w (Stepping k) a r m = a
   come w (Deleting k l) a r m = a
 
-  -- ---- a bundle goes
+  -- ---- a staged batch is deleted
   goes : (w : World) (k l : State) (left : List State) → Kept w → MayHappen count w (Goes k l left) → Kept (happens w (Goes k l left))
   goes w k l left a m =
       let v : World = happens w (Goes k l left) in
@@ -704,7 +704,7 @@ module _ (count : State → ℕ) (b : State) where
   led w [] v a e = subst Kept e a
   led w (h ∷ hs) v a m = led (happens w h) hs v (keep w h a m.0) m.1
 
--- ---- what can be done
+-- ---- events that can be made to happen
 module _ (count : State → ℕ) where
   abbrev Leads : World → State → Type 0
   Leads w l = (more : List Happening) × (v : World) × LeadTo count w more v × (v.held ≡ w.held) × Has l v.heads
@@ -725,7 +725,7 @@ module _ (count : State → ℕ) where
       first w (Comes (Placing l)) l (h, tt) refl
       (first w1 (Told (Placing l) Done) l (h, inl refl) refl (first w2 (Comes (Heading l)) l (inl refl, tt) refl (at_once w3 l (inl refl))))
 
-  -- the first objects of the state stand
+  -- the first objects of the state exist
   abbrev Standing : World → State → ℕ → Type 0
   Standing w l n = (i : ℕ) → i < n → Has (at l i) w.objects
 
@@ -759,7 +759,7 @@ can_be_published count b hs w i m =
 pub worlds_are_sound : WorldsAreSound
 worlds_are_sound count b hs w i m = (led count b (beginning b) hs w (begin count b i) m).sound
 
--- what has a published head, and what came before it
+-- each state that came no later than one with a published head has a head, too
 pub before_head : (count : State → ℕ) (w : World) (l n : State) → IsSoundWorld count w → Has l w.heads → Has n w.past → n.moment ≤ l.moment → Has n w.heads
 before_head count w l n s head past order =
     ⊎_elim

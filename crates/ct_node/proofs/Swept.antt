@@ -1,4 +1,4 @@
--- What is kept where partial tiles and heads are deleted.
+-- The invariant if partial tiles and heads are deleted.
 use Rattle.std.proofs.Common.{refl, subst, ◌⊎◌, inl, inr, ⊎_elim, ◌≡◌, ℕ, ◌<◌, ◌≤◌, sym, ◌∙◌, ap, arith, List, [], ◌∷◌, ◌++◌}
 use Rattle.ct_node.specs.declared.state.State.{State}
 use Rattle.ct_node.specs.declared.node.Node.{Node}
@@ -7,7 +7,7 @@ use Rattle.ct_node.specs.Worlds.{Has, Object, World, beginning, Happening, Comes
 use Rattle.ct_node.specs.Sweeps.{IsFullFor, SweptWorld, swept_beginning, SweptHappening, Beside, TileGoes, HeadGoes, objects_behind, heads_behind, happens_swept, AreLeft, MayHappenSwept, LeadToSwept, StandsInstead, IsStillRead, SweepsKeep}
 use Rattle.ct_node.proofs.Sound.{heads_are_whole}
 
--- ---- histories, at their end
+-- ---- the end of a history
 one_more : (count : State → ℕ) (u : World) (hs : List Happening) (w : World) (h : Happening) → LeadTo count u hs w → MayHappen count w h
     → LeadTo count u (hs ++ h ∷ []) (happens w h)
 unfolding LeadTo
@@ -18,7 +18,7 @@ no_more : (count : State → ℕ) (w : World) → LeadTo count w [] w
 unfolding LeadTo
 no_more count w = refl
 
--- ---- what was put behind what happens
+-- ---- the objects and heads after something happened
 comes_objects : (w : World) (s : Node) → (comes w s).objects ≡ w.objects
 comes_objects w Reading = refl
 comes_objects w (Looking k) = refl
@@ -110,7 +110,7 @@ module _ (count : State → ℕ) (tile : Object → List ℕ × ℕ) (b : State)
   abbrev ReachesHead : SweptWorld → State → Type 0
   ReachesHead w l = (m : State) × Has m w.heads × (l.moment ≤ m.moment)
 
-  -- what is kept
+  -- the invariant
   record Left (w : SweptWorld) : Type 0 where
     history : (past : List Happening) × LeadTo count (beginning b) past w.world
     objects : (o : Object) → Has o w.world.objects → StandsInstead tile w (tile o)
@@ -128,7 +128,7 @@ module _ (count : State → ℕ) (tile : Object → List ℕ × ℕ) (b : State)
         stood = λ l h. h;
       }
 
-  -- ---- what isn't a deletion
+  -- ---- everything except a deletion
   left_beside : (w : SweptWorld) (h : Happening) → Left w → MayHappen count w.world h → Left (happens_swept w (Beside h))
   left_beside w h a m =
       record {
@@ -149,7 +149,7 @@ module _ (count : State → ℕ) (tile : Object → List ℕ × ℕ) (b : State)
         stood = head_put w.world h w.heads a.stood;
       }
 
-  -- ---- a tile goes
+  -- ---- a tile is deleted
   -- it is the tile, or the full one
   abbrev Reads : List ℕ × ℕ → List ℕ × ℕ → Type 0
   Reads n m = (m ≡ n) ⊎ IsFullFor n m
@@ -165,7 +165,7 @@ module _ (count : State → ℕ) (tile : Object → List ℕ × ℕ) (b : State)
   full_reads n m k h (inl e) = subst (λ z. IsFullFor n z) (sym e) h
   full_reads n m k h (inr f) = full n m k h f
 
-  -- what stands for the full one is left
+  -- an object that is the full tile is left
   stands_on : (w : SweptWorld) (n : List ℕ × ℕ) (p : Object) (left : List Object) → Left w → MayHappenSwept count tile w (TileGoes n p left)
       → (z : Object) × Has z left × IsFullFor n (tile z)
   stands_on w n p left a m =
@@ -195,7 +195,7 @@ module _ (count : State → ℕ) (tile : Object → List ℕ × ℕ) (b : State)
         stood = a.stood;
       }
 
-  -- ---- a head goes
+  -- ---- a head is deleted
   later_left : (w : SweptWorld) (l m : State) (left : List State) → Left w → MayHappenSwept count tile w (HeadGoes l m left)
       → (z : State) × Has z left × (l.moment < z.moment)
   later_left w l m left a may =

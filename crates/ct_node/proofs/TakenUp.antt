@@ -1,4 +1,4 @@
--- What a node that starts takes up is the history's newest published state, or a later one.
+-- A node that starts continues from the history's newest published state, or from a later one.
 use Rattle.std.proofs.Common.{refl, subst, ◌⊎◌, inl, inr, ⊎_elim, ◌≡◌, ℕ, ◌<◌, ◌≤◌, sym, ◌∙◌, ap, arith, ltb-true, ltb-false, List, [], ◌∷◌}
 use Rattle.std.specs.Prelude.{Bool, true, false, nat_lt, Option, Some, None}
 use Rattle.ct_node.specs.declared.state.State.{State}
@@ -13,7 +13,7 @@ use Rattle.ct_node.proofs.Ahead.{goes_behind_none}
 use Rattle.ct_node.proofs.Sound.{worlds_are_sound, pasts_are_chains, holds_newest}
 use Rattle.ct_node.proofs.Swept.{sweeps_keep}
 
--- ---- what is gone on from is ahead
+-- ---- the state that a node continues from is ahead
 le_or_lt : (m n : ℕ) → (m ≤ n) ⊎ (n < m)
 le_or_lt m n =
     elim (nat_lt n m) as (λ t. nat_lt n m ≡ t → (m ≤ n) ⊎ (n < m)) [
@@ -60,7 +60,7 @@ starts_take_up_newest count size tile b hs w i leads k f read goes =
           (s.rolled l h);
     }
 
--- ---- who finds what is of the history alone goes on
+-- ---- a node that finds only things from the history continues
 any_weaker : {A : Type 0} (P Q : A → Type 0) → ((x : A) → P x → Q x) → (o : Option A) → IfAny P o → IfAny Q o
 any_weaker P Q f None h = tt
 any_weaker P Q f (Some x) h = f x h

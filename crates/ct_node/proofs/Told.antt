@@ -1,4 +1,4 @@
--- Each answer of a start says what is so, and no other one does.
+-- The reason of each answer of a start is true, and no other answer's reason is.
 use Rattle.std.proofs.Common.{refl, subst, ◌⊎◌, inl, inr, ⊎_elim, ◌≡◌, sym, ◌∙◌, ap}
 use Rattle.std.specs.Prelude.{Bool, true, false, not, ◌&&◌, if◌then◌else◌, Option, Some, None}
 use Rattle.ct_node.specs.declared.starting.Point.{Point}
@@ -34,7 +34,7 @@ abbrev some_of : Point → Option Point → Point
 some_of p None = p
 some_of p (Some q) = q
 
--- ---- what is ahead of a head
+-- ---- heads that are ahead of a head
 ahead_other : (p : Point) (o : Option Other) → is_free_of_other p o ≡ false → (x : Other) × (o ≡ Some x) × (IsNoOther p x → ⊥)
 ahead_other p None e = absurd (no_true e)
 ahead_other p (Some x) e = (x, refl, λ n. no_true (sym (reached_other p x n) ∙ e))
@@ -53,7 +53,7 @@ not_free_other p o x is other = is_not (is_free_of_other p o) (λ t. other (subs
 not_free : (p : Point) (o : Option Point) (q : Point) → o ≡ Some q → (IsNoFurther q p → ⊥) → not (is_free p o) ≡ true
 not_free p o q is further = is_not (is_free p o) (λ t. further (subst (IfAny (λ z. IsNoFurther z p)) is (free p o t)))
 
--- ---- where there is a register
+-- ---- the answers if there is a lock
 module _ (f : Found) (p : Point) where
   guard_tells : PassesSeen f p → f.guarded ≡ true → (o : Other) → f.guard ≡ Some o → (IsNoOther p o → ⊥)
       → TellsWhy f (of_guard f p)
@@ -103,7 +103,7 @@ module _ (f : Found) (p : Point) where
         },
       ))))))
 
-  -- what comes first behind what is passed
+  -- the first check that remains after the ones that passed
   first_of : f.register ≡ Some p → started f ≡ begun f p
   first_of e = ap (started_by f) e
 

@@ -1,4 +1,4 @@
--- What stands, where any number of nodes carry on one log over one register and one store of objects.
+-- Everything that exists while any number of nodes carry on one log over one lock (called the register here) and one object store.
 use Rattle.std.specs.Prelude.{◌≡◌, ◌⊎◌, ⊤, ℕ, ◌<◌, ◌≤◌, List, [], ◌∷◌}
 use Rattle.ct_node.specs.declared.state.State.{State}
 use Rattle.ct_node.specs.declared.node.Node.{Node}
@@ -7,25 +7,30 @@ use Rattle.ct_node.specs.declared.node.Outcome.{Outcome}
 use Rattle.ct_node.specs.declared.node.Outcome.TheVariants.{Done, Promise, Lost, Read, Published, Bundle, Stepped, Listed}
 use Rattle.ct_node.specs.Nodes.{after}
 
--- x is among these
+-- x is an element of the list
 abbrev pub Has : {A : Type 0} → A → List A → Type 0
 Has x [] = ⊥
 Has x (y ∷ ys) = (x ≡ y) ⊎ Has x ys
 
--- the object at an index of a state's bundle
+-- the object at an index of a state's staged batch (called a bundle here)
 pub record Object : Type 0 where
   pub state : State
   pub index : ℕ
 
--- a step that was made of the state `seen`: it leads to the state `new`
+-- a step that was made from the state `seen` and led to the state `new`
 pub record Made : Type 0 where
   pub seen : State
   pub new : State
 
--- The register holds a state (held), and has taken these, the newest first (past). Of these states the bundle stands (bundles), the head (heads) and
--- the places of their entries (places); who waited for these was answered (answered), or by a promise (promised). These objects stand under their
--- public names (objects). These steps were ever made (made); these commands were ever given (sent), and these came (came). A node is any command
--- that was given: it may go on behind each of them, as often as may be.
+-- The history of a log so far:
+-- - The lock holds a state (`held`), and has taken these, the newest first (`past`).
+-- - These states have a staged batch (`bundles`), a head (`heads`), or their entries in the deduplication index (`places`).
+-- - The requests that waited for these states were answered after the head was put (`answered`) or by a promise (`promised`).
+-- - These objects exist under their public names (`objects`).
+-- - These steps were ever made (`made`).
+-- - These commands were ever given (`sent`), and these took effect (`came`).
+--
+-- A node is any command that was given. It may continue from each of them any number of times.
 pub record World : Type 0 where
   pub held : State
   pub past : List State
@@ -39,7 +44,7 @@ pub record World : Type 0 where
   pub sent : List Node
   pub came : List Node
 
--- a log that begins: its first state is published, and has no objects
+-- a log at its beginning: its first state is published, and has no objects
 abbrev pub beginning : State → World
 beginning b =
     record {
@@ -56,10 +61,14 @@ beginning b =
       came = [];
     }
 
--- What may happen. Comes: a command that was given, by whomever and however long ago, takes effect; one may come never, or again and again. Makes:
--- a step is made, which is nobody's command. Puts: of the objects that a command puts one stands, whichever, before the command came, or behind. Goes: a command to delete the bundle of the state l, from k, takes effect, and these bundles are left.
--- Told: who gave a command is told of it, and goes on. That may happen to each command that was ever given, so a node that was killed, that is told
--- twice, or that goes on from what it was before is among what may happen.
+-- The things that may happen:
+-- - Comes: a command that was given, by any node and however long ago, takes effect. A command may take effect never, or any number of
+--   times.
+-- - Makes: a step is made. This is nobody's command.
+-- - Puts: one of the objects that a command puts exists, before or after the command takes effect.
+-- - Goes: a command to delete the staged batch of the state l, given at the state k, takes effect, and these staged batches are left.
+-- - Told: a node that gave a command gets its outcome and continues. This may happen to each command that was ever given. So it covers
+--   nodes that were killed, that get an outcome twice, or that continue from an earlier command.
 pub data Happening : Type 0 where
   Comes : Node → Happening
   Makes : State → State → Happening
@@ -67,7 +76,7 @@ pub data Happening : Type 0 where
   Goes : State → State → List State → Happening
   Told : Node → Outcome → Happening
 
--- what stands behind a command that takes effect
+-- the world after a command takes effect
 abbrev pub comes : World → Node → World
 comes w (Staging k l n) = record w { bundles = l ∷ w.bundles; came = Staging k l n ∷ w.came }
 comes w (Swapping k l n) = record w { held = l; past = l ∷ w.past; came = Swapping k l n ∷ w.came }
@@ -81,7 +90,7 @@ comes w (Looking k) = w
 comes w (Stepping k) = w
 comes w (Deleting k l) = w
 
--- what stands behind what happened
+-- the world after something happened
 abbrev pub happens : World → Happening → World
 happens w (Comes s) = comes w s
 happens w (Makes k l) = record w { made = record { seen = k; new = l } ∷ w.made }
@@ -89,29 +98,35 @@ happens w (Puts l n i) = record w { objects = record { state = l; index = i } �
 happens w (Goes k l left) = record w { bundles = left; came = Deleting k l ∷ w.came }
 happens w (Told s o) = record w { sent = after s o ∷ w.sent }
 
--- the register takes a state only in place of the one that it holds; a command to put objects came once each of them stands
+-- The lock takes a state only in place of the one that it holds. A command to put objects takes effect only once each of them exists.
 abbrev pub MayCome : World → Node → Type 0
 MayCome w (Swapping k l n) = w.held ≡ k
 MayCome w (Putting l n) = (i : ℕ) → i < n → Has (record { state = l; index = i }) w.objects
 MayCome w s = ⊤
 
--- that the head of the state stands is said only where it does
+-- the report that the head of the state exists is given only if it does
 abbrev pub HasHead : World → Node → Type 0
 HasHead w (Looking k) = Has k w.heads
 HasHead w s = ⊤
 
--- the bundle that is read is the state's; it stands, or went since then, where the state's head stands
+-- the staged batch that is read is the state's, and it exists, or it was deleted since then and the state's head exists
 abbrev pub IsBundle : (State → ℕ) → World → Node → ℕ → Type 0
 IsBundle count w (Looking k) n = (n ≡ count k) × (Has k w.bundles ⊎ Has k w.heads)
 IsBundle count w s n = ⊤
 
--- a step that is told of was made of the state that it was asked for
+-- a step whose outcome is reported was made from the state that the node named
 abbrev pub IsMadeOfSeen : World → Node → State → Type 0
 IsMadeOfSeen w (Stepping k) l = Has (record { seen = k; new = l }) w.made
 IsMadeOfSeen w s l = ⊤
 
--- What may be told of a command. That it is done: where it came. That it is lost: always. What the register holds: any state that it ever held, however
--- long ago. That there is a bundle of a state: always.
+-- The outcomes that may be reported to a node:
+-- - That a command is done, if it took effect.
+-- - That it is lost: always.
+-- - Any state that the lock ever held, however long ago.
+-- - That the state's head exists, if it does.
+-- - The number of objects of the state's staged batch, if the batch could be read.
+-- - A step, if it was made from the state that the node named, and the number of objects in its staged batch.
+-- - That there is a staged batch of a state: always.
 abbrev pub MayBeTold : (State → ℕ) → World → Node → Outcome → Type 0
 MayBeTold count w s Done = Has s w.came
 MayBeTold count w s Promise = Has s w.came
@@ -122,8 +137,12 @@ MayBeTold count w s (Bundle n) = IsBundle count w s n
 MayBeTold count w s (Stepped l n) = (n ≡ count l) × IsMadeOfSeen w s l
 MayBeTold count w s (Listed l) = ⊤
 
--- What an honest register and store owe. A command comes only if it was given; the register takes a state only in place of the one that it holds;
--- an object is put only where a command says so; what is deleted is that bundle and no other; and nobody is told what isn't so. count says how many objects a state's bundle has.
+-- The guarantees of an honest lock and store. count says how many objects a state's staged batch has.
+-- - A command takes effect only if it was given.
+-- - The lock takes a state only in place of the one that it holds.
+-- - An object is put only if a command says so.
+-- - A deletion removes only the staged batch that it names.
+-- - A node is never given an outcome that is false.
 abbrev pub MayHappen : (State → ℕ) → World → Happening → Type 0
 MayHappen count w (Comes s) = Has s w.sent × MayCome w s
 MayHappen count w (Makes k l) = ⊤
@@ -131,15 +150,21 @@ MayHappen count w (Puts l n i) = Has (Putting l n) w.sent × (i < n)
 MayHappen count w (Goes k l left) = Has (Deleting k l) w.sent × ((x : State) → Has x w.bundles → Has x left ⊎ (x ≡ l))
 MayHappen count w (Told s o) = Has s w.sent × MayBeTold count w s o
 
--- these happened, one after the other, and led from the world w to v
+-- these things happened, one after the other, and led from the world w to v
 unfoldable pub LeadTo : (State → ℕ) → World → List Happening → World → Type 0
 LeadTo count w [] v = w ≡ v
 LeadTo count w (h ∷ hs) v = MayHappen count w h × LeadTo count (happens w h) hs v
 
--- What stands is sound. Each state that the register took is the newest one, or its head stands (rolled), and came before it (order, later). Each
--- head is of a state that the register took (heads), all of whose objects stand (tiles), and the places of whose entries do (placed). No object
--- stands but of such a state (objects). Of each state whose waiting were answered the head stands (answered); each whose waiting were answered by a
--- promise the register took (promised). The newest state's bundle stands (bundle). count says how many objects a state's bundle has.
+-- The world is sound. count says how many objects a state's staged batch has.
+-- - Each state that the lock took is the newest one, or its head exists (`rolled`).
+-- - Each such state is the newest one, or no later than the state that the newest one was made from (`order`), which is earlier than it
+--   (`later`).
+-- - Each head is that of a state that the lock took (`heads`).
+-- - All objects of a state with a head exist (`tiles`), and its entries are in the deduplication index (`placed`).
+-- - Each object that exists is of a state that the lock took (`objects`).
+-- - If the requests of a state were answered, its head exists (`answered`). If they were answered by a promise, the lock took it
+--   (`promised`).
+-- - The newest state's staged batch exists (`bundle`).
 pub record IsSoundWorld (count : State → ℕ) (w : World) : Type 0 where
   pub rolled : (l : State) → Has l w.past → (l ≡ w.held) ⊎ Has l w.heads
   pub order : (l : State) → Has l w.past → (l ≡ w.held) ⊎ (l.moment ≤ w.held.before)
@@ -152,22 +177,22 @@ pub record IsSoundWorld (count : State → ℕ) (w : World) : Type 0 where
   pub promised : (l : State) → Has l w.promised → Has l w.past
   pub bundle : Has w.held w.bundles
 
--- a log begins with a state that has no objects, made from an earlier moment
+-- a log begins with a state that has no objects and was made from an earlier timestamp
 abbrev pub IsFirstState : (State → ℕ) → State → Type 0
 IsFirstState count b = (count b ≡ 0) × (b.before < b.moment)
 
--- whatever happens, what stands is sound
+-- whatever happens, the world is sound
 abbrev pub WorldsAreSound : Type 0
 WorldsAreSound =
     (count : State → ℕ) (b : State) (hs : List Happening) (w : World) → IsFirstState count b → LeadTo count (beginning b) hs w → IsSoundWorld count w
 
--- where a head stands, all objects stand of each state that the register took and that isn't later
+-- if a head exists, then all objects exist of each state that the lock took and that is no later
 abbrev pub HeadsAreWhole : Type 0
 HeadsAreWhole =
     (count : State → ℕ) (b : State) (hs : List Happening) (w : World) → IsFirstState count b → LeadTo count (beginning b) hs w → (l m : State)
     → Has l w.heads → Has m w.past → m.moment ≤ l.moment → (i : ℕ) → i < count m → Has (record { state = m; index = i }) w.objects
 
--- where the states that the register took have one content a name, so have all objects that were ever put
+-- if each name has only one content in the states that the lock took, then this holds for all objects that were ever put
 abbrev pub NamesHaveOneContent : Type 0
 NamesHaveOneContent =
     (count : State → ℕ) (b : State) (hs : List Happening) (w : World) → IsFirstState count b → LeadTo count (beginning b) hs w
@@ -175,44 +200,47 @@ NamesHaveOneContent =
     → ((o p : Object) → Has o.state w.past → Has p.state w.past → (plan o).0 ≡ (plan p).0 → (plan o).1 ≡ (plan p).1)
     → (o p : Object) → Has o w.objects → Has p w.objects → (plan o).0 ≡ (plan p).0 → (plan o).1 ≡ (plan p).1
 
--- these states are a chain that begins with b, the newest first: each was made of the one behind it
+-- these states are a chain that begins with b, the newest first: each was made from the next one in the list
 unfoldable pub IsChain : State → List Made → List State → Type 0
 IsChain b made [] = ⊥
 IsChain b made (l ∷ []) = l ≡ b
 IsChain b made (l ∷ k ∷ rest) = Has (record { seen = k; new = l }) made × IsChain b made (k ∷ rest)
 
--- the states that the register took are one chain
+-- the states that the lock took are one chain
 abbrev pub PastsAreChains : Type 0
 PastsAreChains =
     (count : State → ℕ) (b : State) (hs : List Happening) (w : World) → IsFirstState count b → LeadTo count (beginning b) hs w
     → IsChain b w.made w.past
 
--- the register holds the newest of the states that it took
+-- the lock holds the newest of the states that it took
 abbrev pub HoldsNewest : Type 0
 HoldsNewest =
     (count : State → ℕ) (b : State) (hs : List Happening) (w : World) → IsFirstState count b → LeadTo count (beginning b) hs w
     → (rest : List State) × (w.past ≡ w.held ∷ rest)
 
--- where a swap that was given may still come, the bundle of its state stands: none that a state may need is deleted
+-- If a swap that was given may still take effect, then the staged batch of its state exists. So no staged batch that a state may need is
+-- deleted.
 abbrev pub StagedStand : Type 0
 StagedStand =
     (count : State → ℕ) (b : State) (hs : List Happening) (w : World) → IsFirstState count b → LeadTo count (beginning b) hs w → (k l : State) (n : ℕ)
     → Has (Swapping k l n) w.sent → w.held ≡ k → Has l w.bundles
 
--- a head is asked for only of a state that the register took
+-- a head is asked for only for a state that the lock took
 abbrev pub AskedAreTaken : Type 0
 AskedAreTaken =
     (count : State → ℕ) (b : State) (hs : List Happening) (w : World) → IsFirstState count b → LeadTo count (beginning b) hs w → (l : State)
     → Has (Heading l) w.sent → Has l w.past
 
--- who has a step made from a state finds the places of all entries of it and of the states before it, and all their objects
+-- If a node was given the command to have a step made from a state, then all entries of that state and of the earlier ones are in the deduplication
+-- index, and all their objects exist.
 abbrev pub StepsFindAll : Type 0
 StepsFindAll =
     (count : State → ℕ) (b : State) (hs : List Happening) (w : World) → IsFirstState count b → LeadTo count (beginning b) hs w → (k l : State)
     → Has (Stepping k) w.sent → Has l w.past → l.moment ≤ k.moment
     → Has l w.places × ((i : ℕ) → i < count l → Has (record { state = l; index = i }) w.objects)
 
--- whatever happened, the newest state can still be published by a node that starts: there is what leads to that, and the register stays
+-- Whatever happened, a node that starts can still publish the newest state: there are events that lead to its head, and the lock's state
+-- does not change.
 abbrev pub CanBePublished : Type 0
 CanBePublished =
     (count : State → ℕ) (b : State) (hs : List Happening) (w : World) → IsFirstState count b → LeadTo count (beginning b) hs w

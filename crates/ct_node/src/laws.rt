@@ -1,4 +1,4 @@
-//! What follows of the definitions, each a clause of a function that does nothing.
+//! Theorems about the definitions. Each is a clause of a function that does nothing.
 
 ghost use Rattle.ct_node.specs.LookUps.{StatesAddOthers};
 ghost use Rattle.ct_node.specs.Starts.{GoesBehindNone, CreatesOverNothing, AnswersTell, ShownNeverGoesBack};
@@ -6,13 +6,18 @@ ghost use Rattle.ct_node.specs.Sweeps.{SweepsKeep};
 ghost use Rattle.ct_node.specs.TakeUps.{StartsTakeUpNewest, StartsGoOn};
 ghost use Rattle.ct_node.specs.Worlds.{WorldsAreSound, HeadsAreWhole, PastsAreChains, StepsFindAll, CanBePublished, NamesHaveOneContent, HoldsNewest, StagedStand, AskedAreTaken};
 
-/// Whatever becomes of the commands of any number of nodes, what stands is sound (`sound`). Where a head stands, all objects of its state and
-/// of every state before it stand (`whole`). The states that the register took are one chain, each made of the one before (`chain`), and it holds
-/// the newest (`holds`). Who has a step made finds all places and objects of what is before (`finds`). The newest state can still be published by
-/// a node that starts (`publishes`). Where a swap may still come, the bundle of its state stands (`staged`), and a head is asked for only of a state
-/// that the register took (`asked`). Where the states that the register took have one content a name, so have all objects that were ever put
-/// (`names`). Where who waits is looked up before each step, and no place is missing, of any two states that the register took no identity is
-/// both's (`others`).
+/// For any number of nodes, whatever happens to their commands:
+/// - `sound`: the world is sound, as `IsSoundWorld` defines it.
+/// - `whole`: if a head exists, then all objects of its state and of every earlier state exist.
+/// - `chain`: the states that the lock took are one chain, and each was made from the one before it.
+/// - `holds`: the lock holds the newest of them.
+/// - `finds`: a node that has a step made finds all index entries and objects of the earlier states.
+/// - `publishes`: a node that starts can still publish the newest state.
+/// - `staged`: if a swap may still take effect, then the staged batch of its state exists.
+/// - `asked`: a head is asked for only for a state that the lock took.
+/// - `names`: if each name has only one content in the states that the lock took, then this holds for all objects that were ever put.
+/// - `others`: no two states that the lock took add the same identity, if the waiting entries are looked up before each step, and the index
+///   misses no entry.
 #[tactic(auto, using(crate::proofs::Sound::worlds_are_sound))]
 pub fn worlds()
     ensures sound { WorldsAreSound }
@@ -27,17 +32,22 @@ pub fn worlds()
     ensures others { StatesAddOthers }
 {}
 
-/// If partial tiles are deleted only after the full one was put, and heads only after a later one was: whoever deletes, and whatever becomes of the nodes'
-/// commands, for each object that was ever put its tile or the full one stands, so for each of a state that a head stands for; for each head that was
-/// ever put one stands that is no earlier; and [`worlds`] holds of all that was put.
+/// Suppose that a partial tile is deleted only after its full tile was put, and a head only after a later one was put. Then, for any
+/// deleting process and whatever happens to the nodes' commands:
+/// - For each object that was ever put, its tile or the full tile exists. So this holds for each object of a state that a head covers.
+/// - For each head that was ever put, a head exists that is no earlier.
+/// - [`worlds`] holds for everything that was put.
 #[tactic(auto, using(crate::proofs::Swept::sweeps_keep))]
 pub fn sweeps()
     ensures { SweepsKeep }
 {}
 
-/// A node goes on from the register's head exactly where no other head that is known is ahead of it (`goes`), and creates a register exactly where it is
-/// to, and nothing is known of a log (`creates`). Each answer says what is so, where those that are asked for before it aren't, and no other one does
-/// (`tells`). Of the heads that a node shows, whatever it finds, none is ahead of a later one (`shown`).
+/// The decisions of a node that starts:
+/// - `goes`: the node continues from the lock's head if and only if no other known head is ahead of it.
+/// - `creates`: the node creates a lock if and only if it is asked to, there is no lock, and nothing is known of a log.
+/// - `tells`: each answer is given for the reason that its definition states, and no check before it fails. No other answer's reason is
+///   true.
+/// - `shown`: of the heads that a node shows, whatever it finds, none is ahead of a later one.
 pub fn starts()
     ensures goes { GoesBehindNone }
     ensures creates { CreatesOverNothing }
@@ -45,9 +55,12 @@ pub fn starts()
     ensures shown { ShownNeverGoesBack }
 {}
 
-/// Whatever becomes of the nodes' commands, and whatever is swept as in [`sweeps`]: where the register's head was read first, and is that of a state that
-/// it ever held, and the heads that stand are listed behind that, what a node goes on from is ahead of all heads that were ever put, and of all states
-/// that the register took but for the newest (`newest`). Who finds what is of the history alone, and has it read while nothing moves, goes on (`on`).
+/// For whatever happens to the nodes' commands, and whatever is garbage-collected as in [`sweeps`]:
+/// - `newest`: suppose that a node reads the lock's head first, that this is the head of a state that the lock held at some time, and that
+///   the node lists the existing heads after that. If the node continues from that state, then no head that was ever put is later. No state
+///   that the lock took is later either, except the newest if its head was not put.
+/// - `on`: a node continues if everything that it finds is from the history, nothing changes while it reads, and no step has fewer entries
+///   than the state it was made from.
 pub fn take_ups()
     ensures newest { StartsTakeUpNewest }
     ensures on { StartsGoOn }

@@ -1,19 +1,25 @@
-//! What a node of a log does next: which of eleven commands, given what came of the one before.
+//! Decides what a node of a log does next: which of eleven commands, given the outcome of the one before.
 //!
-//! A log on tiles is carried on by any number of nodes over one register and one store of objects. A [`Node`] is the command that it has out,
-//! [`Node::next`] the one behind it. Nothing is read or written here, and no bytes are seen: a [`State`] stands for what the register holds, an
-//! object for its place in a state's bundle.
+//! Any number of nodes carry on one log on tiles over one lock (here called the register) and one object store. A [`Node`] is its current
+//! command, and [`Node::next`] returns the command after it. This crate reads and writes nothing and sees no bytes. A [`State`] represents
+//! what the lock holds. An object is represented by its index in a state's staged batch (here called a bundle).
 //!
-//! Whatever becomes of the commands (each may come late, more than once, or never, whether its node was told of it, was killed, or goes on from a
-//! command that it had before), what stands is sound ([`laws::worlds`]). A head stands only where all objects of its state and of every state
-//! before it stand. Under public names only objects of states that the register took ever stand. Whoever is answered has a head that covers
-//! it. The newest state's bundle is never deleted, and a node that starts can publish that state.
+//! A command may take effect late, more than once, or never. Its node may or may not learn of it, may be killed, or may continue from an
+//! earlier command. In all these cases the following holds ([`laws::worlds`]):
+//! - A tree head exists only if all objects of its state and of every earlier state exist.
+//! - Under public names, only objects of states that the lock took ever exist.
+//! - Each request that is answered after the head is put has a head that covers it.
+//! - The newest state's staged batch is never deleted, and a node that starts can publish that state.
 //!
-//! The premises are the definition `MayHappen`: a command comes only if it was given; the register takes a state only in place of the one that it
-//! holds; what is deleted is that bundle and no other; and nobody is told what isn't so.
+//! The premises are the definition `MayHappen`:
+//! - A command takes effect only if it was given.
+//! - The lock takes a state only in place of the one that it holds.
+//! - A deletion removes only the staged batch that it names.
+//! - A node is never given an outcome that is false.
 //!
-//! [`start`] says whether a node that starts goes on from what the register has, and [`show`] which head it shows ([`laws::starts`]); what that has to
-//! do with what stands is [`laws::take_ups`]. What may be deleted of what nobody reads any more is [`laws::sweeps`].
+//! [`start`] decides whether a node that starts continues from the lock's state, and [`show`] decides which head it shows
+//! ([`laws::starts`]). [`laws::take_ups`] relates these answers to what exists. [`laws::sweeps`] says which objects that nobody reads any
+//! more may be deleted.
 #![tactic(auto)]
 
 pub mod laws;

@@ -1,67 +1,68 @@
-//! What comes behind what.
+//! The commands of a node, and which command comes after which.
 ghost use Rattle.std.specs.Prelude.{◌≡◌};
 ghost use Rattle.ct_node.specs.Nodes.{after, follows, is_behind};
 
 use crate::state::State;
 
-/// A node: the command that it has out. One that starts, or starts again, reads.
+/// A node, represented by its current command. A node that starts, or starts again, reads.
 ///
-/// A count is that of the objects of a state's bundle.
+/// A count is the number of objects in a state's staged batch.
 #[derive(Clone, Copy, Debug, PartialEq, Eq)]
 pub enum Node {
     /// Read the register.
     Reading,
-    /// Look whether the head of this state stands; where it doesn't, get its bundle.
+    /// Look up whether this state's head exists. If it does not, read the state's staged batch.
     Looking(State),
-    /// The state is rolled out: have a step made from it, or name a bundle that may be of no use any more.
+    /// The state is published: have a step made from it, or name a staged batch that may not be needed any more.
     Stepping(State),
-    /// A step from the first state led to the second one, which has so many objects: put its bundle.
+    /// A step from the first state led to the second one, which has so many objects: store its staged batch.
     Staging(State, State, u64),
-    /// Swap the first state for the second one.
+    /// Replace the first state in the lock by the second one.
     Swapping(State, State, u64),
-    /// Where the log promises what the register took: answer who waits for the state, which has so many objects.
+    /// If the log answers with a promise once the lock took a state: answer the requests that wait for this state, which has so many
+    /// objects.
     Promising(State, u64),
-    /// The first state is rolled out: delete the bundle of the second one.
+    /// The first state is published: delete the staged batch of the second one.
     Deleting(State, State),
-    /// Put all objects of the state's bundle, of which there are so many, in any order, or some at once.
+    /// Put all objects of the state's staged batch, of which there are so many, in any order or several at once.
     Putting(State, u64),
-    /// Add the places of the state's entries.
+    /// Add the state's entries to the deduplication index.
     Placing(State),
     /// Have the state's head signed, and put it.
     Heading(State),
-    /// Answer who waits for the state.
+    /// Answer the requests that wait for the state.
     Answering(State),
 }
 
-/// What came of a command. Where that isn't known, the command is given once more.
+/// The outcome of a command. If it is not known, the command is given once more.
 #[derive(Clone, Copy, Debug, PartialEq, Eq)]
 pub enum Outcome {
     /// It is done.
     Done,
-    /// It is done, and the log promises what the register took.
+    /// It is done, and the log answers with a promise once the lock took a state.
     Promise,
-    /// It isn't, or isn't known to be and isn't tried any more. Told falsely, this harms nothing.
+    /// It is not done, or is not known to be done and is given up. This outcome does no harm if it is false.
     Lost,
-    /// The register held this state.
+    /// The lock held this state.
     Read(State),
-    /// The head stands.
+    /// The head exists.
     Published,
-    /// The bundle has so many objects.
+    /// The staged batch has so many objects.
     Bundle(u64),
-    /// A step was made: its state, and how many objects its bundle has.
+    /// A step was made: its state, and the number of objects in its staged batch.
     Stepped(State, u64),
-    /// There is a bundle of this state.
+    /// A staged batch of this state exists.
     Listed(State),
 }
 
-// Whether a state may come behind another.
+// Reports whether a state may come after another.
 fn may_follow(seen: &State, new: &State) -> bool
     ensures { result ≡ follows seen.now new.now }
 {
     new.before == seen.moment && seen.moment < new.moment
 }
 
-// Whether a state is past, or will never be, where another one is rolled out.
+// Reports whether, once `seen` is published, the staged batch of `staged` is not needed: its state is in the past or will never be taken.
 fn is_past(seen: &State, staged: &State) -> bool
     ensures { result ≡ is_behind seen.now staged.now }
 {
@@ -69,7 +70,7 @@ fn is_past(seen: &State, staged: &State) -> bool
 }
 
 impl Node {
-    /// The command behind what came of this one. What comes of another command changes nothing.
+    /// Returns the command that follows this one after `outcome`. An outcome that belongs to another command changes nothing.
     pub fn next(self, outcome: Outcome) -> Node
         ensures next { result ≡ after self outcome }
     {

@@ -1,29 +1,29 @@
-//! Whether a node may go on from what the register has, where it starts.
+//! Decides whether a node that starts may continue from the lock's state.
 ghost use Rattle.std.specs.Prelude.{◌≡◌};
 ghost use Rattle.ct_node.specs.Starts.{is_at, comes_behind, reaches, reaches_other, is_free, is_free_of_other, is_two, guard_reaches, begun, created, started, shown_next};
 
-/// How far a log is by one of its tree heads.
+/// How far a log is according to one of its tree heads.
 #[derive(Clone, Copy, Debug, PartialEq, Eq)]
 pub struct Point {
-    /// How many entries.
+    /// The number of entries.
     pub size: u64,
     /// The head's timestamp, in milliseconds.
     pub moment: u64,
 }
 
-/// A tree head that is known beside the register's.
+/// A known tree head other than the lock's.
 #[derive(Clone, Copy, Debug, PartialEq, Eq)]
 pub struct Other {
-    /// How far it is.
+    /// How far the log is according to it.
     pub at: Point,
-    /// Whether its root is that of the register's head.
+    /// Whether its root is the root of the lock's head.
     pub same: bool,
 }
 
-/// What a node finds of a log where it starts.
+/// The findings of a node about a log when it starts.
 #[derive(Clone, Copy, Debug)]
 pub struct Found {
-    /// The register's head; none where there is no register.
+    /// The lock's head, or none if there is no lock.
     pub register: Option<Point>,
     /// The newest head that this machine saw.
     pub seen: Option<Other>,
@@ -31,68 +31,69 @@ pub struct Found {
     pub published: Option<Point>,
     /// The newest head that the store lists.
     pub listed: Option<Point>,
-    /// Whether a guard stands before the log's key.
+    /// Whether a guard protects the log's key.
     pub guarded: bool,
-    /// The last head that it let through.
+    /// The last head that the guard let through.
     pub guard: Option<Other>,
     /// Whether the store has anything of a log.
     pub stands: bool,
-    /// Whether a log is to be created where there is none.
+    /// Whether a log may be created if there is none.
     pub creates: bool,
 }
 
-/// What a node does where it starts.
+/// The decision of a node that starts.
 #[derive(Clone, Copy, Debug, PartialEq, Eq)]
 pub enum Beginning {
-    /// It goes on from what the register has.
+    /// It continues from the lock's state.
     Goes,
-    /// It creates the register.
+    /// It creates the lock.
     Creates,
-    /// There is no register, and none is to be created, or something of a log is there.
+    /// There is no lock, and none may be created or something of a log exists.
     Gone,
-    /// This machine saw a later head, or another of that size and moment.
+    /// This machine saw a head that the lock's does not reach: one that is larger, one that is no earlier, or one of the same size and
+    /// timestamp with another root.
     BehindSeen,
-    /// The guard let a later head through.
+    /// The guard let through a head that the lock's does not reach, of another size or timestamp.
     BehindGuard,
-    /// The guard let another head of that size and moment through.
+    /// The guard let through a head of the same size and timestamp, with another root.
     TwoRoots,
-    /// The store lists a head that is later than the last that the guard let through.
+    /// The store lists a head that the guard's last one does not reach. So the guard is older than the store.
     GuardBehind,
-    /// The store lists a later head.
+    /// The store lists a head that the lock's does not reach.
     BehindListed,
-    /// A later head is published.
+    /// A head is published that the lock's does not reach.
     BehindPublished,
 }
 
-// Whether a head has this size and moment.
+// Reports whether a head has the size and timestamp of `other`.
 fn at(head: Point, other: Point) -> bool
     ensures { result ≡ is_at head other }
 {
     head.size == other.size && head.moment == other.moment
 }
 
-// Whether a head may come behind another.
+// Reports whether a head may come after `other`: it has no fewer entries and is later.
 fn behind(head: Point, other: Point) -> bool
     ensures { result ≡ comes_behind head other }
 {
     head.size >= other.size && head.moment > other.moment
 }
 
-// Whether it is the other one, or may come behind it.
+// Reports whether a head is `other`, or may come after it.
 fn reached(head: Point, other: Point) -> bool
     ensures { result ≡ reaches head other }
 {
     at(head, other) || behind(head, other)
 }
 
-// The same of a head whose root is known.
+// Reports the same for a head of which it is known whether its root is that of the lock's.
 fn reached_other(head: Point, other: Other) -> bool
     ensures { result ≡ reaches_other head other }
 {
     at(head, other.at) && other.same || behind(head, other.at)
 }
 
-// Whether it reaches a head, where there is one.
+// Reports whether a head reaches `other`, if there is one.
 fn free(head: Point, other: Option<Point>) -> bool
     ensures { result ≡ is_free head other }
 {
@@ -102,7 +103,7 @@ fn free(head: Point, other: Option<Point>) -> bool
     }
 }
 
-// The same of one whose root is known.
+// Reports the same for a head of which it is known whether its root is that of the lock's.
 fn free_of_other(head: Point, other: Option<Other>) -> bool
     ensures { result ≡ is_free_of_other head other }
 {
@@ -112,7 +113,7 @@ fn free_of_other(head: Point, other: Option<Other>) -> bool
     }
 }
 
-// Whether there is a head of this size and moment.
+// Reports whether there is another head of this size and timestamp.
 fn two(head: Point, other: Option<Other>) -> bool
     ensures { result ≡ is_two head other }
 {
@@ -122,7 +123,7 @@ fn two(head: Point, other: Option<Other>) -> bool
     }
 }
 
-// Whether the guard's last head reaches one, where there is one.
+// Reports whether the guard's last head reaches the listed one, if there is one.
 fn guard_reached(guard: Option<Other>, listed: Option<Point>) -> bool
     ensures { result ≡ guard_reaches guard listed }
 {
@@ -133,7 +134,7 @@ fn guard_reached(guard: Option<Other>, listed: Option<Point>) -> bool
     }
 }
 
-// What a node does where the register has this head.
+// Decides what a node does if the lock has this head.
 fn begin(found: Found, head: Point) -> Beginning
     ensures { result ≡ begun found head }
 {
@@ -159,7 +160,7 @@ fn begin(found: Found, head: Point) -> Beginning
     Beginning::Goes
 }
 
-// What a node does where there is no register.
+// Decides what a node does if there is no lock.
 fn create(found: Found) -> Beginning
     ensures { result ≡ created found }
 {
@@ -176,7 +177,7 @@ fn create(found: Found) -> Beginning
     }
 }
 
-/// What a node does where it starts, by what it finds: it read the register first, and the others behind that.
+/// Decides what a node does when it starts, from what it finds. The node must read the lock first, and everything else after that.
 pub fn start(found: Found) -> Beginning
     ensures start { result ≡ started found }
 {
@@ -186,7 +187,7 @@ pub fn start(found: Found) -> Beginning
     }
 }
 
-/// The head that a node shows, where it has shown one, or none, and finds another: the later one.
+/// Returns the head that a node shows, given the one that it has shown, if any, and one that it finds: the later one.
 pub fn show(shown: Option<Point>, found: Point) -> Point
     ensures next { result ≡ shown_next shown found }
 {

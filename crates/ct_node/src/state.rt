@@ -1,12 +1,12 @@
-//! What the register holds.
+//! The content of the lock.
 
-/// A state of a log, as far as order goes.
+/// A state of a log, reduced to what decides the order.
 #[derive(Clone, Copy, Debug, PartialEq, Eq)]
 pub struct State {
-    /// Its moment, in milliseconds.
+    /// Its timestamp, in milliseconds.
     pub moment: u64,
-    /// The moment of the state that it was made from.
+    /// The timestamp of the state that it was made from.
     pub before: u64,
-    /// What tells it from others of that moment.
+    /// A number that distinguishes it from other states with that timestamp.
     pub salt: u64,
 }
