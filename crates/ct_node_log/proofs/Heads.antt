@@ -1,4 +1,4 @@
--- The heads that guards let through are of the nodes' one log.
+-- The heads that guards let through belong to the nodes' one log.
 use Rattle.std.proofs.Common.{subst, ◌⊎◌, inl, inr, ⊎_elim, ◌≡◌, refl, ℕ, ◌<◌, ◌≤◌, sym, ◌∙◌, ap, arith, List, [], ◌∷◌, ◌++◌, length, take, map}
 use Rattle.std.specs.Prelude.{All}
 use Rattle.std.specs.declared.option.Option.{Option}
@@ -47,9 +47,9 @@ module _ (H : List ℕ → List ℕ) (line : State → StateLine) (step : Made �
         is.1.root ∙ ap (mth_of_leaves H) (sym (take-map leaf_of x.tree_size E)),
       )
 
-  -- ---- the newest head that is asked for is of the entries, and so is each before it
+  -- ---- the newest head that is asked for belongs to the entries, and each head before it does, too
 
-  -- the newest is that of the first n leaves
+  -- the newest head is that of the first n leaves
   abbrev NewestIsOfFirst : List HeadStep → Type 0
   NewestIsOfFirst steps = (n : ℕ) × (n ≤ length (tree_leaves E)) × NewestIsOf H (take n (tree_leaves E)) steps
 
@@ -69,7 +69,7 @@ module _ (H : List ℕ → List ℕ) (line : State → StateLine) (step : Made �
       let below : head.tree_size ≤ n = omega (arith, g.0, length-take-le n (tree_leaves E) fits) in
       (omega (arith, below, fits), g.1 ∙ ap (mth_of_leaves H) (take-take head.tree_size n (tree_leaves E) below))
 
-  -- what is hashed for a beginning of a list is hashed for the list
+  -- each string that is hashed for a beginning of a list is hashed for the list
   more_hashed : (last : Option Head) (steps : List HeadStep) (n : ℕ) (D : List (List ℕ)) → n ≤ length D → (x : List ℕ) → IsHashedForHeads H last steps (take n D) x
       → IsHashedForHeads H last steps D x
   more_hashed last steps n D l x (inl c) = inl c

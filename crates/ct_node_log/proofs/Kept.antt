@@ -1,4 +1,4 @@
--- What stands for a deleted tile begins with all of it.
+-- The full tile that is left for a deleted tile begins with all of it.
 use Rattle.std.proofs.Common.{subst, ◌⊎◌, inl, inr, ⊎_elim, ◌≡◌, refl, ℕ, ◌+◌, ◌*◌, ◌<◌, ◌≤◌, sym, ◌∙◌, ap, arith, List, [], ◌∷◌, ◌++◌, length, take, drop}
 use Rattle.std.proofs.lemmas.List.{take-append-drop, take-append-le, take-take, take_all}
 use Rattle.std.proofs.lemmas.List.Concat.{flat_map-append}
@@ -21,7 +21,7 @@ use Rattle.ct_node_log.specs.Names.{tile_parts, IsTileOfEntries}
 abbrev widened : Tile → ℕ → Tile
 widened t width = record t { width = width }
 
--- a tile whose whole one is another's is that one, but for its width
+-- two tiles with the same full tile are equal except in their width
 same_whole : NamesDiffer → (s t : Tile) → IsTile s → IsTile t → whole_name s ≡ whole_name t → s ≡ widened t s.width
 same_whole differ s t is it e =
     let whole : (u : Tile) → IsTile u → IsTile (widened u 256) =
@@ -29,7 +29,7 @@ same_whole differ s t is it e =
     let same : widened s 256 ≡ widened t 256 = differ (widened s 256) (widened t 256) (whole s is) (whole t it) e in
     ap (λ (u : Tile). widened u s.width) same
 
--- ---- what begins with what
+-- ---- contents that begin with others
 begins_with : (w v : ℕ) (xs : List (List ℕ)) → w ≤ v → take (length (joined (take w xs))) (joined (take v xs)) ≡ joined (take w xs)
 begins_with w v xs le =
     let short = joined (take w xs) in
@@ -39,14 +39,14 @@ begins_with w v xs le =
     ap (take (length short)) whole ∙ take-append-le (length short) short (joined rest) (omega arith) ∙ take_all (length short) short (omega arith)
 
 module _ (H : List ℕ → List ℕ) (E : List Tiled) (differ : NamesDiffer) where
-  -- the tile of a content is the one of its name
+  -- the content is that of the tile with this name
   is_cut : (o : List ℕ × List ℕ) (t : Tile) → IsTile t → o.0 ≡ name_text t → IsTileOfEntries H E o
       → o.1 ≡ joined (take t.width (drop (256 * t.index) (tile_parts H E t.content)))
   is_cut o t is named cut =
       let same : cut.0 ≡ t = differ cut.0 t cut.1 is (sym cut.2 ∙ named) in
       cut.3 ∙ ap (λ (u : Tile). joined (take u.width (drop (256 * u.index) (tile_parts H E u.content)))) same
 
-  -- the wider one begins with the other
+  -- the wider content begins with the other one
   wider_begins : (o p : List ℕ × List ℕ) (s t : Tile) → IsTile s → o.0 ≡ name_text s → IsTile t → p.0 ≡ name_text t → t ≡ widened s t.width
       → s.width ≤ t.width → IsTileOfEntries H E o → IsTileOfEntries H E p → BeginsWithAll p o
   wider_begins o p s t is named it called same le co cp =
@@ -61,7 +61,7 @@ module _ (H : List ℕ → List ℕ) (E : List Tiled) (differ : NamesDiffer) whe
 
   module _ (line : State → StateLine) (step : Made → LineAttempt) (b : State) (plan : Object → List ℕ × List ℕ) (of : Object → Tile) (w : SweptWorld)
       (stands : StandsOf H line step b plan E w.world) (named : AreNamed of plan w.world) (put : (o : Object) → Has o w.objects → Has o w.world.objects) where
-    -- no less wide, of one whole tile
+    -- at least as wide, and of the same full tile
     abbrev IsAsWide : Object → Object → Type 0
     IsAsWide o p = (whole_name (of p) ≡ whole_name (of o)) × ((of o).width ≤ (of p).width) × (((of p).width ≡ (of o).width) ⊎ ((of p).width ≡ 256))
 

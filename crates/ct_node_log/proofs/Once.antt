@@ -1,4 +1,4 @@
--- The log of the register's line has each new identity once.
+-- The log of the lock's line has each new identity once.
 use Rattle.std.proofs.Common.{◌≡◌, ◌∙◌, ◌⊎◌, ⊎_elim, inl, inr, refl, sym, ap, subst, ℕ, zero, suc, ◌<◌, List, [], ◌∷◌, ◌++◌, length, take, map, get_or, All, AllPairs, arith, append_assoc, append-nil}
 use Rattle.std.specs.Prelude.{Contains}
 use Rattle.std.proofs.lemmas.List.{take_at, map-append, length-map}
@@ -53,7 +53,7 @@ module _ (H : List ℕ → List ℕ) (S : List (List ℕ)) (line : State → Sta
   abbrev Adds : State → State → Type 0
   Adds l k = ShareNone (ids k) (ids l)
 
-  -- what the states behind the first one add, in order
+  -- the identities that the states after the first one add, in order
   added : List State → List (List ℕ)
   added [] = []
   added (l ∷ []) = []
@@ -92,7 +92,7 @@ module _ (H : List ℕ → List ℕ) (S : List (List ℕ)) (line : State → Sta
         (λ (pair : CollideAmong H (IsHashedBySteps H S E)). inr pair)
         (grown keep k rest log c.1 (N ++ Z) longer)
 
-  -- what holds of each state's identities holds of all that are added
+  -- a property of each state's identities holds for all identities that are added
   of_added : (P : List ℕ → Type 0) (past : List State) → ((x : State) → Has x past → (i : List ℕ) → Has i (ids x) → P i) → All P (added past)
   unfolding added
   of_added P [] f = All-nil P
@@ -100,7 +100,7 @@ module _ (H : List ℕ → List ℕ) (S : List (List ℕ)) (line : State → Sta
   of_added P (l ∷ k ∷ rest) f =
       All-append P (added (k ∷ rest)) (ids l) (of_added P (k ∷ rest) (λ x h. f x (inr h))) (list_all P (ids l) (f l (inl refl)))
 
-  -- an identity of the one is none of the other's
+  -- an identity of the one state differs from those of the other
   differ : (x l : State) (i : List ℕ) → Adds l x → Has i (ids x) → All (Differ i) (ids l)
   differ x l i others h = list_all (Differ i) (ids l) (λ j g e. others i h (subst (λ z. Has z (ids l)) (sym e) g))
 
@@ -120,7 +120,7 @@ module _ (H : List ℕ → List ℕ) (S : List (List ℕ)) (line : State → Sta
   has_first (l ∷ []) c = inl (sym c)
   has_first (l ∷ k ∷ rest) c = inr (has_first (k ∷ rest) c.1)
 
-  -- an identity that the first state had is none that is added
+  -- an identity of the first state differs from each one that is added
   known_before : (past : List State) → IsChain b made past → AllPairs Adds past → (i : List ℕ) → Has i (ids b) → All (Differ i) (added past)
   unfolding IsChain added
   known_before [] c p i h = absurd c

@@ -1,4 +1,4 @@
--- The states that the register took, as attempts.
+-- The states that the lock took, as attempts.
 use Rattle.std.proofs.Common.{map, refl, subst, ◌⊎◌, inl, inr, ⊎_elim, ◌≡◌, ℕ, ◌<◌, arith, sym, ◌∙◌, ap, List, [], ◌∷◌, ◌++◌, length, take}
 use Rattle.std.specs.Prelude.{Ok, ⊤, Bool, true, false, if◌then◌else◌, Contains}
 use Rattle.std.proofs.lemmas.List.Elements.{recursion_from_All}
@@ -16,7 +16,7 @@ use Rattle.ct_step.specs.Steps.{new_entries}
 use Rattle.ct_node_log.specs.Logs.{IsAttempt, AreStepsMade, IsOf, IsResumed, log_of_past, NodesWriteOneLog}
 use Rattle.ct_node_log.specs.Names.{objects_of, IsTileOfEntries, StepsWriteTiles, StepsHaveOneContent}
 
--- the attempt, which the register took
+-- the attempt, marked as taken by the lock
 abbrev took : LineAttempt → LineAttempt
 took a = record a { took = true }
 
@@ -28,12 +28,12 @@ pick : {A : Type 0} (t : Bool) → t ≡ true → (y z : A) → (if t then y els
 pick true e y z = refl
 pick false e y z = absurd (subst IsNoTrue e tt)
 
--- the line that is held behind attempts that were all taken
+-- the line that is held after attempts that were all taken
 end_of : StateLine → List LineAttempt → StateLine
 end_of held [] = held
 end_of held (a ∷ rest) = end_of a.step.line rest
 
--- a step that was taken, and the same step
+-- a step that was taken belongs to E also without that mark
 of_took : (H : List ℕ → List ℕ) (E : List Tiled) (a : LineAttempt) → IsStepOf H E (took a) → IsStepOf H E a
 of_took H E a s = record { size = s.size; log = s.log; step = s.step; entries = s.entries }
 
@@ -45,7 +45,7 @@ entries_more known [] a = refl
 entries_more known (x ∷ rest) a = entries_more (if x.took then known ++ new_entries known x.batch x.now else known) rest a
 
 module _ (H : List ℕ → List ℕ) (S : List (List ℕ)) where
-  -- attempts that were all taken, one behind the other
+  -- attempts that were all taken, one after the other
   AreTaken : StateLine → List LineAttempt → Type 0
   AreTaken held [] = ⊤
   AreTaken held (a ∷ rest) = IsMadeOfLine H S a × (a.took ≡ true) × (a.seen ≡ held) × AreTaken a.step.line rest
@@ -72,7 +72,7 @@ module _ (H : List ℕ → List ℕ) (S : List (List ℕ)) where
   all_taken held (a ∷ rest) t =
       pick a.took t.1 (a ∷ taken_lines rest) (taken_lines rest) ∙ ap (λ v. a ∷ v) (all_taken a.step.line rest t.3)
 
-  -- S has the bundle of each of them
+  -- S contains the staged batch of each of them
   bundle_of : (held : StateLine) (xs : List LineAttempt) → AreTaken held xs → (a : LineAttempt) → Has a xs → Contains S a.step.bundle.items
   unfolding AreTaken
   bundle_of held [] t a h = absurd h
@@ -112,7 +112,7 @@ module _ (H : List ℕ → List ℕ) (S : List (List ℕ)) where
     abbrev IsIn : List LineAttempt → State → Type 0
     IsIn xs l = (l ≡ b) ⊎ ((m : Made) × Has m made × (m.new ≡ l) × Has (took (step m)) xs)
 
-    -- the states are those of attempts, one behind the other, after which there are the entries of the log; the newest is l
+    -- The states are those of attempts, one after the other. After these attempts the entries are those of the log. The newest state is l.
     abbrev Are : List Tiled → List State → State → Type 0
     Are known past l =
         (xs : List LineAttempt) × AreTaken (line b) xs × (end_of (line b) xs ≡ line l) × ((z : State) → Has z past → IsIn xs z)
@@ -163,7 +163,7 @@ module _ (H : List ℕ → List ℕ) (S : List (List ℕ)) where
     abbrev IsPut : List Tiled → State → Type 0
     IsPut E l = (l ≡ b) ⊎ PutOfStep E l
 
-    -- what is put of a state are the step's objects, or its bundle and the bytes that were read collide
+    -- the objects that are put of a state are the step's objects, or its staged batch and the bytes that were read collide
     resumed : BundlesAreResumed → (E : List Tiled) (l : State) (m : Made) → Has m made → m.new ≡ l → Contains S (step m).step.bundle.items
         → IsStepOf H E (step m) → IsPut E l ⊎ CollideAmong H (IsHashedBySteps H S E)
     resumed again E l m h new kept s =

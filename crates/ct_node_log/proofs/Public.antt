@@ -1,4 +1,4 @@
--- Of all public names but heads' one content was put, issuers with them.
+-- Each public name except those of heads has only one content that was ever put, including the names of issuers.
 use Rattle.std.proofs.Common.{subst, ◌⊎◌, inl, inr, ⊎_elim, ◌≡◌, refl, ℕ, sym, ◌∙◌, ap, arith, List, [], ◌∷◌, ◌++◌, length, take, drop}
 use Rattle.std.specs.Prelude.{Result, Ok, Err, codes}
 use Rattle.hex.specs.Hex.{encode_lower, decode_of, IsBytes}
@@ -29,7 +29,7 @@ module _ (H : List ℕ → List ℕ) where
   no_tile : (t : Tile) (c : List ℕ) → name_text t ≡ issuer_name H c → ⊥
   no_tile t c e = let first : 116 ≡ 105 = ap first_byte e in absurd (omega (arith, first))
 
-  -- an issuer's name says its digest
+  -- an issuer's name determines its digest
   one_digest : ((x : List ℕ) → IsBytes (H x)) → (a b : List ℕ) → issuer_name H a ≡ issuer_name H b → H a ≡ H b
   one_digest bytes a b e =
       let digits : encode_lower (H a) ≡ encode_lower (H b) = ap (drop 7) e in
@@ -37,7 +37,7 @@ module _ (H : List ℕ → List ℕ) where
       ∙ ap (λ z. decoded (decode_of z)) digits
       ∙ ap decoded (decode_of-encode_lower (H b) (bytes b))
 
-  -- ---- of any two one content
+  -- ---- two objects with one name have one content
   module _ (bytes : (x : List ℕ) → IsBytes (H x)) (plan : Object → List ℕ × List ℕ) (w : World) (issuers : List (List ℕ × List ℕ))
       (are : (i : List ℕ × List ℕ) → Has i issuers → IsIssuer H i) (E : List Tiled)
       (tiles : (o : Object) → Has o w.objects → IsTileOfEntries H E (plan o))

@@ -1,4 +1,4 @@
--- What is left of a log's tiles, where partial ones are deleted. H is any hash function on byte lists.
+-- The part of a log's tiles that is left if partial ones are deleted. H is any hash function on byte lists.
 use Rattle.std.specs.Prelude.{◌≡◌, ◌⊎◌, ℕ, ◌<◌, ◌≤◌, List, length, take}
 use Rattle.ct_data_tiles.specs.TileLeaf.{Tiled}
 use Rattle.ct_log_state.specs.declared.line.StateLine.{StateLine}
@@ -12,15 +12,15 @@ use Rattle.ct_step.specs.Lines.{LineAttempt, IsHashedBySteps}
 use Rattle.ct_step.specs.Steps.{IsLog}
 use Rattle.ct_node_log.specs.Logs.{AreStepsMade, StandsOf, log_of_past}
 
--- the tile that is whole where the one is partial, by its name
+-- the name of the full tile of which this tile is a part
 abbrev pub whole_name : Tile → List ℕ
 whole_name t = name_text (record t { width = 256 })
 
--- each object's tile, by the whole one's name, and how wide it is
+-- each object's tile, as the name of its full tile and its width
 abbrev pub tile_and_width : (Object → Tile) → Object → List ℕ × ℕ
 tile_and_width of o = (whole_name (of o), (of o).width)
 
--- of each object that was put the name is that of its tile
+-- each object that was put has the name of its tile
 abbrev pub AreNamed : (Object → Tile) → (Object → List ℕ × List ℕ) → World → Type 0
 AreNamed of plan w = (o : Object) → Has o w.objects → IsTile (of o) × ((plan o).0 ≡ name_text (of o))
 
@@ -28,23 +28,25 @@ AreNamed of plan w = (o : Object) → Has o w.objects → IsTile (of o) × ((pla
 abbrev pub BeginsWithAll : List ℕ × List ℕ → List ℕ × List ℕ → Type 0
 BeginsWithAll o p = take (length p.1) o.1 ≡ p.1
 
--- of the object there stands one that begins with all of it, under its own name, or under that of the full tile of its content and index
+-- an object exists that begins with all of this object, under its own name, or under that of the full tile of its content and index
 abbrev pub IsReadable : (Object → Tile) → (Object → List ℕ × List ℕ) → SweptWorld → Object → Type 0
 IsReadable of plan w o =
     (p : Object) × Has p w.objects × (of p ≡ record (of o) { width = (of p).width }) × ((of o).width ≤ (of p).width)
     × (((of p).width ≡ (of o).width) ⊎ ((of p).width ≡ 256)) × BeginsWithAll (plan p) (plan o)
 
--- What can be read: all objects that were ever put (objects), so all of each state that a head stands for (covered); and a head that is no earlier than any
--- that was ever put (heads).
+-- Everything that can be read:
+-- - all objects that were ever put (`objects`), and so all objects of each state that a head covers (`covered`)
+-- - for each head that was ever put, a head that is no earlier (`heads`)
 pub record CanBeRead (count : State → ℕ) (of : Object → Tile) (plan : Object → List ℕ × List ℕ) (w : SweptWorld) : Type 0 where
   pub objects : (o : Object) → Has o w.world.objects → IsReadable of plan w o
   pub covered : (l m : State) → Has l w.world.heads → Has m w.world.past → m.moment ≤ l.moment → (i : ℕ) → i < count m
       → IsReadable of plan w (record { state = m; index = i })
   pub heads : (l : State) → Has l w.world.heads → (m : State) × Has m w.heads × (l.moment ≤ m.moment)
 
--- Whatever becomes of the nodes' commands, let E be the log that the register took, and let S have the strings that nodes hashed when they made steps and resumed
--- them. If partial tiles are deleted only after the full one was put, and heads only after a later one was, all that was put is of E, and it can be read; or two strings
--- collide that S has, or that are hashed for the log's lines.
+-- Whatever happens to the nodes' commands, let E be the log that the lock took, and let S contain the strings that nodes hashed when they
+-- made steps and resumed them. Suppose that partial tiles are deleted only after the full one was put, and heads only after a later one was
+-- put. Then everything that was put belongs to E, and it can be read. The alternative is a collision of two strings that S contains, or
+-- that are hashed for the log's lines.
 abbrev pub NodesKeepTiles : Type 0
 NodesKeepTiles =
     (H : List ℕ → List ℕ) (S : List (List ℕ)) (line : State → StateLine) (step : Made → LineAttempt) (plan : Object → List ℕ × List ℕ) (of : Object → Tile)

@@ -1,4 +1,4 @@
--- The log that any number of nodes write: what stands is of one list of entries. H is any hash function on byte lists.
+-- The log that any number of nodes write: everything in the stores belongs to one list of entries. H is any hash function on byte lists.
 use Rattle.std.specs.Prelude.{◌≡◌, ◌⊎◌, ℕ, ◌<◌, List, [], ◌∷◌, ◌++◌, Contains, map, Ok, Vec, length, take}
 use Rattle.ct_data_tiles.specs.TileLeaf.{Tiled}
 use Rattle.ct_log_state.specs.declared.line.StateLine.{StateLine}
@@ -12,23 +12,25 @@ use Rattle.ct_step.specs.Lines.{LineAttempt, IsHashedBySteps, IsMadeOfLine, IsSt
 use Rattle.ct_step.specs.Steps.{new_entries, IsLog}
 use Rattle.ct_node_log.specs.Names.{IsTileOfEntries}
 
--- What is put of a state are objects that `resume` gave of its line and of some bytes, wherever these came from; S has these bytes, since they were hashed.
--- `line` gives the line of a state, count how many objects are put of it, and plan each by its index, as a name and a content.
+-- The objects that are put of a state are objects that `resume` returned for its line and some bytes, wherever these came from. S contains
+-- these bytes, since they were hashed. `line` returns the line of a state, `count` the number of its objects that are put, and `plan` each
+-- object by its index, as a name and a content.
 abbrev pub IsResumed : (List ℕ → List ℕ) → List (List ℕ) → (State → StateLine) → (State → ℕ) → (Object → List ℕ × List ℕ) → State → Type 0
 IsResumed H S line count plan l =
     (bytes : List ℕ) × (found : Vec Found Global) × Contains S bytes × AnswersResume H (line l) bytes (Ok found)
     × ((i : ℕ) → i < count l → Has (plan (record { state = l; index = i })) (map object_parts found.items))
 
--- the attempt is this step, from the line of the one state to that of the other, and `take_step`'s; S has the strings that its maker hashed
+-- The attempt is this step, from the line of the first state to that of the second, and was made by `take_step`. S contains the strings
+-- that its maker hashed.
 abbrev pub IsAttempt : (List ℕ → List ℕ) → List (List ℕ) → (State → StateLine) → Made → LineAttempt → Type 0
 IsAttempt H S line m a = (a.seen ≡ line m.seen) × (a.step.line ≡ line m.new) × IsMadeOfLine H S a
 
--- each step that was made is `take_step`'s, and what is put of its state `resume`'s
+-- each step was made by `take_step`, and the objects that are put of its state were returned by `resume`
 abbrev pub AreStepsMade : (List ℕ → List ℕ) → List (List ℕ) → (State → StateLine) → (Made → LineAttempt) → (State → ℕ) → (Object → List ℕ × List ℕ) → List Made → Type 0
 AreStepsMade H S line step count plan made = (m : Made) → Has m made → IsAttempt H S line m (step m) × IsResumed H S line count plan m.new
 
--- the log that the register took: the entries that were known, and after them those that each step added by which the register came to its next state; the newest
--- state is first
+-- the log that the lock took: the entries that were known, followed by those of each step by which the lock came to its next state. The
+-- newest state is first in the list of states.
 unfoldable pub log_of_past : (Made → LineAttempt) → List Tiled → List State → List Tiled
 log_of_past step known [] = known
 log_of_past step known (l ∷ []) = known
@@ -37,14 +39,17 @@ log_of_past step known (l ∷ k ∷ rest) =
     let a = step (record { seen = k; new = l }) in
     E ++ new_entries E a.batch a.now
 
--- the state l is of the entries E: it is the first one, or that of a step that was made, all of which is of E; so the receipt at an index is that of the
--- submission at this index of the step's batch
+-- The state l belongs to the entries E. It is the first state, or that of a step that was made, of which everything belongs to E. So the
+-- receipt at an index is that of the submission at this index of the step's batch.
 abbrev pub IsOf : (List ℕ → List ℕ) → (State → StateLine) → (Made → LineAttempt) → List Made → State → List Tiled → State → Type 0
 IsOf H line step made b E l =
     (l ≡ b) ⊎ ((m : Made) × Has m made × (m.new ≡ l) × ((step m).step.line ≡ line l) × IsStepOf H E (step m))
 
--- What stands is of the entries E: each state that the register took (past); each whose waiting were answered, and its head stands (answered);
--- each whose waiting were answered by a promise (promised). All that was ever put are tiles of E (tiles), and under one name one content (names).
+-- Everything in the stores belongs to the entries E:
+-- - each state that the lock took (`past`)
+-- - each state whose waiting requests were answered after its head was put, and this head was put (`answered`)
+-- - each state whose waiting requests were answered by a promise (`promised`)
+-- - All objects that were ever put are tiles of E (`tiles`), with one content for each name (`names`).
 pub record StandsOf (H : List ℕ → List ℕ) (line : State → StateLine) (step : Made → LineAttempt) (b : State) (plan : Object → List ℕ × List ℕ) (E : List Tiled) (w : World) : Type 0 where
   pub past : (l : State) → Has l w.past → IsOf H line step w.made b E l
   pub answered : (l : State) → Has l w.answered → Has l w.heads × IsOf H line step w.made b E l
@@ -52,8 +57,9 @@ pub record StandsOf (H : List ℕ → List ℕ) (line : State → StateLine) (st
   pub tiles : (o : Object) → Has o w.objects → IsTileOfEntries H E (plan o)
   pub names : (o p : Object) → Has o w.objects → Has p w.objects → (plan o).0 ≡ (plan p).0 → (plan o).1 ≡ (plan p).1
 
--- Whatever happens, let E be the log that the register took, and let S have the strings that nodes hashed when they made steps and resumed them. E begins with
--- the entries that were known, and all that is in the stores is of E; or two strings collide that S has, or that are hashed for the log's lines.
+-- Whatever happens, let E be the log that the lock took, and let S contain the strings that nodes hashed when they made steps and resumed
+-- them. E begins with the entries that were known, and everything in the stores belongs to E. The alternative is a collision of two strings
+-- that S contains, or that are hashed for the log's lines.
 abbrev pub NodesWriteOneLog : Type 0
 NodesWriteOneLog =
     (H : List ℕ → List ℕ) (S : List (List ℕ)) (line : State → StateLine) (step : Made → LineAttempt) (plan : Object → List ℕ × List ℕ) (known : List Tiled)

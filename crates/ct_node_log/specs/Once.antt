@@ -1,4 +1,5 @@
--- No identity stands twice in the log that nodes write, but where a place is missing. H is any hash function on byte lists.
+-- No identity occurs twice in the log that nodes write, unless the deduplication index misses an entry. H is any hash function on byte
+-- lists.
 use Rattle.std.specs.Prelude.{◌≡◌, ◌⊎◌, ℕ, List, map, length, take}
 use Rattle.ct_codec.specs.Submitted.{identity_of}
 use Rattle.ct_data_tiles.specs.TileLeaf.{Tiled}
@@ -17,18 +18,19 @@ use Rattle.ct_node_log.specs.Logs.{IsAttempt, log_of_past}
 abbrev pub entry_identities : List Tiled → List (List ℕ)
 entry_identities E = map identity_of_leaf (tree_leaves E)
 
--- the identities of what an attempt takes in
+-- the identities of the submissions of an attempt
 abbrev pub batch_identities : LineAttempt → List (List ℕ)
 batch_identities a = map (λ e. identity_of e.0) a.batch
 
--- each step that was made is `take_step`'s, of a batch with the identities that its state adds, each of them once
+-- each step was made by `take_step`, from a batch with the identities that its state adds, each of them once
 abbrev pub AreStepsAdding : (List ℕ → List ℕ) → List (List ℕ) → (State → StateLine) → (Made → LineAttempt) → (State → List (List ℕ)) → List Made → Type 0
 AreStepsAdding H S line step ids made =
     (m : Made) → Has m made → IsAttempt H S line m (step m) × (batch_identities (step m) ≡ ids m.new) × AreApart (ids m.new)
 
--- Whatever happens, let E be the log that the register took, and let S have the strings that nodes hashed when they made steps. If each step was looked up
--- before and no place is missing, the register's line is that of E, E begins with the entries that were known, and it has after these no identity that
--- stands before; or two strings collide that S has, or that are hashed for the log's lines.
+-- Whatever happens, let E be the log that the lock took, and let S contain the strings that nodes hashed when they made steps. Suppose that
+-- each step was looked up before it was made, that the deduplication index misses no entry, and that no batch has an identity twice. Then
+-- the lock's line is that of E, and E begins with the entries that were known. After these, E has no identity that occurs before. The
+-- alternative is a collision of two strings that S contains, or that are hashed for the log's lines.
 abbrev pub NodesAddOnce : Type 0
 NodesAddOnce =
     (H : List ℕ → List ℕ) (S : List (List ℕ)) (line : State → StateLine) (step : Made → LineAttempt) (ids : State → List (List ℕ)) (known : List Tiled)

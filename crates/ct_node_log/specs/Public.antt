@@ -1,5 +1,5 @@
--- What stands under all public names of a log but its heads': tiles, data tiles, and the certificates of issuers. H is any hash function on byte lists whose
--- hashes are bytes.
+-- The contents under all public names of a log except those of its heads: tiles, data tiles, and the certificates of issuers. H is any hash
+-- function on byte lists whose digests are bytes.
 use Rattle.std.specs.Prelude.{◌≡◌, ◌⊎◌, ℕ, List, ◌++◌, codes}
 use Rattle.hex.specs.Hex.{encode_lower, IsBytes}
 use Rattle.ct_data_tiles.specs.TileLeaf.{Tiled}
@@ -15,11 +15,11 @@ use Rattle.ct_node_log.specs.Logs.{AreStepsMade, log_of_past}
 abbrev pub issuer_name : (List ℕ → List ℕ) → List ℕ → List ℕ
 issuer_name H certificate = codes "issuer/" ++ encode_lower (H certificate)
 
--- the object, a name and a content, is an issuer's: it stands under the name of its own digest
+-- the object, a name and a content, is an issuer's: it has the name of its own digest
 abbrev pub IsIssuer : (List ℕ → List ℕ) → List ℕ × List ℕ → Type 0
 IsIssuer H i = i.0 ≡ issuer_name H i.1
 
--- the object was put: as one of a state, or as an issuer's
+-- the object was put, as one of a state or as an issuer's
 abbrev pub IsPublic : (Object → List ℕ × List ℕ) → World → List (List ℕ × List ℕ) → List ℕ × List ℕ → Type 0
 IsPublic plan w issuers x = ((o : Object) × Has o w.objects × (x ≡ plan o)) ⊎ Has x issuers
 
@@ -27,9 +27,9 @@ IsPublic plan w issuers x = ((o : Object) × Has o w.objects × (x ≡ plan o)) 
 abbrev pub IsContentOf : List (List ℕ × List ℕ) → List ℕ → Type 0
 IsContentOf issuers s = (i : List ℕ × List ℕ) × Has i issuers × (s ≡ i.1)
 
--- Whatever becomes of the nodes' commands, and whoever puts whichever issuers, each under the name of its own digest: of any two objects that were ever put
--- under one name the content is one; or two strings collide, each an issuer's certificate, or one that S has (the strings that nodes hashed when they made
--- steps and resumed them) or that is hashed for the log's lines.
+-- Whatever happens to the nodes' commands, and whoever puts which issuers, each under the name of its own digest: any two objects that were
+-- ever put under one name have one content. The alternative is a collision of two strings, each of which is an issuer's certificate, is in
+-- S (the strings that nodes hashed when they made steps and resumed them), or is hashed for the log's lines.
 abbrev pub PublicNamesHaveOneContent : Type 0
 PublicNamesHaveOneContent =
     (H : List ℕ → List ℕ) → ((x : List ℕ) → IsBytes (H x)) → (S : List (List ℕ)) (line : State → StateLine) (step : Made → LineAttempt)

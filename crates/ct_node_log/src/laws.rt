@@ -1,4 +1,4 @@
-//! What follows of the definitions, each a clause of a function that does nothing but call on other laws.
+//! Theorems about the definitions. Each is a clause of a function that does nothing except call other laws.
 
 ghost use Rattle.ct_node_log.specs.Heads.{GuardedHeadsAreOfOneLog};
 ghost use Rattle.ct_node_log.specs.Kept.{NodesKeepTiles};
@@ -7,10 +7,14 @@ ghost use Rattle.ct_node_log.specs.Names.{StepsWriteTiles, StepsHaveOneContent};
 ghost use Rattle.ct_node_log.specs.Once.{NodesAddOnce};
 ghost use Rattle.ct_node_log.specs.Public.{PublicNamesHaveOneContent};
 
-/// Whatever becomes of the commands of any number of nodes, where their steps are `take_step`'s and what they put of a state is `resume`'s of
-/// its line, and of any bytes: there is one list of entries. The line of each state that the register took is that of a beginning of it. Each
-/// state whose waiting were answered has a published head, and is of a step whose receipts, bundle and entries are that list's. Of each public
-/// name of a tile one content was ever put, which is that of the list's tile. Or two of the strings that are hashed collide.
+/// Suppose that the nodes' steps are made by `take_step`, and that the objects that they put of a state are those that `resume` returns for
+/// its line and any bytes. Then, whatever happens to the commands of any number of nodes, there is one list of entries:
+/// - The line of each state that the lock took is the line of a beginning of the list.
+/// - Each state whose waiting requests were answered after its head was put has a published head. It comes from a step whose receipts,
+///   staged batch and entries are those of the list. The same holds for a state that was answered by a promise, without the head.
+/// - For each public name of a tile, only one content was ever put, which is the list's tile.
+///
+/// The alternative is that two of the strings that are hashed collide.
 pub fn nodes()
     ensures one_log { NodesWriteOneLog }
 {
@@ -20,17 +24,20 @@ pub fn nodes()
     ct_log_state::laws::bundles();
 }
 
-/// Beside such nodes anybody puts certificates of issuers, each under the name of its own digest: of any two objects, tiles, data tiles or issuers, that were
-/// ever put under one name the content is one, or two of the strings that are hashed collide.
+/// Beside such nodes, anybody may put certificates of issuers, each under the name of its own digest. If any two objects (tiles, data tiles
+/// or issuers) were ever put under one name, they have the same content, or two of the strings that are hashed collide.
 pub fn public_names()
     ensures { PublicNamesHaveOneContent }
 {
     nodes();
 }
 
-/// Beside such nodes anybody deletes partial tiles after the full one was put, and heads after a later one was: all that was ever put can still be read, each tile
-/// under its own name or as the beginning of the full one, so all that a head stands for; and so can a head that is no earlier than any. Or two of the strings that
-/// are hashed collide.
+/// Beside such nodes, anybody may delete partial tiles after the full tile was put, and heads after a later one was put. Then everything
+/// that was ever put can still be read:
+/// - Each tile can be read under its own name, or as the beginning of the full one. So this holds for everything that a head covers.
+/// - For each head that was ever put, a head that is no earlier can be read.
+///
+/// The alternative is that two of the strings that are hashed collide.
 pub fn kept()
     ensures { NodesKeepTiles }
 {
@@ -40,9 +47,9 @@ pub fn kept()
     ct_tile_names::laws::names();
 }
 
-/// Beside such nodes stand any guards before the log's key, over one register of their own: of the heads that they let through one behind the other,
-/// where the newest is one that a node asks for, each that has leaves is that of a beginning of the nodes' one list of entries. Of those before it
-/// nothing is asked. Or two of the strings that are hashed collide.
+/// Beside such nodes, any guards may protect the log's key, over one lock of their own. Take the heads that they let through one after the
+/// other, of which the newest is one that a node asks for. Each of them that has leaves is the head of a beginning of the nodes' one list
+/// of entries, or two of the strings that are hashed collide. Nothing is assumed of the heads before the newest.
 pub fn heads()
     ensures one_log { GuardedHeadsAreOfOneLog }
 {
@@ -51,8 +58,8 @@ pub fn heads()
     ct_guard::laws::heads_go_back();
 }
 
-/// Each object of a step of one log is the tile of its entries that its name says (`tiles`), so two that have one name have one content, whoever made them
-/// (`one_content`).
+/// Each object of a step of one log is the tile of the log's entries that its name denotes (`tiles`). So two objects that have one name
+/// have one content, whoever made them (`one_content`).
 pub fn names()
     ensures tiles { StepsWriteTiles }
     ensures one_content { StepsHaveOneContent }
@@ -61,9 +68,10 @@ pub fn names()
     ct_tile_names::laws::names();
 }
 
-/// Whatever becomes of the commands of any number of nodes, where who waits is looked up before each step, and no place is missing of those that
-/// were added: the register's line is that of a log which begins with the entries that were known, and has behind these no identity that stands
-/// before. Or two of the strings that are hashed collide.
+/// Suppose that waiting entries are looked up before each step, that the deduplication index misses no entry that was added, and that no
+/// batch has an identity twice. Then, whatever happens to the commands of any number of nodes, the lock's line is that of a log that begins
+/// with the entries that were known. After these, the log has no identity that occurs before. The alternative is that two of the strings
+/// that are hashed collide.
 pub fn no_identity_twice()
     ensures { NodesAddOnce }
 {

@@ -1,8 +1,10 @@
-//! The log that nodes write: whatever becomes of the commands of any number of nodes, what stands is of one list of entries.
+//! The log that nodes write: whatever happens to the commands of any number of nodes, everything in the stores belongs to one list of
+//! entries.
 //!
-//! This joins the law of a node's order (`ct_node`) with those of steps, bundles, tiles and names (`ct_step`, `ct_log_state`, `ct_tiles`,
-//! `ct_tile_names`), by their public contracts alone ([`laws::nodes`]), and with that of the guards before the log's key (`ct_guard`;
-//! [`laws::heads`]). All of it holds for every hash function on byte lists, the last for those with digests of 32 bytes.
+//! The law of a node's order (`ct_node`) is joined with those of steps, staged batches, tiles and names (`ct_step`, `ct_log_state`,
+//! `ct_tiles`, `ct_tile_names`), only by their public contracts ([`laws::nodes`]). It is also joined with the law of the guards that
+//! protect the log's key (`ct_guard`; [`laws::heads`]). All of this holds for every hash function on byte lists, except that
+//! [`laws::heads`] needs digests of 32 bytes, and [`laws::public_names`] needs digests that are bytes.
 #![tactic(auto)]
 
 pub mod laws;

@@ -1,4 +1,4 @@
--- By the laws of the nodes' log, of the nodes and of the guards, which the body calls.
+-- Uses the laws of the nodes' log, of the nodes and of the guards, which the body calls.
 use Rattle.ct_node_log.proofs.Heads.{guarded_heads_are_of_one_log}
 use Rattle.ct_node_log.proofs.laws.heads.Goals as goal
 

@@ -1,4 +1,4 @@
--- By the laws of the nodes' log, of what is deleted, and of tiles' names, which the body calls.
+-- Uses the laws of the nodes' log, of deletions, and of tiles' names, which the body calls.
 use Rattle.ct_node_log.proofs.Kept.{nodes_keep_tiles}
 use Rattle.ct_node_log.proofs.laws.kept.Goals as goal
 

@@ -1,4 +1,4 @@
--- By the laws of tiles and of their names, which the body calls.
+-- Uses the laws of tiles and of their names, which the body calls.
 use Rattle.ct_node_log.proofs.Contents.{steps_write_tiles, steps_have_one_content}
 use Rattle.ct_node_log.proofs.laws.names.Goals as goal
 

@@ -1,4 +1,4 @@
--- By the laws of the nodes and of the leaves, which the body calls.
+-- Uses the laws of the nodes and of the leaves, which the body calls.
 use Rattle.ct_node_log.proofs.Once.{nodes_add_once}
 use Rattle.ct_node_log.proofs.laws.no_identity_twice.Goals as goal
 

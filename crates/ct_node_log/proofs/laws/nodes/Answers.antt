@@ -1,4 +1,4 @@
--- By the laws of the sequencers and of the nodes, which the body calls.
+-- Uses the laws of the sequencers and of the nodes, which the body calls.
 use Rattle.ct_node_log.proofs.OneLog.{nodes_write_one_log}
 use Rattle.ct_node_log.proofs.laws.nodes.Goals as goal
 

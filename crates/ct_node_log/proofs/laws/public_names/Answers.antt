@@ -1,4 +1,4 @@
--- By the law of the nodes' log, which the body calls.
+-- Uses the law of the nodes' log, which the body calls.
 use Rattle.ct_node_log.proofs.Public.{public_names_have_one_content}
 use Rattle.ct_node_log.proofs.laws.public_names.Goals as goal
 
