@@ -1,4 +1,4 @@
--- The places of what a tile leaf has.
+-- The byte offsets of the parts of a tile leaf.
 use Rattle.std.proofs.Common.{◌≡◌, ◌∙◌, ◌+◌, ◌≤◌, ◌<◌, ◌^◌, ℕ, List, [], ◌∷◌, ◌++◌, length, map, refl, sym, ap, arith, length-append, append_assoc, append-nil}
 use Rattle.std.proofs.lemmas.Grind.{flat_map-append}
 use Rattle.std.proofs.lemmas.List.{map-append}
@@ -10,7 +10,7 @@ use Rattle.ct_data_tiles.specs.TileLeaf.{Tiled, IsTileLeaf, beside_text, tile_le
 use Rattle.ct_data_tiles.specs.DataTile.{tile_leaves_text}
 use Rattle.ct_data_tile_calls.specs.TileEntries.{HasBytesAt, PlacesAreRight, submitted_of, submitted_place, timestamped_of, fingerprints_place, tile_entry_bytes, tile_entries_bytes}
 
--- how long the parts of a timestamped entry are
+-- the length of the parts of a timestamped entry
 entry_length : (e : SignedEntry) → IsEntry e → length (entry_text e) < 2 ^ 24 + 37
 entry_length (certificate c) h = omega (arith, length-append (num 2 0) (vec 3 c), length-num 2 0, length-vec 3 c, h.1)
 entry_length (precertificate k c) h =
@@ -25,7 +25,7 @@ timestamped_short l h =
 pub vector_length : (p : List ℕ) → 3 + length p ≡ length (vec 3 p)
 vector_length p = sym (length-vec 3 p)
 
--- a place in a tile leaf is no later than its end
+-- an offset in a tile leaf is at most its length
 pub submitted_within : (l : Tiled) → IsTileLeaf l → submitted_place l.entry (length (timestamped_of l)) ≤ length (timestamped_of l) + length (beside_text l.entry l.precertificate)
 submitted_within l h = within l.timestamp l.entry l.extensions l.precertificate
   where
@@ -35,18 +35,18 @@ submitted_within l h = within l.timestamp l.entry l.extensions l.precertificate
         omega (arith, length-append (num 8 t) (E ++ vec 2 x), length-num 8 t, length-append E (vec 2 x), length-append (num 2 0) (vec 3 c), length-num 2 0, length-vec 3 c)
     within t (precertificate k c) x p = omega (arith, length-vec 3 p)
 
--- how long a tile leaf is
+-- the length of a tile leaf
 pub text_length : (l : Tiled) → length (tile_leaf_text l) ≡ fingerprints_place l + length l.fingerprints
 text_length l =
     let P = beside_text l.entry l.precertificate in
     let F = vec 2 l.fingerprints in
     omega (arith, length-append (timestamped_of l) (P ++ F), length-append P F, length-vec 2 l.fingerprints)
 
--- what follows the first parts of a list of tile leaves
+-- the texts after the first ones of a list of tile leaves
 pub texts_split : (L : List Tiled) (l : Tiled) (M : List Tiled) → tile_leaves_text (L ++ l ∷ M) ≡ tile_leaves_text L ++ (tile_leaf_text l ++ tile_leaves_text M)
 texts_split L l M = ap joined (map-append tile_leaf_text L (l ∷ M)) ∙ flat_map-append (λ (p : List ℕ). p) (map tile_leaf_text L) (map tile_leaf_text (l ∷ M))
 
--- bytes after others that are themselves after others
+-- bytes that follow others are at the sum of the two lengths if these follow others, too
 deeper : (before x rest y after : List ℕ) (tile : List ℕ) (place : ℕ) → tile ≡ before ++ (x ++ rest) → rest ≡ y ++ after → length x ≡ place
     → HasBytesAt tile (length before + place) y
 deeper before x rest y after tile place e f h = (
@@ -56,7 +56,7 @@ deeper before x rest y after tile place e f h = (
   length-append before x ∙ ap (λ (n : ℕ). length before + n) h,
 )
 
--- what was submitted is after the bytes of its place
+-- the submitted certificate or precertificate follows the bytes before its offset
 submitted_in : (t : ℕ) (e : SignedEntry) (x p f r : List ℕ)
     → (front after : List ℕ) × ((timestamped_text t e x ++ (beside_text e p ++ f)) ++ r ≡ front ++ (submitted_of e p ++ after))
     × (length front ≡ submitted_place e (length (timestamped_text t e x)))
@@ -85,7 +85,7 @@ submitted_in t (precertificate k c) x p f r =
       omega (arith, length-append S N, length-num 3 (length p)),
     )
 
--- the fingerprints are after the bytes of their place
+-- the fingerprints follow the bytes before their offset
 fingerprints_in : (l : Tiled) (r : List ℕ) → (front : List ℕ) × (tile_leaf_text l ++ r ≡ front ++ (l.fingerprints ++ r)) × (length front ≡ fingerprints_place l)
 fingerprints_in l r =
     let S = timestamped_of l in
@@ -110,7 +110,7 @@ places_are_right L l M tile h =
       deeper before two.0 (l.fingerprints ++ rest) l.fingerprints rest tile _ (whole ∙ ap (λ (s : List ℕ). before ++ s) two.1) refl two.2,
     )
 
--- ---- one entry more
+-- ---- one more entry
 pub no_entries : (start : ℕ) → tile_entries_bytes start [] ≡ []
 unfolding tile_entries_bytes
 no_entries start = refl

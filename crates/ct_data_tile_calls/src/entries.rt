@@ -15,7 +15,7 @@ use ct_codec::{LentEntry, Reader};
 use ct_data_tiles::{DataTileFault, TileLeaf, count_tile_leaves, leaf_input, tile_leaf_at};
 use std::alloc::{AllocError, Global};
 
-// Returns what was submitted for an entry: its certificate, or the precertificate.
+// Returns the certificate that was submitted for an entry, or the precertificate.
 fn submitted<'a>(entry: LentEntry<'a>, precertificate: &'a [u8]) -> &'a [u8]
     ensures { result.now ≡ submitted_of (entry_lent entry.entry) precertificate.now }
 {
@@ -25,7 +25,7 @@ fn submitted<'a>(entry: LentEntry<'a>, precertificate: &'a [u8]) -> &'a [u8]
     }
 }
 
-// Returns how many bytes of a tile leaf are before what was submitted, if its timestamped entry has this length in bytes.
+// Returns the byte offset in a tile leaf of the submitted certificate or precertificate, if its timestamped entry has this length in bytes.
 fn place_of_submitted(entry: LentEntry<'_>, timestamped: u64) -> u64
     requires { timestamped < 2 ^ 32 }
     ensures { result ≡ submitted_place (entry_lent entry.entry) timestamped }
@@ -36,7 +36,7 @@ fn place_of_submitted(entry: LentEntry<'_>, timestamped: u64) -> u64
     }
 }
 
-// Returns how many bytes a tile leaf has for the precertificate.
+// Returns the number of bytes that a tile leaf has for the precertificate.
 #[tactic(auto, using(crate::proofs::Places::vector_length))]
 fn length_beside(entry: LentEntry<'_>, precertificate: &[u8]) -> u64
     requires { IsBesideEntry (entry_lent entry) precertificate.now }
@@ -56,7 +56,7 @@ fn input_of(alloc: Global, leaf: &TileLeaf<'_>) -> Result<Vec<u8>, AllocError>
     match leaf_input(alloc, leaf) {
         Ok(bytes) => Ok(bytes),
         Err(refusal) => {
-            // Nothing else is refused of a leaf that was read.
+            // A leaf that was read is refused for no other reason.
             let _ = Unwritten::from(refusal).refusal?;
             Ok(Vec::new(alloc))
         }
@@ -80,14 +80,14 @@ fn push_vector(text: &mut Vec<u8>, bytes: &[u8]) -> Result<(), AllocError>
     Ok(())
 }
 
-// Where the tile has what was submitted for an entry, and the fingerprints.
+// The byte offsets in a tile of an entry's submitted certificate or precertificate, and of its fingerprints.
 #[derive(Clone, Copy)]
 struct Places {
     submitted: u64,
     fingerprints: u64,
 }
 
-// Returns the places of a tile leaf that begins after `start` bytes of the tile, if the tree's leaf has `input` bytes.
+// Returns the offsets for a tile leaf that begins after `start` bytes of the tile, if the tree's leaf has `input` bytes.
 fn places_of(start: u64, input: u64, leaf: &TileLeaf<'_>) -> Places
     requires leaf { IsTileLeaf (tiled leaf.now) }
     requires fits { start + length (tile_leaf_text (tiled leaf.now)) < 2 ^ 64 }
@@ -103,7 +103,7 @@ fn places_of(start: u64, input: u64, leaf: &TileLeaf<'_>) -> Places
     }
 }
 
-// Appends the entry of a tile leaf that begins after `start` bytes of the tile. Returns where the next one begins.
+// Appends the entry of a tile leaf that begins after `start` bytes of the tile. Returns the offset at which the next one begins.
 fn push_entry(
     alloc: Global,
     text: &mut Vec<u8>,
@@ -126,7 +126,7 @@ fn push_entry(
     Ok(places.fingerprints + leaf.fingerprints.len() as u64)
 }
 
-// Returns the entries that the bytes are, one after the other.
+// Returns the entries of the tile's leaves, one after the other.
 fn text_of(alloc: Global, tile: &[u8]) -> Result<Vec<u8>, DataTileFault>
     ensures found { IfOk result (λ t. IsTileEntriesText tile.now t.items) }
     ensures fault { IfErr result (λ f. (f ≡ Memory) ⊎ DataTileFaulty f tile.now) }
@@ -147,13 +147,14 @@ fn text_of(alloc: Global, tile: &[u8]) -> Result<Vec<u8>, DataTileFault>
     Ok(text)
 }
 
-/// Returns the bytes of the entries of a data tile, in order: for each the bytes of the tree's leaf (MerkleTreeLeaf, RFC 6962, section 3.4), and where the tile has
-/// what was submitted, the certificate or the precertificate, and the SHA-256 fingerprints of its issuers. Any number of entries is read. The extensions of an
-/// entry are not looked at.
+/// Returns the bytes of the entries of a data tile, in order. For each entry it has the bytes of the tree's leaf (MerkleTreeLeaf, RFC 6962,
+/// section 3.4). It also has the offset in the tile of the submitted certificate or precertificate, and that of the SHA-256 fingerprints of
+/// its issuers. The tile may have any number of entries. The extensions of an entry are not checked.
 ///
 /// # Errors
 ///
-/// `AtLeaf` if the bytes are no data tile: the index in the tile of the first entry that is none, and its first fault. `Memory` if a growth is refused.
+/// `AtLeaf` if the bytes are not a data tile: the index in the tile of the first entry that is missing or wrong, and its first fault.
+/// `Memory` if memory could not be allocated.
 pub fn tile_entries_text(alloc: Global, tile: &[u8]) -> Result<Vec<u8>, DataTileFault>
     ensures written { IfOk result (λ t. IsTileEntriesText tile.now t.items) }
     ensures refused { IfErr result (λ f. DataTileFaulty f tile.now) }

@@ -2,7 +2,7 @@
 
 ghost use Rattle.ct_data_tile_calls.specs.TileEntries.{PlacesAreRight};
 
-/// The tile has each certificate, precertificate and list of fingerprints at the place that is written.
+/// The tile has each certificate, precertificate and list of fingerprints at the offset that is written.
 pub fn places_are_right()
     ensures { PlacesAreRight }
 {}

@@ -1,4 +1,4 @@
-//! What a refusal of a leaf says, unless a growth was refused.
+//! The meaning of a refusal to write a leaf, unless memory could not be allocated.
 
 ghost use Rattle.std.specs.Prelude.{◌≡◌, ◌≢◌, MatchResult};
 ghost use Rattle.ct_codec.specs.declared.refusal.Refusal.TheVariants.{Memory};
@@ -6,7 +6,7 @@ ghost use Rattle.ct_codec.specs.declared.refusal.Refusal.TheVariants.{Memory};
 use ct_codec::Refusal;
 use std::alloc::AllocError;
 
-// Why a leaf is not written, unless a growth was refused.
+// The reason why a leaf is not written, unless memory could not be allocated.
 #[derive(Drop)]
 pub(crate) struct Unwritten {
     pub(crate) refusal: Result<Refusal, AllocError>,

@@ -1,4 +1,4 @@
--- No text of a tile leaf begins another.
+-- No text of a tile leaf is the beginning of another.
 use Rattle.std.proofs.Common.{◌≡◌, ◌∙◌, ℕ, List, ◌++◌, refl, sym, ap, arith}
 use Rattle.ct_codec.specs.Bytes.{num, vec}
 use Rattle.ct_codec.specs.Leaf.{SignedEntry, certificate, precertificate, entry_text, type_of}

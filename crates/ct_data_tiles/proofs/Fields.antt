@@ -1,4 +1,4 @@
--- How the fields of a tile leaf, or their faults, make those of the whole.
+-- The fields of a tile leaf, or their faults, determine those of the whole leaf.
 use Rattle.std.proofs.Common.{◌≡◌, ◌<◌, ◌^◌, ◌∙◌, ℕ, List, ◌++◌, length, inr, sym, ap, append_assoc}
 use Rattle.ct_codec.specs.Bytes.{num, vec}
 use Rattle.ct_codec.specs.Leaf.{SignedEntry, IsEntry, entry_text}
@@ -6,7 +6,7 @@ use Rattle.ct_data_tiles.specs.TileLeaf.{Tiled, beside_text, tile_leaf_text}
 use Rattle.ct_data_tiles.specs.Faults.{TileLeafFaulty, FaultyBehindTimestamp, FaultyBehindEntry, FaultyBehindExtensions}
 use Rattle.ct_data_tiles.specs.declared.fault.TileFault.{TileFault}
 
--- five parts and what follows them, regrouped
+-- five parts and the rest, regrouped
 pub five_parts : (a b c d e r : List ℕ) → ((a ++ (b ++ c)) ++ (d ++ e)) ++ r ≡ a ++ (b ++ (c ++ (d ++ (e ++ r))))
 five_parts a b c d e r =
     append_assoc (a ++ (b ++ c)) (d ++ e) r ∙ append_assoc a (b ++ c) ((d ++ e) ++ r)
@@ -21,7 +21,7 @@ text_of l b b1 b2 b3 b4 r e0 e1 e2 e3 e4 =
     e0 ∙ ap (λ s. num 8 l.timestamp ++ s) (e1 ∙ ap (λ s. E ++ s) (e2 ∙ ap (λ s. X ++ s) (e3 ∙ ap (λ s. P ++ s) e4)))
     ∙ sym (five_parts (num 8 l.timestamp) E X P (vec 2 l.fingerprints) r)
 
--- the fields before a faulty one are whole and right
+-- the fields before a faulty one are complete and valid
 pub behind_timestamp : (f : TileFault) (t : ℕ) (b r : List ℕ) → t < 2 ^ 64 → b ≡ num 8 t ++ r → FaultyBehindTimestamp f r → TileLeafFaulty f b
 behind_timestamp f t b r h e v = inr (t, r, h, e, v)
 

@@ -20,7 +20,7 @@ use Rattle.ct_data_tiles.specs.declared.answer.Damage.{Damage}
 use Rattle.ct_data_tiles.specs.TileAnswers.{IsDamageOf, IsDamaged}
 use Rattle.ct_data_tiles.specs.Entries.{IsDataTileName, HasEntry, IsFirstWrong}
 
--- what the leaves from a place on come to, all come to
+-- the result for the leaves from an index on is the result for all leaves
 abbrev pub LeadsTo : ℕ → ℕ → List TileLeaf → Type 0
 LeadsTo first i leaves = (o : Option ℕ) → IsFirstWrong (first + i) (tiled_all (drop i leaves)) o → IsFirstWrong first (tiled_all leaves) o
 
@@ -28,7 +28,7 @@ each_leaf : (leaves : List TileLeaf) → AllByRecursion IsTileLeaf (tiled_all le
 each_leaf [] h = All-nil (λ l. IsTileLeaf (tiled l))
 each_leaf (l ∷ leaves) h = All-cons (λ l. IsTileLeaf (tiled l)) l leaves h.0 (each_leaf leaves h.1)
 
--- each of a part of them
+-- a property of each leaf holds for each one of a part of them
 pub each_behind : (n place : ℕ) (part leaves : List TileLeaf) → part ≡ leaves → AllByRecursion IsTileLeaf (tiled_all leaves)
     → All (λ l. IsTileLeaf (tiled l)) (take n (drop place part))
 each_behind n place part leaves e h =
@@ -40,7 +40,7 @@ whole_rest place leaves =
     let size : length (drop place leaves) ≡ length leaves - place = length-drop place leaves in
     take_all (length leaves - place) (drop place leaves) (omega (arith, size))
 
--- the leaves from a place on, by the index of the first of them
+-- the leaves from an index in the tile on are those from the index `next` in the log on
 pub behind : (place next first : ℕ) (part leaves : List TileLeaf) → part ≡ leaves → first + place ≡ next
     → tiled_all (take (length part - place) (drop place part)) ≡ drop (next - first) (tiled_all leaves)
 behind place next first part leaves e f =
@@ -48,7 +48,7 @@ behind place next first part leaves e f =
     ap (λ (xs : List TileLeaf). tiled_all (take (length xs - place) (drop place xs))) e ∙ ap tiled_all (whole_rest place leaves)
     ∙ sym (drop-map tiled place leaves) ∙ ap (λ (n : ℕ). drop n (tiled_all leaves)) (sym size)
 
--- so many of them that no index is past 2^64
+-- there are so few of them that no index is above 2^64
 pub few_behind : (place next index width : ℕ) (part : List TileLeaf) → 256 * index + place ≡ next → next < 2 ^ 64 → length part ≡ width → width ≤ 256
     → place < width
     → next + length (take (length part - place) (drop place part)) ≤ 2 ^ 64
@@ -57,14 +57,14 @@ few_behind place next index width part e small count most inside =
     ap length (whole_rest place part) ∙ length-drop place part in
     omega (arith, size, e, small, count, most, inside)
 
--- the damage that a fault is, where a tile has the wanted entry
+-- the damage that corresponds to a fault if the tile has the requested entry
 pub damaged_by : (next : ℕ) (name b : List ℕ) (tile : Tile) (f : DataTileFault) (damage : Damage) → IsDamageOf f damage → DataTileFaulty f b
     → IsDataTileName name tile → HasEntry tile next
     → IsDamaged next name b damage
 damaged_by next name b tile (AtLeaf place f) damage is faulty named has = subst (IsDamaged next name b) (sym is) (tile, named, has, faulty)
 damaged_by next name b tile Memory damage is faulty named has = absurd is
 
--- what a name stands for that isn't read
+-- the meaning of a name that is not read
 pub unnamed : {F : Type 0} (r : Result (Option Tile) F) (fault : NameFault) (name : List ℕ)
     → MatchResult r (λ o. (o ≡ None) × (fault ≡ NoSuchTile)) (λ _. fault ≡ NameMemory) → NotRead name fault
     → IfOk r (λ o. MatchOption o ((tile : Tile) → IsDataTileName name tile → ⊥) (λ tile. IsDataTileName name tile))

@@ -1,11 +1,11 @@
--- One entry more.
+-- The step that adds one entry.
 use Rattle.std.proofs.Common.{◌≡◌, ◌∙◌, ℕ, zero, suc, ◌+◌, ◌-◌, ◌*◌, ◌/◌, ◌%◌, ◌<◌, ◌≤◌, List, [], ◌∷◌, ◌++◌, length, take, drop, map, get_or, sym, refl, ap, arith, Vec, Global, add-one, length-drop, append_assoc}
 use Rattle.std.proofs.lemmas.List.{take_all, take-append-le, drop-append-le, append-nil, nil_from_length, length_push, map_push, take_more}
 use Rattle.ct_codec.specs.Parts.{joined}
 use Rattle.ct_data_tiles.specs.Rows.{data_tile, data_tiles_from, IsPartialTile}
 
--- the tiles of M from an index on: how many entries the last one has (count), those before it (full) and its bytes (last), and that it isn't
--- before that index (later)
+-- The tiles of M from an index on: the number of entries of the last one (`count`), the ones before it (`full_ones`) and its bytes
+-- (`last`). The last one is not before that index (`later`).
 pub record AreTiles (first : ℕ) (M full : List (List ℕ)) (bytes : List ℕ) (n : ℕ) : Type 0 where
   pub count : n ≡ length M % 256
   pub full_ones : full ≡ data_tiles_from first (length M / 256 - first) M
@@ -37,7 +37,7 @@ joined-push : (E : List (List ℕ)) (x : List ℕ) → joined (E ++ x ∷ []) �
 joined-push [] x = append-nil x
 joined-push (y ∷ E) x = ap (λ (r : List ℕ). y ++ r) (joined-push E x) ∙ sym (append_assoc y (joined E) x)
 
--- the last tile has all that is behind the full ones
+-- the last tile has everything after the full ones
 last-tile : (q : ℕ) (M : List (List ℕ)) → length M ≤ 256 * q + 256 → data_tile q M ≡ joined (drop (256 * q) M)
 last-tile q M h = ap joined (take_all 256 (drop (256 * q) M) (omega (arith, h, length-drop (256 * q) M)))
 
@@ -105,7 +105,7 @@ at_first L size bytes full p e =
 abbrev pub text_in : Vec ℕ Global → List ℕ
 text_in t = t.items
 
--- the texts that were taken in, with one more
+-- the texts that were added, with one more
 pub texts-more : (L : List (List ℕ)) (i : ℕ) (E : List (Vec ℕ Global)) (t : Vec ℕ Global) → i < length E → t ≡ get_or E i t
     → L ++ map text_in (take (i + 1) E) ≡ (L ++ map text_in (take i E)) ++ t.items ∷ []
 texts-more L i E t h is =

@@ -1,4 +1,4 @@
--- Whole data tiles: leaves one behind the other, step by step along the bytes, and one fault for each input.
+-- Whole data tiles: leaves one after the other, step by step along the bytes, and one fault for each input.
 use Rattle.std.proofs.Common.{◌≡◌, ◌<◌, ◌≤◌, ◌+◌, ℕ, zero, suc, List, [], ◌∷◌, ◌++◌, length, map, Result, Ok, Err, Vec, ◌⊎◌, inl, inr}
 use Rattle.std.proofs.Common.{refl, sym, ap, ◌∙◌, arith, length-append, append_assoc, append-nil}
 use Rattle.std.specs.Prelude.{IfOk, IfErr}
@@ -89,12 +89,12 @@ pub data_tiles_stand_apart : DataTilesStandApart
 data_tiles_stand_apart L M b p q = texts_apart L M p.leaves q.leaves (sym p.text ∙ q.text)
 
 -- ---- one fault for each input
--- what follows a leaf, or the fault with its index
+-- the result after a leaf, or the fault with its index
 abbrev then_leaf : TileRead → ℕ → (List ℕ → DataTileFault) → DataTileFault
 then_leaf (Ok r) i k = k r
 then_leaf (Err f) i k = AtLeaf i f
 
--- the fault of at most n leaves one after the other, the first with index i, to the end of the bytes, and Memory where they have none
+-- the fault of at most n leaves one after the other, the first with index i, to the end of the bytes, or Memory if they have none
 abbrev leaves_read : ℕ → ℕ → List ℕ → DataTileFault
 leaves_read n i [] = Memory
 leaves_read zero i (x ∷ y) = Memory
@@ -104,7 +104,7 @@ next_leaf : (n i : ℕ) (y : List ℕ) → 0 < length y → leaves_read (suc n) 
 next_leaf n i [] h = absurd (omega arith)
 next_leaf n i (x ∷ y) h = refl
 
--- the leaves are read, and the rest is read with room enough
+-- the leaves are read, and the rest is read with enough steps left
 passed_leaves : (L : List Tiled) (n i : ℕ) (y s : List ℕ) → AllByRecursion IsTileLeaf L → y ≡ tile_leaves_text L ++ s → length y ≤ n
     → (m : ℕ) × (length s ≤ m) × (leaves_read n i y ≡ leaves_read m (i + length L) s)
 passed_leaves [] n i y s all e h =

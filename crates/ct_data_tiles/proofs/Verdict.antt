@@ -1,4 +1,4 @@
--- One fault for each input: a tile leaf read by a function on lists, which each fault and each text determine.
+-- One fault for each input: a function on lists reads a tile leaf, and each fault and each text determine its result.
 use Rattle.std.proofs.Common.{◌≡◌, ◌<◌, ◌^◌, ◌%◌, ℕ, zero, suc, List, [], ◌∷◌, ◌++◌, length, cond, nat_lt, Result, Ok, Err, inl, inr}
 use Rattle.std.proofs.Common.{refl, sym, ap, ◌∙◌, arith, append_assoc}
 use Rattle.std.proofs.lemmas.Bool.{lt-ltb, le-ltb}
@@ -17,7 +17,7 @@ use Rattle.ct_data_tiles.specs.declared.fault.TileFault.{TileFault}
 use Rattle.ct_data_tiles.specs.declared.fault.TileFault.TheVariants.{Field, PartialFingerprint}
 use Rattle.ct_data_tiles.proofs.Fields.{five_parts}
 
--- what follows a field of a tile leaf, or the fault
+-- the bytes after a field of a tile leaf, or the fault
 abbrev pub TileRead : Type 0
 TileRead = Result (List ℕ) TileFault
 
@@ -30,7 +30,7 @@ abbrev pub field : Read → TileRead
 field (Ok r) = Ok r
 field (Err f) = Err (Field f)
 
--- a number of two bytes and what follows it, in one list
+-- a number of two bytes and the bytes after it, in one list
 abbrev number_front : List ℕ → Read
 number_front b = number_at 2 b (λ n r. Ok (n ∷ r))
 
@@ -44,7 +44,7 @@ fingerprints_behind (n ∷ r) = fingerprints_of n r
 abbrev fingerprints_read : List ℕ → TileRead
 fingerprints_read b = then_tile (field (number_front b)) fingerprints_behind
 
--- behind the extensions, by the type of the entry
+-- the fields after the extensions, by the type of the entry
 abbrev beside_read : ℕ → List ℕ → TileRead
 beside_read zero b = fingerprints_read b
 beside_read (suc n) b = then_tile (field (certificate_at b)) fingerprints_read
@@ -91,7 +91,7 @@ fingerprints_verdict (Field Trailing) b v = absurd v
 fingerprints_verdict (Field Memory) b v = absurd v
 fingerprints_verdict PartialFingerprint b v = fingerprints_number v.0 v.1 b v.2 v.4 ∙ rw (lt-ltb 0 (v.0 % 32) v.3) refl
 
--- ---- the precertificate, and what is behind it
+-- ---- the precertificate and the fields after it
 beside_here : (e : SignedEntry) (p r b : List ℕ) → IsBesideEntry e p → b ≡ beside_text e p ++ r → beside_read (type_of e) b ≡ fingerprints_read r
 beside_here (certificate c) p r b h e = ap fingerprints_read e
 beside_here (precertificate k c) p r b h e = ap (λ x. then_tile (field x) fingerprints_read) (certificate_here p r b h e)
@@ -106,7 +106,7 @@ behind_extensions_verdict : (e : SignedEntry) (f : TileFault) (b : List ℕ) →
 behind_extensions_verdict e f b (inl v) = beside_verdict e f b v
 behind_extensions_verdict e f b (inr v) = beside_here e v.0 v.1 b v.2 v.3 ∙ fingerprints_verdict f v.1 v.4
 
--- ---- the extensions, and what is behind them
+-- ---- the extensions and the fields after them
 extensions_here : (kind : ℕ) (x r b : List ℕ) → length x < 2 ^ 16 → b ≡ vec 2 x ++ r → behind_entry_read kind b ≡ beside_read kind r
 extensions_here kind x r b h e =
     ap (λ y. then_tile (field y) (beside_read kind)) (number_here 2 (length x) (x ++ r) b bytes_at h (e ∙ append_assoc (num 2 (length x)) x r)
@@ -117,7 +117,7 @@ behind_entry_verdict e f b (inl v) =
     ap (λ y. then_tile (field y) (beside_read (type_of e))) (cut_at_last (number_at 2 b bytes_at) (vector_cut 2 v.1.0 [] b v.1.1 v.1.2)) ∙ ap Err (sym v.0)
 behind_entry_verdict e f b (inr v) = extensions_here (type_of e) v.0 v.1 b v.2 v.3 ∙ behind_extensions_verdict e f v.1 v.4
 
--- ---- the entry, and what is behind it
+-- ---- the entry and the fields after it
 kind_is : (e : SignedEntry) (r b : List ℕ) → b ≡ entry_text e ++ r → (s : List ℕ) × (number_front b ≡ Ok (type_of e ∷ s))
 kind_is (certificate c) r b e = (vec 3 c ++ r, number_is 0 (vec 3 c ++ r) b (omega arith) (e ∙ append_assoc (num 2 0) (vec 3 c) r))
 kind_is (precertificate k c) r b e =
@@ -149,7 +149,7 @@ behind_time_verdict : (f : TileFault) (b : List ℕ) → FaultyBehindTimestamp f
 behind_time_verdict f b (inl v) = missing_verdict f b v
 behind_time_verdict f b (inr v) = entry_is v.0 v.1 b v.2 v.3 ∙ behind_entry_verdict v.0 f v.1 v.4
 
--- ---- the whole
+-- ---- the whole leaf
 time_is : (t : ℕ) (r b : List ℕ) → b ≡ num 8 t ++ r → tile_read b ≡ behind_time_read r
 time_is t r b e = ap (λ x. then_tile (field x) behind_time_read) (bytes_here 8 (num 8 t) r b (length-num 8 t) e)
 

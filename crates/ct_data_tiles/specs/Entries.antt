@@ -7,7 +7,7 @@ use Rattle.ct_tile_names.specs.Names.{IsTile, name_text}
 use Rattle.ct_tile_names.specs.declared.tile.Content.TheVariants.{Entries}
 use Rattle.ct_tile_names.specs.declared.tile.Tile.{Tile}
 
--- the name is that of this data tile: a tile that has a name (named), that has entries (entries), and has this one (text)
+-- the name is that of this data tile: the tile has a name (`named`), it has entries (`entries`), and this is its name (`text`)
 pub record IsDataTileName (name : List ℕ) (tile : Tile) : Type 0 where
   pub named : IsTile tile
   pub entries : tile.content ≡ Entries
@@ -21,15 +21,16 @@ first_entry tile = 256 * tile.index
 abbrev pub HasEntry : Tile → ℕ → Type 0
 HasEntry tile next = (first_entry tile ≤ next) × (next < first_entry tile + tile.width)
 
--- of the leaves of a tile those from this index in the log on
+-- those leaves of a tile that are at this index in the log or after it
 abbrev pub entries_from : ℕ → Tile → List Tiled → List Tiled
 entries_from next tile leaves = drop (next - first_entry tile) leaves
 
--- the extensions of a leaf are its own index in the log and nothing else; an index is below 2^40 (leaf_index)
+-- the extensions of a leaf are exactly its own index in the log, and an index is below 2^40 (leaf_index)
 abbrev pub NamesOwnIndex : ℕ → Tiled → Type 0
 NamesOwnIndex index leaf = (index < 2 ^ 40) × (leaf.extensions ≡ index_extension index)
 
--- the first index, of leaves from this one on, whose leaf doesn't name its own index; none where each does
+-- the first index, of leaves whose indexes begin at this one, whose leaf does not have exactly its own index in its extensions, or none if
+-- each leaf does
 abbrev pub IsFirstWrong : ℕ → List Tiled → Option ℕ → Type 0
 IsFirstWrong index [] wrong = wrong ≡ None
 IsFirstWrong index (leaf ∷ leaves) wrong =

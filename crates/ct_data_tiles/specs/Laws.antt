@@ -8,7 +8,7 @@ use Rattle.ct_data_tiles.specs.declared.fault.TileFault.{TileFault}
 use Rattle.ct_data_tiles.specs.declared.fault.DataTileFault.{DataTileFault}
 use Rattle.ct_data_tiles.specs.declared.fault.DataTileFault.TheVariants.{Memory}
 
--- each part of the one tile leaf is that of the other
+-- each part of the one tile leaf is equal to that of the other
 pub record AreOne (l m : Tiled) : Type 0 where
   pub timestamp : l.timestamp ≡ m.timestamp
   pub entry : l.entry ≡ m.entry
@@ -16,12 +16,13 @@ pub record AreOne (l m : Tiled) : Type 0 where
   pub precertificate : l.precertificate ≡ m.precertificate
   pub fingerprints : l.fingerprints ≡ m.fingerprints
 
--- Each tile leaf has one text, and no text begins another: bytes that begin with two begin with one tile leaf, and the same follows.
+-- Each tile leaf has one text, and no text is the beginning of another: if the same bytes begin with two tile leaves, these are equal, and
+-- the same bytes follow them.
 abbrev pub TileLeavesStandApart : Type 0
 TileLeavesStandApart =
     (l m : Tiled) (r s : List ℕ) → IsTileLeaf l → IsTileLeaf m → tile_leaf_text l ++ r ≡ tile_leaf_text m ++ s → AreOne l m × (r ≡ s)
 
--- What is signed for a certificate timestamp with the extensions of a tile leaf are the bytes of the tree's leaf that it holds.
+-- The bytes that are signed for a certificate timestamp with the extensions of a tile leaf are the bytes of the tree's leaf that it holds.
 abbrev pub SignedTimestampsAreHeld : Type 0
 SignedTimestampsAreHeld = (l : Tiled) → timestamp_text l.timestamp l.entry l.extensions ≡ leaf_of l
 
@@ -41,6 +42,6 @@ DataTilesStandApart = (L M : List Tiled) (b : List ℕ) → IsDataTile L b → I
 abbrev pub DataTilesHaveOneFault : Type 0
 DataTilesHaveOneFault = (f g : DataTileFault) (b : List ℕ) → DataTileFaulty f b → DataTileFaulty g b → f ≡ g
 
--- The bytes of a data tile have no fault: only memory can stand against their reading.
+-- The bytes of a data tile have no fault, so only a lack of memory can prevent reading them.
 abbrev pub DataTilesHaveNoFault : Type 0
 DataTilesHaveNoFault = (L : List Tiled) (b : List ℕ) (f : DataTileFault) → IsDataTile L b → DataTileFaulty f b → f ≡ Memory

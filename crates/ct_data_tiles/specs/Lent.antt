@@ -1,9 +1,9 @@
--- A tile leaf that stands in its bytes, as contracts see it.
+-- A tile leaf that borrows its parts from bytes, in the form that contracts use.
 use Rattle.ct_codec.specs.Decoded.{entry_lent}
 use Rattle.ct_data_tiles.specs.TileLeaf.{Tiled}
 use Rattle.ct_data_tiles.specs.declared.leaf.TileLeaf.{TileLeaf}
 
--- what a tile leaf that stands in its bytes is
+-- the content of a tile leaf that borrows its parts
 abbrev pub tiled : TileLeaf → Tiled
 tiled l = record {
   timestamp = l.timestamp;

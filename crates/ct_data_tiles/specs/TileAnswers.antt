@@ -1,4 +1,4 @@
--- What a data tile is to who has read a log's entries up to an index.
+-- The relation of a data tile to the entries of a log that a client has read so far.
 use Rattle.std.specs.Prelude.{◌≡◌, ◌<◌, ◌≤◌, ◌+◌, ℕ, List, map, length}
 use Rattle.ct_data_tiles.specs.TileLeaf.{Tiled, leaf_of}
 use Rattle.ct_data_tiles.specs.DataTile.{IsDataTile, DataTileFaulty}
@@ -13,27 +13,33 @@ use Rattle.ct_data_tiles.specs.declared.answer.Damage.TheVariants.{NoDataTile, A
 use Rattle.ct_data_tiles.specs.declared.answer.NextEntries.{NextEntries}
 
 -- The entries of the tile with these leaves from the index `next` on: the bytes of the tree's leaves (MerkleTreeLeaf, RFC 6962, section
--- 3.4) in order (leaves), and the first index whose leaf doesn't name it (wrong_index).
+-- 3.4) in order (`leaves`), and the first index whose leaf does not have exactly this index in its extensions (`wrong_index`).
 pub record AreNext (next : ℕ) (tile : Tile) (L : List Tiled) (e : NextEntries) : Type 0 where
   pub leaves : map (λ l. l.items) e.leaves.items ≡ map leaf_of (entries_from next tile L)
   pub wrong_index : IsFirstWrong next (entries_from next tile L) e.wrong_index
 
--- the damage that a first fault of a tile's bytes is: the same at the same place; want of memory is none
+-- the damage that corresponds to the first fault of a tile's bytes: the same fault at the same index in the tile. Out of memory is no
+-- damage.
 abbrev pub IsDamageOf : DataTileFault → Damage → Type 0
 IsDamageOf (tile_fault.AtLeaf place f) damage = damage ≡ AtLeaf place f
 IsDamageOf tile_fault.Memory damage = ⊥
 
--- What is damaged. NoDataTile: the name is no data tile's. AtLeaf: the tile has the entry at `next`, and its bytes have this first fault, at
--- the leaf of that place in it. OtherCount: it has that entry, and its bytes are so many leaves, and not as many as the name says.
+-- The damage. NoDataTile: the name is not that of a data tile. AtLeaf: the tile has the entry at `next`, and its bytes have this first
+-- fault at the leaf with that index in the tile. OtherCount: it has that entry, and its bytes are this number of leaves, which differs from
+-- the one in the name.
 abbrev pub IsDamaged : ℕ → List ℕ → List ℕ → Damage → Type 0
 IsDamaged next name b NoDataTile = (tile : Tile) → IsDataTileName name tile → ⊥
 IsDamaged next name b (AtLeaf place f) = (tile : Tile) × IsDataTileName name tile × HasEntry tile next × DataTileFaulty (tile_fault.AtLeaf place f) b
 IsDamaged next name b (OtherCount count) =
     (tile : Tile) × (L : List Tiled) × IsDataTileName name tile × HasEntry tile next × IsDataTile L b × (length L ≡ count) × (¬ (count ≡ tile.width))
 
--- What the data tile of this name and these bytes is to who has read the entries before the index `next`. Gap: it begins behind that index.
--- Known: it ends before it. These two are told by the name alone. Damaged: it is no data tile of that name. Entries: it is, and has the entry
--- at `next`, and these are the entries from that one on.
+-- The relation of the data tile of this name and these bytes to a client that has read the entries before the index `next`:
+-- - Gap: it begins after that index.
+-- - Known: it ends before that index.
+-- - Damaged: it is not the data tile of that name.
+-- - Entries: it is that data tile and has the entry at `next`, and the result has the entries from that one on.
+--
+-- Only the name is needed for the first two.
 abbrev pub IsTileAnswer : ℕ → List ℕ → List ℕ → DataTileAnswer → Type 0
 IsTileAnswer next name b Gap = (tile : Tile) × IsDataTileName name tile × (next < first_entry tile)
 IsTileAnswer next name b Known = (tile : Tile) × IsDataTileName name tile × (first_entry tile + tile.width ≤ next)

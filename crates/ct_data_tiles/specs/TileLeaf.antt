@@ -3,9 +3,10 @@ use Rattle.std.specs.Prelude.{◌≡◌, ◌<◌, ◌^◌, ◌%◌, ◌++◌, []
 use Rattle.ct_codec.specs.Bytes.{vec}
 use Rattle.ct_codec.specs.Leaf.{SignedEntry, certificate, precertificate, IsEntry, IsCertificate, timestamped_text, leaf_text}
 
--- What a data tile holds of a leaf: the timestamp in milliseconds, the entry and the extensions of its TimestampedEntry; the
--- precertificate, which is no bytes where the entry is a certificate; and the SHA-256 fingerprints of the chain's issuers, one after the
--- other in order.
+-- The content of a leaf in a data tile:
+-- - the timestamp in milliseconds, the entry and the extensions of its TimestampedEntry
+-- - the precertificate, which has no bytes if the entry is a certificate
+-- - the SHA-256 fingerprints of the chain's issuers, one after the other in order
 pub record Tiled : Type 0 where
   pub timestamp : ℕ
   pub entry : SignedEntry
@@ -13,13 +14,12 @@ pub record Tiled : Type 0 where
   pub precertificate : List ℕ
   pub fingerprints : List ℕ
 
--- p can stand as the precertificate beside the entry: no bytes beside a certificate, and 1 to 2^24 - 1 bytes beside a precertificate's
--- entry
+-- p can follow the entry as the precertificate: no bytes after a certificate, and 1 to 2^24 - 1 bytes after a precertificate's entry
 abbrev pub IsBesideEntry : SignedEntry → List ℕ → Type 0
 IsBesideEntry (certificate c) p = p ≡ []
 IsBesideEntry (precertificate k c) p = IsCertificate p
 
--- the precertificate p as a vector, or no bytes where the entry is a certificate
+-- the precertificate p as a vector, or no bytes if the entry is a certificate
 abbrev pub beside_text : SignedEntry → List ℕ → List ℕ
 beside_text (certificate c) p = []
 beside_text (precertificate k c) p = vec 3 p
@@ -28,7 +28,7 @@ beside_text (precertificate k c) p = vec 3 p
 abbrev pub AreFingerprints : List ℕ → Type 0
 AreFingerprints fs = length fs % 32 ≡ 0
 
--- the bytes of a tile leaf: the timestamped entry, the precertificate as a vector where there is one, and the fingerprints as a vector
+-- the bytes of a tile leaf: the timestamped entry, the precertificate as a vector if there is one, and the fingerprints as a vector
 abbrev pub tile_leaf_text : Tiled → List ℕ
 tile_leaf_text l = timestamped_text l.timestamp l.entry l.extensions ++ (beside_text l.entry l.precertificate ++ vec 2 l.fingerprints)
 

@@ -1,37 +1,37 @@
-//! What a data tile is to who has read a log's entries up to an index.
+//! The relation of a data tile to the entries of a log that a client has read so far.
 
 use crate::fault::TileFault;
 
-/// Why there is no data tile of that name: the first reason in this order.
+/// The reason why the bytes are not the data tile of that name: the first reason in this order.
 #[derive(Clone, Copy, Debug, PartialEq, Eq)]
 pub enum Damage {
-    /// The name is no data tile's (C2SP static-ct-api, "Log Entries").
+    /// The name is not that of a data tile (C2SP static-ct-api, "Log Entries").
     NoDataTile,
-    /// At this place in the tile, the first leaf's is 0, no leaf is there.
+    /// At this index in the tile, which begins at 0, there is no leaf.
     AtLeaf(usize, TileFault),
-    /// It has so many leaves, and not as many as its name says.
+    /// It has this number of leaves, which differs from the number in its name.
     OtherCount(usize),
 }
 
-/// The entries of a tile from the one on that was wanted.
+/// The entries of a tile, from the requested one on.
 #[derive(Drop)]
 pub struct NextEntries {
-    /// The bytes of the tree's leaves (MerkleTreeLeaf, RFC 6962 section 3.4), in order. The leaf's hash is theirs.
+    /// The bytes of the tree's leaves (MerkleTreeLeaf, RFC 6962 section 3.4), in order. The leaf hash is the hash of these bytes.
     pub leaves: Vec<Vec<u8>>,
-    /// The first index in the log, of these entries, that the entry's extensions don't name, or not alone (leaf_index, C2SP
-    /// static-ct-api): a log that gives such an entry breaks its word.
+    /// The first index in the log, of these entries, whose entry does not have exactly this index in its extensions (leaf_index, C2SP
+    /// static-ct-api). A log that publishes such an entry violates the specification.
     pub wrong_index: Option<u64>,
 }
 
-/// What a data tile is to who has read a log's entries up to an index.
+/// The relation of a data tile to the entries of a log that a client has read up to an index.
 #[derive(Drop)]
 pub enum DataTileAnswer {
-    /// It begins behind the next entry: those between are missing.
+    /// It begins after the next entry, so the entries between are missing.
     Gap,
-    /// It ends before the next entry: nothing in it is new.
+    /// It ends before the next entry, so nothing in it is new.
     Known,
-    /// It is no data tile of that name.
+    /// It is not the data tile of that name.
     Damaged(Damage),
-    /// It has the next entry.
+    /// It contains the next entry.
     Entries(NextEntries),
 }

@@ -1,4 +1,4 @@
-//! Whole data tiles read from bytes (C2SP static-ct-api, "Log Entries").
+//! Reads whole data tiles from bytes (C2SP static-ct-api, "Log Entries").
 
 ghost use Rattle.std.specs.Prelude.{◌≡◌, ◌≢◌, ◌⊎◌, List, length, IfOk, IfErr};
 ghost use Rattle.ct_data_tiles.specs.TileLeaf.{Tiled};
@@ -11,7 +11,7 @@ use crate::reading::tile_leaf_at;
 use ct_codec::Reader;
 use std::alloc::Allocator;
 
-/// How many leaves the bytes are, one behind the other, to their end. It takes no memory.
+/// Returns the number of leaves that the bytes contain, one after the other, to their end. It allocates no memory.
 ///
 /// The fault is the first from the left, and never `Memory`.
 pub fn count_tile_leaves(bytes: &[u8]) -> Result<usize, DataTileFault>
@@ -30,7 +30,7 @@ pub fn count_tile_leaves(bytes: &[u8]) -> Result<usize, DataTileFault>
     Ok(count)
 }
 
-// The leaves that the bytes are, one behind the other.
+// Returns the leaves that the bytes contain, one after the other.
 fn gather<'a, A: Allocator>(
     alloc: A,
     bytes: &'a [u8],
@@ -49,19 +49,19 @@ fn gather<'a, A: Allocator>(
     Ok(leaves)
 }
 
-/// The leaves that the bytes of a data tile are, one behind the other, to their end, each where it stands. Of each the extensions are handed
-/// out as they were read: that they name the leaf's place in the log is no part of the format.
+/// Returns the leaves that the bytes of a data tile contain, one after the other, to their end. Each leaf borrows its parts from the bytes.
+/// The extensions of each leaf are returned as they were read. The format does not require that they contain the leaf's index in the log.
 ///
-/// The fault is the first from the left. The faults of the bytes are found before memory is taken.
+/// The fault is the first from the left. The faults of the bytes are found before memory is allocated.
 pub fn tile_leaves<'a, A: Allocator>(
     alloc: A,
     bytes: &'a [u8],
 ) -> Result<Vec<TileLeaf<'a>, A>, DataTileFault>
-    // What is read is what the bytes are the data tile of.
+    // The bytes are the data tile with the leaves that are returned.
     ensures found { IfOk result (λ v. IsDataTile (tiled_all v.items) bytes.now) }
     // The bytes of a data tile are read, unless memory is refused.
     ensures every { (L : List Tiled) → IsDataTile L bytes.now → GivesTileLeaves L result }
-    // Which fault it is.
+    // The fault that the bytes have.
     ensures fault { IfErr result (λ f. DataTileFaulty f bytes.now) }
 {
     count_tile_leaves(bytes)?;

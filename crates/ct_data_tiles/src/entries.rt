@@ -1,4 +1,4 @@
-//! Entries read from a data tile.
+//! Reads entries from a data tile.
 
 ghost use Rattle.std.specs.Prelude.{◌≡◌, ◌≤◌, ◌<◌, ◌+◌, ◌^◌, ℕ, List, All, length, map, IfOk, MatchOption};
 ghost use Rattle.std.specs.Bool.{MatchBool};
@@ -19,7 +19,7 @@ use ct_codec::index_extension;
 use ct_tile_names::{Content, Tile};
 use std::alloc::{AllocError, Global};
 
-// Whether the extensions of a leaf are its own index and nothing else.
+// Reports whether the extensions of a leaf are exactly its own index.
 fn names_own_index(index: u64, leaf: &TileLeaf<'_>) -> bool
     ensures { MatchBool result (NamesOwnIndex index (tiled leaf.now)) (NamesOwnIndex index (tiled leaf.now) → ⊥) }
 {
@@ -29,7 +29,7 @@ fn names_own_index(index: u64, leaf: &TileLeaf<'_>) -> bool
     leaf.extensions == index_extension(index).as_slice()
 }
 
-// The first index, of leaves from this one on, whose leaf doesn't name it.
+// Returns the first index, of leaves whose indexes begin at `first`, whose leaf does not have exactly this index in its extensions.
 fn first_wrong(first: u64, leaves: &[TileLeaf<'_>]) -> Option<u64>
     requires { first + length leaves.now ≤ 2 ^ 64 }
     ensures { IsFirstWrong first (tiled_all leaves.now) result }
@@ -43,7 +43,7 @@ fn first_wrong(first: u64, leaves: &[TileLeaf<'_>]) -> Option<u64>
     None
 }
 
-// The bytes of the tree's leaf that a tile leaf holds.
+// Returns the bytes of the tree's leaf that a tile leaf holds.
 fn input_of(alloc: Global, leaf: &TileLeaf<'_>) -> Result<Vec<u8>, AllocError>
     requires { IsTileLeaf (tiled leaf.now) }
     ensures { IfOk result (λ v. v.items ≡ leaf_of (tiled leaf.now)) }
@@ -51,14 +51,14 @@ fn input_of(alloc: Global, leaf: &TileLeaf<'_>) -> Result<Vec<u8>, AllocError>
     match leaf_input(alloc, leaf) {
         Ok(bytes) => Ok(bytes),
         Err(refusal) => {
-            // Nothing else is refused of a leaf that was read.
+            // A leaf that was read is refused for no other reason.
             let _ = Unwritten::from(refusal).refusal?;
             Ok(Vec::new(alloc))
         }
     }
 }
 
-// Those of leaves, in order.
+// Returns these bytes for each leaf, in order.
 fn inputs_of(alloc: Global, leaves: &[TileLeaf<'_>]) -> Result<Vec<Vec<u8>>, AllocError>
     requires { All (λ l. IsTileLeaf (tiled l)) leaves.now }
     ensures { IfOk result (λ v. map (λ l. l.items) v.items ≡ map leaf_of (tiled_all leaves.now)) }
@@ -71,7 +71,7 @@ fn inputs_of(alloc: Global, leaves: &[TileLeaf<'_>]) -> Result<Vec<Vec<u8>>, All
     Ok(inputs)
 }
 
-// The data tile of this name.
+// Returns the data tile that has this name, if there is one.
 fn data_tile_named(alloc: Global, name: &[u8]) -> Result<Option<Tile>, AllocError>
     ensures { IfOk result (λ o. MatchOption o ((tile : TileOf) → IsDataTileName name.now tile → ⊥) (λ tile. IsDataTileName name.now tile)) }
 {
@@ -84,7 +84,7 @@ fn data_tile_named(alloc: Global, name: &[u8]) -> Result<Option<Tile>, AllocErro
     }
 }
 
-// The place in the tile of the entry at this index in the log; none where the tile begins behind it.
+// Returns the index in the tile of the entry at the index `next` in the log, or `None` if the tile begins after it.
 fn place_in(tile: &Tile, next: u64) -> Option<u64>
     ensures { MatchOption result (next < first_entry tile.now) (λ place. first_entry tile.now + place ≡ next) }
 {
@@ -94,14 +94,14 @@ fn place_in(tile: &Tile, next: u64) -> Option<u64>
     Some(next - 256 * tile.index)
 }
 
-// The damage that a fault of a tile's bytes is.
+// Returns the damage that corresponds to a fault of a tile's bytes.
 fn damage_of(fault: DataTileFault) -> Result<Damage, AllocError>
     ensures { IfOk result (λ d. IsDamageOf fault d) }
 {
     Unread::from(fault).damage
 }
 
-// What the bytes of a tile are that has the next entry, at this place.
+// Returns the result for the bytes of a tile that has the next entry at the index `place`.
 fn entries_of_bytes(
     alloc: Global,
     next: u64,
@@ -133,14 +133,13 @@ fn entries_of_bytes(
     }))
 }
 
-/// What the data tile of this name and these bytes (C2SP static-ct-api, "Log Entries") is to who has read the
-/// entries of a log before the index `next`, and wants the one at it. A tile that begins behind it or ends before it is told by its name, and
-/// its bytes aren't read.
+/// Relates a data tile of this name and these bytes (C2SP static-ct-api, "Log Entries") to a client that has read the entries of a log
+/// before the index `next`. The name suffices to find that a tile begins after that index or ends before it. In these cases the bytes are
+/// not read.
 ///
-/// Takes memory for the entries that are handed out, and for where the tile's leaves stand in its bytes.
+/// Allocates the entries that are returned, and a list of the tile's leaves, which borrow their parts from its bytes.
 ///
-/// # Errors
-/// A growth was refused.
+/// # Errors Memory could not be allocated.
 pub fn entries_of_tile(
     alloc: Global,
     next: u64,

@@ -1,4 +1,4 @@
-//! Why bytes begin with no tile leaf, or are no data tile.
+//! The reasons why bytes do not begin with a tile leaf, or are not a data tile.
 
 ghost use Rattle.std.specs.Prelude.{◌≡◌};
 ghost use Rattle.ct_data_tiles.specs.declared.fault.TileFault.TheVariants.{Field};
@@ -8,13 +8,13 @@ use ct_codec::DecodeFault;
 use std::alloc::{AllocError, AllocFailed};
 use thiserror::Error;
 
-/// Why bytes begin with no tile leaf: the first fault from the left. A fault's text is its name.
+/// The reason why bytes do not begin with a tile leaf: the first fault from the left. A fault's text is its name.
 #[derive(Clone, Copy, Debug, PartialEq, Eq, Error)]
 pub enum TileFault {
-    /// A field that the codec reads is not there: Truncated, BadEntryType or EmptyVector.
+    /// A field that the codec reads is missing or wrong: Truncated, BadEntryType or EmptyVector.
     #[error("{0}")]
     Field(DecodeFault),
-    /// The length of the fingerprints is no multiple of 32.
+    /// The length of the fingerprints is not a multiple of 32.
     #[error("PartialFingerprint")]
     PartialFingerprint,
 }
@@ -27,13 +27,13 @@ impl From<DecodeFault> for TileFault {
     }
 }
 
-/// Why bytes are no data tile: the first fault from the left. A fault's text is its name, and the index of its leaf.
+/// The reason why bytes are not a data tile: the first fault from the left. A fault's text is its name, and the index of its leaf.
 #[derive(Clone, Copy, Debug, PartialEq, Eq, Error)]
 pub enum DataTileFault {
-    /// At this index in the tile, the first leaf's is 0, no leaf is there. All leaves before it are whole and right.
+    /// At this index in the tile, which begins at 0, there is no leaf. All leaves before it are complete and valid.
     #[error("{1} at leaf {0}")]
     AtLeaf(usize, TileFault),
-    /// A growth was refused. The bytes have no fault.
+    /// Memory could not be allocated. The bytes have no fault.
     #[error("Memory")]
     Memory,
 }

@@ -1,4 +1,4 @@
-//! The extension that names a leaf's index in the log (leaf_index, C2SP static-ct-api).
+//! The extension that holds a leaf's index in the log (leaf_index, C2SP static-ct-api).
 
 ghost use Rattle.std.specs.Prelude.{◌≡◌, ◌<◌, ◌^◌, ℕ, IfSome, IfNone};
 ghost use Rattle.ct_codec.specs.Leaf.{index_extension};
@@ -6,7 +6,7 @@ ghost use Rattle.ct_codec.specs.Leaf.{index_extension};
 use ct_codec::index_extension;
 use ct_codec::numbers::number_of_5;
 
-// The number that the last five bytes are: the one index that extensions can name and nothing else.
+// Returns the number in the last five bytes: the only index of which these extensions can be the extension.
 #[tactic(auto, using(crate::proofs::Named::only_index))]
 fn last_number(extensions: &[u8]) -> u64
     ensures fits { result < 2 ^ 40 }
@@ -18,8 +18,8 @@ fn last_number(extensions: &[u8]) -> u64
     }
 }
 
-/// The index in the log that extensions name, where they name it and nothing else: the extension type 0 in one byte, and the index in five
-/// bytes as a vector.
+/// Returns the index in the log if the extensions contain exactly this index: the extension type 0 in one byte, and the index in five bytes
+/// as a vector.
 pub fn leaf_index(extensions: &[u8]) -> Option<u64>
     ensures some { IfSome result (λ i. (i < 2 ^ 40) × (extensions.now ≡ index_extension i)) }
     ensures none { IfNone result ((i : ℕ) → i < 2 ^ 40 → extensions.now ≡ index_extension i → ⊥) }

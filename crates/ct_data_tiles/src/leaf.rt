@@ -1,4 +1,4 @@
-//! A leaf as a data tile holds it.
+//! A leaf in the form that a data tile has it.
 
 ghost use Rattle.std.specs.Prelude.{◌≡◌, ◌<◌, ◌^◌, length};
 ghost use Rattle.ct_codec.specs.Submitted.{entry_of, precertificate_text};
@@ -10,22 +10,22 @@ ghost use Rattle.ct_data_tiles.specs.Lent.{tiled};
 use ct_codec::{LentEntry, Submission};
 use std::alloc::Allocator;
 
-/// A leaf as a data tile holds it (TileLeaf, C2SP static-ct-api), where its parts stand.
+/// A leaf in the form that a data tile has it (TileLeaf, C2SP static-ct-api). Its parts are borrowed.
 #[derive(Clone, Copy)]
 pub struct TileLeaf<'a> {
-    /// The moment, in milliseconds.
+    /// The timestamp, in milliseconds.
     pub timestamp: u64,
-    /// What the leaf is about.
+    /// The entry of the leaf: a certificate, or a precertificate's TBSCertificate and the hash of its issuer's key.
     pub entry: LentEntry<'a>,
     /// The extensions, 0 to 65,535 bytes.
     pub extensions: &'a [u8],
-    /// The precertificate, or no bytes where the entry is a certificate.
+    /// The precertificate, or no bytes if the entry is a certificate.
     pub precertificate: &'a [u8],
-    /// The SHA-256 fingerprints of the chain's issuers, of 32 bytes each, one after the other in order, at most 2,047.
+    /// The SHA-256 fingerprints of the chain's issuers, 32 bytes each, in order, at most 2,047.
     pub fingerprints: &'a [u8],
 }
 
-// What the submission's leaf is about.
+// Returns the entry of the submission's leaf.
 fn lent_entry<S: Allocator>(submission: &Submission<S>) -> LentEntry<'_>
     ensures { entry_lent result ≡ entry_of submission.now }
 {
@@ -35,7 +35,7 @@ fn lent_entry<S: Allocator>(submission: &Submission<S>) -> LentEntry<'_>
     }
 }
 
-// The precertificate, or no bytes where a certificate was submitted.
+// Returns the precertificate, or no bytes if a certificate was submitted.
 fn precertificate_of<S: Allocator>(submission: &Submission<S>) -> &[u8]
     ensures beside { IsBesideEntry (entry_of submission.now) result.now }
     ensures text { beside_text (entry_of submission.now) result.now ≡ precertificate_text submission.now }
@@ -47,8 +47,9 @@ fn precertificate_of<S: Allocator>(submission: &Submission<S>) -> &[u8]
     }
 }
 
-/// The tile leaf of a submission at this moment, in milliseconds, with these extensions, at most 65,535 bytes, and the fingerprints of the
-/// issuers of its chain, at most 2,047. The precertificate is the first of the submission's chain, where one was submitted.
+/// Returns the tile leaf of a submission, with this timestamp in milliseconds, these extensions (at most 65,535 bytes), and the
+/// fingerprints of its chain's issuers (at most 2,047). If a precertificate was submitted, it is the first certificate of the submission's
+/// chain.
 pub fn tile_leaf_of<'a, S: Allocator>(
     submission: &'a Submission<S>,
     timestamp: u64,

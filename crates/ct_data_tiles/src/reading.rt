@@ -1,4 +1,4 @@
-//! Tile leaves read from bytes (C2SP static-ct-api, "Log Entries").
+//! Reads tile leaves from bytes (C2SP static-ct-api, "Log Entries").
 
 ghost use Rattle.std.specs.Prelude.{◌≡◌, ◌<◌, ◌^◌, ◌++◌, length, IfOk, IfErr};
 ghost use Rattle.ct_codec.specs.Bytes.{vec};
@@ -11,7 +11,7 @@ use crate::fault::TileFault;
 use crate::leaf::TileLeaf;
 use ct_codec::{DecodeFault, LentEntry, Reader, entry_at};
 
-// The fingerprints of the chain's issuers.
+// Reads the fingerprints of the chain's issuers.
 fn fingerprints_at<'a>(reader: &mut Reader<'a>) -> Result<&'a [u8], TileFault>
     ensures found { IfOk result (λ fs. AreFingerprints fs.now × (length fs.now < 2 ^ 16) × (reader.old ≡ vec 2 fs.now ++ reader.new)) }
     ensures fault { IfErr result (λ f. FingerprintsFaulty f reader.old) }
@@ -28,7 +28,7 @@ fn fingerprints_at<'a>(reader: &mut Reader<'a>) -> Result<&'a [u8], TileFault>
     Ok(fingerprints)
 }
 
-// The precertificate, or no bytes where the entry is a certificate.
+// Reads the precertificate, or no bytes if the entry is a certificate.
 fn precertificate_at<'a>(
     reader: &mut Reader<'a>,
     entry: LentEntry<'_>,
@@ -42,14 +42,14 @@ fn precertificate_at<'a>(
     }
 }
 
-/// The tile leaf that the bytes begin with, where it stands, read from the front. It takes no memory.
+/// Reads the tile leaf at the front of the bytes. The leaf borrows its parts from the bytes. It allocates no memory.
 ///
 /// The fault is the first from the left.
 #[tactic(auto, using(crate::proofs::Fields::text_of))]
 pub fn tile_leaf_at<'a>(reader: &mut Reader<'a>) -> Result<TileLeaf<'a>, TileFault>
-    // What is read is what the bytes begin with.
+    // The bytes begin with the leaf that is returned.
     ensures found { IfOk result (λ l. BeginsWith (tiled l) reader.old reader.new) }
-    // Which fault it is.
+    // The fault that the bytes have.
     ensures fault { IfErr result (λ f. TileLeafFaulty f reader.old) }
 {
     let Some(timestamp) = reader.number_8() else {

@@ -1,4 +1,4 @@
-//! The data tiles that more entries write.
+//! The data tiles that change or are new if entries are added.
 
 ghost use Rattle.std.specs.Prelude.{◌≡◌, ℕ, List, map, IfOk};
 ghost use Rattle.ct_data_tiles.specs.Rows.{IsPartialTile, IsDataRow};
@@ -12,14 +12,14 @@ pub struct DataRow {
     pub first: u64,
     /// The bytes of the full tiles, in order.
     pub full: Vec<Vec<u8>>,
-    /// The bytes of the partial tile behind them, of 0 to 255 entries.
+    /// The bytes of the partial tile after them, of 0 to 255 entries.
     pub partial: Vec<u8>,
 }
 
-/// Takes in the texts of more entries, in order, behind a log of `size` entries whose partial data tile has these bytes: answers the
-/// tiles from that one on. Where the partial tile gets full it is the first of the full ones.
+/// Adds the texts of more entries, in order, to a log of `size` entries whose partial data tile has these bytes. Returns the tiles from
+/// that one on. If the partial tile becomes full, it is the first of the full ones.
 ///
-/// Takes memory for a copy of the partial tile and of the texts.
+/// Allocates copies of the partial tile and of the texts.
 pub fn add_entries(
     alloc: Global,
     size: u64,

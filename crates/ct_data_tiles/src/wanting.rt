@@ -1,4 +1,4 @@
-//! What an error of a crate below says: what it stands for here, unless a growth was refused.
+//! The meaning of the errors of other crates in this one. Each is a value, unless memory could not be allocated.
 
 ghost use Rattle.std.specs.Prelude.{◌≡◌, ◌≢◌, None, MatchResult};
 ghost use Rattle.ct_codec.specs.declared.refusal.Refusal.TheVariants.{Memory};
@@ -12,7 +12,7 @@ use ct_codec::Refusal;
 use ct_tile_names::{NameFault, Tile};
 use std::alloc::AllocError;
 
-// Of a name that isn't read: it is no tile's, unless a growth was refused.
+// The meaning of a name that is not read: it is no tile's, unless memory could not be allocated.
 #[derive(Drop)]
 pub(crate) struct Unnamed {
     pub(crate) tile: Result<Option<Tile>, AllocError>,
@@ -30,7 +30,7 @@ impl From<NameFault> for Unnamed {
     }
 }
 
-// Of a tile's bytes that aren't read: their damage, unless a growth was refused.
+// The meaning of a tile's bytes that are not read: their damage, unless memory could not be allocated.
 #[derive(Drop)]
 pub(crate) struct Unread {
     pub(crate) damage: Result<Damage, AllocError>,
@@ -48,7 +48,7 @@ impl From<DataTileFault> for Unread {
     }
 }
 
-// Of a leaf that isn't written: why, unless a growth was refused.
+// The reason why a leaf is not written, unless memory could not be allocated.
 #[derive(Drop)]
 pub(crate) struct Unwritten {
     pub(crate) refusal: Result<Refusal, AllocError>,

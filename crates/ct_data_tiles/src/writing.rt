@@ -1,4 +1,4 @@
-//! The bytes of tile leaves (C2SP static-ct-api, "Log Entries").
+//! Writes the bytes of tile leaves (C2SP static-ct-api, "Log Entries").
 
 ghost use Rattle.std.specs.Prelude.{◌≡◌, ◌<◌, ◌^◌, ◌++◌, length, IfOk, OnOk, IsOkUnless};
 ghost use Rattle.ct_codec.specs.Bytes.{vec};
@@ -32,7 +32,7 @@ fn push_entry<A: Allocator>(out: &mut Vec<u8, A>, entry: LentEntry<'_>) -> Resul
     }
 }
 
-// Writes bytes as a vector whose length stands in two bytes.
+// Writes bytes as a vector whose length has two bytes.
 fn push_vector_2<A: Allocator>(out: &mut Vec<u8, A>, bytes: &[u8]) -> Result<(), Refusal>
     requires { length bytes.now < 2 ^ 16 }
     ensures written { OnOk result (out.new.items ≡ out.old.items ++ vec 2 bytes.now) }
@@ -54,7 +54,7 @@ fn push_timestamped<A: Allocator>(out: &mut Vec<u8, A>, leaf: &TileLeaf<'_>) -> 
     push_vector_2(out, leaf.extensions)
 }
 
-// Writes the precertificate as a vector, where the entry is one's.
+// Writes the precertificate as a vector if the entry is that of a precertificate.
 fn push_beside<A: Allocator>(
     out: &mut Vec<u8, A>,
     entry: LentEntry<'_>,
@@ -70,7 +70,7 @@ fn push_beside<A: Allocator>(
     }
 }
 
-/// Writes a tile leaf behind what was written.
+/// Appends a tile leaf to the bytes.
 pub fn push_tile_leaf<A: Allocator>(
     out: &mut Vec<u8, A>,
     leaf: &TileLeaf<'_>,
@@ -84,7 +84,7 @@ pub fn push_tile_leaf<A: Allocator>(
     push_vector_2(out, leaf.fingerprints)
 }
 
-/// The bytes of the tree's leaf (MerkleTreeLeaf, RFC 6962 section 3.4) that a tile leaf holds.
+/// Returns the bytes of the tree's leaf (MerkleTreeLeaf, RFC 6962 section 3.4) that a tile leaf holds.
 pub fn leaf_input<A: Allocator>(alloc: A, leaf: &TileLeaf<'_>) -> Result<Vec<u8, A>, Refusal>
     requires { IsTileLeaf (tiled leaf.now) }
     ensures text { IfOk result (λ b. b.items ≡ leaf_of (tiled leaf.now)) }

@@ -1,4 +1,4 @@
--- A tile's numbers are read out of its name.
+-- The numbers of a tile are read from its name.
 use Rattle.std.proofs.Common.{◌≡◌, ℕ, zero, suc, ◌+◌, ◌-◌, ◌*◌, ◌/◌, ◌%◌, ◌^◌, ◌<◌, ◌≤◌, refl, sym, ◌∙◌, ap, arith, ◌≢◌, ⊎_elim, ◌⊎◌, inl, inr, Option, Some, None, take, MatchOption, Bool, true, false, nat_eq, nat_lt, List, [], ◌∷◌, ◌++◌, length, drop, get_or, append_assoc, append-nil, length-append}
 use Rattle.std.proofs.lemmas.Bool.{ne_eqb, lt-ltb, le-ltb, cases_lt, false≢true}
 use Rattle.std.proofs.lemmas.Bool.Decides.{eqb_tells, nat_tests}
@@ -116,7 +116,7 @@ content_read Entries T few =
     pass 47 0 100 (97 ∷ 116 ∷ 97 ∷ 47 ∷ T) (λ same. absurd (omega arith)) ∙ pass 47 0 97 (116 ∷ 97 ∷ 47 ∷ T) (λ same. absurd (omega arith))
     ∙ pass 47 0 116 (97 ∷ 47 ∷ T) (λ same. absurd (omega arith)) ∙ pass 47 0 97 (47 ∷ T) (λ same. absurd (omega arith)) ∙ ends 47 0 T
 
--- what stands behind the index, without the dot
+-- the text after the index, without the dot
 abbrev pub after_dot : ℕ → List ℕ
 after_dot width = if nat_lt width 256 then codes "p/" ++ decimal width else []
 
@@ -149,7 +149,7 @@ pub level_read : (tile : Tile) → IsTile tile → number_until 47 0 (drop 5 (na
 level_read tile is =
     ap (number_until 47 0) (without_first tile) ∙ content_read tile.content (index_text tile.index ++ width_text tile.width) is.content
 
--- the first byte of the content tells entries from hashes
+-- the first byte of the content distinguishes entries from hashes
 first_of_decimal : (n : ℕ) (T : List ℕ) → n < 1000 → nat_eq (get_or (decimal n ++ T) 0 0) 100 ≡ false
 first_of_decimal n T h =
     ⊎_elim
@@ -170,7 +170,7 @@ content_told tile is =
     ap (λ b. nat_eq b 100) (get_or-append-add (codes "tile/") (rest_of tile) 0 0)
     ∙ first_of_content tile.content (47 ∷ (index_text tile.index ++ width_text tile.width)) is.content
 
--- ---- two tiles of one name
+-- ---- two tiles of the same name
 same_content : (a b : Content) → is_data a ≡ is_data b → level_number a ≡ level_number b → a ≡ b
 same_content (Hashes n) (Hashes m) d l = ap Hashes l
 same_content (Hashes n) Entries d l = absurd (false≢true d)

@@ -1,4 +1,4 @@
-//! What follows of the definitions of `specs/Names.antt`.
+//! Theorems about the definitions in `specs/Names.antt`.
 ghost use Rattle.ct_tile_names.specs.Answers.{NamesDiffer};
 
 /// No two tiles have one name.

@@ -1,11 +1,11 @@
-//! The one tile that a text may be the name of.
+//! The only tile of which a text can be the name.
 ghost use Rattle.std.specs.Prelude.{◌≡◌, Some, ◌<◌, ◌≤◌, ◌^◌, ℕ, List, MatchOption};
 ghost use Rattle.ct_tile_names.specs.Names.{IsTile, name_text};
 ghost use Rattle.ct_tile_names.specs.Reading.{with_digit, number_until, HasNumbers};
 
 use crate::tile::{Content, Tile};
 
-// A number and one more byte, where it is a digit.
+// Appends one more digit to a number. A byte that is not a digit changes nothing. Returns `None` if the number does not fit.
 fn with_byte(n: u64, byte: u8) -> Option<u64>
     ensures { MatchOption result (2 ^ 64 ≤ with_digit n byte) (λ more. more ≡ with_digit n byte) }
 {
@@ -15,7 +15,7 @@ fn with_byte(n: u64, byte: u8) -> Option<u64>
     n.checked_mul(10)?.checked_add(u64::from(byte - 48))
 }
 
-// The number that the digits before a byte write, and what stands behind that byte.
+// Returns the number that the digits before the byte `end` write, and the text after that byte. Returns `None` if the number does not fit.
 fn number_before(text: &[u8], end: u8) -> Option<(u64, &[u8])>
     ensures { MatchOption result (2 ^ 64 ≤ (number_until end 0 text.now).0)
         (λ r. (r.0 ≡ (number_until end 0 text.now).0) × (r.1.now ≡ (number_until end 0 text.now).1)) }
@@ -33,7 +33,7 @@ fn number_before(text: &[u8], end: u8) -> Option<(u64, &[u8])>
     Some((n, &[]))
 }
 
-// The tile of these numbers, as they stand in a text: a width of 0 stands for none.
+// Returns the tile with these numbers, as a text has them: a width of 0 means that the text has no width.
 fn tile_of(has_entries: bool, level: u64, index: u64, width: u64) -> Option<Tile>
     ensures { (tile : Tile) → IsTile tile → HasNumbers tile has_entries level index width → result ≡ Some tile }
 {
@@ -50,7 +50,7 @@ fn tile_of(has_entries: bool, level: u64, index: u64, width: u64) -> Option<Tile
     })
 }
 
-/// The tile of which this may be the name: if it is the name of one, it is that one's.
+/// Returns the only tile of which this text can be the name. If the text is the name of any tile, it is that of the returned one.
 pub(crate) fn read_tile(text: &[u8]) -> Option<Tile>
     ensures { MatchOption result ((tile : Tile) → IsTile tile → name_text tile ≡ text.now → ⊥)
         (λ read. (tile : Tile) → IsTile tile → name_text tile ≡ text.now → tile ≡ read) }

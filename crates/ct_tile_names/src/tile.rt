@@ -10,34 +10,33 @@ use crate::writing::written;
 use std::alloc::{AllocError, Global};
 use thiserror::Error;
 
-/// What stands in a tile.
+/// The content of a tile.
 #[derive(Clone, Copy, Debug, PartialEq, Eq)]
 pub enum Content {
-    /// Hashes of a level, 0 to 63, of which a log of C2SP tlog-tiles has 0 to 5.
+    /// Hashes of a level from 0 to 63. A log of C2SP tlog-tiles has the levels 0 to 5.
     Hashes(u8),
-    /// The entries whose hashes a tile of level 0 has: a data tile.
+    /// The entries whose hashes are in a tile of level 0: this is a data tile.
     Entries,
 }
 
-/// A tile of a log. Any value of the fields is a `Tile`; those that have a name are of a level up to 63, and 1 to 256
-/// wide.
+/// A tile of a log. Any values of the fields are a `Tile`. A tile has a name only if its level is at most 63 and its width is 1 to 256.
 #[derive(Clone, Copy, Debug, PartialEq, Eq)]
 pub struct Tile {
-    /// What stands in it.
+    /// Its content.
     pub content: Content,
-    /// Its index in its level: the first one has 0.
+    /// Its index in its level, which begins at 0.
     pub index: u64,
-    /// How many hashes or entries it has: 256, or fewer in a partial tile.
+    /// The number of its hashes or entries: 256, or fewer in a partial tile.
     pub width: u16,
 }
 
-/// Why there is no name, or no tile.
+/// The reason why there is no name or no tile.
 #[derive(Clone, Copy, PartialEq, Eq, Debug, Error)]
 pub enum NameFault {
-    /// No tile is so wide, or of such a level, or has such a name.
+    /// No tile has this width, this level or this name.
     #[error("there is no such tile")]
     NoSuchTile,
-    /// A growth was refused.
+    /// Memory could not be allocated.
     #[error("there is no memory for the name of the tile")]
     Memory,
 }
@@ -50,7 +49,7 @@ impl From<AllocError> for NameFault {
     }
 }
 
-// Whether hashes are of a level that a log may have.
+// Reports whether a log may have hashes of this level.
 fn is_content(content: Content) -> bool
     ensures { MatchBool result (IsContent content) (IsContent content → ⊥) }
 {
@@ -70,16 +69,16 @@ fn is_named(tile: Tile) -> bool
 }
 
 impl Tile {
-    /// Whether this is a tile that has a name: of a level up to 63, and 1 to 256 wide.
+    /// Reports whether this tile has a name: its level is at most 63, and its width is 1 to 256.
     pub fn has_name(&self) -> bool
         ensures { MatchBool result (IsTile self.now) (IsTile self.now → ⊥) }
     {
         is_named(*self)
     }
 
-    /// The name, as ASCII: `tile/<L>/<N>` (C2SP tlog-tiles, "Merkle Tree") or `tile/data/<N>` (C2SP static-ct-api,
-    /// "Log Entries"), and `.p/<W>` behind it where the width is below 256. N is the index in groups of three digits,
-    /// each but the last with an x in front. Takes memory for the name alone.
+    /// Returns the name as ASCII: `tile/<L>/<N>` (C2SP tlog-tiles, "Merkle Tree") or `tile/data/<N>` (C2SP static-ct-api, "Log Entries"),
+    /// followed by `.p/<W>` if the width is below 256. N is the index in groups of three digits, and each group except the last has an x
+    /// before it. Allocates only the name.
     pub fn name(&self, alloc: Global) -> Result<Vec<u8>, NameFault>
         ensures { MatchResult result (λ text. IsTile self.now × (text.items ≡ name_text self.now)) (NotWritten self.now) }
     {
@@ -89,7 +88,7 @@ impl Tile {
         Ok(written(alloc, self)?)
     }
 
-    /// The name of a tile that has one, as ASCII ([`Tile::name`]). Takes memory for the name alone.
+    /// Returns the name of a tile that has one, as ASCII ([`Tile::name`]). Allocates only the name.
     pub fn known_name(&self, alloc: Global) -> Result<Vec<u8>, AllocError>
         requires { IsTile self.now }
         ensures { IfOk result (λ text. text.items ≡ name_text self.now) }
@@ -97,7 +96,7 @@ impl Tile {
         written(alloc, self)
     }
 
-    /// The tile that has this name. Takes memory for the name that it compares the text with.
+    /// Returns the tile that has this name. Allocates the name with which it compares the text.
     pub fn from_name(alloc: Global, text: &[u8]) -> Result<Tile, NameFault>
         ensures { MatchResult result (λ tile. IsTile tile × (name_text tile ≡ text.now)) (NotRead text.now) }
     {

@@ -1,11 +1,11 @@
-//! The parts of a name, written.
+//! Writes the parts of a name.
 ghost use Rattle.std.specs.Prelude.{◌≡◌, ◌<◌, ◌≤◌, ◌+◌, ◌%◌, ◌++◌, ℕ, OnOk, IfOk};
 ghost use Rattle.ct_tile_names.specs.Names.{IsTile, IsContent, name_text, three_digits, decimal, leading_groups, index_text, content_text, width_text};
 
 use crate::tile::{Content, Tile};
 use std::alloc::{AllocError, Global};
 
-// The digit at the end of a number.
+// Returns the last digit of a number.
 fn digit(n: u64) -> u8
     ensures { result ≡ 48 + n % 10 }
 {
@@ -46,7 +46,7 @@ fn push_content(text: &mut Vec<u8>, content: Content) -> Result<(), AllocError>
     }
 }
 
-// The groups in front of the last one, at most so many.
+// Writes the groups before the last one, at most `groups` of them.
 fn push_leading_groups(text: &mut Vec<u8>, groups: u64, n: u64) -> Result<(), AllocError>
     ensures { OnOk result (text.new.items ≡ text.old.items ++ leading_groups groups n) }
 {
@@ -78,7 +78,7 @@ fn push_width(text: &mut Vec<u8>, width: u16) -> Result<(), AllocError>
     push_decimal(text, u64::from(width))
 }
 
-// The name of a tile that has one.
+// Returns the name of a tile that has one.
 pub(crate) fn written(alloc: Global, tile: &Tile) -> Result<Vec<u8>, AllocError>
     requires { IsTile tile.now }
     ensures { IfOk result (λ text. text.items ≡ name_text tile.now) }

@@ -1,4 +1,4 @@
--- The roots of chunks, and what more leaves change.
+-- The roots of chunks, and the changes when leaves are added.
 use Rattle.std.proofs.Common.{◌≡◌, ℕ, zero, suc, ◌+◌, ◌-◌, ◌*◌, ◌/◌, ◌<◌, ◌≤◌, refl, sym, ◌∙◌, ap, arith, List, [], ◌∷◌, ◌++◌, length, take, drop, get_or}
 use Rattle.std.proofs.Common.{length-drop, length-append, add-one, ⊎_elim}
 use Rattle.std.proofs.lemmas.Bool.{cases_lt}
@@ -6,7 +6,7 @@ use Rattle.std.proofs.lemmas.List.{take-append-le, drop-append-le, drop-drop, le
 use Rattle.ct_tree.specs.Tree.{mth}
 use Rattle.ct_tiles.specs.Tiles.{chunk_roots, up, behind, hashes, row, rows, edge}
 
--- one chunk more
+-- one more chunk
 pub chunk_roots-more : (H : List ℕ → List ℕ) (w i : ℕ) (E : List (List ℕ))
     → chunk_roots H w (suc i) E ≡ chunk_roots H w i E ++ mth H (take w (drop (w * i) E)) ∷ []
 unfolding chunk_roots
@@ -55,7 +55,7 @@ quotient n m = omega arith
 length-behind : (E X : List (List ℕ)) → length (behind 256 E ++ X) ≡ length E - 256 * (length E / 256) + length X
 length-behind E X = length-append (behind 256 E) X ∙ ap (λ n. n + length X) (length-drop (256 * (length E / 256)) E)
 
--- the chunks of the longer list: those of the list, and those that begin behind them
+-- the chunks of the longer list: those of the list, and those that begin after them
 count : (E X : List (List ℕ)) → length (E ++ X) / 256 ≡ length E / 256 + length (behind 256 E ++ X) / 256
 count E X = rw (length-append E X, length-behind E X) (quotient (length E) (length X))
 

@@ -1,4 +1,4 @@
--- What is cut of a level's hashes, and how many these are.
+-- The parts into which a level's hashes are cut, and their sizes.
 use Rattle.std.proofs.Common.{◌≡◌, ℕ, zero, suc, ◌/◌, ◌<◌, ◌≤◌, refl, ap, arith, ltb-true, ltb-false, List, length, take}
 use Rattle.std.specs.Prelude.{true, false, nat_lt}
 use Rattle.std.proofs.lemmas.List.{length-take-le, take_all}

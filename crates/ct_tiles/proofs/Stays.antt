@@ -1,4 +1,4 @@
--- What was written stays.
+-- Tiles that were written do not change.
 use Rattle.std.proofs.Common.{◌≡◌, ℕ, ◌+◌, ◌*◌, ◌/◌, ◌≤◌, ◌∙◌, ap, arith, List, ◌++◌, length, take, drop, length-drop}
 use Rattle.std.proofs.lemmas.List.{take-append-le, drop-append-le, drop-drop}
 use Rattle.ct_tiles.specs.Tiles.{hashes}

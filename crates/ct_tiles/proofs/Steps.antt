@@ -59,7 +59,7 @@ pub none_more : (H : List ℕ → List ℕ) (k : ℕ) (old new : List (Vec (List
 none_more H k old new t n z o =
     ap (map (λ v. v.items)) n ∙ map_push (λ v. v.items) old t ∙ rw (o, z) (ap (λ E. edge H 256 k [] ++ behind 256 E ∷ []) (sym (none_at H k)) ∙ sym (edge-more H k []))
 
--- the hashes from a place on, 256 or as many as there are
+-- the hashes from an index on, 256 or as many as there are
 pub cut : (start width : ℕ) (X Y : List (List ℕ)) → X ≡ Y → start < length Y → (width ≡ 256) ⊎ ((width ≡ length Y - start) × (width < 256))
     → take (start + width - start) (drop start X) ≡ take 256 (drop start Y)
 cut start width X Y e h (inl w) =

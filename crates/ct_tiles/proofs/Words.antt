@@ -44,7 +44,7 @@ unfolding chunk_roots
 ones H [] = refl
 ones H (x ∷ D) = ap (λ (y : List ℕ). y ∷ chunk_roots H 1 (length D) D) (mth-one H x) ∙ ap (λ r. x ∷ r) (ones H D)
 
--- the first c chunks of the first 256 * c chunks, where there are m of these
+-- the first c chunks of the first 256 * c chunks, if there are m of these
 chunks_up : (H : List ℕ → List ℕ) (j c m : ℕ) (D : List (List ℕ)) → c * 256 ≤ m → m * 2 ^ j ≤ length D
     → chunk_roots H 256 c (chunk_roots H (2 ^ j) m D) ≡ chunk_roots H (2 ^ (8 + j)) c D
 chunks_up H j c m D few fits =

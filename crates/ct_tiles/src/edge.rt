@@ -1,4 +1,4 @@
-//! The right edge of a log's tiles: all that is needed to write the next ones.
+//! The right edge of a log's tiles: the partial tile of each level, which is all that is needed to write the next tiles.
 ghost use Rattle.std.specs.Prelude.{◌≡◌, ◌+◌, ◌<◌, ◌^◌, ◌++◌, ℕ, List, [], length, map, slice_index_or, IfOk, MatchOption};
 ghost use Rattle.ct_tree.specs.Tree.{mth};
 ghost use Rattle.ct_tiles.specs.Tiles.{rows};
@@ -10,9 +10,8 @@ use ct_tree::reference::root as root_of;
 use std::alloc::{AllocError, Global};
 use std::marker::Model;
 
-/// The number of leaves of a log, and the partial tile of each of its 8 levels: at most 8 times 255 hashes, 65 KB.
-/// Contracts see the pair of both. Nothing is known of an edge by itself: each contract speaks of every list of leaf
-/// hashes whose edge it is.
+/// The number of leaves of a log, and the partial tile of each of its 8 levels: at most 8 times 255 hashes, 65 KB. Contracts see it as the
+/// pair of both. An edge by itself proves nothing: each contract holds for every list of leaf hashes whose edge it is.
 #[derive(Drop)]
 pub struct Edge {
     size: u64,
@@ -27,7 +26,7 @@ impl Model for Edge {
     ghost invariant = { λ e. length e.tiles.items ≡ 8 };
 }
 
-/// What more leaves make of a log's tiles, answered by [`take_in`].
+/// The tiles of a log after leaves were added, returned by [`take_in`].
 #[derive(Drop)]
 pub struct Advance {
     /// For each of the 8 levels, level 0 first, its tiles from the one on that was partial: all that change or are new.
@@ -37,7 +36,7 @@ pub struct Advance {
 }
 
 impl Edge {
-    /// The edge of a log of no leaves. Takes memory for the list of its 8 empty tiles.
+    /// Returns the edge of a log without leaves. Allocates the list of its 8 empty tiles.
     pub fn empty(alloc: Global) -> Result<Edge, AllocError>
         ensures { IfOk result (λ e. (H : List ℕ → List ℕ) → IsEdge H e []) }
     {
@@ -49,8 +48,8 @@ impl Edge {
         Ok(Edge { size: 0, tiles })
     }
 
-    /// The edge of `size` leaves with these partial tiles, level 0 first, as they were saved: whatever they are, and
-    /// None where they aren't of 8 levels. Takes no memory.
+    /// Returns the edge of `size` leaves with these partial tiles, level 0 first, as they were saved. They may have any content. Returns
+    /// None if they do not have 8 levels. Allocates no memory.
     pub fn from_parts(size: u64, tiles: Vec<Vec<[u8; 32]>>) -> Option<Edge>
         ensures { MatchOption result (length tiles.items ≡ 8 → ⊥) (λ e. e ≡ (size, map (λ t. t.items) tiles.items)) }
     {
@@ -60,14 +59,14 @@ impl Edge {
         Some(Edge { size, tiles })
     }
 
-    /// The number of leaves.
+    /// Returns the number of leaves.
     pub fn size(&self) -> u64
         ensures { result ≡ self.now.0 }
     {
         self.size
     }
 
-    /// The partial tile of a level from 0 to 7: at most 255 hashes.
+    /// Returns the partial tile of a level from 0 to 7: at most 255 hashes.
     pub fn tile(&self, level: usize) -> &[[u8; 32]]
         requires { level < 8 }
         ensures { result.now ≡ slice_index_or self.now.1 level [] }
@@ -75,8 +74,8 @@ impl Edge {
         &self.tiles[level]
     }
 
-    /// The root of all leaves (MTH of RFC 6962, section 2.1). Hashes at most 8 times 255 nodes, and takes memory for
-    /// one level at a time.
+    /// Returns the root of all leaves (MTH of RFC 6962, section 2.1). Hashes at most 8 times 255 nodes, and allocates memory for one level
+    /// at a time.
     pub fn root<H: NodeHash>(&self, alloc: Global, h: &H) -> Result<[u8; 32], AllocError>
         ensures { IfOk result (λ r. (D : List (List ℕ)) → IsEdge H.digest self.now D → length D < 2 ^ 64 → r ≡ mth H.digest D) }
     {
@@ -89,11 +88,11 @@ impl Edge {
     }
 }
 
-/// Takes in the hashes of more leaves, in order (C2SP tlog-tiles, "Merkle Tree"): answers for each level its tiles from
-/// the one on that was partial, and the edge afterwards. The edge that was given stays as it was.
+/// Adds the hashes of more leaves, in order (C2SP tlog-tiles, "Merkle Tree"). Returns for each level its tiles from the one on that was
+/// partial, and the edge afterwards. The given edge does not change.
 ///
-/// Hashes each tile that gets full once, and nothing else: less than one node a leaf. Copies the partial tiles and the
-/// new hashes twice. The new size wraps at 2^64.
+/// Hashes each tile that becomes full once, and nothing else: less than one node for each leaf. Copies the partial tiles and the new hashes
+/// twice. The new size wraps at 2^64.
 pub fn take_in<H: NodeHash>(
     alloc: Global,
     h: &H,

@@ -1,4 +1,4 @@
-//! The tiles of one level, one behind the other.
+//! The tiles of one level, one after the other.
 ghost use Rattle.std.specs.Prelude.{◌≡◌, ◌*◌, ◌^◌, ◌<◌, ◌≤◌, ◌++◌, length, take, drop, IfOk, MatchOption};
 ghost use Rattle.ct_tiles.specs.Tiles.{up, behind, lone_root};
 
@@ -6,7 +6,7 @@ use ct_tree::NodeHash;
 use ct_tree::reference::root;
 use std::alloc::{AllocError, Global};
 
-/// The tiles of a level from an index on to its end: 256 hashes each, fewer in the last one.
+/// The tiles of a level from an index on to its end: 256 hashes each, or fewer in the last one.
 #[derive(Drop)]
 pub struct Row {
     /// The index of the first tile in its level.
@@ -16,8 +16,8 @@ pub struct Row {
 }
 
 impl Row {
-    /// The tile at a place of the row, whose index in its level is `first` + `place`: 256 hashes, or 1 to 255 in the
-    /// last one, which is partial. None behind the last one. Takes no memory.
+    /// Returns the tile at an index of the row, whose index in its level is `first` + `place`. It has 256 hashes, or 1 to 255 if it is the
+    /// last one and partial. Returns None after the last one. Allocates no memory.
     pub fn tile(&self, place: usize) -> Option<&[[u8; 32]]>
         requires { place < 2 ^ 48 }
         ensures { MatchOption result (length self.now.hashes.items ≤ 256 * place)
@@ -34,8 +34,8 @@ impl Row {
     }
 }
 
-/// The hashes of both lists, in order: of a partial tile, say, and what is carried there from the level below. Takes
-/// memory for them all.
+/// Returns the hashes of both lists, in order: for example of a partial tile, and of the hashes that the level below adds to it. Allocates
+/// memory for all of them.
 pub fn joined(
     alloc: Global,
     front: &[[u8; 32]],
@@ -49,7 +49,7 @@ pub fn joined(
     Ok(hashes)
 }
 
-// The roots of the full tiles.
+// Returns the roots of the full tiles.
 pub(crate) fn full_roots<H: NodeHash>(
     alloc: Global,
     h: &H,
@@ -68,7 +68,7 @@ pub(crate) fn full_roots<H: NodeHash>(
     Ok(roots)
 }
 
-// The hashes behind the full tiles.
+// Returns the hashes after the full tiles.
 pub(crate) fn partial(alloc: Global, row: &[[u8; 32]]) -> Result<Vec<[u8; 32]>, AllocError>
     ensures { IfOk result (λ v. v.items ≡ behind 256 row.now) }
 {
@@ -78,8 +78,8 @@ pub(crate) fn partial(alloc: Global, row: &[[u8; 32]]) -> Result<Vec<[u8; 32]>, 
     Ok(hashes)
 }
 
-/// What some hashes give to the level above: the root over them (MTH of RFC 6962, section 2.1), and nothing of none.
-/// Hashes one node less than there are hashes, and takes memory for one.
+/// Returns the contribution of some hashes to the level above: the root over them (MTH of RFC 6962, section 2.1), or nothing if there are
+/// no hashes. Hashes one node fewer than there are hashes, and allocates memory for one.
 pub fn root_alone<H: NodeHash>(
     alloc: Global,
     h: &H,

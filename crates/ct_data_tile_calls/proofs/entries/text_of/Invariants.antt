@@ -5,7 +5,7 @@ use Rattle.ct_data_tiles.proofs.Tiles.{PassedLeaves}
 use Rattle.ct_data_tile_calls.specs.TileEntries.{tile_entries_bytes}
 use Rattle.ct_data_tile_calls.proofs.entries.text_of.Given as goal
 
--- what was read is so many leaves, of so many bytes, and their entries are written
+-- the bytes that were read are `count` leaves with `start` bytes, and their entries are written
 abbrev pub invariant-leaves : goal.invariant-leaves
 invariant-leaves l =
     (L : List Tiled) × PassedLeaves L l.tile l.reader × (length L ≡ l.count) × (l.start ≡ length (tile_leaves_text L))

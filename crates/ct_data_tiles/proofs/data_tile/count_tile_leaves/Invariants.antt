@@ -3,7 +3,7 @@ use Rattle.ct_data_tiles.specs.TileLeaf.{Tiled}
 use Rattle.ct_data_tiles.proofs.Tiles.{PassedLeaves}
 use Rattle.ct_data_tiles.proofs.data_tile.count_tile_leaves.Given as goal
 
--- what was read is so many leaves
+-- the bytes that were read are this number of leaves
 abbrev pub invariant-leaves : goal.invariant-leaves
 invariant-leaves l = (L : List Tiled) × PassedLeaves L l.bytes l.reader × (length L ≡ l.count) × (l.count + length l.reader ≤ length l.bytes)
 

@@ -3,7 +3,7 @@ use Rattle.ct_data_tiles.specs.DataTile.{tiled_all}
 use Rattle.ct_data_tiles.proofs.Tiles.{PassedLeaves}
 use Rattle.ct_data_tiles.proofs.data_tile.gather.Given as goal
 
--- what was read is the leaves
+-- the bytes that were read are the leaves
 abbrev pub invariant-leaves : goal.invariant-leaves
 invariant-leaves g l = PassedLeaves (tiled_all l.leaves.items) l.bytes l.reader
 
