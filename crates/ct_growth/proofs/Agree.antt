@@ -1,4 +1,4 @@
--- All steps whose states the register took are of one list.
+-- All steps whose states the lock took belong to one list.
 use Rattle.std.proofs.Common.{◌≡◌, ◌∙◌, ℕ, ◌+◌, ◌*◌, ◌/◌, ◌<◌, ◌≤◌, cond, List, [], ◌∷◌, ◌++◌, length, take, drop, get_or, map, All, sym, refl, ap, subst, arith, inl, inr}
 use Rattle.std.proofs.Common.{append_assoc, length-append}
 use Rattle.std.proofs.lemmas.List.{length-map, take_at, drop_at, drop-append-le, map-append}
@@ -26,7 +26,7 @@ row_of H level D B Z =
     ∙ ap (take (length X)) (drop-append-le (256 * first) E (added H level (D ++ B) Z) inside)
     ∙ take_at X (added H level (D ++ B) Z) (length X) refl)
 
--- the leaves that an attempt's step adds behind the leaves D
+-- the leaves that an attempt's step adds after the leaves D
 abbrev pub new_leaves : List (List ℕ) → Attempt → List (List ℕ)
 new_leaves D a = indexed_leaves a.now (length D) (map entry_of a.batch)
 
@@ -55,7 +55,7 @@ is_of H D Z a p =
           (row_of H level (map leaf D) (map leaf N) (map leaf Z)));
     }
 
--- steps that carry on, and begin at or behind an index
+-- steps that carry on, and begin at an index or after it
 pub record Carried (H : List ℕ → List ℕ) (since from : ℕ) (D : List (List ℕ)) (steps : List Attempt) : Type 0 where
   pub carry : CarryOn H since D steps
   pub behind : All (λ a. from ≤ a.growth.first) steps

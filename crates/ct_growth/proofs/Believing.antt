@@ -1,4 +1,4 @@
--- What a believed claim says of the list of leaves.
+-- The consequences of a believed claim for the list of leaves.
 use Rattle.std.proofs.Common.{◌≡◌, ◌⊎◌, ◌∙◌, ℕ, ◌<◌, List, [], length, get_or, subst, inl, inr, ⊎_elim}
 use Rattle.ct_tree.specs.Tree.{hash_leaf, mth_of_leaves}
 use Rattle.ct_tree.specs.declared.head.Head.{Head}
@@ -13,7 +13,7 @@ use Rattle.ct_verify.proofs.Explaining.{path_holds}
 use Rattle.ct_growth.specs.Believed.{IsHeadOver}
 
 module _ (H : List ℕ → List ℕ) (long : (x : List ℕ) → length (H x) ≡ 32) where
-  -- what is accepted at the head of a list is the list's, or two of the strings that are hashed collide
+  -- a leaf that is accepted at the head of a list is the list's, or two of the strings that are hashed collide
   pub stands_there : (head : Head) (D : List (List ℕ)) (leaf signed : List ℕ) (i : ℕ) (path : List (List ℕ)) → IsHeadOver H D head
       → AcceptsInclusion H (hash_leaf H leaf) i head.tree_size path head.root → signed ≡ leaf
       → ((i < length D) × (signed ≡ get_or D i [])) ⊎ CollideAmong H (IsHashedInAudit H D leaf i path)

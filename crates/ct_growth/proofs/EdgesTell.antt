@@ -1,4 +1,5 @@
--- Partial tiles that are believed for the head of a list are its right edge, or two of the strings that are hashed collide. S says of which strings that is.
+-- Partial tiles that are believed for the head of a list are its right edge, or two of the strings that are hashed collide. S determines
+-- which strings these are.
 use Rattle.std.proofs.Common.{◌≡◌, ◌⊎◌, ◌∙◌, ℕ, zero, suc, ◌*◌, ◌/◌, ◌%◌, ◌^◌, ◌<◌, ◌≤◌, List, [], ◌∷◌, ◌++◌, length, take, drop, map, All, sym, refl, ap, subst, arith, inl, inr, ⊎_elim, length-drop, length-append}
 use Rattle.std.proofs.lemmas.List.{map_push, length-map}
 use Rattle.std.proofs.lemmas.List.Elements.{All-nil, All-cons, All-head, All-tail, All-push, All-append, All-take, All-drop}
@@ -113,7 +114,7 @@ module _ (H : List ℕ → List ℕ) (long : (x : List ℕ) → length (H x) ≡
       (lone_32 H long (s ++ c) (All-append has_32 s c (All-head AreHashes s S a) b))
 
   module _ (S : List ℕ → Type 0) where
-    -- S has the strings that are hashed over tiles
+    -- S contains the strings that are hashed over tiles
     abbrev HasOver : List (List (List ℕ)) → List (List ℕ) → Type 0
     HasOver T c = (s : List ℕ) → IsHashedOverTiles H T c s → S s
 
@@ -142,7 +143,7 @@ module _ (H : List ℕ → List ℕ) (long : (x : List ℕ) → length (H x) ≡
         (All-tail AreHashes r R p) (All-tail AreHashes t T q) (lone_32 H long (r ++ c) u) (lone_32 H long (t ++ d) v)
         (λ s h. f s (higher r R c s h)) (λ s h. g s (higher t T d s h)) e)
 
-    -- the strings above what the tiles carry on
+    -- the strings above the hashes that the tiles carry on
     over_top : (T : List (List (List ℕ))) (c : List (List ℕ)) → HasOver T c → HasAbove H long S (carried_over H T c)
     unfolding carried_over
     over_top [] c f = λ s h. f s (top c s h)

@@ -1,4 +1,5 @@
--- All steps whose heads the register took are of one list, or two of the strings that are hashed collide. S says of which strings that is.
+-- All steps whose heads the lock took belong to one list, or two of the strings that are hashed collide. S determines which strings these
+-- are.
 use Rattle.std.proofs.Common.{◌≡◌, ◌⊎◌, ◌∙◌, ℕ, ◌<◌, ◌≤◌, true, cond, List, [], ◌∷◌, ◌++◌, length, map, take, sym, refl, ap, subst, arith, inl, inr, ⊎_elim}
 use Rattle.std.proofs.Common.{append_assoc, append-nil, length-append}
 use Rattle.std.specs.Prelude.{if◌then◌else◌, Bool, false}

@@ -1,4 +1,4 @@
--- Lists of which each two elements are in a relation, in order.
+-- Lists in which each two elements are in a relation, in order.
 use Rattle.std.proofs.Common.{ℕ, zero, suc, ◌-◌, ◌<◌, ◌≤◌, List, [], ◌∷◌, ◌++◌, length, get_or, All, AllPairs, sym, refl, subst, arith, length-append}
 use Rattle.std.proofs.lemmas.List.{get_or-append_right}
 use Rattle.std.proofs.lemmas.List.Elements.{All-head, All-tail, All-append}
@@ -17,7 +17,7 @@ AllPairs-append R (x ∷ xs) ys p q across =
     AllPairs-cons R x (xs ++ ys) (All-append (R x) xs ys (AllPairs-first R x xs p) (All-head (λ z. All (R z) ys) x xs across))
     (AllPairs-append R xs ys (AllPairs-rest R x xs p) q (All-tail (λ z. All (R z) ys) x xs across))
 
--- each element behind the first list is in the relation with all before it
+-- each element after the first list is in the relation with all before it
 pub pairs_behind : {X : Type 0} (R : X → X → Type 0) (xs ys : List X) → AllPairs R ys → All (λ x. All (R x) ys) xs
     → (i j : ℕ) (d : X) → i < j → length xs ≤ j → j < length (xs ++ ys) → R (get_or (xs ++ ys) i d) (get_or (xs ++ ys) j d)
 pairs_behind R [] ys q across i j d l n h = q i j d l h

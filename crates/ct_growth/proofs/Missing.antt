@@ -1,4 +1,4 @@
--- Stores that have exactly the places of what was in the log before each step.
+-- Deduplication indexes that have exactly the identities that were in the log before each step.
 use Rattle.std.proofs.Common.{◌≡◌, ◌∙◌, ℕ, ◌+◌, ◌<◌, List, [], ◌∷◌, ◌++◌, length, get_or, map, flat_map, All, AllPairs, Contains, sym, refl, ap, subst, arith, append_assoc, length-append}
 use Rattle.std.proofs.lemmas.List.{get_or-append-add, get_or_append_left, get_or_default, get_or-map, length-map}
 use Rattle.std.proofs.lemmas.List.Elements.{All-nil, All-cons, Contains-get_or, Contains-append_left, Contains-append_right}
@@ -11,7 +11,7 @@ use Rattle.ct_growth.specs.Misses.{LookedUp, looked_up_attempts, StoresAll, Miss
 abbrev batch_identities : Attempt → List (List ℕ)
 batch_identities a = map identity_of a.batch
 
--- the steps with stores that have S and what the steps before them added
+-- the steps with deduplication indexes that have S and the identities that the steps before them added
 record Stored (S : List (List ℕ)) (steps : List Attempt) (attempts : List LookedUp) : Type 0 where
   pub same : looked_up_attempts attempts ≡ steps
   pub has : All (λ b. (x : List ℕ) → Contains S x → Contains b.stored x) attempts

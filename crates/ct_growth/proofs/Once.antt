@@ -1,4 +1,4 @@
--- The list of leaves that all steps carry on has at most one leaf to an identity behind those that were known.
+-- The list of leaves that all steps carry on has at most one leaf for each identity after those that were known.
 use Rattle.std.proofs.Common.{◌≡◌, ◌∙◌, ℕ, suc, ◌-◌, ◌<◌, ◌≤◌, Bool, true, false, cond, List, [], ◌∷◌, ◌++◌, length, take, get_or, map, flat_map, All, AllPairs, Contains, sym, refl, ap, subst, arith, inl, inr, append_assoc, length-append}
 use Rattle.std.proofs.lemmas.List.{take_at, drop_at, map-append, length-map}
 use Rattle.std.proofs.lemmas.List.Elements.{All-nil, All-head, All-tail, All-append, All-map, All-weaker}
@@ -36,11 +36,11 @@ new_identities t i [] = refl
 new_identities t i (s ∷ batch) = ap (λ x. x ∷ map identity_of_leaf (indexed_leaves t (suc i) (map entry_of batch))) (leaves_keep_identities t i s)
     ∙ ap (λ r. identity_of s ∷ r) (new_identities t (suc i) batch)
 
--- ---- what the steps add
+-- ---- the identities that the steps add
 abbrev pub step_identities : Attempt → List (List ℕ)
 step_identities a = map identity_of a.batch
 
--- the leaves behind the known ones, and their identities
+-- the leaves after the known ones, and their identities
 pub record Extends (H : List ℕ → List ℕ) (since : ℕ) (known Z : List (List ℕ)) (steps : List Attempt) : Type 0 where
   pub carried : Carried H since (length known) (known ++ Z) steps
   pub identities : map identity_of_leaf Z ≡ flat_map step_identities steps
@@ -90,7 +90,7 @@ added steps = flat_map step_identities (looked_up_attempts steps)
 abbrev TrueMiss : LookedUp → Type 0
 TrueMiss b = All (λ s. ¬ (Contains b.stored (identity_of s))) b.attempt.batch
 
--- an identity that the store had before each of these steps is none that they add
+-- an identity that the deduplication index had before each of these steps differs from all that they add
 missed : (x : List ℕ) (steps : List LookedUp) → All (λ b. Contains b.stored x) steps → All TrueMiss steps → All (Differ x) (added steps)
 missed x [] has miss = All-nil (Differ x)
 missed x (b ∷ steps) has miss =
@@ -101,7 +101,7 @@ missed x (b ∷ steps) has miss =
     b.attempt.batch (All-head TrueMiss b steps miss)))
     (missed x steps (All-tail (λ c. Contains c.stored x) b steps has) (All-tail TrueMiss b steps miss))
 
--- the same of many identities: of each its place is in the store before each of these steps
+-- the same for many identities, each of which was in the deduplication index before each of these steps
 all_missed : {X : Type 0} (f : X → List ℕ) (xs : List X) (steps : List LookedUp) → All (λ b. All (λ x. Contains b.stored (f x)) xs) steps → All TrueMiss steps
     → All (λ x. All (Differ x) (added steps)) (map f xs)
 all_missed f xs steps has miss =

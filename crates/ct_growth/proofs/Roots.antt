@@ -1,4 +1,5 @@
--- Two lists of hashes with one root are one list, or two of the strings that are hashed above them collide. S says of which strings that is.
+-- Two lists of hashes with one root are one list, or two of the strings that are hashed above them collide. S determines which strings
+-- these are.
 use Rattle.std.proofs.Common.{◌≡◌, ◌⊎◌, ◌∙◌, ℕ, zero, suc, ◌-◌, ◌<◌, ◌≤◌, List, [], ◌∷◌, ◌++◌, length, take, drop, sym, refl, ap, arith, inl, inr, ⊎_elim, length-drop}
 use Rattle.std.proofs.lemmas.List.{length-take-le, take-append-drop}
 use Rattle.std.proofs.lemmas.List.Elements.{All-nil, All-cons, All-head, All-take, All-drop}
@@ -22,7 +23,7 @@ module _ (H : List ℕ → List ℕ) (long : (x : List ℕ) → length (H x) ≡
   root_32 (x ∷ y ∷ D) a = ap length (mth-split_at H (x ∷ y ∷ D) (split (length (x ∷ y ∷ D))) (omega arith) refl) ∙ long _
 
   module _ (S : List ℕ → Type 0) where
-    -- S has the strings that are hashed above the hashes
+    -- S contains the strings that are hashed above the hashes
     abbrev pub HasAbove : List (List ℕ) → Type 0
     HasAbove D = (s : List ℕ) → IsHashedAbove H D s → S s
 
@@ -75,7 +76,7 @@ module _ (H : List ℕ → List ℕ) (long : (x : List ℕ) → length (H x) ≡
             (f (1 ∷ mth H (take k E) ++ mth H (drop k E)) (node E k also same_k)) (g (1 ∷ mth H (take k D) ++ mth H (drop k D)) (node D k more refl))
             (sym over_e ∙ e ∙ over_d))
 
-    -- two lists of one length with one root
+    -- two lists of the same length with the same root
     pub roots_tell : (E D : List (List ℕ)) → length E ≡ length D → AreHashes E → AreHashes D → HasAbove E → HasAbove D → mth H E ≡ mth H D
         → (E ≡ D) ⊎ CollideAmong H S
     roots_tell E D l a b f g e = tell_within (length D) E D (omega arith) l a b f g e

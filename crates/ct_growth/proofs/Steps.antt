@@ -1,4 +1,4 @@
--- Steps of the loops, and what a step of the log makes.
+-- Steps of the loops, and the result of a step of the log.
 use Rattle.std.proofs.Common.{◌≡◌, ℕ, suc, ◌+◌, ◌<◌, refl, sym, ◌∙◌, ap, arith, List, [], ◌∷◌, ◌++◌, length, take, get_or, map}
 use Rattle.std.proofs.lemmas.List.{map_push, take_more, length-map, length-take-le}
 use Rattle.ct_codec.specs.Leaf.{SignedEntry, index_extension}
@@ -40,7 +40,7 @@ seconds : (X : List Receipt) → map (λ r. r.signed.items) X ≡ map (λ q. q.2
 seconds [] = refl
 seconds (r ∷ X) = ap (λ (l : List (List ℕ)). r.signed.items ∷ l) (seconds X)
 
--- what is signed in receipts is their leaves
+-- the bytes that are signed for receipts are their leaves
 pub signed_leaves : (t first : ℕ) (E : List SignedEntry) (X : List Receipt) → map receipt_parts X ≡ receipts_from t first E
     → map (λ r. r.signed.items) X ≡ indexed_leaves t first E
 signed_leaves t first E X e =

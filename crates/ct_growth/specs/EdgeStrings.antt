@@ -1,5 +1,5 @@
--- The strings that are hashed when a root is computed from partial tiles. H is any function from byte lists to byte lists, and a carried hash is the root of
--- the level below.
+-- The strings that are hashed when a root is computed from partial tiles. H is any function from byte lists to byte lists. A carried hash
+-- is the root of the level below.
 use Rattle.std.specs.Prelude.{◌≡◌, ℕ, ◌<◌, List, [], ◌∷◌, ◌++◌, length, take, drop}
 use Rattle.ct_tree.specs.Tree.{split, mth}
 use Rattle.ct_tiles.specs.Tiles.{lone_root}
@@ -10,8 +10,8 @@ pub data IsHashedAbove (H : List ℕ → List ℕ) : List (List ℕ) → List �
   left : (D : List (List ℕ)) (k : ℕ) (s : List ℕ) → 1 < length D → k ≡ split (length D) → IsHashedAbove H (take k D) s → IsHashedAbove H D s
   right : (D : List (List ℕ)) (k : ℕ) (s : List ℕ) → 1 < length D → k ≡ split (length D) → IsHashedAbove H (drop k D) s → IsHashedAbove H D s
 
--- the strings that are hashed when the root is computed from partial tiles, the lowest level first: those above each tile with the hash that is carried to
--- it, and those above what the last tile carries on
+-- the strings that are hashed when the root is computed from partial tiles, the lowest level first: those above each tile with the hash
+-- that is carried to it, and those above the hash that the last tile carries on
 pub data IsHashedOverTiles (H : List ℕ → List ℕ) : List (List (List ℕ)) → List (List ℕ) → List ℕ → Type 0 where
   top : (carried : List (List ℕ)) (s : List ℕ) → IsHashedAbove H carried s → IsHashedOverTiles H [] carried s
   here : (tile : List (List ℕ)) (tiles : List (List (List ℕ))) (carried : List (List ℕ)) (s : List ℕ)

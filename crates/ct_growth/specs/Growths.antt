@@ -1,4 +1,4 @@
--- What one step of a log has to do with its leaves. H is any hash function on byte lists, and D the list of the log's leaves.
+-- The relation of one step of a log to its leaves. H is any hash function on byte lists, and D the list of the log's leaves.
 use Rattle.std.specs.Prelude.{◌≡◌, ℕ, ◌+◌, ◌<◌, ◌≤◌, ◌^◌, List, ◌++◌, length, map}
 use Rattle.ct_codec.specs.Leaf.{SignedEntry}
 use Rattle.ct_codec.specs.declared.refusal.Refusal.TheVariants as refused
@@ -15,20 +15,24 @@ use Rattle.ct_growth.specs.declared.growth.State.{State}
 abbrev pub IsState : (List ℕ → List ℕ) → State → List (List ℕ) → Type 0
 IsState H state D = IsEdge H state.edge (map (hash_leaf H) D)
 
--- so many submissions may be taken in at the moment `now`: it is later than the state's (RFC 6962, section 3.5), and a leaf's index has 40 bits
+-- `count` submissions may be added at the timestamp `now`: it is later than the state's (RFC 6962, section 3.5), and a leaf's index has 40
+-- bits
 abbrev pub MayGrow : State → ℕ → ℕ → Type 0
 MayGrow state count now = (state.timestamp < now) × (state.edge.0 + count ≤ 2 ^ 40)
 
--- Why so many submissions aren't taken in at the moment `now`. ClockBack: it isn't later than the state's. Full: it is, and the log would have
--- more than 2^40 leaves. Refused: they may be taken in, and the refusal is for want of memory
+-- The reason why `count` submissions are not added at the timestamp `now`:
+-- - ClockBack: the timestamp is not later than the state's.
+-- - Full: it is later, and the log would have more than 2^40 leaves.
+-- - Refused: the submissions may be added, and memory could not be allocated.
 abbrev pub StopsGrowth : State → ℕ → ℕ → GrowthFault → Type 0
 StopsGrowth state count now ClockBack = now ≤ state.timestamp
 StopsGrowth state count now Full = (state.timestamp < now) × (2 ^ 40 < state.edge.0 + count)
 StopsGrowth state count now (Refused refusal) = MayGrow state count now × (refusal ≡ refused.Memory)
 
--- What a step of a state is, whatever leaves the log has. The first new leaf's index is the state's size (first); each entry has its
--- receipt, in order, from that index on (receipts); the head has so many leaves more (size) and this moment (timestamp), which is that of the
--- next state (moment).
+-- A step from a state, whatever leaves the log has:
+-- - The first new leaf's index is the state's size (`first`).
+-- - Each entry has its receipt, in order, from that index on (`receipts`).
+-- - The head has this number of leaves more (`size`) and this timestamp (`timestamp`), which is that of the next state (`moment`).
 pub record IsGrownFrom (state : State) (entries : List SignedEntry) (now : ℕ) (g : Growth) : Type 0 where
   pub first : g.first ≡ state.edge.0
   pub receipts : map receipt_parts g.receipts.items ≡ receipts_from now state.edge.0 entries
@@ -36,9 +40,12 @@ pub record IsGrownFrom (state : State) (entries : List SignedEntry) (now : ℕ) 
   pub timestamp : g.head.timestamp ≡ now
   pub moment : g.state.timestamp ≡ now
 
--- A step took these entries into the log with the leaves D at the moment `now`. The first new leaf's index is the number of leaves (first);
--- each entry has its receipt, in order, from that index on (receipts); the tiles that are new or change are written (rows); the head is of
--- all leaves (size, root) and of this moment (timestamp); and so is the next state (state, moment).
+-- A step added these entries to the log with the leaves D at the timestamp `now`:
+-- - The first new leaf's index is the number of leaves (`first`).
+-- - Each entry has its receipt, in order, from that index on (`receipts`).
+-- - The tiles that are new or change are written (`rows`).
+-- - The head is that of all leaves (`size`, `root`) and has this timestamp (`timestamp`). The next state also is and has (`state`,
+--   `moment`).
 pub record IsGrowth (H : List ℕ → List ℕ) (D : List (List ℕ)) (entries : List SignedEntry) (now : ℕ) (g : Growth) : Type 0 where
   pub first : g.first ≡ length D
   pub receipts : map receipt_parts g.receipts.items ≡ receipts_from now (length D) entries

@@ -1,5 +1,5 @@
--- Many sequencers over one register that holds the log's head, each of them handed the right edge by whoever keeps it. H is any hash
--- function on byte lists with hashes of 32 bytes.
+-- Many sequencers over one lock that holds the log's head, each of which receives the right edge from elsewhere. H is any hash function on
+-- byte lists with digests of 32 bytes.
 use Rattle.std.specs.Prelude.{◌≡◌, ◌⊎◌, ⊤, true, false, ℕ, ◌≤◌, if◌then◌else◌, List, [], ◌∷◌, ◌++◌, length, map, take}
 use Rattle.ct_codec.specs.Submitted.{entry_of}
 use Rattle.ct_tree.specs.declared.head.Head.{Head}
@@ -9,19 +9,19 @@ use Rattle.ct_growth.specs.EdgeStrings.{IsHashedInEdge}
 use Rattle.ct_growth.specs.Leaves.{indexed_leaves}
 use Rattle.ct_growth.specs.History.{Attempt, IsMade, taken, CarryOn}
 
--- An attempt that was handed its right edge: the head that was read (head), the partial tiles that were handed in (tiles), and the attempt
--- from the state that was believed of these (attempt).
+-- An attempt that received its right edge: the head that was read (`head`), the partial tiles that were received (`tiles`), and the attempt
+-- from the state that was believed from these (`attempt`).
 pub record HandedAttempt : Type 0 where
   pub head : Head
   pub tiles : List (List (List ℕ))
   pub attempt : Attempt
 
--- the attempt's state is what `State::believed` answers of the head and the tiles, and its step is what `grow` answers of that state
+-- the attempt's state is the result of `State::believed` for the head and the tiles, and its step is the result of `grow` for that state
 abbrev pub IsMadeOfHanded : (List ℕ → List ℕ) → HandedAttempt → Type 0
 IsMadeOfHanded H b = BelievesState H b.head b.tiles b.attempt.seen × IsMade H b.attempt
 
--- Attempts in the order in which the register answered, from the head that it held on: it took a head only in place of the one that it
--- held. Where the tiles came from isn't said.
+-- Attempts in the order in which the lock answered, beginning with the head that it held. It took a head only in place of the one that it
+-- held. The tiles may come from anywhere.
 unfoldable pub AreHandedAttempts : (List ℕ → List ℕ) → Head → List HandedAttempt → Type 0
 AreHandedAttempts H held [] = ⊤
 AreHandedAttempts H held (b ∷ rest) =
@@ -33,13 +33,13 @@ AreHandedAttempts H held (b ∷ rest) =
 abbrev pub attempts_of : List HandedAttempt → List Attempt
 attempts_of attempts = map (λ b. b.attempt) attempts
 
--- the leaves after these attempts: those that were known, and after them those of each attempt whose head the register took
+-- the leaves after these attempts: those that were known, followed by those of each attempt whose head the lock took
 unfoldable pub leaves_after : List (List ℕ) → List HandedAttempt → List (List ℕ)
 leaves_after known [] = known
 leaves_after known (b ∷ rest) =
     leaves_after (if b.attempt.took then known ++ indexed_leaves b.attempt.now (length known) (map entry_of b.attempt.batch) else known) rest
 
--- the strings that are hashed when roots are computed from the tiles that were handed in
+-- the strings that are hashed when roots are computed from the received tiles
 unfoldable pub IsHashedInTiles : (List ℕ → List ℕ) → List HandedAttempt → List ℕ → Type 0
 IsHashedInTiles H [] s = ⊥
 IsHashedInTiles H (b ∷ rest) s = IsHashedInEdge H b.tiles s ⊎ IsHashedInTiles H rest s
@@ -48,8 +48,9 @@ IsHashedInTiles H (b ∷ rest) s = IsHashedInEdge H b.tiles s ⊎ IsHashedInTile
 abbrev pub IsHashedInEdgesOf : (List ℕ → List ℕ) → List (List ℕ) → List ℕ → Type 0
 IsHashedInEdgesOf H D s = (n : ℕ) × (n ≤ length D) × IsHashedInEdgeOf H (take n D) s
 
--- Let D be the leaves that were known, and after them those of each attempt whose head the register took. All steps of these attempts carry on D; or two
--- strings collide that are hashed when roots are computed from the tiles that were handed in, or from the right edges of the beginnings of D.
+-- Let D be the leaves that were known, followed by those of each attempt whose head the lock took. All steps of these attempts carry on D.
+-- The alternative is a collision of two strings that are hashed when roots are computed from the received tiles, or from the right edges of
+-- the beginnings of D.
 abbrev pub HandedSequencersAgree : Type 0
 HandedSequencersAgree =
     (H : List ℕ → List ℕ) → ((x : List ℕ) → length (H x) ≡ 32) → (held : Head) (known : List (List ℕ)) (attempts : List HandedAttempt)

@@ -1,4 +1,4 @@
-//! A state whose right edge was kept elsewhere, by whoever need not be trusted.
+//! A state whose right edge was kept elsewhere, by someone who need not be trusted.
 
 ghost use Rattle.std.specs.Prelude.{◌≡◌, length, map, All, IfOk, MatchResult};
 ghost use Rattle.std.specs.Bool.{MatchBool};
@@ -13,16 +13,16 @@ use ct_tree::{Head, NodeHash, is_same_digest};
 use std::alloc::{AllocError, Global};
 use thiserror::Error;
 
-/// Why partial tiles aren't believed.
+/// The reason why partial tiles are not believed.
 #[derive(Clone, Copy, PartialEq, Eq, Debug, Error)]
 pub enum EdgeFault {
-    /// They aren't those of 8 levels, or one of them hasn't as many hashes as the size asks for.
+    /// They are not those of 8 levels, or one of them does not have the number of hashes that the size requires.
     #[error("the partial tiles are not as wide as those of this size")]
     OtherWidths,
-    /// They give another root.
+    /// They lead to another root.
     #[error("the partial tiles give another root")]
     OtherRoot,
-    /// A growth was refused.
+    /// Memory could not be allocated.
     #[error("there is no memory for the root of the partial tiles")]
     Memory,
 }
@@ -35,14 +35,14 @@ impl From<AllocError> for EdgeFault {
     }
 }
 
-// A law, which does nothing: a hash has 32 bytes.
+// A lemma, which does nothing: a hash has 32 bytes.
 fn is_hash(hash: &[u8; 32])
     ensures { length hash.now ≡ 32 }
 {
     let _ = hash;
 }
 
-// A law, which does nothing: hashes have 32 bytes.
+// A lemma, which does nothing: each of the hashes has 32 bytes.
 fn are_hashes(hashes: &[[u8; 32]])
     ensures { AreHashes hashes.now }
 {
@@ -51,7 +51,7 @@ fn are_hashes(hashes: &[[u8; 32]])
     }
 }
 
-// A law, which does nothing: the hashes of partial tiles have 32 bytes.
+// A lemma, which does nothing: each hash of partial tiles has 32 bytes.
 fn all_are_hashes(tiles: &[Vec<[u8; 32]>])
     ensures { All AreHashes (map (λ t. t.items) tiles.now) }
 {
@@ -60,7 +60,7 @@ fn all_are_hashes(tiles: &[Vec<[u8; 32]>])
     }
 }
 
-// Whether partial tiles, level 0 first, are as wide as those of so many leaves.
+// Reports whether partial tiles, level 0 first, are as wide as those of `size` leaves.
 fn have_widths(tiles: &[Vec<[u8; 32]>], size: u64) -> bool
     ensures { MatchBool result (map length (map (λ t. t.items) tiles.now) ≡ tile_widths 8 size) (map length (map (λ t. t.items) tiles.now) ≡ tile_widths 8 size → ⊥) }
 {
@@ -77,7 +77,7 @@ fn have_widths(tiles: &[Vec<[u8; 32]>], size: u64) -> bool
     true
 }
 
-// The root that partial tiles give, level 0 first.
+// Returns the root of partial tiles, level 0 first.
 fn root_of_tiles<H: NodeHash>(
     alloc: Global,
     h: &H,
@@ -94,14 +94,13 @@ fn root_of_tiles<H: NodeHash>(
 }
 
 impl State {
-    /// The state of which this is the head, with the partial tiles, level 0 first, that whoever keeps them handed in: they are
-    /// believed where their widths are those of the head's size, and the head's root comes of them. So they are the right edge of
-    /// the head's tree, or two of the strings that are hashed collide ([`crate::laws::edges`]).
+    /// Returns the state with this head and these partial tiles, level 0 first, which were kept elsewhere. They are believed if their
+    /// widths are those of the head's size and they lead to the head's root. So they are the right edge of the head's tree, or two of the
+    /// strings that are hashed collide ([`crate::laws::edges`]).
     ///
-    /// Hashes at most 8 times 256 nodes, and takes memory for one level at a time.
+    /// Hashes at most 8 times 256 nodes, and allocates memory for one level at a time.
     ///
-    /// # Errors
-    /// In this order: `OtherWidths`; `Memory` where a growth was refused; `OtherRoot`.
+    /// # Errors In this order: `OtherWidths`; `Memory` if memory could not be allocated; `OtherRoot`.
     pub fn believed<H: NodeHash>(
         alloc: Global,
         h: &H,

@@ -1,4 +1,4 @@
-//! The place that a store claims for a submission's identity.
+//! The index and timestamp that a store claims for a submission's identity.
 
 ghost use Rattle.std.specs.Prelude.{◌≡◌, ◌⊎◌, ◌<◌, ◌^◌, ℕ, List, [], length, get_or, IfOk, IfErr, MatchResult};
 ghost use Rattle.ct_codec.specs.Submitted.{entry_of};
@@ -19,25 +19,25 @@ use ct_verify::{ProofFault, verify_inclusion};
 use std::alloc::Global;
 use thiserror::Error;
 
-/// Where a store claims that a submission's entry stands in the log. Nothing is required of it.
+/// The index and timestamp that a store claims for a submission's entry in the log. It has no requirements.
 #[derive(Clone, Copy, Debug, PartialEq, Eq)]
 pub struct Claim {
     /// The index of its leaf.
     pub leaf_index: u64,
-    /// The moment at which it was taken in, in milliseconds.
+    /// The timestamp at which it was added, in milliseconds.
     pub timestamp: u64,
 }
 
-/// Why a claim isn't believed.
+/// The reason why a claim is not believed.
 #[derive(Clone, Copy, PartialEq, Eq, Debug, Error)]
 pub enum ClaimFault {
-    /// The index is 2^40 or more, and no leaf names such a one.
+    /// The index is 2^40 or more, which no leaf can have.
     #[error("no leaf names that index")]
     IndexTooLarge,
-    /// The audit path doesn't lead from the leaf that is claimed to the head's root.
+    /// The audit path does not lead from the claimed leaf to the head's root.
     #[error("the audit path is refused: {0}")]
     ProofRefused(ProofFault),
-    /// A growth was refused: the codec's refusal of this name, `Memory`, and no other.
+    /// Memory could not be allocated: always the codec's refusal `Memory`.
     #[error("there is no memory for the answer: {0}")]
     Refused(Refusal),
 }
@@ -58,18 +58,17 @@ impl From<Refusal> for ClaimFault {
     }
 }
 
-/// Answers a submission with the receipt of the entry that a store claims for its identity, where an audit path, of 32-byte hashes from
-/// the leaf up, leads from that entry's leaf at the claimed index to the head's root (RFC 9162, section 2.1.3.2). The leaf is that of
-/// the submission at the claimed moment, and its one extension names the claimed index (C2SP static-ct-api).
+/// Returns the receipt of the entry that a store claims for a submission's identity, if an audit path, of 32-byte hashes from the leaf up,
+/// leads from that entry's leaf at the claimed index to the head's root (RFC 9162, section 2.1.3.2). The leaf is that of the submission
+/// with the claimed timestamp, and its only extension has the claimed index (C2SP static-ct-api).
 ///
-/// So if the head is that of a list of leaves, the bytes to be signed are the leaf at that index; or two strings collide that are hashed
-/// when the path is checked, or in the tree of the list. A claim that is true is answered by that leaf's audit path.
+/// So if the head is that of a list of leaves, the bytes to be signed are the leaf at that index. The alternative is a collision of two
+/// strings that are hashed when the path is checked, or in the tree of the list. A true claim is accepted with the audit path of that leaf.
 ///
-/// Takes memory for the bytes to be signed, and hashes them and at most two nodes for each element of the path.
+/// Allocates the bytes to be signed, and hashes them and at most two nodes for each element of the path.
 ///
-/// # Errors
-/// In this order: `IndexTooLarge` where the index is 2^40 or more; `Refused(Memory)` where a growth was refused; `ProofRefused` with the
-/// verifier's own refusal.
+/// # Errors In this order: `IndexTooLarge` if the index is 2^40 or more; `Refused(Memory)` if memory could not be allocated; `ProofRefused`
+/// with the verifier's refusal.
 pub fn answer_repeat<H: NodeHash>(
     alloc: Global,
     h: &H,

@@ -13,24 +13,24 @@ use ct_tree::{Head, NodeHash};
 use std::alloc::{AllocError, Global};
 use thiserror::Error;
 
-/// All that is kept of a log: at most 65 KB. Any edge and any moment are a `State`: each contract speaks of every list of leaves
+/// Everything that is kept of a log: at most 65 KB. Any edge and any timestamp are a `State`: each contract holds for every list of leaves
 /// whose state it is.
 #[derive(Drop)]
 pub struct State {
     /// The right edge of the log's tiles.
     pub edge: Edge,
-    /// The moment of the last head, in milliseconds.
+    /// The timestamp of the last head, in milliseconds.
     pub timestamp: u64,
 }
 
-/// What a step made.
+/// The result of a step.
 #[derive(Drop)]
 pub struct Growth {
-    /// The index of the first new leaf: how many leaves the log had.
+    /// The index of the first new leaf, which is the previous number of leaves.
     pub first: u64,
     /// A receipt for each submission, in order.
     pub receipts: Vec<Receipt>,
-    /// For each of the 8 levels its hash tiles from the one on that was partial: all that change or are new.
+    /// For each of the 8 levels, its hash tiles from the one on that was partial: all that change or are new.
     pub rows: Vec<Row>,
     /// The new head, to be signed.
     pub head: Head,
@@ -38,16 +38,16 @@ pub struct Growth {
     pub state: State,
 }
 
-/// Why there is no step.
+/// The reason why there is no step.
 #[derive(Clone, Copy, PartialEq, Eq, Debug, Error)]
 pub enum GrowthFault {
-    /// The moment isn't later than that of the last head.
+    /// The timestamp is not later than that of the last head.
     #[error("the moment is not later than that of the last head")]
     ClockBack,
     /// The log would have more than 2^40 leaves, and a leaf's index has 40 bits.
     #[error("the log is full")]
     Full,
-    /// A growth was refused: the codec's refusal of this name, `Memory`, and no other.
+    /// Memory could not be allocated: always the codec's refusal `Memory`.
     #[error("there is no memory for the step: {0}")]
     Refused(Refusal),
 }
@@ -68,14 +68,12 @@ impl From<AllocError> for GrowthFault {
     }
 }
 
-/// Takes submissions into the log at a moment, in milliseconds, in the order in which they stand in the batch. The state that was
-/// given stays as it was.
+/// Adds submissions to the log at a timestamp, in milliseconds, in the order of the batch. The given state does not change.
 ///
-/// Takes memory for the receipts and for the tiles that change or are new.
+/// Allocates the receipts and the tiles that change or are new.
 ///
-/// # Errors
-/// In this order: `ClockBack` where the moment isn't later than the state's (RFC 6962, section 3.5); `Full` where the log would have more than 2^40 leaves;
-/// `Refused(Memory)` where a growth was refused.
+/// # Errors In this order: `ClockBack` if the timestamp is not later than the state's (RFC 6962, section 3.5); `Full` if the log would have
+/// more than 2^40 leaves; `Refused(Memory)` if memory could not be allocated.
 pub fn grow<H: NodeHash>(
     alloc: Global,
     h: &H,

@@ -1,27 +1,28 @@
-//! One step of a tiled log over values, and repeats: a state and a batch in; receipts, tiles, a head to be signed and the next state out.
+//! One step of a tiled log over values, and repeated submissions. A step takes a state and a batch, and returns receipts, tiles, a head to
+//! be signed and the next state.
 //!
-//! - [`State`] is all that a sequencer keeps of a log: the right edge of its tiles, and the moment of its last head.
-//! - [`State::believed`] is the state of a head whose partial tiles were kept elsewhere: they are believed where their widths are
-//!   those of its size and its root comes of them. So they are the right edge of its tree, or two different strings with one digest
-//!   are given ([`laws::edges`]).
-//! - [`grow`] takes a batch into the log at a moment: a [`Receipt`] for each submission, in order, the tiles that are new or
-//!   change, the new head, and the next state. Nothing is stored, and the state that was given stays as it was.
-//! - [`laws::sequencers`] is what holds of a log that many sequencers carry on over one register, which takes a state only in
-//!   place of the one that it holds: all that was written and promised by the steps that it took is of one list of leaves.
-//!   [`laws::sequencers_over_heads`] says the same of a register that holds heads alone, over edges that were believed.
-//! - A submission that the log has already is answered with the place that it has, and gets no second entry. A [`Claim`] is the place
-//!   that a store claims for its identity. [`answer_repeat`] believes it where an audit path, made of tiles for one, leads from the leaf
-//!   that it speaks of to the head's root. So a store that lies can't have the log sign a lie: what is signed stands in the log at that
-//!   index, or two of the strings that are hashed collide.
-//! - That a store has no place for an identity can't be checked. [`laws::one_entry_an_identity`] says what follows where each such miss
-//!   was true when the step's state was read, and what a step that was taken added is in the store before the next begins: the list of
-//!   leaves that all steps carry on has at most one leaf to an identity.
+//! - [`State`] is everything that a sequencer keeps of a log: the right edge of its tiles, and the timestamp of its last head.
+//! - [`State::believed`] is the state of a head whose partial tiles were kept elsewhere. They are believed if their widths are those of its
+//!   size and they lead to its root. So they are the right edge of its tree, or two different strings with one digest are given
+//!   ([`laws::edges`]).
+//! - [`grow`] adds a batch to the log at a timestamp. It returns a [`Receipt`] for each submission, in order, the tiles that are new or
+//!   change, the new head, and the next state. Nothing is stored, and the given state does not change.
+//! - [`laws::sequencers`] is the theorem about a log that many sequencers carry on over one lock, which takes a state only in place of the
+//!   one that it holds: everything that was written and promised by the steps that it took belongs to one list of leaves.
+//!   [`laws::sequencers_over_heads`] is the same for a lock that holds only heads, with edges that were believed.
+//! - A submission that the log already has is answered with the index that it has, and gets no second entry. A [`Claim`] is the index that
+//!   a store claims for its identity. [`answer_repeat`] believes it if an audit path, which may be computed from tiles, leads from the
+//!   claimed leaf to the head's root. So a dishonest store cannot make the log sign a lie: the bytes that are signed are the log's leaf at
+//!   that index, or two of the strings that are hashed collide.
+//! - It cannot be checked that a store has no index for an identity. [`laws::one_entry_an_identity`] assumes that each such miss was true
+//!   when the submissions were looked up, and that the store has everything that a taken step added before the next step looks its
+//!   submissions up. Then the list of leaves that all steps carry on has at most one leaf for each identity.
 //!
-//! Who carries on a log keeps nothing of a step before the register took its state: no receipt is given out, and no tile is put
-//! under its public name. Of a step that wasn't taken nothing is promised.
+//! Before the lock takes the state of a step, the sequencer must return no receipt of it, and put no tile under its public name. Nothing is
+//! promised for a step that was not taken.
 //!
-//! A leaf is that of RFC 6962, section 3.4, whose one extension names its index in the log (C2SP static-ct-api), so a log has at
-//! most 2^40 leaves. An identity is an entry type and a signed entry, without timestamp and chain. Sizes count leaves, and moments are
+//! A leaf is that of RFC 6962, section 3.4, whose only extension has its index in the log (C2SP static-ct-api), so a log has at most 2^40
+//! leaves. An identity is an entry type and a signed entry, without timestamp and chain. Sizes count leaves, and timestamps are in
 //! milliseconds.
 #![tactic(auto)]
 

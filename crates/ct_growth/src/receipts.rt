@@ -1,4 +1,4 @@
-//! What each submission of a batch is answered, and the leaves that these answers name.
+//! The receipt for each submission of a batch, and the leaves that these receipts name.
 
 ghost use Rattle.std.specs.Prelude.{◌≡◌, ◌+◌, ◌≤◌, ◌^◌, length, map, IfOk, IsOkUnless};
 ghost use Rattle.ct_codec.specs.Submitted.{entry_of};
@@ -12,19 +12,19 @@ use ct_codec::{
 use ct_tree::{NodeHash, leaf_hash};
 use std::alloc::{AllocError, Global};
 
-/// What a submission is answered once the step is taken: all of a signed certificate timestamp (RFC 6962, section 3.2) but the
+/// The answer to a submission once the step is taken: everything in a signed certificate timestamp (RFC 6962, section 3.2) except the
 /// signature.
 #[derive(Drop)]
 pub struct Receipt {
-    /// The index of the submission's leaf in the log, which its one extension names (`leaf_index`, C2SP static-ct-api).
+    /// The index of the submission's leaf in the log, which is in its only extension (`leaf_index`, C2SP static-ct-api).
     pub leaf_index: u64,
-    /// The moment at which the submission was taken in, in milliseconds.
+    /// The timestamp at which the submission was added, in milliseconds.
     pub timestamp: u64,
-    /// What stands under the signature. These are the bytes of the leaf, too.
+    /// The bytes to be signed. These are also the bytes of the leaf.
     pub signed: Vec<u8>,
 }
 
-// The receipts of submissions, from an index on.
+// Returns the receipts of submissions whose indexes begin at `first`.
 pub(crate) fn receipts(
     alloc: Global,
     batch: &[Submission],
@@ -52,7 +52,7 @@ pub(crate) fn receipts(
     Ok(receipts)
 }
 
-// The hashes of the leaves that receipts name.
+// Returns the hashes of the leaves that receipts name.
 pub(crate) fn leaf_hashes<H: NodeHash>(
     alloc: Global,
     h: &H,

@@ -1,4 +1,4 @@
--- What is written of numbers is read.
+-- Numbers that are written are read again.
 use Rattle.std.proofs.Common.{◌≡◌, ◌∙◌, ℕ, zero, suc, ◌+◌, ◌-◌, ◌/◌, ◌%◌, ◌<◌, ◌≤◌, ◌^◌, List, [], ◌∷◌, ◌++◌, length, take, drop, Some, None, Option, sym, refl, ap, subst, arith, length-append, append_assoc, append-nil, eq-eqb, ltb-true}
 use Rattle.std.specs.Prelude.{codes, bytes_eq, option_map, option_and_then, Err, Bool, true, false, ◌==◌, ◌&&◌, nat_lt, if◌then◌else◌}
 use Rattle.std.specs.Int.{w64, from_be_bytes}
@@ -46,7 +46,7 @@ drop_past [] ys n j e = let f : n ≡ j = omega (arith, e) in ap (λ z. drop z y
 drop_past (x ∷ xs) ys zero j e = absurd (omega (arith, e))
 drop_past (x ∷ xs) ys (suc n) j e = drop_past xs ys n j (omega (arith, e))
 
--- the number whose digits stand behind others
+-- the number whose digits follow other bytes
 number_at : (n from : ℕ) (text rest : List ℕ) → n < 2 ^ 64 → drop from text ≡ number_digits n ++ rest → number_from from text ≡ Some n
 number_at n from text rest h e =
     ap (λ z. digits_number (take 16 z)) e ∙ ap digits_number (take_front (number_digits n) rest 16 (digits_long n)) ∙ digits_read n h

@@ -1,8 +1,8 @@
-//! What follows of the definitions. Each law is the contract of a function that does nothing.
+//! Theorems about the definitions. Each is the contract of a function that does nothing.
 
 ghost use Rattle.ct_lock_text.specs.Laws.{NamesSayTheirState, TextsSayTheirState};
 
-/// What is written of a state is read again: its name (`names`), and the next text of its line (`texts`).
+/// Everything that is written for a state is read again: its name (`names`), and the next text of its line (`texts`).
 #[tactic(auto, using(crate::proofs::Names::names_say_their_state, crate::proofs::Names::texts_say_their_state))]
 pub fn written_is_read()
     ensures names { NamesSayTheirState }

@@ -1,6 +1,7 @@
-//! The text that a log's lock holds, and the names of staged batches: which states they are of (`ct_node::State`).
+//! The text that a log's lock holds, and the names of staged batches. Both identify states (`ct_node::State`).
 //!
-//! [`said_in`] reads a lock's text, and [`text_of`] writes one. [`state_of_name`] reads the name of a staged batch, and [`write_name`] writes one.
+//! [`said_in`] reads a lock's text, and [`text_of`] writes one. [`state_of_name`] reads the name of a staged batch, and [`write_name`]
+//! writes one.
 #![tactic(auto)]
 
 pub mod laws;

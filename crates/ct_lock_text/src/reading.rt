@@ -1,11 +1,11 @@
-//! Reading a lock's text, and the name of a staged batch.
+//! Reads a lock's text, and the name of a staged batch.
 
 ghost use Rattle.std.specs.Prelude.{◌≡◌, ◌≤◌, ◌+◌, length};
 ghost use Rattle.ct_lock_text.specs.LockText.{digits_number, number_from, has_word, has_words, moment_before, numbers_said, text_said, says_root, numbers_state, name_state};
 
 use ct_node::State;
 
-/// What a lock's text says.
+/// The content of a lock's text.
 #[derive(Clone, Copy, Debug, PartialEq, Eq)]
 pub struct Said {
     /// The number of entries.
@@ -14,7 +14,7 @@ pub struct Said {
     pub state: State,
 }
 
-// The number whose 16 digits these are.
+// Returns the number that these 16 digits write, or None if they are not digits.
 #[tactic(auto, unfolding(crate::specs::LockText::digits_number))]
 fn number_of(digits: &[u8]) -> Option<u64>
     ensures { result ≡ digits_number digits.now }
@@ -26,7 +26,7 @@ fn number_of(digits: &[u8]) -> Option<u64>
     }
 }
 
-// The number whose 16 digits begin at this offset of a text.
+// Returns the number whose 16 digits begin at this offset of a text.
 fn number_in(text: &[u8], from: usize) -> Option<u64>
     requires { from + 16 ≤ length text.now }
     ensures { result ≡ number_from from text.now }
@@ -36,7 +36,7 @@ fn number_in(text: &[u8], from: usize) -> Option<u64>
     number_of(digits)
 }
 
-// Whether a text has a word at this offset.
+// Reports whether a text has a word at this offset.
 fn has(text: &[u8], from: usize, word: &[u8]) -> bool
     requires { from + length word.now ≤ length text.now }
     ensures { result ≡ has_word from word.now text.now }
@@ -46,7 +46,7 @@ fn has(text: &[u8], from: usize, word: &[u8]) -> bool
     part == word
 }
 
-// Whether a lock's text has its words at their offsets.
+// Reports whether a lock's text has its words at their offsets.
 fn is_worded(text: &[u8]) -> bool
     requires { 340 ≤ length text.now }
     ensures { result ≡ has_words text.now }
@@ -57,14 +57,14 @@ fn is_worded(text: &[u8]) -> bool
         && has(text, text.len() - 1, b"\n")
 }
 
-// The timestamp of the state before, if these digits are one.
+// Returns the timestamp of the state before, or 0 if the digits are not a timestamp before the state's.
 fn before_of(digits: u64, moment: u64) -> u64
     ensures { result ≡ moment_before digits moment }
 {
     if digits < moment { digits } else { 0 }
 }
 
-// What the numbers of a lock's text say.
+// Returns the content of a lock's text, read from its numbers.
 fn numbers_in(text: &[u8]) -> Option<Said>
     requires { 340 ≤ length text.now }
     ensures { result ≡ numbers_said text.now }
@@ -83,7 +83,7 @@ fn numbers_in(text: &[u8]) -> Option<Said>
     })
 }
 
-/// What a lock's text says, or nothing if the bytes are none.
+/// Returns the content of a lock's text, or None if the bytes are not a lock's text.
 pub fn said_in(text: &[u8]) -> Option<Said>
     ensures said { result ≡ text_said text.now }
 {
@@ -97,7 +97,7 @@ pub fn said_in(text: &[u8]) -> Option<Said>
     }
 }
 
-/// Whether a lock's text has this root, which is written in 64 digits.
+/// Reports whether a lock's text has this root, which is written in 64 digits.
 pub fn has_root(text: &[u8], root: &[u8; 32]) -> bool
     ensures root { result ≡ says_root text.now root.now }
 {
@@ -108,7 +108,7 @@ pub fn has_root(text: &[u8], root: &[u8; 32]) -> bool
     }
 }
 
-// The state whose numbers are in a name.
+// Returns the state whose numbers are in a name.
 fn state_in(name: &[u8]) -> Option<State>
     requires { length name.now ≡ 56 }
     ensures { result ≡ numbers_state name.now }
@@ -123,7 +123,7 @@ fn state_in(name: &[u8]) -> Option<State>
     })
 }
 
-/// The state whose staged batch has this name, or nothing if no batch has it.
+/// Returns the state whose staged batch has this name, or None if no batch has it.
 pub fn state_of_name(name: &[u8]) -> Option<State>
     ensures state { result ≡ name_state name.now }
 {

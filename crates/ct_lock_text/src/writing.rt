@@ -1,4 +1,4 @@
-//! Writing a lock's text, and the name of a staged batch.
+//! Writes a lock's text, and the name of a staged batch.
 
 ghost use Rattle.std.specs.Prelude.{◌≡◌, ◌≤◌, ◌+◌, ◌++◌, IfOk, length, take, string_bytes};
 ghost use Rattle.ct_lock_text.specs.LockText.{number_digits, next_text, bundle_name};
@@ -7,14 +7,15 @@ use ct_codec::numbers::number_bytes_8;
 use ct_node::State;
 use std::alloc::{AllocError, Global};
 
-// The digits of a number.
+// Returns the digits of a number.
 fn digits_of(alloc: Global, number: u64) -> Result<String, AllocError>
     ensures { IfOk result (λ text. string_bytes text ≡ number_digits number) }
 {
     hex::encode(alloc, number_bytes_8(number).as_slice())
 }
 
-/// The lock's text of a state's line, which this node sets in place of a state with the timestamp `before`. The salt is a random number.
+/// Returns the lock's text for a state's line, which this node sets in place of a state with the timestamp `before`. The salt is a random
+/// number.
 pub fn text_of(
     alloc: Global,
     line: &[u8],

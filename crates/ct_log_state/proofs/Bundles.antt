@@ -1,4 +1,4 @@
--- Bundles are read as they were written.
+-- Staged batches are read as they were written.
 use Rattle.std.proofs.Common.{◌≡◌, ◌∙◌, ◌<◌, ◌≤◌, ◌^◌, ℕ, List, [], ◌∷◌, ◌++◌, length, map, sym, refl, ap, subst, arith, length-append, append_assoc, inl, inr, Ok, Err}
 use Rattle.std.proofs.lemmas.List.{append-nil}
 use Rattle.std.proofs.lemmas.List.Concat.{flat_map-append}
@@ -11,12 +11,12 @@ use Rattle.ct_codec.proofs.Apart.{num_split, vec_split}
 use Rattle.ct_codec.proofs.Refusals.{length-num}
 use Rattle.ct_log_state.specs.Bundle.{IsObject, bundled_text, bundle_text, IsBundleOf}
 
--- no vector begins where its length isn't whole
+-- the bytes do not begin with a vector if they end within its length
 pub no_length : (w : ℕ) (b x r : List ℕ) → length b < w → b ≡ vec w x ++ r → ⊥
 no_length w b x r h e =
     absurd (omega (arith, h, ap length e, length-append (num w (length x) ++ x) r, length-append (num w (length x)) x, length-num w (length x)))
 
--- no vector begins where its length is whole and its content isn't
+-- the bytes do not begin with a vector if its length is complete and they end within its content
 pub no_content : (w n : ℕ) (b s x r : List ℕ) → n < 256 ^ w → length x < 256 ^ w → length s < n → b ≡ num w n ++ s → b ≡ vec w x ++ r → ⊥
 no_content w n b s x r h k short e f =
     let parts = num_split w n (length x) s (x ++ r) h k (sym e ∙ f ∙ append_assoc (num w (length x)) x r) in
@@ -30,7 +30,7 @@ object_split (n, c) (m, d) r s h k e =
     let behind = vec_split 4 c d r s h.content k.content front.1 in
     (ap (λ (x : List ℕ). (x, c)) front.0 ∙ ap (λ (x : List ℕ). (m, x)) behind.0, behind.1)
 
--- an object isn't nothing
+-- an object has at least 6 bytes
 pub object_some : (o : List ℕ × List ℕ) (r : List ℕ) → 6 ≤ length (bundled_text o ++ r)
 object_some (n, c) r =
     omega (
@@ -43,7 +43,7 @@ object_some (n, c) r =
       length-num 4 (length c),
     )
 
--- objects that were read, and what is left: a bundle of all begins with them
+-- objects that were read, and the rest of the bytes: a staged batch of all objects begins with those that were read
 pub begun : (done all : List (List ℕ × List ℕ)) (rest : List ℕ) → All IsObject done → All IsObject all → bundle_text done ++ rest ≡ bundle_text all
     → (more : List (List ℕ × List ℕ)) × (all ≡ done ++ more) × (rest ≡ bundle_text more)
 begun [] all rest h k e = (all, refl, e)
@@ -55,7 +55,7 @@ begun (o ∷ done) (p ∷ all) rest h k e =
     let behind = begun done all rest (All-tail IsObject o done h) (All-tail IsObject p all k) one.1 in
     (behind.0, ap (λ (x : List (List ℕ × List ℕ)). p ∷ x) behind.1 ∙ ap (λ (x : List ℕ × List ℕ). x ∷ (done ++ behind.0)) (sym one.0), behind.2)
 
--- what was read of bytes, and what is left of them
+-- the objects that were read from bytes, and the rest of the bytes
 pub record ReadSoFar (done : List (List ℕ × List ℕ)) (bytes rest : List ℕ) : Type 0 where
   pub fit : All IsObject done
   pub text : bytes ≡ bundle_text done ++ rest
@@ -77,7 +77,7 @@ read-more done all o bytes rest more r h e a =
           ∙ ap (λ (x : List ℕ). x ++ more) (sym (bundle-push done o));
     })
 
--- where no object is next, there is no bundle
+-- if the rest of the bytes does not begin with an object, they are not a staged batch
 pub read-stuck : (done objects : List (List ℕ × List ℕ)) (bytes rest : List ℕ) → ReadSoFar done bytes rest → (length rest ≡ 0 → ⊥)
     → ((o : List ℕ × List ℕ) (r : List ℕ) → IsObject o → rest ≡ bundled_text o ++ r → ⊥) → IsBundleOf objects bytes → ⊥
 read-stuck done objects bytes rest r some none b =
@@ -124,7 +124,7 @@ read-less (n, c) rest more e =
       length-num 4 (length c),
     )
 
--- behind the name of an object stands its content
+-- the name of an object is followed by its content
 pub behind_name : (n b s : List ℕ) (o : List ℕ × List ℕ) (r : List ℕ) → length n < 2 ^ 16 → b ≡ vec 2 n ++ s → IsObject o → b ≡ bundled_text o ++ r
     → s ≡ vec 4 o.1 ++ r
 behind_name n b s (m, d) r h e k f =

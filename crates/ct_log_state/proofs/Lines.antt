@@ -145,8 +145,8 @@ state_lines_are_lines a h = (
   All-append no_end (codes "growth ") (encode_lower (state_line_bytes a)) word_no_end (encoded_no_end (state_line_bytes a) (bytes-small a h)),
 )
 
--- ---- what the calls answer
--- what is decoded, where it is known what the digits write
+-- ---- the results of the calls
+-- the bytes that are decoded if it is known which bytes the digits write
 pub decoded : {E : Type 0} (r : Result (List ℕ) E) (b out : List ℕ) (answer : Result (Unit {0}) E) → r ≡ Ok b
     → MatchResult r (λ bytes. (answer ≡ Ok tt) × (out ≡ bytes)) (λ e. answer ≡ Err e) → (answer ≡ Ok tt) × (out ≡ b)
 decoded r b out answer e m = subst (λ x. MatchResult x (λ bytes. (answer ≡ Ok tt) × (out ≡ bytes)) (λ f. answer ≡ Err f)) e m
@@ -155,7 +155,7 @@ pub on_ok : {T E : Type 0} (r : Result T E) (P : Type 0) → is_err r ≡ false 
 on_ok (Ok x) P e p = p
 on_ok (Err x) P e p = absurd (both_ways true e refl)
 
--- a part of bytes, and what is behind it
+-- a part of bytes, and the bytes after it
 pub chunk : (n : ℕ) (x r S : List ℕ) → x ≡ take n S → r ≡ drop n S → length r + n ≡ length S → All small S
     → ((length x ≡ n) × All small x) × All small r
 chunk n x r S e f l a =
@@ -165,7 +165,7 @@ not_false : (b : Bool) → not b ≡ false → b ≡ true
 not_false true e = refl
 not_false false e = absurd (both_ways true e refl)
 
--- the digits behind the word
+-- the digits after the word
 pub digits_of : (text digits : List ℕ) (line : StateLine) → digits ≡ drop 7 text → state_line_text line ≡ text → encode_lower (state_line_bytes line) ≡ digits
 digits_of text digits line d e = ap (drop 7) e ∙ sym d
 

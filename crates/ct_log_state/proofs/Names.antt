@@ -1,4 +1,4 @@
--- A tile's name is short, and the names at the edge.
+-- A tile's name is short, and the names of the objects at the right edge.
 use Rattle.std.proofs.Common.{◌≡◌, ℕ, zero, suc, ◌+◌, ◌*◌, ◌/◌, ◌%◌, ◌<◌, ◌≤◌, ◌^◌, true, false, Bool, cond, List, [], ◌∷◌, ◌++◌, length, ap, arith, codes, nat_lt, add-one, refl, length-append, ◌∙◌, sym, Vec, Global}
 use Rattle.std.proofs.Math.Nat.{pow-suc, div-div-eq-div-mul}
 use Rattle.ct_tile_names.specs.Names.{three_digits, decimal, group, leading_groups, index_text, content_text, width_text, name_text}
@@ -56,7 +56,7 @@ names-more level n = rw add-one refl
 abbrev pub text_in : Vec ℕ Global → List ℕ
 text_in t = t.items
 
--- how many hashes the next level has
+-- the number of hashes of the next level
 pub rest-step : (n rest i : ℕ) → rest ≡ n / 256 ^ i → rest / 256 ≡ n / 256 ^ (i + 1)
 rest-step n rest i e =
     ap (λ (x : ℕ). x / 256) e ∙ div-div-eq-div-mul n (256 ^ i) 256 ∙ ap (λ (x : ℕ). n / x) (sym (pow-suc 256 i) ∙ ap (λ (k : ℕ). 256 ^ k) (sym (add-one i)))

@@ -4,7 +4,7 @@ use Rattle.ct_tile_names.specs.Names.{name_text}
 use Rattle.ct_tile_names.specs.declared.tile.Content.{Content}
 use Rattle.ct_tile_names.specs.declared.tile.Content.TheVariants.{Hashes, Entries}
 
--- the name of the partial tile that so many hashes or entries leave behind full ones, and none where they leave none
+-- the name of the partial tile after the full ones if n hashes or entries leave one, and otherwise no name
 abbrev pub partial_name : Content → ℕ → List (List ℕ)
 partial_name content n = if nat_lt 0 (n % 256) then name_text (record { content = content; index = n / 256; width = n % 256 }) ∷ [] else []
 
@@ -13,6 +13,6 @@ unfoldable pub level_names : ℕ → ℕ → List (List ℕ)
 level_names zero n = []
 level_names (suc levels) n = level_names levels n ++ partial_name (Hashes levels) (n / 256 ^ levels)
 
--- the names of the partial tiles of a log of n leaves, and behind them that of its partial data tile
+-- the names of the partial tiles of a log of n leaves, followed by that of its partial data tile
 abbrev pub needed_names : ℕ → List (List ℕ)
 needed_names n = level_names 8 n ++ partial_name Entries n

@@ -1,4 +1,4 @@
-//! Objects as one byte string, written and read.
+//! Writes the objects of a step as one byte string, and reads them.
 
 ghost use Rattle.std.specs.Prelude.{◌≡◌, ◌<◌, ◌^◌, ◌++◌, ℕ, List, length, map, OnOk, IfSome, IfNone, IfOk, MatchBool};
 ghost use Rattle.ct_codec.specs.Bytes.{num, vec};
@@ -9,7 +9,8 @@ use ct_codec::Reader;
 use ct_codec::numbers::{number_bytes_2, number_of_2};
 use std::alloc::{AllocError, Global};
 
-/// An object of a step, where it stands in its bundle: a tile of hashes or of entries, under its name.
+/// An object of a step, which borrows its parts from its staged batch (called a bundle here): a tile of hashes or of entries, with its
+/// name.
 #[derive(Clone, Copy, Debug, PartialEq, Eq)]
 pub struct Object<'a> {
     /// The name, as ASCII (C2SP tlog-tiles and static-ct-api).
@@ -18,21 +19,21 @@ pub struct Object<'a> {
     pub content: &'a [u8],
 }
 
-// A number in four bytes.
+// Returns the four bytes of a number.
 fn number_bytes_4(n: u32) -> [u8; 4]
     ensures { result ≡ num 4 n }
 {
     n.to_be_bytes()
 }
 
-// The number that stands in four bytes.
+// Returns the number that four bytes represent.
 fn number_of_4(bytes: &[u8; 4]) -> u32
     ensures { num 4 result ≡ bytes.now }
 {
     u32::from_be_bytes(*bytes)
 }
 
-/// Writes an object behind the others: its name of fewer than 2^16 bytes, and its content of fewer than 2^32.
+/// Appends an object to the staged batch. Its name must have fewer than 2^16 bytes, and its content fewer than 2^32.
 pub fn push_object(bundle: &mut Vec<u8>, name: &[u8], content: &[u8]) -> Result<(), AllocError>
     requires name { length name.now < 2 ^ 16 }
     requires content { length content.now < 2 ^ 32 }
@@ -45,7 +46,7 @@ pub fn push_object(bundle: &mut Vec<u8>, name: &[u8], content: &[u8]) -> Result<
     Ok(())
 }
 
-// A vector whose length stands in two bytes.
+// Reads a vector whose length has two bytes.
 #[tactic(auto, using(crate::proofs::Bundles::no_length, crate::proofs::Bundles::no_content))]
 fn vector_2_at<'a>(reader: &mut Reader<'a>) -> Option<&'a [u8]>
     ensures some { IfSome result (λ x. (length x.now < 2 ^ 16) × (reader.old ≡ vec 2 x.now ++ reader.new)) }
@@ -60,7 +61,7 @@ fn vector_2_at<'a>(reader: &mut Reader<'a>) -> Option<&'a [u8]>
     Some(content)
 }
 
-// A number of four bytes.
+// Reads a number of four bytes.
 fn number_4_at(reader: &mut Reader<'_>) -> Option<u32>
     ensures some { IfSome result (λ n. (n < 2 ^ 32) × (reader.old ≡ num 4 n ++ reader.new)) }
     ensures none { IfNone result (length reader.old < 4) }
@@ -74,7 +75,7 @@ fn number_4_at(reader: &mut Reader<'_>) -> Option<u32>
     }
 }
 
-// A vector whose length stands in four bytes.
+// Reads a vector whose length has four bytes.
 #[tactic(auto, using(crate::proofs::Bundles::no_length, crate::proofs::Bundles::no_content))]
 fn vector_4_at<'a>(reader: &mut Reader<'a>) -> Option<&'a [u8]>
     ensures some { IfSome result (λ x. (length x.now < 2 ^ 32) × (reader.old ≡ vec 4 x.now ++ reader.new)) }
@@ -89,7 +90,7 @@ fn vector_4_at<'a>(reader: &mut Reader<'a>) -> Option<&'a [u8]>
     Some(content)
 }
 
-// The object that the bytes begin with.
+// Reads the object at the front of the bytes.
 fn object_at<'a>(reader: &mut Reader<'a>) -> Option<Object<'a>>
     ensures some { IfSome result (λ o. IsObject (object_parts o) × (reader.old ≡ bundled_text (object_parts o) ++ reader.new)) }
     ensures none { IfNone result ((o : List ℕ × List ℕ) (r : List ℕ) → IsObject o → reader.old ≡ bundled_text o ++ r → ⊥) }
@@ -103,7 +104,7 @@ fn object_at<'a>(reader: &mut Reader<'a>) -> Option<Object<'a>>
     Some(Object { name, content })
 }
 
-// Whether the bytes are a bundle. Takes no memory.
+// Reports whether the bytes are a staged batch. Allocates no memory.
 pub(crate) fn is_bundle(bundle: &[u8]) -> bool
     ensures { MatchBool result (IsSomeBundle bundle.now) (NoBundle bundle.now) }
 {
@@ -116,7 +117,7 @@ pub(crate) fn is_bundle(bundle: &[u8]) -> bool
     true
 }
 
-// The objects of a bundle, where they stand in it. Takes memory for the list.
+// Returns the objects of a staged batch, which borrow their parts from it. Allocates the list.
 pub(crate) fn objects_of<'a>(alloc: Global, bundle: &'a [u8]) -> Result<Vec<Object<'a>>, AllocError>
     requires { IsSomeBundle bundle.now }
     ensures { IfOk result (λ objects. IsBundleOf (map object_parts objects.items) bundle.now) }

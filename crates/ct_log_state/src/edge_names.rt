@@ -1,4 +1,4 @@
-//! What a step has to be handed beside the line.
+//! The names of the objects that a step needs in addition to the line.
 
 ghost use Rattle.std.specs.Prelude.{◌≡◌, ◌++◌, ◌≤◌, ℕ, map, IfOk, OnOk};
 ghost use Rattle.ct_tile_names.specs.Names.{IsContent};
@@ -8,7 +8,7 @@ use crate::line::StateLine;
 use ct_tile_names::{Content, Tile};
 use std::alloc::{AllocError, Global};
 
-// Writes the name of the partial tile behind full ones, where so many hashes or entries leave one.
+// Appends the name of the partial tile after the full ones, if `count` hashes or entries leave one.
 fn push_partial(
     alloc: Global,
     names: &mut Vec<Vec<u8>>,
@@ -32,8 +32,8 @@ fn push_partial(
     Ok(())
 }
 
-/// The names of what a step from this line has to be handed: of the partial tile of each level that has one, level 0 first, and of the
-/// partial data tile, where the log has one.
+/// Returns the names of the objects that a step from this line needs: the partial tile of each level that has one, level 0 first, and the
+/// partial data tile, if the log has one.
 pub fn needed(alloc: Global, line: &StateLine) -> Result<Vec<Vec<u8>>, AllocError>
     ensures { IfOk result (λ names. map (λ n. n.items) names.items ≡ needed_names line.now.tree_size) }
 {

@@ -1,17 +1,17 @@
-//! What follows, each a clause of a function that does nothing.
+//! Theorems about the definitions. Each is a clause of a function that does nothing.
 
 ghost use Rattle.ct_log_state.specs.Lines.{StateLinesDiffer, StateLinesAreLines};
 ghost use Rattle.ct_log_state.specs.Resumed.{BundlesAreResumed, BundlesTell};
 
-/// No two lines have one text, and each text is of 295 bytes, none of which ends a line.
+/// No two lines have the same text. Each text has 295 bytes, none of which ends a line.
 #[tactic(auto, using(crate::proofs::Lines::state_lines_differ, crate::proofs::Lines::state_lines_are_lines))]
 pub fn state_lines()
     ensures differ { StateLinesDiffer }
     ensures one_line { StateLinesAreLines }
 {}
 
-/// A bundle is rolled out as the objects that it was made of. If two bundles that differ are rolled out for one line, these two strings
-/// collide.
+/// `resume` returns the objects from which a staged batch was made. If it returns objects for two different byte strings and the same line,
+/// these two strings collide.
 #[tactic(auto, using(crate::proofs::Bundles::bundles_are_resumed, crate::proofs::Bundles::bundles_tell))]
 pub fn bundles()
     ensures resumed { BundlesAreResumed }

@@ -1,4 +1,4 @@
-//! The line, written and read.
+//! Writes and reads the line.
 
 ghost use Rattle.std.specs.Prelude.{◌≡◌, ℕ, List, length, IfOk, IfSome, IsSome, MatchOption, string_bytes};
 ghost use Rattle.hex.specs.Hex.{encode_lower, IsBytes};
@@ -7,12 +7,12 @@ ghost use Rattle.ct_log_state.specs.Lines.{IsStateLine, NoStateLine, state_line_
 use ct_codec::numbers::{number_bytes_8, number_of_8};
 use std::alloc::{AllocError, Global};
 
-/// What the register of a tiled log holds. Any value of the fields is a `StateLine`: what they stand for is the step's to see to.
+/// The content of a tiled log's lock. Any values of the fields are a `StateLine`: the step must ensure their meaning.
 #[derive(Clone, Copy, Debug, PartialEq, Eq)]
 pub struct StateLine {
-    /// How many leaves the log has.
+    /// The number of leaves of the log.
     pub tree_size: u64,
-    /// The moment of its head, in milliseconds.
+    /// The timestamp of its head, in milliseconds.
     pub timestamp: u64,
     /// The root of its tree.
     pub root: [u8; 32],
@@ -24,7 +24,7 @@ pub struct StateLine {
     pub before: [u8; 32],
 }
 
-// The fields, one behind the other.
+// Returns the fields, one after the other.
 fn bytes_of(alloc: Global, line: &StateLine) -> Result<Vec<u8>, AllocError>
     ensures { IfOk result (λ b. b.items ≡ state_line_bytes line.now) }
 {
@@ -38,7 +38,7 @@ fn bytes_of(alloc: Global, line: &StateLine) -> Result<Vec<u8>, AllocError>
     Ok(bytes)
 }
 
-// The line with these fields, one behind the other.
+// Returns the line with these fields, one after the other.
 fn line_of(bytes: &[u8]) -> Option<StateLine>
     requires { length bytes.now ≡ 144 }
     ensures some { IsSome result }
@@ -61,7 +61,7 @@ fn line_of(bytes: &[u8]) -> Option<StateLine>
     })
 }
 
-// The 144 bytes that these digits in lower case write.
+// Returns the 144 bytes that these digits in lower case write.
 fn bytes_of_digits(digits: &[u8]) -> Option<[u8; 144]>
     ensures { MatchOption result ((b : List ℕ) → length b ≡ 144 → IsBytes b → encode_lower b ≡ digits.now → ⊥)
         (λ b. (length b ≡ 144) × (encode_lower b ≡ digits.now)) }
@@ -82,7 +82,7 @@ fn bytes_of_digits(digits: &[u8]) -> Option<[u8; 144]>
 }
 
 impl StateLine {
-    /// The line's text, without an end of line. Takes memory for the text and for its bytes.
+    /// Returns the line's text, without an end of line. Allocates the text and its bytes.
     pub fn write(&self, alloc: Global) -> Result<String, AllocError>
         ensures { IfOk result (λ text. string_bytes text ≡ state_line_text self.now) }
     {
@@ -92,7 +92,7 @@ impl StateLine {
         Ok(text)
     }
 
-    /// The line of which this is the text, without an end of line. None where it is the text of no line. Takes no memory.
+    /// Returns the line with this text, which must not have an end of line, or None if it is the text of no line. Allocates no memory.
     pub fn read(text: &[u8]) -> Option<StateLine>
         ensures { MatchOption result (NoStateLine text.now) (λ line. IsStateLine line × (state_line_text line ≡ text.now)) }
     {

@@ -1,4 +1,4 @@
-//! A step that was decided, rolled out by anybody.
+//! Lets anybody publish a step that was decided.
 
 ghost use Rattle.std.specs.Prelude.{◌≡◌, ℕ, map, MatchResult};
 ghost use Rattle.ct_log_state.specs.Bundle.{IsBundleOf};
@@ -11,13 +11,13 @@ use ct_tree::{NodeHash, is_same_digest};
 use std::alloc::{AllocError, Global};
 use thiserror::Error;
 
-/// Why no objects are rolled out.
+/// The reason why no objects are returned.
 #[derive(Clone, Copy, PartialEq, Eq, Debug, Error)]
 pub enum ResumeFault {
-    /// The bytes are not those of which the line has the digest, or they are no bundle.
+    /// The bytes do not have the digest that the line has, or they are not a staged batch.
     #[error("the bundle is not that of the state")]
     Bundle,
-    /// A growth was refused.
+    /// Memory could not be allocated.
     #[error("there is no memory for the objects")]
     Memory,
 }
@@ -30,13 +30,13 @@ impl From<AllocError> for ResumeFault {
     }
 }
 
-/// The objects of the step that made this line, from its bundle, where they stand in it: in order, under their names. So a step whose
-/// maker died is rolled out by whoever has its bundle.
+/// Returns the objects of the step that made this line, in order, under their names. They borrow their parts from its staged batch. So
+/// anybody who has the staged batch can publish a step whose maker died.
 ///
-/// Takes memory for the list alone.
+/// Allocates only the list.
 ///
-/// # Errors
-/// `Bundle` where the digest of the bytes isn't the line's, or they are no bundle; `Memory` where they are the line's bundle, and a growth was refused.
+/// # Errors `Bundle` if the digest of the bytes is not the line's, or they are not a staged batch; `Memory` if they are the line's staged
+/// batch, and memory could not be allocated.
 pub fn resume<'a, H: NodeHash>(
     alloc: Global,
     h: &H,

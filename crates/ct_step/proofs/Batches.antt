@@ -42,7 +42,7 @@ tiled-push t first (x ∷ B) e =
     ap (λ (r : List Tiled). tiled_at t x first ∷ r)
     (tiled-push t (suc first) B e ∙ ap (λ (n : ℕ). tiled_leaves t (suc first) B ++ tiled_at t e n ∷ []) z)
 
--- one text more
+-- one more text
 pub texts-step : (t first i : ℕ) (B : List Entry) (e : Entry) (old new : List (Vec ℕ Global)) (x : Vec ℕ Global)
     → i < length B → e ≡ get_or B i e → x.items ≡ tile_leaf_text (tiled_at t e (first + i)) → new ≡ old ++ x ∷ []
     → map text_in old ≡ texts_of (tiled_leaves t first (take i B)) → map text_in new ≡ texts_of (tiled_leaves t first (take (i + 1) B))

@@ -1,4 +1,4 @@
--- The hashes that bytes are.
+-- The hashes of which bytes consist.
 use Rattle.std.proofs.Common.{◌≡◌, ◌∙◌, ℕ, zero, suc, ◌+◌, ◌*◌, ◌/◌, ◌%◌, ◌<◌, List, [], ◌∷◌, ◌++◌, length, take, drop, get_or, map, All, sym, refl, ap, subst, arith, Vec, Global, length-drop}
 use Rattle.std.specs.Simd.{first_chunks}
 use Rattle.std.proofs.lemmas.List.{map_push, take_more, take-append-drop, take_at, drop_at, nil_from_length, length-append}
@@ -32,7 +32,7 @@ chunks-joined (h ∷ t) a =
     ∙ ap (λ (x : List ℕ). h ∷ first_chunks 32 (length t) x) (drop_at h (joined t) 32 size)
     ∙ ap (λ (x : List (List ℕ)). h ∷ x) (chunks-joined t (All-tail has_32 h t a))
 
--- hashes are those that their bytes are
+-- hashes are the same when they are read from their own bytes
 pub hashes-back : (t : List (List ℕ)) → AreHashes t → tile_hashes (joined t) ≡ t
 hashes-back t a =
     let k : length (joined t) / 32 ≡ length t = omega (arith, length-joined t a) in
@@ -69,7 +69,7 @@ cut-step i E b old new t h is at n o =
     ∙ sym (map_push tile_hashes (map text_in (take i E)) b.items)
     ∙ ap (map tile_hashes) (sym (ap (map text_in) more ∙ map_push text_in (take i E) b))
 
--- whose bytes end within a hash isn't a tile's
+-- bytes that end within a hash are not those of a tile
 pub not_whole : (T : List (List (List ℕ))) (edge : List (List ℕ)) → AreBytesOf T edge → All AreHashes T → All IsWhole edge
 not_whole T edge e a = subst (All IsWhole) e (each T a)
   where

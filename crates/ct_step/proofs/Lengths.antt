@@ -1,4 +1,4 @@
--- Entries have as many hashes, and as many texts.
+-- There are as many hashes, and as many texts, as entries.
 use Rattle.std.proofs.Common.{◌≡◌, suc, List, [], ◌∷◌, length, refl, ap, ℕ}
 use Rattle.ct_data_tiles.specs.TileLeaf.{Tiled}
 use Rattle.ct_step.specs.Entries.{texts_of, hashes_of}

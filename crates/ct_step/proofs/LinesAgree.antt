@@ -1,4 +1,4 @@
--- All steps whose lines the register took are of one list of entries, or two of the strings that are hashed collide.
+-- All steps whose lines the lock took belong to one list of entries, or two of the strings that are hashed collide.
 use Rattle.std.proofs.Common.{◌≡◌, ◌⊎◌, ◌∙◌, ℕ, suc, ◌+◌, ◌<◌, ◌≤◌, cond, List, [], ◌∷◌, ◌++◌, length, take, drop, sym, refl, ap, subst, arith, inl, inr, ⊎_elim, append_assoc, append-nil, length-append}
 use Rattle.std.proofs.lemmas.List.{take_at, drop_at}
 use Rattle.std.proofs.lemmas.List.Elements.{All-cons, All-nil}
@@ -41,7 +41,7 @@ is_of H E Z a size p =
           ∙ sym (ap (take (length a.batch)) rest ∙ ap (λ n. take n (N ++ Z)) (sym count) ∙ take_at N Z (length N) refl);
     }
 
--- steps that carry on, and begin at or behind an index
+-- steps that carry on, and begin at an index or after it
 record CarriedLines (H : List ℕ → List ℕ) (since from : ℕ) (E : List Tiled) (steps : List LineAttempt) : Type 0 where
   pub carry : CarryOnLines H since E steps
   pub behind : All (λ a. from ≤ a.seen.tree_size) steps
@@ -170,7 +170,7 @@ line_sequencers_agree H S held known attempts s made E all =
     (λ (found : CollideAmong H (IsHashedBySteps H S E)). inr found)
     (agree_from H S E held known attempts all s made)
 
--- ---- where each step that was taken was handed the edge of the log
+-- ---- the case that each step that was taken received the edge of the log
 agree_truly : (H : List ℕ → List ℕ) (held : StateLine) (known : List Tiled) (attempts : List HandedLineAttempt) → IsLog H known held
     → AreTrueAttempts H held known attempts
     → (Z : List Tiled) × CarriedLines H held.timestamp (length known) (known ++ Z) (taken_lines (handed_line_attempts attempts))

@@ -49,7 +49,7 @@ cut-named level first i w E T t h end =
     ap (λ (x : List (List ℕ)). named (Hashes level) (first + i) x) e
     ∙ sym (ap (λ (k : ℕ). cut_object level first E k) z)
 
--- where the test of `changed` or `cut_level` holds, and where not
+-- the result of `changed` or `cut_level` if its test is true, and if it is not
 pub test-true : {X : Type 0} (m n : ℕ) (x y : X) → m < n → cond (nat_lt m n) x y ≡ x
 test-true m n x y h = grind (arith)
 
@@ -95,7 +95,7 @@ levels-more H level D B = rw add-one refl
 abbrev pub pair_of : Row → ℕ × List (List ℕ)
 pair_of r = (r.first, r.hashes.items)
 
--- one level more
+-- one more level
 pub levels-step : (H : List ℕ → List ℕ) (level size known : ℕ) (D B : List (List ℕ)) (R : List Row) (r : Row) → level < 8 → size ≡ length D
     → known ≡ size / 256 ^ level → map pair_of R ≡ rows H 256 8 D B → r ≡ get_or R level r
     → level_objects H level D B ++ cut_level level known r.hashes.items ≡ level_objects H (level + 1) D B
@@ -154,7 +154,7 @@ full-tiles size L N T s same =
     let e : length T ≡ k = sym (length-map T text_in) ∙ ap length same ∙ length-data (length L / 256) k M in
     (e, same ∙ ap (λ (x : ℕ). data_tiles_from (x / 256) k M) (sym s) ∙ ap (λ (x : ℕ). data_tiles_from (size / 256) x M) (sym e))
 
--- the partial one behind them under its name
+-- the partial tile after them under its name
 pub last-object : (M : List (List ℕ)) (size : ℕ) (x : List ℕ) → size ≡ length M → x ≡ data_tile (length M / 256) M
     → (name_of (size % 256) (size / 256), x) ≡ entry_object M (length M / 256)
 last-object M size x s content =
@@ -169,7 +169,7 @@ last-object M size x s content =
 pub some_of : (n : ℕ) → (n ≡ 0 → ⊥) → 0 < n
 some_of n other = grind (arith)
 
--- the data tiles that are new or change, where there are new texts: no partial one is behind the full ones
+-- the data tiles that are new or change if there are new texts, and no partial one follows the full ones
 pub data-even : (L N : List (List ℕ)) → 0 < length N → length (L ++ N) % 256 ≡ 0
     → data_objects L N ≡ each_from (entry_object (L ++ N)) (length L / 256) (length (L ++ N) / 256 - length L / 256)
 data-even L N some even =
@@ -180,7 +180,7 @@ data-even L N some even =
     test-true m n (each_from object (m / 256) ((n + 255) / 256 - m / 256)) [] (omega (arith, some, all))
     ∙ ap (each_from object (m / 256)) (omega (arith, even))
 
--- or one is
+-- the same if a partial one follows them
 pub data-odd : (L N : List (List ℕ)) → 0 < length N → 0 < length (L ++ N) % 256
     → data_objects L N
     ≡ each_from (entry_object (L ++ N)) (length L / 256) (length (L ++ N) / 256 - length L / 256)

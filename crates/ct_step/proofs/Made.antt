@@ -1,4 +1,4 @@
--- What a step makes of a batch.
+-- The result of a step for a batch.
 use Rattle.std.proofs.Common.{◌≡◌, ◌⊎◌, ◌∙◌, ℕ, suc, ◌-◌, ◌/◌, ◌<◌, ◌≤◌, ◌+◌, ◌^◌, true, false, List, [], ◌∷◌, ◌++◌, length, map, sym, refl, ap, subst, arith, inl, inr, ⊎_elim, Vec, Global, All}
 use Rattle.std.proofs.lemmas.List.{length-map, map-append}
 use Rattle.std.specs.Prelude.{Contains}
@@ -29,7 +29,7 @@ use Rattle.ct_step.proofs.Batches.{Entry}
 use Rattle.ct_step.proofs.Handed.{all-back}
 use Rattle.ct_step.proofs.LinesAgree.{length-tiled}
 
--- the leaves that entries become
+-- the leaves of entries
 pub leaves-made : (t first : ℕ) (B : List Entry) → tree_leaves (tiled_leaves t first B) ≡ indexed_leaves t first (map entry_of (map (λ (e : Entry). e.0) B))
 unfolding tiled_leaves indexed_leaves
 leaves-made t first [] = refl
@@ -45,7 +45,7 @@ pub all-leaves : (E : List Tiled) (B : List Entry) (t : ℕ)
 all-leaves E B t =
     ap (λ (x : List (List ℕ)). tree_leaves E ++ x) (new-leaves E B t) ∙ sym (map-append leaf_of E (new_entries E B t))
 
--- how many texts there are, and how many submissions
+-- the number of texts, and the number of submissions
 pub count-made : (t first : ℕ) (B : List Entry) (X : List (Vec ℕ Global)) → map text_in X ≡ texts_of (tiled_leaves t first B) → length X ≡ length B
 count-made t first B X e =
     sym (length-map X text_in) ∙ ap length e ∙ length-map (tiled_leaves t first B) tile_leaf_text ∙ length-tiled t first B
@@ -66,7 +66,7 @@ last-made L N r d =
     ap (λ (x : List (List ℕ)). x ++ r.partial.items ∷ []) d.full
     ∙ ap (λ (x : List ℕ). data_tiles_from (length L / 256) (length (L ++ N) / 256 - length L / 256) (L ++ N) ++ x ∷ []) d.partial
 
--- the head that a line of a log names is that of its leaves
+-- the head of a log's line is that of its leaves
 over : (H : List ℕ → List ℕ) (line : StateLine) (E : List Tiled) → IsLog H E line → IsHeadOver H (tree_leaves E) (line_head line)
 over H line E log = (log.size ∙ sym (length-map E leaf_of), log.root, omega (arith, log.few, length-map E leaf_of))
 
@@ -74,7 +74,7 @@ over H line E log = (log.size ∙ sym (length-map E leaf_of), log.root, omega (a
 tile_of_log : (L : List (List ℕ)) (n : ℕ) → length L ≡ n → data_tile (n / 256) L ≡ data_tile (length L / 256) L
 tile_of_log L n e = ap (λ (k : ℕ). data_tile (k / 256) L) (sym e)
 
--- what a line names is the edge of a log that has the line
+-- if a line names the received bytes, they are the edge of a log that has the line
 pub named_edges_tell : NamedEdgesTell
 named_edges_tell H long line E edge entries named log =
     let S : List ℕ → Type 0 = λ s. IsHashedOfHanded H edge entries s ⊎ IsHashedOfLog H E s in
@@ -100,7 +100,7 @@ named_edges_tell H long line E edge entries named log =
     found))
     (believed_edges_tell H long (line_head line) (tree_leaves E) named.tiles.0 (over H line E log) named.tiles.2)
 
--- the edge of a log is what its line names
+-- a line of a log names the log's edge
 pub edges_are_named : EdgesAreNamed
 edges_are_named H long line E edge entries is log =
     let texts : length (texts_of E) ≡ length E = length-map E tile_leaf_text in
@@ -109,7 +109,7 @@ edges_are_named H long line E edge entries is log =
       digest = ap H (is.partial.1 ∙ sym (tile_of_log (texts_of E) (length E) texts)) ∙ sym log.entries;
     }
 
--- what was made of an edge is an attempt, whatever the edge was
+-- a step that was made from any edge is an attempt
 pub handed_attempts_are_attempts : HandedAttemptsAreAttempts
 handed_attempts_are_attempts H long S b made all = (
   made.may.later,
@@ -126,7 +126,7 @@ handed_attempts_are_attempts H long S b made all = (
       (named_edges_tell H long b.attempt.seen E b.edge b.entries made.may.named log),
 )
 
--- where the edge of a log was handed in, the state that was believed of it is the log's
+-- if the edge of a log was received, the state that was believed from it is the log's
 pub edge_state : (H : List ℕ → List ℕ) → ((x : List ℕ) → length (H x) ≡ 32) → (line : StateLine) (edge : List (List ℕ)) (entries : List ℕ)
     (T : List (List (List ℕ))) (state : State) (E : List Tiled) → AreBytesOf T edge → BelievesState H (line_head line) T state
     → IsEdgeOf H E line.tree_size edge entries → IsState H state (tree_leaves E)

@@ -1,4 +1,4 @@
--- The bundle of a step is rolled out as what the step writes.
+-- The objects in the staged batch of a step are those that the step writes.
 use Rattle.std.proofs.Common.{◌≡◌, ◌∙◌, ap, sym, subst, ℕ, List, Vec, Global}
 use Rattle.std.specs.Prelude.{◌≢◌, Result, Ok, Err}
 use Rattle.ct_log_state.specs.Bundle.{IsBundleOf}

@@ -1,4 +1,4 @@
--- Objects written one behind the other.
+-- Objects that are written one after the other.
 use Rattle.std.proofs.Common.{◌≡◌, ◌∙◌, ◌+◌, ◌<◌, ℕ, zero, suc, List, add-one, [], ◌∷◌, ◌++◌, sym, refl, ap, arith, append_assoc}
 use Rattle.std.proofs.lemmas.List.{append-nil}
 use Rattle.ct_log_state.specs.Bundle.{bundled_text, bundle_text}

@@ -1,4 +1,4 @@
--- The entries of a batch, and the tile leaves that they become.
+-- The entries of a batch, and the tile leaves that represent them.
 use Rattle.std.specs.Prelude.{◌≡◌, ◌<◌, ◌^◌, ℕ, suc, List, [], ◌∷◌, length, map, All}
 use Rattle.ct_codec.specs.Leaf.{index_extension}
 use Rattle.ct_codec.specs.Submitted.{Submitted, x509, precert, entry_of, first_of}
@@ -11,8 +11,8 @@ abbrev pub precertificate_of : Submitted → List ℕ
 precertificate_of (x509 cs) = []
 precertificate_of (precert k t cs) = first_of cs
 
--- the tile leaf of a submission and its chain's fingerprints, which is taken in at the moment t as the leaf at index i: its extension names
--- the index and nothing else (C2SP static-ct-api)
+-- the tile leaf of a submission and its chain's fingerprints, which is added at the timestamp t as the leaf at index i: its extensions have
+-- exactly the index (C2SP static-ct-api)
 abbrev pub tiled_at : ℕ → Submitted × List (List ℕ) → ℕ → Tiled
 tiled_at t e i = record {
   timestamp = t;
@@ -22,7 +22,7 @@ tiled_at t e i = record {
   fingerprints = joined e.1;
 }
 
--- the tile leaves of these, from an index on, all of the moment t
+-- the tile leaves of these, from an index on, all with the timestamp t
 unfoldable pub tiled_leaves : ℕ → ℕ → List (Submitted × List (List ℕ)) → List Tiled
 tiled_leaves t first [] = []
 tiled_leaves t first (e ∷ entries) = tiled_at t e first ∷ tiled_leaves t (suc first) entries
@@ -39,11 +39,11 @@ tree_leaves E = map leaf_of E
 abbrev pub hashes_of : (List ℕ → List ℕ) → List Tiled → List (List ℕ)
 hashes_of H E = map (hash_leaf H) (tree_leaves E)
 
--- a chain of at most 2,047 fingerprints, whose 32 bytes each are counted in two bytes
+-- a chain of at most 2,047 fingerprints: they have 32 bytes each, and the number of all bytes has two bytes
 abbrev pub AreShort : List (List ℕ) → Type 0
 AreShort chain = length chain < 2 ^ 11
 
--- so many submissions have these chains: one each (all), which are short (short)
+-- `count` submissions have these chains: one each (`all`), which are short (`short`)
 pub record IsBatchOf (count : ℕ) (chains : List (List (List ℕ))) : Type 0 where
   pub all : length chains ≡ count
   pub short : All AreShort chains

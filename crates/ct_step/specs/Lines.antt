@@ -1,5 +1,5 @@
--- Many sequencers over one register that holds the log's line, each of them handed the edge and the partial data tile by whoever keeps
--- them. H is any hash function on byte lists.
+-- Many sequencers over one lock that holds the log's line, each of which receives the right edge and the partial data tile from elsewhere.
+-- H is any hash function on byte lists.
 use Rattle.std.specs.Prelude.{◌≡◌, ◌⊎◌, ⊤, Bool, true, false, ℕ, ◌<◌, ◌≤◌, if◌then◌else◌, Contains, List, [], ◌∷◌, ◌++◌, length, map, take, drop, filter, All, AllPairs}
 use Rattle.ct_codec.specs.Submitted.{Submitted}
 use Rattle.ct_data_tiles.specs.TileLeaf.{Tiled}
@@ -9,8 +9,9 @@ use Rattle.ct_step.specs.Entries.{tiled_leaves}
 use Rattle.ct_step.specs.Steps.{new_entries, IsEdgeOf, IsHashedOfHanded, IsHashedOfLog, IsLog, IsStepFrom, IsTiledStep, MayStep}
 use Rattle.ct_step.specs.declared.step.Step.{Step}
 
--- An attempt to carry on the log: the line that was read (seen), the submissions with their chains' fingerprints (batch), the moment (now),
--- the step that was made from these (step), and whether the register took the step's line in place of the one that was read (took).
+-- An attempt to carry on the log: the line that was read (`seen`), the submissions with their chains' fingerprints (`batch`), the timestamp
+-- (`now`), the step that was made from these (`step`), and whether the lock took the step's line in place of the one that was read
+-- (`took`).
 pub record LineAttempt : Type 0 where
   pub seen : StateLine
   pub batch : List (Submitted × List (List ℕ))
@@ -18,81 +19,87 @@ pub record LineAttempt : Type 0 where
   pub step : Step
   pub took : Bool
 
--- The attempt's step is what `take_step` answers of its line, its batch and its moment, whatever edge and data tile were handed in. S has the strings that
--- its maker hashed: its moment is later than the line's, S has its bundle, and it is the step of each log that has the line; or two strings collide, each
--- of which S has or is hashed for the line of that log.
+-- The attempt's step is the result of `take_step` for its line, its batch and its timestamp, and for any received edge and data tile. S
+-- contains the strings that its maker hashed:
+-- - The attempt's timestamp is later than the line's, and S contains its staged batch.
+-- - It is the step of each log that has the line, or two strings collide, each of which S contains or is hashed for the line of that log.
 abbrev pub IsMadeOfLine : (List ℕ → List ℕ) → List (List ℕ) → LineAttempt → Type 0
 IsMadeOfLine H S a =
     (a.seen.timestamp < a.now) × Contains S a.step.bundle.items
     × ((E : List Tiled) → IsLog H E a.seen
     → IsTiledStep H a.seen E a.batch a.now a.step ⊎ CollideAmong H (λ s. Contains S s ⊎ IsHashedOfLog H E s))
 
--- Attempts in the order in which the register answered, from the line that it held on: it took a line only in place of the one that it held.
--- Who made an attempt, and what became of them afterwards, isn't said.
+-- Attempts in the order in which the lock answered, beginning with the line that it held. It took a line only in place of the one that it
+-- held. Nothing is assumed about the maker of an attempt, or about what happened to the maker afterwards.
 unfoldable pub AreLineAttempts : (List ℕ → List ℕ) → List (List ℕ) → StateLine → List LineAttempt → Type 0
 AreLineAttempts H S held [] = ⊤
 AreLineAttempts H S held (a ∷ rest) =
     IsMadeOfLine H S a
     × (((a.took ≡ true) × (a.seen ≡ held) × AreLineAttempts H S a.step.line rest) ⊎ ((a.took ≡ false) × AreLineAttempts H S held rest))
 
--- the attempts whose lines the register took, in order
+-- the attempts whose lines the lock took, in order
 abbrev pub taken_lines : List LineAttempt → List LineAttempt
 taken_lines attempts = filter (λ a. a.took) attempts
 
--- All that an attempt's step wrote and promised is of the entries E. Its line is that of a beginning of E (size, log); it is the step from
--- the beginning that the line which was read has (step); and the entries that its batch became stand in E behind that beginning (entries).
+-- Everything that an attempt's step wrote and promised belongs to the entries E:
+-- - Its line is that of a beginning of E (`size`, `log`).
+-- - It is the step from the beginning of E that the line which was read has (`step`).
+-- - The entries of its batch follow that beginning in E (`entries`).
 pub record IsStepOf (H : List ℕ → List ℕ) (E : List Tiled) (a : LineAttempt) : Type 0 where
   pub size : a.step.line.tree_size ≤ length E
   pub log : IsLog H (take a.step.line.tree_size E) a.step.line
   pub step : IsTiledStep H a.seen (take a.seen.tree_size E) a.batch a.now a.step
   pub entries : tiled_leaves a.now a.seen.tree_size a.batch ≡ take (length a.batch) (drop a.seen.tree_size E)
 
--- the attempt b came behind the attempt a: its moment is later, and its entries begin at or behind the end of those of a's line
+-- the attempt b came after the attempt a: its timestamp is later, and its entries begin at the end of those of a's line, or after it
 pub record ComesBehindLine (a b : LineAttempt) : Type 0 where
   pub moment : a.step.line.timestamp < b.step.line.timestamp
   pub entries : a.step.line.tree_size ≤ b.seen.tree_size
 
--- Steps, in the order in which they were taken, carry on one log with the entries E, from a line of the moment `since` on: all that each wrote
--- and promised is of E (all), each moment is later than `since` (later), and of each two the second came behind the first (order).
+-- Steps, in the order in which they were taken, carry on one log with the entries E, from a line with the timestamp `since`:
+-- - Everything that each step wrote and promised belongs to E (`all`).
+-- - Each timestamp is later than `since` (`later`).
+-- - For each two steps, the second came after the first (`order`).
 pub record CarryOnLines (H : List ℕ → List ℕ) (since : ℕ) (E : List Tiled) (steps : List LineAttempt) : Type 0 where
   pub all : All (IsStepOf H E) steps
   pub later : All (λ a. since < a.step.line.timestamp) steps
   pub order : AllPairs ComesBehindLine steps
 
--- the entries after these attempts: those that were known, and after them those of each attempt whose line the register took
+-- the entries after these attempts: those that were known, followed by those of each attempt whose line the lock took
 unfoldable pub entries_after : List Tiled → List LineAttempt → List Tiled
 entries_after known [] = known
 entries_after known (a ∷ rest) = entries_after (if a.took then known ++ new_entries known a.batch a.now else known) rest
 
--- the strings that S has, and those that are hashed for the lines of the log while it grows to the entries E
+-- the strings that S contains, and those that are hashed for the lines of the log while it grows to the entries E
 abbrev pub IsHashedBySteps : (List ℕ → List ℕ) → List (List ℕ) → List Tiled → List ℕ → Type 0
 IsHashedBySteps H S E s = Contains S s ⊎ ((n : ℕ) × (n ≤ length E) × IsHashedOfLog H (take n E) s)
 
--- Let E be the entries that were known, and after them those of each attempt whose line the register took, and let S have the strings that the makers of the
--- steps hashed. All steps whose lines the register took carry on E; or two strings collide that S has, or that are hashed for the log's lines.
+-- Let E be the entries that were known, followed by those of each attempt whose line the lock took, and let S contain the strings that the
+-- makers of the steps hashed. All steps whose lines the lock took carry on E. The alternative is a collision of two strings that S
+-- contains, or that are hashed for the log's lines.
 abbrev pub LineSequencersAgree : Type 0
 LineSequencersAgree =
     (H : List ℕ → List ℕ) (S : List (List ℕ)) (held : StateLine) (known : List Tiled) (attempts : List LineAttempt) → IsLog H known held
     → AreLineAttempts H S held attempts → (E : List Tiled) → E ≡ entries_after known attempts
     → ((known ≡ take (length known) E) × CarryOnLines H held.timestamp E (taken_lines attempts)) ⊎ CollideAmong H (IsHashedBySteps H S E)
 
--- An attempt with what was handed in: the bytes of the partial tiles (edge), those of the partial data tile (entries), and the attempt itself
--- (attempt).
+-- An attempt with the bytes that its maker received: those of the partial tiles (`edge`), those of the partial data tile (`entries`), and
+-- the attempt itself (`attempt`).
 pub record HandedLineAttempt : Type 0 where
   pub edge : List (List ℕ)
   pub entries : List ℕ
   pub attempt : LineAttempt
 
--- The attempt's step is what `take_step` answers of its line, what was handed in, its batch and its moment: it may be made (may), it is a step
--- from the line (from), and of each log whose edge was handed in the step of that log (step).
+-- The attempt's step is the result of `take_step` for its line, the received bytes, its batch and its timestamp. It may be made (`may`),
+-- and it is a step from the line (`from`). For each log whose edge was received it is the step of that log (`step`).
 pub record IsMadeOfEdge (H : List ℕ → List ℕ) (b : HandedLineAttempt) : Type 0 where
   pub may : MayStep H b.attempt.seen b.edge b.entries b.attempt.batch b.attempt.now
   pub from : IsStepFrom H b.attempt.seen b.attempt.batch b.attempt.now b.attempt.step
   pub step : (E : List Tiled) → IsEdgeOf H E b.attempt.seen.tree_size b.edge b.entries
       → IsTiledStep H b.attempt.seen E b.attempt.batch b.attempt.now b.attempt.step
 
--- Attempts in the order in which the register answered, from the line that it held on, which is that of a log with the entries E: it took a line
--- only in place of the one that it held, and each step that it took was handed the edge of the log.
+-- Attempts in the order in which the lock answered, beginning with the line that it held, which is that of a log with the entries E. It
+-- took a line only in place of the one that it held, and each step that it took received the edge of the log.
 unfoldable pub AreTrueAttempts : (List ℕ → List ℕ) → StateLine → List Tiled → List HandedLineAttempt → Type 0
 AreTrueAttempts H held E [] = ⊤
 AreTrueAttempts H held E (b ∷ rest) =
@@ -105,19 +112,19 @@ AreTrueAttempts H held E (b ∷ rest) =
 abbrev pub handed_line_attempts : List HandedLineAttempt → List LineAttempt
 handed_line_attempts attempts = map (λ b. b.attempt) attempts
 
--- Where each step that was taken was handed the edge of the log, there is one list of entries, which begins with those that were known, that
--- all the steps whose lines the register took carry on.
+-- If each step that was taken received the edge of the log, there is one list of entries, which begins with those that were known, that all
+-- the steps whose lines the lock took carry on.
 abbrev pub TrueEdgesAgree : Type 0
 TrueEdgesAgree =
     (H : List ℕ → List ℕ) (held : StateLine) (known : List Tiled) (attempts : List HandedLineAttempt) → IsLog H known held
     → AreTrueAttempts H held known attempts
     → (E : List Tiled) × (known ≡ take (length known) E) × CarryOnLines H held.timestamp E (taken_lines (handed_line_attempts attempts))
 
--- the strings that the maker of a step hashes: those of what was handed in, and the step's bundle
+-- the strings that the maker of a step hashes: those of the received bytes, and the step's staged batch
 abbrev pub IsHashedByMaker : (List ℕ → List ℕ) → HandedLineAttempt → List ℕ → Type 0
 IsHashedByMaker H b s = IsHashedOfHanded H b.edge b.entries s ⊎ (s ≡ b.attempt.step.bundle.items)
 
--- A step that was made of what was handed in is an attempt from its line, whatever that was, if S has the strings that its maker hashed.
+-- A step that was made from any received bytes is an attempt from its line, if S contains the strings that its maker hashed.
 abbrev pub HandedAttemptsAreAttempts : Type 0
 HandedAttemptsAreAttempts =
     (H : List ℕ → List ℕ) → ((x : List ℕ) → length (H x) ≡ 32) → (S : List (List ℕ)) (b : HandedLineAttempt) → IsMadeOfEdge H b

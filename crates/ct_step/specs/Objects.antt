@@ -1,5 +1,5 @@
--- The objects that a step writes: the tiles and data tiles that are new or change, under their names. H is any hash function on byte
--- lists, D a list of leaf hashes, L a list of the texts of tile leaves.
+-- The objects that a step writes: the tiles and data tiles that are new or change, under their names. H is any hash function on byte lists,
+-- D a list of leaf hashes, and L a list of the texts of tile leaves.
 use Rattle.std.specs.Prelude.{ℕ, zero, suc, ◌+◌, ◌-◌, ◌*◌, ◌/◌, ◌%◌, nat_lt, if◌then◌else◌, List, [], ◌∷◌, ◌++◌, length, take, drop, map, ◌<◌, ◌^◌}
 use Rattle.ct_codec.specs.Parts.{joined}
 use Rattle.ct_tiles.specs.Tiles.{hashes, tile}
@@ -8,7 +8,7 @@ use Rattle.ct_tile_names.specs.Names.{name_text}
 use Rattle.ct_tile_names.specs.declared.tile.Content.{Content}
 use Rattle.ct_tile_names.specs.declared.tile.Content.TheVariants.{Hashes, Entries}
 
--- a tile under its name: where its parts are hashes of a level or texts of entries, how many they are is its width
+-- a tile under its name: its parts are hashes of a level or texts of entries, and their number is its width
 abbrev pub named : Content → ℕ → List (List ℕ) → List ℕ × List ℕ
 named content index parts = (name_text (record { content = content; index = index; width = length parts }), joined parts)
 
@@ -20,30 +20,30 @@ hash_object H D level index = named (Hashes level) index (tile H 256 level index
 abbrev pub entry_object : List (List ℕ) → ℕ → List ℕ × List ℕ
 entry_object L index = named Entries index (take 256 (drop (256 * index) L))
 
--- the objects at so many indexes from one on, in order
+-- the objects at `count` indexes from one on, in order
 unfoldable pub each_from : (ℕ → List ℕ × List ℕ) → ℕ → ℕ → List (List ℕ × List ℕ)
 each_from object first zero = []
 each_from object first (suc count) = each_from object first count ++ object (first + count) ∷ []
 
--- where m parts, 256 in a tile, become n: the tiles that are new or change, which is none where no part is new
+-- the tiles that are new or change if m parts, 256 in a tile, become n: none if no part is new
 abbrev pub changed : (ℕ → List ℕ × List ℕ) → ℕ → ℕ → List (List ℕ × List ℕ)
 changed object m n = if nat_lt m n then each_from object (m / 256) ((n + 255) / 256 - m / 256) else []
 
--- where leaves B come behind D, the tiles of the first `levels` levels that are new or change, by level from 0 on
+-- the tiles of the first `levels` levels that are new or change if leaves B follow D, by level from 0 on
 unfoldable pub level_objects : (List ℕ → List ℕ) → ℕ → List (List ℕ) → List (List ℕ) → List (List ℕ × List ℕ)
 level_objects H zero D B = []
 level_objects H (suc levels) D B =
     level_objects H levels D B ++ changed (hash_object H (D ++ B) levels) (length (hashes H 256 levels D)) (length (hashes H 256 levels (D ++ B)))
 
--- where texts N come behind L, the data tiles that are new or change
+-- the data tiles that are new or change if texts N follow L
 abbrev pub data_objects : List (List ℕ) → List (List ℕ) → List (List ℕ × List ℕ)
 data_objects L N = changed (entry_object (L ++ N)) (length L) (length (L ++ N))
 
--- the tiles of a level that its hashes E from the tile at the index `first` on are: that at a place among them
+-- the tiles of a level that has the hashes E from the tile at the index `first` on: the one at the index `place` among them
 abbrev pub cut_object : ℕ → ℕ → List (List ℕ) → ℕ → List ℕ × List ℕ
 cut_object level first E place = named (Hashes level) (first + place) (take 256 (drop (256 * place) E))
 
--- the tiles of a level that had m hashes, where it has more: E are its hashes from the tile on that was partial
+-- the tiles of a level that had m hashes, if it has more: E are its hashes from the tile on that was partial
 abbrev pub cut_level : ℕ → ℕ → List (List ℕ) → List (List ℕ × List ℕ)
 cut_level level m E = if nat_lt (m % 256) (length E) then each_from (cut_object level (m / 256) E) 0 ((length E + 255) / 256) else []
 

@@ -1,5 +1,5 @@
--- What one step has to do with the log. H is any hash function on byte lists, E the list of the log's entries, as tile leaves: their texts
--- stand in the data tiles, and the leaves that they hold in the tree.
+-- The relation of one step to the log. H is any hash function on byte lists. E is the list of the log's entries, as tile leaves: the data
+-- tiles have their texts, and the tree has the leaves that they hold.
 use Rattle.std.specs.Prelude.{◌≡◌, ◌⊎◌, ℕ, ◌+◌, ◌-◌, ◌/◌, ◌%◌, ◌<◌, ◌≤◌, ◌^◌, List, [], ◌∷◌, ◌++◌, length, map, All}
 use Rattle.std.specs.Simd.{first_chunks}
 use Rattle.ct_codec.specs.Parts.{joined}
@@ -34,26 +34,28 @@ use Rattle.ct_step.specs.declared.step.StepFault.TheVariants.{Edge, Entries, Gro
 abbrev pub line_head : StateLine → Head
 line_head line = record { tree_size = line.tree_size; timestamp = line.timestamp; root = line.root }
 
--- The line is that of a log with the entries E, of which there are fewer than 2^64 (few): it has their number (size), the root of their
--- leaves (root), and the digest of the partial data tile behind their full ones (entries).
+-- The line is that of a log with the entries E, of which there are fewer than 2^64 (`few`). It has their number (`size`), the root of their
+-- leaves (`root`), and the digest of the partial data tile after their full ones (`entries`).
 pub record IsLog (H : List ℕ → List ℕ) (E : List Tiled) (line : StateLine) : Type 0 where
   pub few : length E < 2 ^ 64
   pub size : line.tree_size ≡ length E
   pub root : line.root ≡ mth_of_leaves H (tree_leaves E)
   pub entries : line.data_tile ≡ H (data_tile (length E / 256) (texts_of E))
 
--- the entries that a batch becomes behind the entries E at the moment `now`
+-- the entries of a batch that is added after the entries E at the timestamp `now`
 abbrev pub new_entries : List Tiled → List (Submitted × List (List ℕ)) → ℕ → List Tiled
 new_entries E batch now = tiled_leaves now (length E) batch
 
--- where the entries N come behind E: the tiles that are new or change, by level and index, and behind them the data tiles
+-- the tiles that are new or change if the entries N follow E, by level and index, followed by such data tiles
 abbrev pub step_objects : (List ℕ → List ℕ) → List Tiled → List Tiled → List (List ℕ × List ℕ)
 step_objects H E N = level_objects H 8 (hashes_of H E) (hashes_of H N) ++ data_objects (texts_of E) (texts_of N)
 
--- A step took a batch into the log with the entries E at the moment `now`, from a line. Each submission has its receipt, in order, from the
--- index `length E` on (receipts); what is signed for the head is of all entries and of this moment (signed); the bundle is that of the
--- objects (bundle); the next line is that of all entries (log) and of this moment (moment), and has the digests of the bundle (digest) and of
--- the text of the line before (before).
+-- A step added a batch to the log with the entries E at the timestamp `now`, from a line:
+-- - Each submission has its receipt, in order, from the index `length E` on (`receipts`).
+-- - The bytes that are signed for the head are those of all entries and of this timestamp (`signed`).
+-- - The staged batch is that of the objects (`bundle`).
+-- - The next line is that of all entries (`log`) and has this timestamp (`moment`).
+-- - It has the digests of the staged batch (`digest`) and of the text of the line before (`before`).
 pub record IsTiledStep (H : List ℕ → List ℕ) (line : StateLine) (E : List Tiled) (batch : List (Submitted × List (List ℕ))) (now : ℕ) (s : Step) : Type 0 where
   pub receipts : map receipt_parts s.receipts.items ≡ receipts_from now (length E) (map (λ e. entry_of e.0) batch)
   pub signed : s.signed.items ≡ tree_head_text now (length (E ++ new_entries E batch now)) (mth_of_leaves H (tree_leaves (E ++ new_entries E batch now)))
@@ -63,9 +65,11 @@ pub record IsTiledStep (H : List ℕ → List ℕ) (line : StateLine) (E : List 
   pub digest : s.line.bundle ≡ H s.bundle.items
   pub before : s.line.before ≡ H (state_line_text line)
 
--- What a step from a line is, whatever edge was handed in. Each submission has its receipt, in order, from the line's size on (receipts);
--- the next line has so many entries more (size), the moment `now` (moment), and the digests of the bundle (digest) and of the text of the
--- line before (before); and what is signed for the head is what this line names (signed).
+-- A step from a line, for any received edge:
+-- - Each submission has its receipt, in order, from the line's size on (`receipts`).
+-- - The next line has one entry more for each submission (`size`), and the timestamp `now` (`moment`).
+-- - It has the digests of the staged batch (`digest`) and of the text of the line before (`before`).
+-- - The bytes that are signed for the head have this line's size, timestamp and root (`signed`).
 pub record IsStepFrom (H : List ℕ → List ℕ) (line : StateLine) (batch : List (Submitted × List (List ℕ))) (now : ℕ) (s : Step) : Type 0 where
   pub receipts : map receipt_parts s.receipts.items ≡ receipts_from now line.tree_size (map (λ e. entry_of e.0) batch)
   pub size : s.line.tree_size ≡ line.tree_size + length batch
@@ -74,7 +78,7 @@ pub record IsStepFrom (H : List ℕ → List ℕ) (line : StateLine) (batch : Li
   pub before : s.line.before ≡ H (state_line_text line)
   pub signed : s.signed.items ≡ tree_head_text now s.line.tree_size s.line.root
 
--- the line behind another, with a head, a bundle and a partial data tile
+-- the line after another one, with a head, a staged batch and a partial data tile
 abbrev pub line_behind : (List ℕ → List ℕ) → StateLine → Head → List ℕ → List ℕ → StateLine
 line_behind H line head bundle partial = record {
   tree_size = head.tree_size;
@@ -85,7 +89,7 @@ line_behind H line head bundle partial = record {
   before = H (state_line_text line);
 }
 
--- the hashes that the bytes of a tile are, 32 bytes each
+-- the hashes of which the bytes of a tile consist, 32 bytes each
 abbrev pub tile_hashes : List ℕ → List (List ℕ)
 tile_hashes bytes = first_chunks 32 (length bytes / 32) bytes
 
@@ -93,46 +97,46 @@ tile_hashes bytes = first_chunks 32 (length bytes / 32) bytes
 abbrev pub AreBytesOf : List (List (List ℕ)) → List (List ℕ) → Type 0
 AreBytesOf tiles edge = map joined tiles ≡ edge
 
--- the bytes of each tile are whole hashes (whole), and these are those hashes (hashes)
+-- the bytes of each tile are whole hashes (`whole`), and these are those hashes (`hashes`)
 pub record AreReadFrom (edge : List (List ℕ)) (tiles : List (List (List ℕ))) : Type 0 where
   pub whole : All (λ bytes. length bytes % 32 ≡ 0) edge
   pub hashes : tiles ≡ map tile_hashes edge
 
--- no partial tiles of which these are the bytes are believed for the line's head
+-- no partial tiles with these bytes are believed for the line's head
 abbrev pub NotBelieved : (List ℕ → List ℕ) → StateLine → List (List ℕ) → Type 0
 NotBelieved H line edge = (T : List (List (List ℕ))) → AreBytesOf T edge → AreBelieved H (line_head line) T → ⊥
 
--- why bytes aren't read as tiles. Edge: the bytes of one are no whole hashes. Growth: memory
+-- The reason why bytes are not read as tiles. Edge: the bytes of a tile are not whole hashes. Growth: out of memory.
 abbrev pub StopsTiles : List (List ℕ) → StepFault → Type 0
 StopsTiles edge Edge = (T : List (List (List ℕ))) → AreBytesOf T edge → All AreHashes T → ⊥
 StopsTiles edge (Growth fault) = fault ≡ Refused refused.Memory
 StopsTiles edge _ = ⊥
 
--- why a line has no state with these partial tiles. Edge: they aren't believed. Growth: memory
+-- The reason why a line has no state with these partial tiles. Edge: they are not believed. Growth: out of memory.
 abbrev pub StopsState : (List ℕ → List ℕ) → StateLine → List (List ℕ) → StepFault → Type 0
 StopsState H line edge Edge = NotBelieved H line edge
 StopsState H line edge (Growth fault) = fault ≡ Refused refused.Memory
 StopsState H line edge _ = ⊥
 
--- what a fault of an edge becomes
+-- the fault of a step that corresponds to a fault of an edge
 abbrev pub of_edge : EdgeFault → StepFault
 of_edge OtherWidths = Edge
 of_edge OtherRoot = Edge
 of_edge Memory = Growth (Refused refused.Memory)
 
--- What was handed in is what the line names: the bytes are those of partial tiles that are believed for its head (tiles), and the digest of
--- the partial data tile is the line's (digest).
+-- The line names the received bytes: they are those of partial tiles that are believed for its head (`tiles`), and the digest of the
+-- partial data tile is the line's (`digest`).
 pub record IsNamed (H : List ℕ → List ℕ) (line : StateLine) (edge : List (List ℕ)) (entries : List ℕ) : Type 0 where
   pub tiles : (T : List (List (List ℕ))) × AreBytesOf T edge × AreBelieved H (line_head line) T
   pub digest : H entries ≡ line.data_tile
 
--- What was handed in is the edge of the log with the entries E, of which there are so many: the bytes are those of its partial tiles
--- (tiles) and of its partial data tile (partial).
+-- The received bytes are the edge of the log with the entries E, whose number is `size`: they are those of its partial tiles (`tiles`) and
+-- of its partial data tile (`partial`).
 pub record IsEdgeOf (H : List ℕ → List ℕ) (E : List Tiled) (size : ℕ) (edge : List (List ℕ)) (entries : List ℕ) : Type 0 where
   pub tiles : (T : List (List (List ℕ))) × AreBytesOf T edge × IsEdge H (size, T) (hashes_of H E)
   pub partial : IsPartialTile (texts_of E) size entries
 
--- the strings that are hashed when what was handed in is compared with a line: those over the partial tiles, and the partial data tile
+-- the strings that are hashed when the received bytes are compared with a line: those over the partial tiles, and the partial data tile
 abbrev pub IsHashedOfHanded : (List ℕ → List ℕ) → List (List ℕ) → List ℕ → List ℕ → Type 0
 IsHashedOfHanded H edge entries s = IsHashedInEdge H (map tile_hashes edge) s ⊎ (s ≡ entries)
 
@@ -140,39 +144,43 @@ IsHashedOfHanded H edge entries s = IsHashedInEdge H (map tile_hashes edge) s �
 abbrev pub IsHashedOfLog : (List ℕ → List ℕ) → List Tiled → List ℕ → Type 0
 IsHashedOfLog H E s = IsHashedInEdgeOf H (tree_leaves E) s ⊎ (s ≡ data_tile (length E / 256) (texts_of E))
 
--- What a line names is the edge of each log that has the line; or two of the strings collide that are hashed of what was handed in, and for the log's line.
+-- If a line names the received bytes, they are the edge of each log that has the line. The alternative is a collision of two strings that
+-- are hashed for the received bytes, or for the log's line.
 abbrev pub NamedEdgesTell : Type 0
 NamedEdgesTell =
     (H : List ℕ → List ℕ) → ((x : List ℕ) → length (H x) ≡ 32) → (line : StateLine) (E : List Tiled) (edge : List (List ℕ)) (entries : List ℕ)
     → IsNamed H line edge entries → IsLog H E line
     → IsEdgeOf H E line.tree_size edge entries ⊎ CollideAmong H (λ s. IsHashedOfHanded H edge entries s ⊎ IsHashedOfLog H E s)
 
--- The edge of a log is what its line names.
+-- A line of a log names the log's edge.
 abbrev pub EdgesAreNamed : Type 0
 EdgesAreNamed =
     (H : List ℕ → List ℕ) → ((x : List ℕ) → length (H x) ≡ 32) → (line : StateLine) (E : List Tiled) (edge : List (List ℕ)) (entries : List ℕ)
     → IsEdgeOf H E line.tree_size edge entries → IsLog H E line → IsNamed H line edge entries
 
--- the data tiles from the one on that was partial, full ones and the one behind them, where the texts N come behind L
+-- the data tiles from the one on that was partial, full ones and the one after them, if the texts N follow L
 abbrev pub last_tiles : List (List ℕ) → List (List ℕ) → List (List ℕ)
 last_tiles L N =
     data_tiles_from (length L / 256) (length (L ++ N) / 256 - length L / 256) (L ++ N) ++ data_tile (length (L ++ N) / 256) (L ++ N) ∷ []
 
--- where a batch comes behind the entries E, one of the data tiles has 2^32 bytes or more
+-- if a batch follows the entries E, one of the data tiles has 2^32 bytes or more
 abbrev pub GetsLong : List Tiled → List (Submitted × List (List ℕ)) → ℕ → Type 0
 GetsLong E batch now = All FitsInBundle (last_tiles (texts_of E) (texts_of (new_entries E batch now))) → ⊥
 
--- a batch may be taken in at the moment `now`: what was handed in is what the line names (named), the moment is later than the line's (later; RFC 6962, section 3.5),
--- and a leaf's index has 40 bits (fits)
+-- A batch may be added at the timestamp `now`: the line names the received bytes (`named`), the timestamp is later than the line's
+-- (`later`; RFC 6962, section 3.5), and a leaf's index has 40 bits (`fits`).
 pub record MayStep (H : List ℕ → List ℕ) (line : StateLine) (edge : List (List ℕ)) (entries : List ℕ) (batch : List (Submitted × List (List ℕ))) (now : ℕ) : Type 0 where
   pub named : IsNamed H line edge entries
   pub later : line.timestamp < now
   pub fits : line.tree_size + length batch ≤ 2 ^ 40
 
--- Why there is no step. Edge: the partial tiles aren't believed. Entries: they are, and the partial data tile isn't the line's. ClockBack: both
--- are, and the moment isn't later than the line's. Full: it is, and the log would have more than 2^40 leaves. TooLong: it wouldn't, and of every
--- log that has this edge a data tile would have 2^32 bytes or more. Refused: the
--- refusal is for want of memory.
+-- The reason why there is no step:
+-- - Edge: the partial tiles are not believed.
+-- - Entries: they are believed, and the partial data tile is not the line's.
+-- - ClockBack: both are the line's, and the timestamp is not later than the line's.
+-- - Full: it is later, and the log would have more than 2^40 leaves.
+-- - TooLong: the log would not be full, and for every log that has this edge, a data tile would have 2^32 bytes or more.
+-- - Refused: memory could not be allocated.
 abbrev pub StopsStep : (List ℕ → List ℕ) → StateLine → List (List ℕ) → List ℕ → List (Submitted × List (List ℕ)) → ℕ → StepFault → Type 0
 StopsStep H line edge entries batch now Edge = NotBelieved H line edge
 StopsStep H line edge entries batch now Entries =
@@ -184,7 +192,7 @@ StopsStep H line edge entries batch now (Growth (Refused refusal)) = refusal ≡
 StopsStep H line edge entries batch now TooLong =
     MayStep H line edge entries batch now × ((E : List Tiled) → IsEdgeOf H E line.tree_size edge entries → GetsLong E batch now)
 
--- why there is no step of a state, where what was handed in is believed
+-- the reason why there is no step from a state, if the received bytes are believed
 abbrev pub StopsMade : (List ℕ → List ℕ) → StateLine → State → List ℕ → List (Submitted × List (List ℕ)) → ℕ → StepFault → Type 0
 StopsMade H line state entries batch now (Growth fault) = StopsGrowth state (length batch) now fault
 StopsMade H line state entries batch now TooLong =

@@ -1,4 +1,4 @@
-//! What a step takes in, and the texts of its tile leaves.
+//! The submissions of a step, and the texts of its tile leaves.
 
 ghost use Rattle.std.specs.Prelude.{◌≡◌, ◌+◌, ◌<◌, ◌≤◌, ◌^◌, ℕ, List, length, map, All, IfOk, IsOkUnless, MatchOption};
 ghost use Rattle.std.specs.Bool.{MatchBool};
@@ -13,8 +13,8 @@ use ct_data_tiles::{push_tile_leaf, tile_leaf_of};
 use std::alloc::Global;
 use std::marker::Model;
 
-/// Submissions, and with each the SHA-256 fingerprints of its chain's issuers in order, at most 2,047. A submission's own chain is the
-/// certificate or the precertificate alone. Contracts see the list of the pairs.
+/// Submissions, each with the SHA-256 fingerprints of its chain's issuers in order, at most 2,047. A submission's own chain has only the
+/// certificate or the precertificate. Contracts see the list of the pairs.
 #[derive(Drop)]
 pub struct Batch {
     submissions: Vec<Submission>,
@@ -29,7 +29,7 @@ impl Model for Batch {
     ghost invariant = { λ b. IsBatchOf (length b.submissions.items) (map (λ c. c.items) b.chains.items) };
 }
 
-// Whether each chain has at most 2,047 fingerprints.
+// Reports whether each chain has at most 2,047 fingerprints.
 fn are_short(chains: &[Vec<[u8; 32]>]) -> bool
     ensures { MatchBool result (All AreShort (map (λ c. c.items) chains.now)) (All AreShort (map (λ c. c.items) chains.now) → ⊥) }
 {
@@ -41,7 +41,7 @@ fn are_short(chains: &[Vec<[u8; 32]>]) -> bool
     true
 }
 
-// The text of a submission's tile leaf at an index.
+// Returns the text of a submission's tile leaf at an index.
 fn text_of(
     alloc: Global,
     submission: &Submission,
@@ -62,8 +62,8 @@ fn text_of(
 }
 
 impl Batch {
-    /// The batch of these submissions and chains, the first chain that of the first submission. None where they aren't as many, or a
-    /// chain has more than 2,047 fingerprints. Takes no memory.
+    /// Returns the batch of these submissions and chains, the first chain for the first submission. Returns None if their numbers differ,
+    /// or if a chain has more than 2,047 fingerprints. Allocates no memory.
     pub fn new(submissions: Vec<Submission>, chains: Vec<Vec<[u8; 32]>>) -> Option<Batch>
         ensures { MatchOption result (IsBatchOf (length submissions.items) (map (λ c. c.items) chains.items) → ⊥)
             (λ b. b ≡ zip submissions.items (map (λ c. c.items) chains.items)) }
@@ -77,14 +77,14 @@ impl Batch {
         })
     }
 
-    // The submissions, in order.
+    // Returns the submissions, in order.
     pub(crate) fn submissions(&self) -> &[Submission]
         ensures { result.now ≡ map (λ e. e.0) self.now }
     {
         &self.submissions
     }
 
-    // The texts of the tile leaves, from an index on.
+    // Returns the texts of the tile leaves, from an index on.
     pub(crate) fn texts(&self, alloc: Global, first: u64, now: u64) -> Result<Vec<Vec<u8>>, Refusal>
         requires { first + length self.now ≤ 2 ^ 40 }
         ensures texts { IfOk result (λ v. map (λ t. t.items) v.items ≡ texts_of (tiled_leaves now first self.now)) }

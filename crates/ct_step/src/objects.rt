@@ -1,4 +1,4 @@
-//! The objects of a step, written into its bundle.
+//! Writes the objects of a step into its staged batch.
 
 ghost use Rattle.std.specs.Prelude.{◌≡◌, ◌⊎◌, ◌+◌, ◌-◌, ◌*◌, ◌/◌, ◌<◌, ◌≤◌, ◌^◌, ◌++◌, ◌∷◌, [], ℕ, List, length, map, All, OnOk, IfOk};
 ghost use Rattle.std.specs.Bool.{MatchBool};
@@ -15,7 +15,7 @@ use ct_tile_names::{Content, Tile};
 use ct_tiles::Row;
 use std::alloc::{AllocError, Global};
 
-// Writes a tile under its name behind the other objects.
+// Appends a tile under its name to the other objects.
 #[tactic(auto, using(crate::proofs::Loops::name_is_short))]
 fn push_tile(
     alloc: Global,
@@ -52,7 +52,7 @@ fn push_hashes(
     push_tile(alloc, bundle, &tile, hashes.as_flattened())
 }
 
-// How many of so many hashes stand in the tile that begins at a place of theirs.
+// Returns the number of hashes in the tile that begins with the hash at index `start`, of `count` hashes.
 fn width_at(count: usize, start: usize) -> usize
     requires { start < count }
     ensures some { 1 ≤ result }
@@ -64,7 +64,7 @@ fn width_at(count: usize, start: usize) -> usize
     if left < 256 { left } else { 256 }
 }
 
-// Writes the tiles of a level's hashes, the first of them at an index.
+// Writes the tiles of a level's hashes, the first of which has the index `first`.
 fn push_level(
     alloc: Global,
     bundle: &mut Vec<u8>,
@@ -91,7 +91,7 @@ fn push_level(
     Ok(())
 }
 
-// Writes the tiles of a level that had `known` hashes, and has these from the tile on that was partial, where it has more.
+// Writes the tiles of a level that had `known` hashes, if it has more now. The given hashes begin with the tile that was partial.
 fn push_grown(
     alloc: Global,
     bundle: &mut Vec<u8>,
@@ -109,7 +109,7 @@ fn push_grown(
     push_level(alloc, bundle, level, known / 256, hashes)
 }
 
-// Writes the tiles of all levels that are new or change, where a log of `size` leaves gets these rows.
+// Writes the tiles of all levels that are new or change if these rows are added to a log of `size` leaves.
 pub(crate) fn push_levels(
     alloc: Global,
     bundle: &mut Vec<u8>,
@@ -132,7 +132,7 @@ pub(crate) fn push_levels(
     Ok(())
 }
 
-// Whether each has fewer than 2^32 bytes.
+// Reports whether each has fewer than 2^32 bytes.
 fn are_short(tiles: &[Vec<u8>]) -> bool
     ensures { MatchBool result (All FitsInBundle (map (λ t. t.items) tiles.now)) (All FitsInBundle (map (λ t. t.items) tiles.now) → ⊥) }
 {
@@ -144,7 +144,7 @@ fn are_short(tiles: &[Vec<u8>]) -> bool
     true
 }
 
-// Whether each of the data tiles has fewer than 2^32 bytes.
+// Reports whether each of the data tiles has fewer than 2^32 bytes.
 pub(crate) fn fits(row: &DataRow) -> bool
     ensures { MatchBool result (All FitsInBundle (map (λ t. t.items) row.now.full.items ++ row.now.partial.items ∷ []))
         (All FitsInBundle (map (λ t. t.items) row.now.full.items ++ row.now.partial.items ∷ []) → ⊥) }
@@ -155,7 +155,7 @@ pub(crate) fn fits(row: &DataRow) -> bool
     are_short(&row.full)
 }
 
-// Writes full data tiles, the first of them at an index.
+// Writes full data tiles, the first of which has the index `first`.
 fn push_full(
     alloc: Global,
     bundle: &mut Vec<u8>,
@@ -180,7 +180,7 @@ fn push_full(
     Ok(())
 }
 
-// Writes the data tiles that are new or change, where a log of `size` entries has `count` more.
+// Writes the data tiles that are new or change if `count` entries are added to a log of `size` entries.
 pub(crate) fn push_entries(
     alloc: Global,
     bundle: &mut Vec<u8>,

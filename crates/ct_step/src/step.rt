@@ -1,4 +1,5 @@
-//! One step: a state line, the edge that it names and a batch in; receipts, a bundle of objects and the next line out.
+//! One step: it takes a state line, the right edge that it names and a batch, and returns receipts, a staged batch of objects and the next
+//! line.
 
 ghost use Rattle.std.specs.Prelude.{◌≡◌, ◌⊎◌, ◌+◌, ◌≤◌, ◌^◌, ℕ, List, length, map, All, ◌++◌, ◌∷◌, [], ◌%◌, IfOk, MatchOption, MatchResult};
 ghost use Rattle.std.specs.Bool.{MatchBool};
@@ -27,29 +28,29 @@ use ct_tree::{Head, NodeHash, is_same_digest};
 use std::alloc::{AllocError, AllocFailed, Global};
 use thiserror::Error;
 
-/// What a step made. Nothing of it may be shown before the register took its line in place of the one that it was made from.
+/// The result of a step. Nothing of it may be shown before the lock took its line in place of the one that it was made from.
 #[derive(Drop)]
 pub struct Step {
     /// A receipt for each submission, in order.
     pub receipts: Vec<Receipt>,
-    /// What stands under the signature of the new head: 50 bytes (TreeHeadSignature, RFC 6962 section 3.5).
+    /// The bytes to be signed for the new head: 50 bytes (TreeHeadSignature, RFC 6962 section 3.5).
     pub signed: Vec<u8>,
-    /// The objects that are new or change, as one byte string, of which [`crate::resume`] gives them.
+    /// The objects that are new or change, as one byte string, from which [`crate::resume`] returns them.
     pub bundle: Vec<u8>,
-    /// The new state: its size, moment and root are those of the new head.
+    /// The new state: its size, timestamp and root are those of the new head.
     pub line: StateLine,
 }
 
-/// Why there is no step.
+/// The reason why there is no step.
 #[derive(Clone, Copy, PartialEq, Eq, Debug, Error)]
 pub enum StepFault {
-    /// The partial tiles that were handed in aren't believed.
+    /// The received partial tiles are not believed.
     #[error("the partial tiles are not those of the state")]
     Edge,
-    /// The digest of the partial data tile that was handed in isn't the line's.
+    /// The digest of the received partial data tile is not the line's.
     #[error("the partial data tile is not that of the state")]
     Entries,
-    /// The log doesn't grow.
+    /// The log does not grow.
     #[error("{0}")]
     Growth(GrowthFault),
     /// A data tile would have 2^32 bytes or more, and its length has four bytes.
@@ -100,7 +101,7 @@ impl<T: Drop> From<AllocFailed<T>> for StepFault {
     }
 }
 
-// The hashes that the bytes of a tile are, or none where a hash is cut off.
+// Returns the hashes of which a tile's bytes consist, or None if a hash is incomplete.
 fn hashes_of(alloc: Global, bytes: &[u8]) -> Result<Option<Vec<[u8; 32]>>, AllocError>
     ensures { IfOk result (λ found. MatchOption found (length bytes.now % 32 ≡ 0 → ⊥)
         (λ hashes. (length bytes.now % 32 ≡ 0) × (hashes.items ≡ tile_hashes bytes.now))) }
@@ -112,7 +113,7 @@ fn hashes_of(alloc: Global, bytes: &[u8]) -> Result<Option<Vec<[u8; 32]>>, Alloc
     Ok(Some(Vec::from_slice(alloc, hashes)?))
 }
 
-// The hashes of the tiles of which these are the bytes.
+// Returns the hashes of the tiles with these bytes.
 fn tiles_of(alloc: Global, edge: &[Vec<u8>]) -> Result<Vec<Vec<[u8; 32]>>, StepFault>
     ensures { MatchResult result (λ tiles. AreReadFrom (map (λ b. b.items) edge.now) (map (λ t. t.items) tiles.items))
         (StopsTiles (map (λ b. b.items) edge.now)) }
@@ -127,7 +128,7 @@ fn tiles_of(alloc: Global, edge: &[Vec<u8>]) -> Result<Vec<Vec<[u8; 32]>>, StepF
     Ok(tiles)
 }
 
-// The state of a line with the partial tiles of which these are the bytes.
+// Returns the state of a line with the partial tiles that have these bytes.
 fn state_of<H: NodeHash>(
     alloc: Global,
     h: &H,
@@ -147,14 +148,14 @@ fn state_of<H: NodeHash>(
     Ok(State::believed(alloc, h, &head, tiles)?)
 }
 
-// Whether bytes have this digest.
+// Reports whether bytes have this digest.
 fn has_digest<H: NodeHash>(h: &H, bytes: &[u8], digest: &[u8; 32]) -> bool
     ensures { MatchBool result (H.digest bytes.now ≡ digest.now) (H.digest bytes.now ≡ digest.now → ⊥) }
 {
     is_same_digest(&h.hash(&[bytes]), digest)
 }
 
-// The bundle of what a log of `size` leaves with `count` more makes of its tiles.
+// Returns the staged batch of the tiles that are new or change if `count` leaves are added to a log of `size` leaves.
 fn bundle_of(
     alloc: Global,
     size: u64,
@@ -173,7 +174,7 @@ fn bundle_of(
     Ok(bundle)
 }
 
-// The line behind another: that of a head whose step has this bundle and this partial data tile.
+// Returns the line after another one: that of a head whose step has this staged batch and this partial data tile.
 fn next_line<H: NodeHash>(
     alloc: Global,
     h: &H,
@@ -195,7 +196,7 @@ fn next_line<H: NodeHash>(
     })
 }
 
-// The step of a state whose edge and partial data tile are believed.
+// Makes the step from a state whose right edge and partial data tile are believed.
 fn step_of<H: NodeHash>(
     alloc: Global,
     h: &H,
@@ -228,16 +229,20 @@ fn step_of<H: NodeHash>(
     })
 }
 
-/// Takes a batch into a log at a moment, in milliseconds: the log whose state is this line, with the bytes of the partial tile of each
-/// of its 8 levels, level 0 first, none where a level has no partial tile, and those of its partial data tile, none where it has none.
-/// Whoever handed these in need not be trusted.
+/// Adds a batch to a log at a timestamp, in milliseconds. The log's state is this line. `edge` has the bytes of the partial tile of each of
+/// its 8 levels, level 0 first, which are empty if a level has no partial tile. `entries` has the bytes of its partial data tile, which are
+/// empty if it has none. Whoever passes these need not be trusted.
 ///
-/// Takes memory for the new tiles and data tiles, three times over, for the receipts and for the edge.
+/// Allocates the new tiles and data tiles, three times over, the receipts and the edge.
 ///
-/// # Errors
-/// In this order: `Edge` where the partial tiles aren't as wide as those of the line's size, or its root doesn't come of them; `Entries`
-/// where the digest of the partial data tile isn't the line's; of `Growth` `ClockBack` where the moment isn't later than the line's, and `Full`
-/// where the log would have more than 2^40 leaves; `TooLong`. `Growth(Refused(Memory))` where a growth was refused.
+/// # Errors In this order:
+/// - `Edge` if the partial tiles are not as wide as those of the line's size, or do not lead to its root
+/// - `Entries` if the digest of the partial data tile is not the line's
+/// - `Growth(ClockBack)` if the timestamp is not later than the line's
+/// - `Growth(Full)` if the log would have more than 2^40 leaves
+/// - `TooLong` if a data tile would have 2^32 bytes or more
+///
+/// `Growth(Refused(Memory))` if memory could not be allocated.
 pub fn take_step<H: NodeHash>(
     alloc: Global,
     h: &H,

@@ -1,4 +1,4 @@
--- Tiles that were handed over: the first fault, and what each gives.
+-- Tiles that the caller passes: the first fault, and the hashes of each tile.
 use Rattle.std.proofs.Common.{◌≡◌, ℕ, ◌+◌, ◌-◌, ◌*◌, ◌/◌, ◌^◌, ◌<◌, ◌≤◌, refl, sym, ◌∙◌, ap, subst, arith, Bool, true, false, ◌&&◌, nat_eq, nat_le, nat_lt, List, [], ◌∷◌, length, take, drop, replicate, Some, None, Result, Vec}
 use Rattle.std.specs.Prelude.{All, IfErr}
 use Rattle.std.specs.Result.{IsErrAnd}
@@ -31,7 +31,7 @@ pub bad_length : (tile : NeededTile) (tiles : List NeededTile) (content : List �
 unfolding handed_fault
 bad_length tile tiles content contents n = rw (ne_eqb (length content) (32 * tile.width) n) refl
 
--- where each tile has its own bytes none has a fault
+-- if each tile has its own bytes, none has a fault
 pub own_bytes : (H : List ℕ → List ℕ) (D : List (List ℕ)) (tiles : List NeededTile) (contents : List (List ℕ)) → AreTilesOf H D tiles contents
     → handed_fault tiles contents ≡ None
 own_bytes H D [] contents a = no_tiles contents
@@ -39,7 +39,7 @@ own_bytes H D (tile ∷ tiles) [] a = absurd a
 own_bytes H D (tile ∷ tiles) (content ∷ contents) a =
     right_length tile tiles content contents a.0.size ∙ own_bytes H D tiles contents a.1
 
--- ---- what they give
+-- ---- the hashes of the tiles
 pub no_hash : (contents : List (List ℕ)) (level index : ℕ) → handed_hash [] contents level index ≡ replicate 32 0
 unfolding handed_hash
 no_hash contents level index = refl
@@ -88,7 +88,7 @@ has_own tile content k size below =
     ) refl
 
 module _ (H : List ℕ → List ℕ) (D : List (List ℕ)) where
-  -- what is given for an index of a level is its hash
+  -- the source has the right hash for an index of a level
   abbrev IsRight : (ℕ → ℕ → List ℕ) → ℕ → ℕ → Type 0
   IsRight given level index = given level index ≡ mth H (take (256 ^ level) (drop (256 ^ level * index) D))
 
@@ -105,7 +105,7 @@ module _ (H : List ℕ → List ℕ) (D : List (List ℕ)) where
       ∙ ap (λ (i : ℕ). mth H (take (256 ^ tile.level) (drop (256 ^ tile.level * i) D))) place
       ∙ ap (λ (l : ℕ). mth H (take (256 ^ l) (drop (256 ^ l * index) D))) same
 
-  -- of what the first tile has and the others give
+  -- the hashes that the first tile has, and those that the others have
   passed_on : (tile : NeededTile) (tiles : List NeededTile) (content : List ℕ) (contents : List (List ℕ)) (level index : ℕ) → IsTileOf H D tile content
       → IsRight (handed_hash tiles contents) level index → IsRight (handed_hash (tile ∷ tiles) (content ∷ contents)) level index
   passed_on tile tiles content contents level index is right = by_test (has_hash tile content level index) refl
@@ -189,7 +189,7 @@ pub hash_none : (ts : List NeededTile) (bs : List (List ℕ)) (level index : ℕ
 hash_none ts bs level index e = ap (λ x. handed_hash x bs level index) (none_of ts e) ∙ no_hash bs level index
 
 -- ---- faults
--- tiles with their own bytes aren't refused
+-- tiles with their own bytes are not refused
 pub own_not_refused : (H : List ℕ → List ℕ) (D : List (List ℕ)) (tiles : List NeededTile) (contents : List (List ℕ)) (fault : HandedFault)
     → handed_fault tiles contents ≡ Some fault → AreTilesOf H D tiles contents → ⊥
 own_not_refused H D tiles contents fault e are =

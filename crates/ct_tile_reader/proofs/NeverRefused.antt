@@ -1,4 +1,4 @@
--- A path or proof out of the tiles of a list isn't refused.
+-- A path or proof that is computed from the tiles of a list is not refused.
 use Rattle.std.proofs.Common.{◌≡◌, ◌∙◌, ◌<◌, ◌≤◌, ℕ, true, List, [], length, take, get_or, sym, ap, arith, ⊎_elim}
 use Rattle.ct_tree.specs.Tree.{mth, path, proof, split}
 use Rattle.ct_tree.specs.Lengths.{subproof_length}
@@ -35,7 +35,7 @@ proof_never_of_tiles H given D m n p x y fault made refused tiles inside z below
     let first : x ≡ mth H (take m (take n D)) = f ∙ ap (mth H) (sym (take-take m n D (omega arith))) in
     proof_never H (take n D) m n p x y fault (length-take-le n D inside) z below first s (made D tiles inside) refused
 
--- a proof between two sizes has a hash at least
+-- a proof between two sizes has at least one hash
 pub has_a_hash : (m n : ℕ) → 0 < m → m < n → 0 < subproof_length m n true
 has_a_hash m n z l =
     ⊎_elim

@@ -103,7 +103,7 @@ joined_up H level i D l r v p a b e =
     here ∙ ap (λ n. subtree H n i D) k
 
 -- ---- a node that is given
--- one whose hash stands in a tile
+-- a node whose hash is in a tile
 pub node_in_tile : (H : List ℕ → List ℕ) (given : ℕ → ℕ → List ℕ) (D : List (List ℕ)) (level i : ℕ) (r : List ℕ) → GivesNodeOf H given D level i
     → level % 8 ≡ 0 → r ≡ given (level / 8) i → r ≡ subtree H level i D
 node_in_tile H given D level i r s e f =
@@ -172,7 +172,7 @@ node_of_tiles H given D level i s h = record {
         let e : (i + 1) * 2 ^ (level % 8) * 256 ^ (level / 8) ≡ (i + 1) * 2 ^ level = mul_assoc (i + 1) (2 ^ (level % 8)) (256 ^ (level / 8)) ∙ ap (λ (n : ℕ). (i + 1) * n) (sym parts) in
         omega (arith, m, e, h)
 
--- ---- what the walk reads lies in the tree
+-- ---- everything that the walk reads is in the tree
 pub inside_last : (n level k : ℕ) → k ≤ (n - 1) / 2 ^ level → k * 2 ^ level ≤ n
 inside_last n level k h =
     let a : k * 2 ^ level ≤ (n - 1) / 2 ^ level * 2 ^ level = mul-le-mul_right (2 ^ level) h in

@@ -1,4 +1,4 @@
-//! Paths and proofs that are checked before they are answered.
+//! Audit paths and consistency proofs that are checked before they are returned.
 ghost use Rattle.std.specs.Prelude.{◌≡◌, ◌<◌, ◌≤◌, ℕ, List, [], length, take, get_or, IfOk, IfErr, MatchResult};
 ghost use Rattle.ct_tree.specs.Tree.{mth};
 ghost use Rattle.ct_verify.specs.Verdict.{AcceptsInclusion, AcceptsConsistency};
@@ -12,10 +12,11 @@ use ct_tree::NodeHash;
 use ct_verify::{EvidenceFault, ProofFault, verify_consistency, verify_inclusion};
 use std::alloc::Global;
 
-/// The audit path of the leaf at index `m` in the tree of the first `n` leaves, checked against a root before it is
-/// answered (RFC 6962, section 2.1.1; RFC 9162, section 2.1.3.2), so that tiles from anywhere may be used. Errors: the
-/// verifier's own refusal, which is RootMismatch, since the path has the length that it should; IndexOutOfRange where `m`
-/// isn't below `n`; or want of memory. Out of the tiles of a list that has this leaf and this root no path is refused.
+/// Returns the audit path of the leaf at index `m` in the tree of the first `n` leaves, checked against a root (RFC 6962, section 2.1.1;
+/// RFC 9162, section 2.1.3.2). So the tiles may come from anywhere.
+///
+/// Errors: IndexOutOfRange if `m` is not below `n`; RootMismatch from the verifier, whose other refusals cannot occur, since the path has
+/// the right length; or out of memory. If the tiles are those of a list that has this leaf and this root, the path is never refused.
 pub fn checked_path<H: NodeHash, T: TileSource>(
     alloc: Global,
     h: &H,
@@ -40,11 +41,11 @@ pub fn checked_path<H: NodeHash, T: TileSource>(
     }
 }
 
-/// The consistency proof from the tree of the first `m` leaves to that of the first `n`, checked against the roots of both
-/// before it is answered (RFC 6962, section 2.1.2; RFC 9162, section 2.1.4.2), so that tiles from anywhere may be used.
-/// Errors: the verifier's own refusal, which is FirstMismatch or RootMismatch, since the proof has the length that it
-/// should; SizesOutOfRange unless 0 < `m` < `n`; or want of memory. Out of the tiles of a list that has these roots no
-/// proof is refused.
+/// Returns the consistency proof from the tree of the first `m` leaves to that of the first `n`, checked against the roots of both (RFC
+/// 6962, section 2.1.2; RFC 9162, section 2.1.4.2). So the tiles may come from anywhere.
+///
+/// Errors: SizesOutOfRange unless 0 < `m` < `n`; FirstMismatch or RootMismatch from the verifier, whose other refusals cannot occur, since
+/// the proof has the right length; or out of memory. If the tiles are those of a list that has these roots, the proof is never refused.
 pub fn checked_proof<H: NodeHash, T: TileSource>(
     alloc: Global,
     h: &H,

@@ -1,4 +1,4 @@
-//! Tiles that were handed over in the order of a list.
+//! Tiles that the caller passes in the order of a list.
 ghost use Rattle.std.specs.Prelude.{◌≡◌, ◌*◌, ◌/◌, ◌<◌, ℕ, List, length, take, drop, All, MatchResult, IfOk};
 ghost use Rattle.ct_tile_reader.specs.Needed.{GivesTile};
 ghost use Rattle.ct_tile_reader.specs.declared.needed.NeededTile.{NeededTile};
@@ -11,16 +11,17 @@ use std::alloc::AllocError;
 use std::marker::Model;
 use thiserror::Error;
 
-/// Why tiles that were handed over give no answer: the first of the list that has no right bytes. A fault's text is its name.
+/// The reason why the passed tiles lead to no result: the first tile of the list without bytes of the right length. A fault's text is its
+/// name.
 #[derive(Clone, Copy, Debug, PartialEq, Eq, Error)]
 pub enum HandedFault {
     /// There are no bytes for this tile.
     #[error("Missing")]
     Missing(NeededTile),
-    /// The bytes of this tile aren't 32 for each of its hashes.
+    /// The bytes of this tile are not 32 for each of its hashes.
     #[error("BadLength")]
     BadLength(NeededTile),
-    /// A growth was refused.
+    /// Memory could not be allocated.
     #[error("Memory")]
     Memory,
 }
@@ -33,8 +34,8 @@ impl From<AllocError> for HandedFault {
     }
 }
 
-/// Tiles that were handed over, for [`crate::root_at`], [`crate::path`] and [`crate::proof`]. Where none has the hash at an index of a level, 32 zeros are.
-/// Contracts see the tiles and their bytes.
+/// Tiles that the caller passes, for [`crate::root_at`], [`crate::path`] and [`crate::proof`]. If no tile has the hash at an index of a
+/// level, the hash is 32 zeros. Contracts see the tiles and their bytes.
 #[derive(Drop)]
 pub struct HandedTiles<'a> {
     tiles: &'a [NeededTile],
@@ -47,7 +48,7 @@ impl<'a> Model for HandedTiles<'a> {
     ghost view = { λ s. (s.tiles.now, contents_in s.contents.now) };
 }
 
-// The first tile that has no right bytes.
+// Returns the fault of the first tile without bytes of the right length.
 fn fault_among(mut tiles: &[NeededTile], mut contents: &[Vec<u8>]) -> Option<HandedFault>
     ensures { result ≡ handed_fault tiles.now (contents_in contents.now) }
 {
@@ -65,7 +66,7 @@ fn fault_among(mut tiles: &[NeededTile], mut contents: &[Vec<u8>]) -> Option<Han
     None
 }
 
-// Whether the bytes of a tile have the hash at an index of a level.
+// Reports whether the bytes of a tile have the hash at an index of a level.
 fn has_hash(tile: &NeededTile, content: &[u8], level: u64, index: u64) -> bool
     ensures { result ≡ has_hash_of tile.now content.now level index }
 {
@@ -75,7 +76,7 @@ fn has_hash(tile: &NeededTile, content: &[u8], level: u64, index: u64) -> bool
     index - 256 * tile.index < content.len() as u64 / 32
 }
 
-// The hash at a place among those that bytes are.
+// Returns the hash at the index `place` in the bytes of a tile.
 fn hash_at(content: &[u8], place: u64) -> [u8; 32]
     requires { place < length content.now / 32 }
     ensures { result ≡ take 32 (drop (32 * place) content.now) }
@@ -88,10 +89,10 @@ fn hash_at(content: &[u8], place: u64) -> [u8; 32]
 }
 
 impl<'a> HandedTiles<'a> {
-    /// The tiles of such a list, as `tiles_for_path` answers it, of which these are the bytes, in the same order: 32 for
-    /// each hash, as C2SP tlog-tiles stores them. What comes behind the last tile isn't read. Takes no memory.
+    /// Makes a source from a list of tiles, as `tiles_for_path` returns it, and their bytes in the same order: 32 for each hash, as C2SP
+    /// tlog-tiles stores them. Bytes after those of the last tile are not read. Allocates no memory.
     ///
-    /// Errors: Missing and BadLength, exactly where a tile has no bytes, or another number of them.
+    /// Errors: Missing and BadLength, if and only if a tile has no bytes or a wrong number of them.
     pub fn new(
         tiles: &'a [NeededTile],
         contents: &'a [Vec<u8>],
@@ -112,7 +113,7 @@ impl<'a> HandedTiles<'a> {
 impl<'a> TileSource for HandedTiles<'a> {
     ghost given = { λ s. handed_hash s.0 s.1 };
 
-    /// The hash of the first tile of the list that has it: at most 16 are looked through, two of each level.
+    /// Returns the hash of the first tile of the list that has it. It searches at most 16 tiles, two of each level.
     fn hash(&self, level: u64, index: u64) -> [u8; 32] {
         let mut tiles = self.tiles;
         let mut contents = self.contents;

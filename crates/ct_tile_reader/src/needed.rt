@@ -1,21 +1,21 @@
-//! Which tiles a root, an audit path or a consistency proof is made of.
+//! The tiles from which a root, an audit path or a consistency proof is computed.
 ghost use Rattle.std.specs.Prelude.{◌≡◌, ◌+◌, ◌-◌, ◌*◌, ◌/◌, ◌<◌, ◌≤◌, ◌++◌, IfOk, OnOk};
 ghost use Rattle.ct_tile_reader.specs.Needed.{tile_at as tile_of, level_tiles, tiles_from, root_tiles, path_tiles, proof_tiles};
 
 use std::alloc::{AllocError, Global};
 
-/// A tile by its name (C2SP tlog-tiles).
+/// A tile, by the parts of its name (C2SP tlog-tiles).
 #[derive(Clone, Copy, Debug, PartialEq, Eq)]
 pub struct NeededTile {
-    /// Its level: 0 has the hashes of leaves.
+    /// Its level: level 0 has the hashes of leaves.
     pub level: u64,
-    /// Its index in its level: the first one has 0.
+    /// Its index in its level, which begins at 0.
     pub index: u64,
-    /// How many hashes it has: 256, or fewer in a level's last tile.
+    /// The number of its hashes: 256, or fewer in a level's last tile.
     pub width: u64,
 }
 
-// The tile at an index of a level with `size` hashes.
+// Returns the tile at an index of a level with `size` hashes.
 fn tile_at(level: u64, index: u64, size: u64) -> NeededTile
     requires { 256 * index ≤ size }
     ensures { result ≡ tile_of level index size }
@@ -50,7 +50,7 @@ fn add_level(
     Ok(())
 }
 
-// The tiles of all levels.
+// Returns the tiles of all levels.
 fn needed(
     alloc: Global,
     mut first: u64,
@@ -74,7 +74,7 @@ fn needed(
     Ok(tiles)
 }
 
-/// The tiles that [`root_at`](crate::root_at) reads for the first `n` leaves, each once, the lowest level first.
+/// Returns the tiles that [`root_at`](crate::root_at) reads for the first `n` leaves, each once, the lowest level first.
 pub fn tiles_for_root(alloc: Global, n: u64) -> Result<Vec<NeededTile>, AllocError>
     requires { 0 < n }
     ensures { IfOk result (λ tiles. tiles.items ≡ root_tiles n) }
@@ -82,7 +82,7 @@ pub fn tiles_for_root(alloc: Global, n: u64) -> Result<Vec<NeededTile>, AllocErr
     needed(alloc, n - 1, n - 1, n - 1, n)
 }
 
-/// The tiles that [`path`](crate::path) reads, each once, the lowest level first.
+/// Returns the tiles that [`path`](crate::path) reads, each once, the lowest level first.
 pub fn tiles_for_path(alloc: Global, m: u64, n: u64) -> Result<Vec<NeededTile>, AllocError>
     requires { m < n }
     ensures { IfOk result (λ tiles. tiles.items ≡ path_tiles m n) }
@@ -90,7 +90,7 @@ pub fn tiles_for_path(alloc: Global, m: u64, n: u64) -> Result<Vec<NeededTile>, 
     needed(alloc, m, m, n - 1, n)
 }
 
-/// The tiles that [`proof`](crate::proof) reads, each once, the lowest level first.
+/// Returns the tiles that [`proof`](crate::proof) reads, each once, the lowest level first.
 pub fn tiles_for_proof(alloc: Global, m: u64, n: u64) -> Result<Vec<NeededTile>, AllocError>
     requires positive { 0 < m }
     requires below { m < n }

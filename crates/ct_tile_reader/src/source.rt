@@ -1,4 +1,4 @@
-//! Where a reader's tiles come from, and the nodes of the tree that stand in them or between them.
+//! The source of a reader's tiles, and the nodes of the tree that are in the tiles or between them.
 ghost use Rattle.std.specs.Prelude.{◌≡◌, ◌+◌, ◌*◌, ◌^◌, ◌<◌, ◌≤◌, ℕ, List, length};
 ghost use Rattle.ct_tree.specs.Levels.{subtree};
 ghost use Rattle.ct_tile_reader.specs.Given.{GivesNodeOf};
@@ -6,19 +6,18 @@ ghost use Rattle.ct_tile_reader.specs.Given.{GivesNodeOf};
 use ct_tree::walk::NodeSource;
 use ct_tree::{NodeHash, node_hash};
 
-/// Tiles from anywhere. Nothing is required of them: each contract speaks of every list of leaves whose tiles they are,
-/// and a proof that was made of other tiles is for `ct_verify` to refuse.
+/// Tiles from anywhere. They have no requirements: each contract holds for every list of leaves whose tiles they are. If a proof was
+/// computed from other tiles, `ct_verify` refuses it.
 pub trait TileSource {
-    // The hash that is given for an index of a level.
+    // The hash that the source has for an index of a level.
     ghost given: { Self → ℕ → ℕ → List ℕ };
 
-    /// The hash at an index of a level, and any 32 bytes where it isn't there.
+    /// Returns the hash at an index of a level, or any 32 bytes if the source does not have it.
     fn hash(&self, level: u64, index: u64) -> [u8; 32]
         ensures { result ≡ given self.now level index };
 }
 
-// The root of the perfect subtree of 2^level leaves at an index of its level, of one that ends before the last of
-// `size` leaves.
+// Returns the root of the perfect subtree of 2^level leaves at an index of its level, if the subtree ends before the last of `size` leaves.
 fn node<H: NodeHash, T: TileSource>(h: &H, tiles: &T, size: u64, level: u64, index: u64) -> [u8; 32]
     requires { (index + 1) * 2 ^ level < size }
     ensures { (D : List (List ℕ)) → GivesNodeOf H.digest (T.given tiles.now) D level index → result ≡ subtree H.digest level index D }

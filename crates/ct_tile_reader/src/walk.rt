@@ -1,4 +1,4 @@
-//! Roots, audit paths and consistency proofs out of tiles.
+//! Computes roots, audit paths and consistency proofs from tiles.
 ghost use Rattle.std.specs.Prelude.{◌≡◌, ◌<◌, ◌≤◌, ℕ, true, List, length, take, All, IfOk};
 ghost use Rattle.ct_tree.specs.Tree.{mth, path as path_of, proof as proof_of};
 ghost use Rattle.ct_tree.specs.Lengths.{path_length, subproof_length};
@@ -9,7 +9,7 @@ use crate::source::{TileNodes, TileSource};
 use ct_tree::{NodeHash, walk};
 use std::alloc::{AllocError, Global};
 
-/// The root of the first `n` leaves (MTH of RFC 6962, section 2.1).
+/// Returns the root of the first `n` leaves (MTH of RFC 6962, section 2.1).
 pub fn root_at<H: NodeHash, T: TileSource>(h: &H, tiles: &T, n: u64) -> [u8; 32]
     ensures all { (D : List (List ℕ)) → GivesTilesOf H.digest (T.given tiles.now) D → n ≤ length D → result ≡ mth H.digest (take n D) }
     ensures needed { (D : List (List ℕ)) → All (GivesTile H.digest (T.given tiles.now) D) (root_tiles n) → n ≤ length D
@@ -18,7 +18,7 @@ pub fn root_at<H: NodeHash, T: TileSource>(h: &H, tiles: &T, n: u64) -> [u8; 32]
     walk::root_at(h, &TileNodes { tiles, size: n }, n)
 }
 
-/// The audit path of the leaf at index `m` in the tree of the first `n` leaves (PATH of RFC 6962, section 2.1.1).
+/// Returns the audit path of the leaf at index `m` in the tree of the first `n` leaves (PATH of RFC 6962, section 2.1.1).
 pub fn path<H: NodeHash, T: TileSource>(
     alloc: Global,
     h: &H,
@@ -37,8 +37,7 @@ pub fn path<H: NodeHash, T: TileSource>(
     Ok(path)
 }
 
-/// The consistency proof from the tree of the first `m` leaves to that of the first `n` (PROOF of RFC 6962, section
-/// 2.1.2).
+/// Returns the consistency proof from the tree of the first `m` leaves to that of the first `n` (PROOF of RFC 6962, section 2.1.2).
 pub fn proof<H: NodeHash, T: TileSource>(
     alloc: Global,
     h: &H,
