@@ -27,7 +27,7 @@ new_identities t i (e ∷ B) =
 logged-append : (E N : List Tiled) → logged_identities (E ++ N) ≡ logged_identities E ++ logged_identities N
 logged-append E N = ap (map identity_of_leaf) (map-append leaf_of E N) ∙ map-append identity_of_leaf (tree_leaves E) (tree_leaves N)
 
--- ---- the log behind some attempts
+-- ---- the log after some attempts
 abbrev step_identities : LineAttempt → List (List ℕ)
 step_identities a = identities_of a.batch
 
@@ -102,7 +102,7 @@ one_if : (P : BatchEntry → Type 0) (t : Bool) (e : BatchEntry) → P e → All
 one_if P true e p = All-nil P
 one_if P false e p = All-cons P e [] p (All-nil P)
 
--- what holds of a batch's entries holds of the first ones
+-- a property of all entries of a batch holds for the first ones
 firsts_too : (P : BatchEntry → Type 0) (K : List (List ℕ)) (B : List BatchEntry) → All P B → All P (first_of_each K B)
 firsts_too P K [] all = All-nil P
 firsts_too P K (e ∷ B) all =
@@ -118,7 +118,7 @@ TrueMiss b = All (λ e. ¬ (Contains b.stored (identity_of e.0))) b.batch
 abbrev IsOther : List ℕ → BatchEntry → Type 0
 IsOther x e = Differ x (identity_of e.0)
 
--- an identity that the store had before each of these steps is none that they add
+-- an identity that the deduplication index had before each of these steps differs from all that they add
 missed : (x : List ℕ) (steps : List LookedUpLine) → All (λ b. Contains b.stored x) steps → All TrueMiss steps → All (Differ x) (added steps)
 missed x [] has miss = All-nil (Differ x)
 missed x (b ∷ steps) has miss =
@@ -130,7 +130,7 @@ missed x (b ∷ steps) has miss =
     b.batch (All-head TrueMiss b steps miss))))
     (missed x steps (All-tail (λ (c : LookedUpLine). Contains c.stored x) b steps has) (All-tail TrueMiss b steps miss))
 
--- the same of many identities: of each its place is in the store before each of these steps
+-- the same for many identities, each of which was in the deduplication index before each of these steps
 all_missed : {X : Type 0} (f : X → List ℕ) (xs : List X) (steps : List LookedUpLine) → All (λ b. All (λ x. Contains b.stored (f x)) xs) steps
     → All TrueMiss steps → All (λ x. All (Differ x) (added steps)) (map f xs)
 all_missed f xs steps has miss =

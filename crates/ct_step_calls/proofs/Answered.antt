@@ -14,7 +14,7 @@ use Rattle.ct_step_calls.specs.declared.answer.StepRefusal.TheVariants.{BadBatch
 use Rattle.ct_step_calls.proofs.StepKept.{by_reply, by_less}
 
 module _ {F : Type 0} (r : Result Answer F) (origin batch edge : List ℕ) (now : ℕ) (state : List ℕ) (most : ℕ) where
-  -- the bytes are no batch
+  -- the bytes are not a batch
   pub no_batch : (C : Option (List (List ℕ))) → IsBatchText batch None → IsContentsText edge C → IfOk r (λ t. answer_parts t ≡ Err BadBatch)
       → IfOk r (λ t. IsReplyText origin t (IsReplyToStep batch edge now state most))
   no_batch C none read told =
@@ -27,14 +27,14 @@ module _ {F : Type 0} (r : Result Answer F) (origin batch edge : List ℕ) (now 
       let asked : for_too_many ≡ step_of_batch (Some B) C now state most = rw (lt-ltb 4096 (length B) many) refl in
       by_reply r origin (refuses TooMany) (IsReplyToStep batch edge now state most) (for_too_many, (Some B, C, is, read, asked), refl) told
 
-  -- the bytes are no contents
+  -- the bytes are not contents
   pub no_edge : (B : List BatchEntry) → IsBatchText batch (Some B) → IsContentsText edge None → length B ≤ 4096
       → IfOk r (λ t. answer_parts t ≡ Err Edge) → IfOk r (λ t. IsReplyText origin t (IsReplyToStep batch edge now state most))
   no_edge B is none few told =
       let asked : for_no_edge ≡ step_of_batch (Some B) None now state most = rw (le-ltb 4096 (length B) few) refl in
       by_reply r origin (refuses Edge) (IsReplyToStep batch edge now state most) (for_no_edge, (Some B, None, is, none, asked), refl) told
 
-  -- a step is replied
+  -- the reply to a step
   pub is_step : (B : List BatchEntry) (C : List (List ℕ)) → IsBatchText batch (Some B) → IsContentsText edge (Some C) → length B ≤ 4096
       → IfOk r (λ t. IsReplyText origin t (IsReplyTo (for_step B C now state most)))
       → IfOk r (λ t. IsReplyText origin t (IsReplyToStep batch edge now state most))

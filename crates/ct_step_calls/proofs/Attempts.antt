@@ -1,4 +1,4 @@
--- A step that is replied is an attempt of the law over sequencers.
+-- Each step in a reply is an attempt to which the theorem about sequencers applies.
 use Rattle.std.proofs.Common.{◌≡◌, ℕ, Bool, List, [], Option, Some, None, refl, sym, subst, inl, inr, arith}
 use Rattle.ct_codec.specs.Submitted.{Submitted}
 use Rattle.ct_log_state.specs.declared.line.StateLine.{StateLine}

@@ -1,4 +1,4 @@
--- What is replied to a place that is claimed for a submission.
+-- The replies to the index that is claimed for a submission.
 use Rattle.std.proofs.Common.{◌≡◌, ◌≢◌, ◌⊎◌, ◌∙◌, ◌<◌, ℕ, List, [], length, get_or, refl, sym, ap, subst, inl, inr, arith}
 use Rattle.std.proofs.lemmas.List.{length-map}
 use Rattle.sha2.specs.Sha256.{sha256}
@@ -28,7 +28,7 @@ use Rattle.ct_step_calls.specs.StepLaws.{StandsAsClaimed, ClaimsStandThere}
 use Rattle.ct_step_calls.specs.StepWords.{stands, refuses}
 use Rattle.ct_step_calls.specs.declared.answer.StepRefusal.{StepRefusal}
 
--- what stops a claim, other than memory: no path leads there
+-- if a claim is refused for another reason than memory, no path leads there
 pub not_believed : (head : Head) (e : SignedEntry) (claim : Claim) (path : List (List ℕ)) (fault : ClaimFault) → fault ≢ Refused refused.Memory
     → StopsClaim sha256 head e claim path fault → IsBelievedAt sha256 head e claim path → ⊥
 not_believed head e claim path IndexTooLarge other stops b = omega (arith, stops, b.index)

@@ -12,22 +12,22 @@ use Rattle.ct_step_calls.proofs.Pushed.{flat-push}
 abbrev texts : List (List ℕ) → List ℕ
 texts contents = flat_map (vec 8) contents
 
--- no vector begins where its length isn't whole
+-- the bytes do not begin with a vector if they end within its length
 pub no_length : (w : ℕ) (b x r : List ℕ) → length b < w → b ≡ vec w x ++ r → ⊥
 no_length w b x r h e =
     absurd (omega (arith, h, ap length e, length-append (num w (length x) ++ x) r, length-append (num w (length x)) x, length-num w (length x)))
 
--- no vector begins where its length is whole and its content isn't
+-- the bytes do not begin with a vector if its length is complete and they end within its content
 pub no_content : (w n : ℕ) (b s x r : List ℕ) → n < 256 ^ w → length x < 256 ^ w → length s < n → b ≡ num w n ++ s → b ≡ vec w x ++ r → ⊥
 no_content w n b s x r h k short e f =
     let parts = num_split w n (length x) s (x ++ r) h k (sym e ∙ f ∙ append_assoc (num w (length x)) x r) in
     absurd (omega (arith, short, parts.0, ap length parts.1, length-append x r))
 
--- a content isn't nothing
+-- a content has at least 8 bytes
 content_some : (c r : List ℕ) → 8 ≤ length (vec 8 c ++ r)
 content_some c r = omega (arith, length-append (vec 8 c) r, length-append (num 8 (length c)) c, length-num 8 (length c))
 
--- contents that were read, and what is left: those of all begin with them
+-- contents that were read, and the rest of the bytes: the bytes of all contents begin with them
 begun : (done all : List (List ℕ)) (rest : List ℕ) → All FitsIn8 done → All FitsIn8 all → texts done ++ rest ≡ texts all
     → (more : List (List ℕ)) × (all ≡ done ++ more) × (rest ≡ texts more)
 begun [] all rest h k e = (all, refl, e)
@@ -39,7 +39,7 @@ begun (c ∷ done) (d ∷ all) rest h k e =
     let behind = begun done all rest (All-tail FitsIn8 c done h) (All-tail FitsIn8 d all k) one.1 in
     (behind.0, ap (λ (x : List (List ℕ)). d ∷ x) behind.1 ∙ ap (λ (x : List ℕ). x ∷ (done ++ behind.0)) (sym one.0), behind.2)
 
--- what was read of bytes, and what is left of them
+-- the contents that were read from bytes, and the rest of the bytes
 pub record ReadSoFar (done : List (List ℕ)) (bytes rest : List ℕ) : Type 0 where
   pub fit : All FitsIn8 done
   pub text : bytes ≡ texts done ++ rest
@@ -53,7 +53,7 @@ read-more done all c bytes rest more r h e a =
           ∙ ap (λ (x : List ℕ). x ++ more) (sym (flat-push (vec 8) done c));
     })
 
--- where no content is next, there are none
+-- if the rest of the bytes does not begin with a content, the bytes are not contents
 pub read-stuck : (done : List (List ℕ)) (bytes rest : List ℕ) → ReadSoFar done bytes rest → (length rest ≡ 0 → ⊥)
     → ((x r : List ℕ) → length x < 2 ^ 64 → rest ≡ vec 8 x ++ r → ⊥) → (contents : List (List ℕ)) → AreContents contents bytes → ⊥
 read-stuck done bytes rest r some none contents b =

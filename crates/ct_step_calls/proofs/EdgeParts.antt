@@ -4,7 +4,7 @@ use Rattle.std.proofs.lemmas.Bool.{eqb-true}
 use Rattle.std.specs.Prelude.{◌==◌, option_map, option_and_then}
 use Rattle.ct_step_calls.specs.StepAnswers.{edge_part, level_parts, edge_of, if_none_left}
 
--- with tiles in front
+-- the result with tiles before its own
 abbrev pub behind_tiles : List (List ℕ) → Option (List (List ℕ) × List (List ℕ)) → Option (List (List ℕ) × List (List ℕ))
 behind_tiles T o = option_map (λ q. (T ++ q.0, q.1)) o
 
@@ -41,12 +41,12 @@ pub nothing_in_front : (o : Option (List (List ℕ) × List (List ℕ))) → beh
 nothing_in_front None = refl
 nothing_in_front (Some q) = refl
 
--- behind the last level
+-- the result after the last level
 pub all_levels : (levels n size : ℕ) (T R C : List (List ℕ)) → levels ≡ 0 → behind_tiles T (level_parts levels n R) ≡ level_parts 8 size C
     → level_parts 8 size C ≡ Some (T, R)
 all_levels levels n size T R C none e = sym e ∙ sym (parts_none levels n T R none)
 
--- what the contents come to, where these tiles and contents behind them were found
+-- the edge of the contents if these tiles, and contents after them, were found
 pub edge_is : (size : ℕ) (T R C : List (List ℕ)) → level_parts 8 size C ≡ Some (T, R)
     → edge_of size C ≡ option_and_then (λ p. if_none_left (T, p.0) p.1) (edge_part size R)
 edge_is size T R C e = ap (λ o. option_and_then (λ q. option_and_then (λ p. if_none_left (q.0, p.0) p.1) (edge_part size q.1)) o) e
@@ -64,7 +64,7 @@ no_edge size C e = ap (λ o. option_and_then (λ q. option_and_then (λ p. if_no
 abbrev pub bytes_in : Vec ℕ Global → List ℕ
 bytes_in v = v.items
 
--- where no content is left, and where one is
+-- the result if no content is left, and if one is left
 pub none_over : (T : List (List ℕ)) (p : List ℕ) (V : List (Vec ℕ Global)) (e : Bool) → e ≡ (length V == 0) → e ≡ true
     → ◌≡◌ {A = Option (List (List ℕ) × List ℕ)} (Some (T, p)) (if_none_left (T, p) (map bytes_in V))
 none_over T p [] e is none = refl

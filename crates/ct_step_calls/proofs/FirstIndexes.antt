@@ -1,4 +1,4 @@
--- Where the first entries of a batch stand in it.
+-- The indexes of the first entries of a batch in it.
 use Rattle.std.proofs.Common.{◌≡◌, ◌∙◌, ℕ, zero, suc, ◌+◌, ◌<◌, ◌≤◌, Bool, true, false, ◌||◌, not, cond, List, [], ◌∷◌, ◌++◌, length, map, get_or, All, AllPairs, Option, Some, refl, ap, arith, append_assoc, length-append}
 use Rattle.std.specs.Prelude.{slice_get}
 use Rattle.std.specs.List.{list_any, position_or_len}
@@ -8,7 +8,7 @@ use Rattle.std.proofs.lemmas.List.Kept.{AllPairs-cons}
 use Rattle.ct_codec.specs.Submitted.{identity_of}
 use Rattle.ct_step_calls.specs.StepRepeats.{BatchEntry, is_known, with_identity, first_of_each, places_of_all}
 
--- the indexes of the first entries, where that of the batch's first one is n
+-- the indexes of the first entries, if the batch begins at the index n
 abbrev pub indexes_from : List (List ℕ) → ℕ → List BatchEntry → List ℕ
 indexes_from known n [] = []
 indexes_from known n (e ∷ batch) = cond (is_known known e) [] (n ∷ []) ++ indexes_from (with_identity known e) (suc n) batch

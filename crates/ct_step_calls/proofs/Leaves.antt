@@ -1,4 +1,4 @@
--- Tile leaves that are a batch, or none.
+-- Tile leaves that are a batch, or are not.
 use Rattle.std.proofs.Common.{◌≡◌, ◌≢◌, ◌∙◌, ℕ, List, [], ◌∷◌, length, map, Option, Some, None, sym, ap, subst, refl, arith, get_or}
 use Rattle.std.specs.Prelude.{option_map}
 use Rattle.ct_data_tiles.specs.DataTile.{IsDataTile, DataTileFaulty}
@@ -9,11 +9,11 @@ use Rattle.ct_data_tiles.specs.declared.fault.DataTileFault.TheVariants.{Memory}
 use Rattle.ct_step_calls.specs.StepBytes.{batch_in, IsBatchText}
 use Rattle.ct_step_calls.specs.StepRepeats.{BatchEntry}
 
--- bytes with a fault are no batch
+-- bytes with a fault are not a batch
 pub faulty_none : DataTilesHaveNoFault → (bytes : List ℕ) (f : DataTileFault) → f ≢ Memory → DataTileFaulty f bytes → IsBatchText bytes None
 faulty_none whole bytes f other faulty = λ L is. absurd (other (whole L bytes f is faulty))
 
--- what one list of leaves comes to, the bytes come to
+-- the result for one list of leaves is the result for the bytes
 pub read_leaves : DataTilesStandApart → (bytes : List ℕ) (L : List Tiled) (o : Option (List BatchEntry)) → IsDataTile L bytes → o ≡ batch_in L → IsBatchText bytes o
 read_leaves apart bytes L (Some batch) is e = (L, is, sym e)
 read_leaves apart bytes L None is e = λ M other. ap batch_in (apart M L bytes other is) ∙ sym e

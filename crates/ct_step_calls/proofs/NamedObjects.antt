@@ -1,4 +1,4 @@
--- The objects of a step stand under the names of tiles.
+-- The objects of a step have the names of tiles.
 use Rattle.std.proofs.Common.{◌≡◌, ◌∙◌, ◌⊎◌, inl, inr, ⊎_elim, ℕ, zero, suc, ◌+◌, ◌-◌, ◌*◌, ◌/◌, ◌<◌, ◌≤◌, List, [], ◌∷◌, ◌++◌, length, take, drop, All, Option, Some, None, refl, ap, subst, arith, length-append}
 use Rattle.std.specs.Prelude.{true, false, nat_lt, if◌then◌else◌, ◌^◌}
 use Rattle.std.proofs.lemmas.List.{length-drop}
@@ -78,7 +78,7 @@ module _ (H : List ℕ → List ℕ) where
       (all_changed (entry_object (L ++ T)) (length L) (length (L ++ T))
       (λ i b. named_tile Entries i (L ++ T) tt b (omega (arith, few, sum, written, length_texts A, length_texts N))))
 
--- ---- a step that is replied
+-- ---- a step in a reply
 
 no_refusal : (s : Step) (p : List ℕ) (o : List Reference) (r : StepRefusal) → steps s p o ≡ refuses r → ⊥
 no_refusal s p o r e = cc
@@ -86,7 +86,7 @@ no_refusal s p o r e = cc
 same_objects : (s t : Step) (p q : List ℕ) (a b : List Reference) → steps s p a ≡ steps t q b → a ≡ b
 same_objects s t p q a b e = cc
 
--- the strings that are hashed of an edge, if one was handed in
+-- the strings that are hashed for an edge, if one was received
 abbrev OfEdge : (List ℕ → List ℕ) → Option (List (List ℕ) × List ℕ) → List ℕ → Type 0
 OfEdge H handed s = (edge : List (List ℕ) × List ℕ) × (handed ≡ Some edge) × IsHashedOfHanded H edge.0 edge.1 s
 

@@ -1,4 +1,4 @@
--- The receipts at some places of a step's, one behind the other.
+-- The receipts of a step at some indexes, one after the other.
 use Rattle.std.proofs.Common.{◌≡◌, ◌∙◌, ◌+◌, ◌<◌, ℕ, List, [], ◌∷◌, ◌++◌, map, take, length, get_or, Option, Some, None, sym, ap, append-nil, append_assoc}
 use Rattle.std.specs.List.{flat_map}
 use Rattle.std.specs.Prelude.{filter_map, slice_get, option_map}
@@ -10,14 +10,14 @@ use Rattle.ct_growth.specs.declared.receipts.Receipt.{Receipt}
 use Rattle.ct_step_calls.specs.StepReplies.{receipt_text}
 use Rattle.ct_step_calls.proofs.Pushed.{flat-push}
 
--- the receipts at the first places
+-- the receipts at the first indexes
 abbrev chosen : List Receipt → List ℕ → List (ℕ × ℕ × List ℕ)
 chosen receipts places = filter_map (slice_get (map receipt_parts receipts)) places
 
 abbrev Parts : Type 0
 Parts = ℕ × ℕ × List ℕ
 
--- what one place adds
+-- the receipts that one index adds
 abbrev of_place : Option Parts → List Parts
 of_place None = []
 of_place (Some r) = r ∷ []
@@ -37,7 +37,7 @@ chosen-more receipts places i place o h is e =
     ∙ filter_map-append f (take i places) (place ∷ [])
     ∙ ap (λ x. chosen receipts (take i places) ++ x) (one f place o e)
 
--- a place that has a receipt
+-- an index that has a receipt
 pub receipt-more : (receipts : List Receipt) (places : List ℕ) (i place : ℕ) (r : Receipt) (before text after : List ℕ)
     → i < length places → place ≡ get_or places i place → slice_get receipts place ≡ Some r
     → text ≡ before ++ flat_map receipt_text (chosen receipts (take i places)) → after ≡ text ++ receipt_text (receipt_parts r)
@@ -51,7 +51,7 @@ receipt-more receipts places i place r before text after h is found written item
     ∙ ap (λ (x : List ℕ). before ++ x) (sym (flat-push receipt_text now (receipt_parts r))
     ∙ ap (flat_map receipt_text) (sym (chosen-more receipts places i place (Some (receipt_parts r)) h is here)))
 
--- a place that has none
+-- an index that has none
 pub receipt-passed : (receipts : List Receipt) (places : List ℕ) (i place : ℕ) (before text : List ℕ)
     → i < length places → place ≡ get_or places i place → slice_get receipts place ≡ None
     → text ≡ before ++ flat_map receipt_text (chosen receipts (take i places))

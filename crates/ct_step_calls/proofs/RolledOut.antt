@@ -1,4 +1,4 @@
--- What is rolled out of a register's line is what its maker would have put.
+-- The objects that are published from a lock's line are those that its maker would have put.
 use Rattle.std.proofs.Common.{◌≡◌, ◌∙◌, ℕ, List, [], ◌∷◌, ◌++◌, length, refl, sym, ap, subst, inl, inr, arith}
 use Rattle.std.proofs.lemmas.List.{append-nil}
 use Rattle.std.specs.Prelude.{◌≢◌}

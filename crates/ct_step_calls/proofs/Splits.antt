@@ -1,4 +1,4 @@
--- What a batch without its repeats is, and where the receipts of the whole batch stand.
+-- A batch without its repeats, and the indexes of the receipts of the whole batch.
 use Rattle.std.proofs.Common.{◌≡◌, ◌∙◌, ℕ, zero, suc, ◌+◌, ◌<◌, Bool, true, false, ◌||◌, not, cond, List, [], ◌∷◌, ◌++◌, length, map, get_or, All, Some, None, Option, sym, refl, ap, subst, arith, inl, inr, append_assoc, append-nil, length-append}
 use Rattle.std.specs.Prelude.{filter_map, slice_get}
 use Rattle.std.specs.List.{list_any, position_or_len, cons_option}
@@ -24,7 +24,7 @@ use Rattle.ct_step_calls.specs.declared.answer.StepRefusal.{StepRefusal}
 use Rattle.ct_step_calls.proofs.FirstIndexes.{indexes_from, entries_there, indexes_rise, none_before}
 use Rattle.ct_step_calls.specs.SplitSoFar.{known_behind}
 
--- ---- no identity stands twice
+-- ---- no identity occurs twice
 known_if : (t : Bool) (K : List (List ℕ)) (e : BatchEntry) (R : List BatchEntry)
     → cond t K (K ++ identity_of e.0 ∷ []) ++ identities_of R ≡ K ++ identities_of (cond t [] (e ∷ []) ++ R)
 known_if true K e R = refl
@@ -58,7 +58,7 @@ apart_behind : (K : List (List ℕ)) (B : List BatchEntry) → AreApart K → Ar
 apart_behind K [] apart = apart
 apart_behind K (e ∷ B) apart = apart_behind (with_identity K e) B (apart_if (is_known K e) K (identity_of e.0) refl apart)
 
--- ---- the place of an identity
+-- ---- the index of an identity
 abbrev place : List ℕ → List (List ℕ) → ℕ
 place x K = position_or_len (bytes_eq x) K
 

@@ -1,4 +1,4 @@
--- Steps of the loop that takes the repeats out of a batch.
+-- Steps of the loop that removes the repeats from a batch.
 use Rattle.std.proofs.Common.{◌≡◌, ◌∙◌, ℕ, ◌+◌, Bool, true, false, ◌||◌, not, cond, List, [], ◌∷◌, ◌++◌, length, map, Vec, Global, sym, refl, ap, arith, append_assoc, append-nil, length-append}
 use Rattle.std.specs.List.{list_any, position_or_len, zip}
 use Rattle.std.specs.Str.{bytes_eq}
@@ -18,7 +18,7 @@ known-push : (K : List (List ℕ)) (B : List BatchEntry) (e : BatchEntry) → kn
 known-push K [] e = refl
 known-push K (b ∷ B) e = known-push (with_identity K b) B e
 
--- the entry, where it is the first of its identity
+-- the entry, if it is the first one with its identity
 abbrev one_first : List (List ℕ) → BatchEntry → List BatchEntry
 one_first known e = cond (is_known known e) [] (e ∷ [])
 
@@ -41,7 +41,7 @@ zip_push [] (d ∷ C) s c e = absurd (omega (arith, e))
 zip_push (t ∷ S) [] s c e = absurd (omega (arith, e))
 zip_push (t ∷ S) (d ∷ C) s c e = ap (λ l. (t, d) ∷ l) (zip_push S C s c (omega (arith, e)))
 
--- ---- a table's keys and the identities that they are
+-- ---- a table's keys and the identities that they represent
 any-bytes : (x : List ℕ) (ks : List (Vec ℕ Global)) → list_any (λ (k : Vec ℕ Global). bytes_eq x k.items) ks ≡ list_any (bytes_eq x) (map vec_bytes ks)
 any-bytes x [] = refl
 any-bytes x (k ∷ ks) = ap (λ b. bytes_eq x k.items || b) (any-bytes x ks)
@@ -51,7 +51,7 @@ position-bytes : (x : List ℕ) (ks : List (Vec ℕ Global))
 position-bytes x [] = refl
 position-bytes x (k ∷ ks) = ap (λ n. cond (not (bytes_eq x k.items)) (1 + n) 0) (position-bytes x ks)
 
--- two byte strings of a table are one
+-- two byte strings of a table are equal
 abbrev pub same_bytes : Vec ℕ Global → Vec ℕ Global → Bool
 same_bytes a b = bytes_eq a.items b.items
 
@@ -101,7 +101,7 @@ split_repeat Y keys S C P e v after place first h i added found is repeats =
     split_step Y keys S C P e v after place S C h i added found h.batch
     (sym (append-nil (zip S C)) ∙ ap (λ b. zip S C ++ cond b [] (e ∷ [])) (sym (not_false first (list_any (same_bytes v) keys) is repeats)))
 
--- an entry whose identity isn't
+-- an entry whose identity is not known
 pub split_first : (Y : List BatchEntry) (keys : List (Vec ℕ Global)) (S : List Submitted) (C : List (List (List ℕ))) (P : List ℕ) (s : Submitted)
     (c : List (List ℕ)) (v : Vec ℕ Global) (after : List (Vec ℕ Global)) (place : ℕ) (first : Bool) → SplitSoFar Y keys S C P → v.items ≡ identity_of s
     → after ≡ cond (list_any (same_bytes v) keys) keys (keys ++ v ∷ []) → place ≡ position_or_len (same_bytes v) keys

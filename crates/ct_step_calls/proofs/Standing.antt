@@ -1,4 +1,4 @@
--- Where the objects of a bundle stand in it.
+-- The positions of the objects of a staged batch in it.
 use Rattle.std.proofs.Common.{◌≡◌, ◌∙◌, ◌+◌, ◌<◌, ◌≤◌, ℕ, zero, suc, List, [], ◌∷◌, ◌++◌, length, map, take, drop, get_or, All, refl, sym, subst, ap, arith, append_assoc, length-append}
 use Rattle.std.proofs.lemmas.List.{append-nil, take_more, take_all, map_push}
 use Rattle.std.proofs.lemmas.Simd.{map-map}
@@ -15,7 +15,7 @@ use Rattle.ct_step_calls.specs.declared.places.Place.{Place}
 abbrev Parts : Type 0
 Parts = List ℕ × List ℕ
 
--- a place that is none, where one has to be named
+-- a position that is not used, for places that need a default value
 abbrev pub no_place : Place
 no_place = record { name = record { ref_ptr = (0, 0); now = [] }; start = 0; length = 0; digest = [] }
 
@@ -23,7 +23,7 @@ no_place = record { name = record { ref_ptr = (0, 0); now = [] }; start = 0; len
 abbrev pub no_object : Object
 no_object = record { name = record { ref_ptr = (0, 0); now = [] }; content = record { ref_ptr = (0, 0); now = [] } }
 
--- ---- one object more
+-- ---- one more object
 
 one_more : (H : List ℕ → List ℕ) (place : ℕ) (xs : List Parts) (o : Parts)
     → references_from H place (xs ++ o ∷ []) ≡ references_from H place xs ++ reference_at H (place + bundle_size xs) o ∷ []
@@ -41,7 +41,7 @@ size_within : (xs : List Parts) (o : Parts) (ys : List Parts) → bundle_size (x
 size_within [] o ys = omega arith
 size_within (x ∷ xs) o ys = omega (arith, size_within xs o ys)
 
--- the first objects stand there, and behind them the next one begins
+-- the first objects are at these positions, and the next one begins after them
 abbrev pub ArePlaced : List Object → ℕ → List Place → Type 0
 ArePlaced E end places = (end ≡ bundle_size (map object_parts E)) × (map place_parts places ≡ references_of sha256 (map object_parts E))
 
@@ -67,7 +67,7 @@ placed_more E i end next d p places after h placed pushed here moved =
           ∙ same,
     )
 
--- the place of an object whose content has this digest
+-- the position of an object whose content has this digest
 pub hashed_place : (E : List Object) (i end : ℕ) (digest : List ℕ) → digest ≡ sha256 ((get_or E i no_object).content.now ++ [])
     → place_parts (record {
       name = (get_or E i no_object).name;
@@ -90,7 +90,7 @@ size_of_taken [] (suc k) = omega arith
 size_of_taken (x ∷ E) zero = omega arith
 size_of_taken (x ∷ E) (suc k) = omega (arith, size_of_taken E k)
 
--- the place behind an object is within the bundle
+-- the offset after an object is within the staged batch
 pub fits_in : (E : List Object) (i end : ℕ) (d : Object) (places : List Place) → i < length E → ArePlaced (take i E) end places
     → end + (6 + length (get_or E i d).name.now + length (get_or E i d).content.now) ≤ bundle_size (map object_parts E)
 fits_in E i end d places h placed =
@@ -108,7 +108,7 @@ names_from : (H : List ℕ → List ℕ) (place : ℕ) (xs : List Parts) → map
 names_from H place [] = refl
 names_from H place (x ∷ xs) = ap (λ l. x.0 ∷ l) (names_from H (place + object_size x) xs)
 
--- where the objects are under the names of tiles, so are their places
+-- if the objects have the names of tiles, their positions have them, too
 pub places_named : (E : List Object) (places : List Place) → map place_parts places ≡ references_of sha256 (map object_parts E)
     → All IsTileName (map (λ o. (object_parts o).0) E) → All IsTileName (map (λ p. (place_parts p).name) places)
 places_named E places same all =
@@ -122,7 +122,7 @@ places_named E places same all =
 num_size : (n : ℕ) (bs : List ℕ) (k : ℕ) → length (num k n ++ bs) ≡ k + length bs
 num_size n bs k = length-append (num k n) bs ∙ ap (λ (m : ℕ). m + length bs) (length-num k n)
 
--- the bytes of an object in front of its content
+-- the bytes of an object before its content
 abbrev front : Parts → List ℕ
 front o = vec 2 o.0 ++ num 4 (length o.1)
 

@@ -1,4 +1,4 @@
--- Objects under the names of tiles, and what is said of them.
+-- Objects with the names of tiles, and their properties.
 use Rattle.std.proofs.Common.{◌≡◌, ◌∙◌, ◌+◌, ◌<◌, ◌≤◌, ℕ, List, [], ◌∷◌, ◌++◌, length, map, take, get_or, All, arith, sym, ap, subst, inl, inr, Ok, Result}
 use Rattle.std.proofs.lemmas.List.{get_or_default, get_or-map, length-map, map_push, take_all, take_more}
 use Rattle.std.proofs.lemmas.List.Elements.{All-nil, All-cons, All-head, All-tail, All-push, All-get_or}
@@ -53,7 +53,7 @@ parts_named (o ∷ E) all =
     All-cons IsTileName (name_in o) (map name_in E) (All-head HasName (object_parts o) (map object_parts E) all)
     (parts_named E (All-tail HasName (object_parts o) (map object_parts E) all))
 
--- objects of a bundle that aren't all under the names of tiles: there are no others
+-- if the objects of a staged batch do not all have the names of tiles, it has no other objects
 pub none_named : (line : StateLine) (bundle : List ℕ) (found : Vec Object Global) → sha256 bundle ≡ line.bundle
     → IsBundleOf (map object_parts found.items) bundle
     → (All IsTileName (map name_in found.items) → ⊥) → IsNotRolledOut line bundle
@@ -62,7 +62,7 @@ none_named line bundle found digest is none = inr (λ objects b.
     let same : map object_parts found.items ≡ objects = bundles_are_resumed sha256 line objects bundle r b.0 (sym digest) (digest, is) in
     none (parts_named found.items (subst (λ (l : List (List ℕ × List ℕ)). All HasName l) (sym same) b.1)))
 
--- bytes that aren't rolled out
+-- bytes that are not read
 pub not_rolled_out : (line : StateLine) (bundle : List ℕ) (fault : ResumeFault) → fault ≡ Bundle → StopsResume sha256 line bundle fault
     → IsNotRolledOut line bundle
 not_rolled_out line bundle fault is stops = either (subst (λ (f : ResumeFault). StopsResume sha256 line bundle f) is stops)
@@ -71,7 +71,7 @@ not_rolled_out line bundle fault is stops = either (subst (λ (f : ResumeFault).
     either (inl other) = inl other
     either (inr none) = inr (λ objects b. none objects b.0)
 
--- the bytes are the bundle of no objects under the names of tiles, and none are found
+-- the bytes are not the staged batch of objects with the names of tiles, and no objects are found
 pub none_found : (line : StateLine) (bundle : List ℕ) (fault : ResumeFault) (found : List Object) → found ≡ [] → sha256 bundle ≡ line.bundle → fault ≡ Bundle
     → StopsResume sha256 line bundle fault → AreObjectsIn bundle (map object_parts found)
 none_found line bundle fault found nil digest is stops =
@@ -81,7 +81,7 @@ none_found line bundle fault found nil digest is stops =
     either (inl other) = absurd (other digest)
     either (inr none) = λ others b. none others b.0
 
--- so where they aren't all under the names of tiles
+-- the same if the objects do not all have the names of tiles
 pub none_named_in : (line : StateLine) (bundle : List ℕ) (read : Vec Object Global) (found : List Object) → found ≡ [] → sha256 bundle ≡ line.bundle
     → IsBundleOf (map object_parts read.items) bundle → (All IsTileName (map name_in read.items) → ⊥) → AreObjectsIn bundle (map object_parts found)
 none_named_in line bundle read found nil digest is none =

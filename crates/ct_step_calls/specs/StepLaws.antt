@@ -1,4 +1,5 @@
--- What the replies are good for. H is any hash function on byte lists, and where hashes are compared each has 32 bytes; the program's is SHA-256.
+-- Theorems about the replies. H is any hash function on byte lists, with digests of 32 bytes where hashes are compared. The program's is
+-- SHA-256.
 use Rattle.std.specs.Prelude.{◌≡◌, ◌⊎◌, ◌+◌, ◌<◌, ◌≤◌, ℕ, Bool, if◌then◌else◌, List, [], ◌∷◌, length, map, filter, take, slice_get, slice_index_or, Some, All, AllPairs, Contains}
 use Rattle.ct_codec.specs.Submitted.{Submitted, entry_of, identity_of}
 use Rattle.ct_log_state.specs.Lines.{IsStateLine, state_line_text}
@@ -18,12 +19,12 @@ use Rattle.ct_step_calls.specs.StepAnswers.{edge_of, first_line_by, IsReplyToBy}
 use Rattle.ct_step_calls.specs.StepRepeats.{BatchEntry, first_of_each, places_of_all, identities_of}
 use Rattle.ct_step_calls.specs.StepWords.{Reference, receipts_at, steps, stands}
 
--- the line that a log begins with is that of a log without entries
+-- the first line of a log is that of a log without entries
 abbrev pub FirstLineBegins : Type 0
 FirstLineBegins = (H : List ℕ → List ℕ) (moment : ℕ) → IsLog H [] (first_line_by H moment)
 
--- a step is one that an attempt of the laws over sequencers has (`TrueEdgesAgree`, and by `HandedAttemptsAreAttempts` `LineSequencersAgree`), of the
--- edge that the contents give and of the first entry of each identity in the batch, whether the register took it or not
+-- The theorems about sequencers apply to a step (`TrueEdgesAgree`, and by `HandedAttemptsAreAttempts` `LineSequencersAgree`). Its edge is
+-- that of the contents, and its batch has the first entry of each identity, whether the lock took it or not.
 abbrev pub IsStepAttempt : (List ℕ → List ℕ) → StateLine → List BatchEntry → List (List ℕ) → ℕ → Step → Bool → Type 0
 IsStepAttempt H line batch contents now step took =
     (edge : List (List ℕ) × List ℕ) × (edge_of line.tree_size contents ≡ Some edge)
@@ -33,17 +34,18 @@ IsStepAttempt H line batch contents now step took =
       attempt = record { seen = line; batch = first_of_each [] batch; now = now; step = step; took = took };
     })
 
--- a step that is replied to a line's text is an attempt
+-- each step in a reply to a line's text is an attempt
 abbrev pub RepliedStepsAreAttempts : Type 0
 RepliedStepsAreAttempts =
     (H : List ℕ → List ℕ) (line : StateLine) (batch : List BatchEntry) (contents : List (List ℕ)) (now most : ℕ) (step : Step) (places : List ℕ) (objects : List Reference) (took : Bool)
     → IsStateLine line → IsReplyToBy H (for_step batch contents now (state_line_text line) most) (steps step places objects)
     → IsStepAttempt H line batch contents now step took
 
--- A receipt (leaf index, moment in milliseconds, bytes to be signed) is a submission's at a claimed place of the log with the entries E. Its
--- index and its moment are the claimed ones (index, moment); the bytes are the submission's leaf of these (signed), which has the submission's
--- identity (identity); and that leaf stands at that index of the log, or two strings collide that are hashed when the path is checked, or in the log's tree
--- (there).
+-- A receipt (leaf index, timestamp in milliseconds, bytes to be signed) is that of a submission at a claimed index of the log with the
+-- entries E:
+-- - Its index and its timestamp are the claimed ones (`index`, `moment`).
+-- - The bytes are the submission's leaf with these (`signed`), which has the submission's identity (`identity`).
+-- - That leaf is at that index of the log, or two strings collide that are hashed when the path is checked, or in the log's tree (`there`).
 pub record StandsAsClaimed (H : List ℕ → List ℕ) (E : List Tiled) (claim : Claim) (path : List (List ℕ)) (s : Submitted) (r : ℕ × ℕ × List ℕ) : Type 0 where
   pub index : r.0 ≡ claim.leaf_index
   pub moment : r.1 ≡ claim.timestamp
@@ -52,16 +54,18 @@ pub record StandsAsClaimed (H : List ℕ → List ℕ) (E : List Tiled) (claim :
   pub there : ((claim.leaf_index < length E) × (claimed_leaf (entry_of s) claim ≡ slice_index_or (tree_leaves E) claim.leaf_index []))
       ⊎ CollideAmong H (IsHashedInAudit H (tree_leaves E) (claimed_leaf (entry_of s) claim) claim.leaf_index path)
 
--- a receipt that is replied to a claim is the submission's at the claimed place, in every log that has the state's line
+-- a receipt in a reply to a claim is the submission's at the claimed index, in every log that has the state's line
 abbrev pub ClaimsStandThere : Type 0
 ClaimsStandThere =
     (H : List ℕ → List ℕ) → ((x : List ℕ) → length (H x) ≡ 32) → (line : StateLine) (claim : Claim) (path : List (List ℕ)) (s : Submitted) (r : ℕ × ℕ × List ℕ) (E : List Tiled) → IsStateLine line
     → IsReplyToBy H (for_claim claim path (state_line_text line) s) (stands r) → IsLog H E line
     → StandsAsClaimed H E claim path s r
 
--- The first entries of a batch and the places of all. The first ones stand in the batch (entries) at these indexes, in its order (rising). No
--- identity stands twice among them (once). Each entry of the batch has its place among these (within), where one of its identity stands
--- (found), which stands in the batch no later than the entry (first).
+-- The first entries of a batch and the indexes of all:
+-- - The first ones are those of the batch (`entries`) at these indexes (`indexes`), in its order (`rising`).
+-- - No identity occurs twice among them (`once`).
+-- - Each entry of the batch has an index among them (`within`), at which there is one with its identity (`found`).
+-- - The latter is no later in the batch than the entry itself (`first`).
 pub record IsSplit (batch firsts : List BatchEntry) (places : List ℕ) : Type 0 where
   pub indexes : List ℕ
   pub entries : map (slice_get batch) indexes ≡ map Some firsts
@@ -71,25 +75,27 @@ pub record IsSplit (batch firsts : List BatchEntry) (places : List ℕ) : Type 0
   pub found : identities_of batch ≡ map (λ i. slice_index_or (identities_of firsts) i []) places
   pub first : (j : ℕ) → j < length batch → slice_index_or indexes (slice_index_or places j 0) 0 ≤ j
 
--- the first entries of a batch and the places of all are such a split
+-- the first entries of a batch and the indexes of all are such a split
 abbrev pub BatchesAreSplit : Type 0
 BatchesAreSplit = (batch : List BatchEntry) → IsSplit batch (first_of_each [] batch) (places_of_all [] batch)
 
--- the receipt of the entry at a place among those that a batch becomes behind the entries E at the moment `now`: its leaf index, the moment and
--- its leaf
+-- the receipt of the entry at an index among those that a batch adds after the entries E at the timestamp `now`: its leaf index, the
+-- timestamp and its leaf
 abbrev pub receipt_of_place : List Tiled → List BatchEntry → ℕ → ℕ → ℕ × ℕ × List ℕ
 receipt_of_place E firsts now i = (length E + i, now, slice_index_or (tree_leaves (new_entries E firsts now)) i [])
 
--- In a reply to a step each submission of the batch has the receipt of the entry at its identity's place, in every log that has the state's line.
+-- In a reply to a step, each submission of the batch has the receipt of the entry at its identity's index, in every log that has the
+-- state's line.
 abbrev pub ReceiptsNameEntries : Type 0
 ReceiptsNameEntries =
     (H : List ℕ → List ℕ) (line : StateLine) (batch : List BatchEntry) (contents : List (List ℕ)) (now most : ℕ) (step : Step) (places : List ℕ) (objects : List Reference) (E : List Tiled)
     → IsStateLine line → IsReplyToBy H (for_step batch contents now (state_line_text line) most) (steps step places objects) → IsLog H E line
     → receipts_at step places ≡ map (receipt_of_place E (first_of_each [] batch) now) (places_of_all [] batch)
 
--- An attempt to carry on the log by lines, whose submissions were looked up first: the identities that the store had a place for then (stored);
--- the batch that the line was given, of the submissions for which it was said to have none (batch); and the attempt itself (attempt), which
--- takes in the first of each identity (firsts).
+-- An attempt to carry on the log by lines, whose submissions were looked up first:
+-- - the identities that the deduplication index had then (`stored`)
+-- - the batch that the line was given, of the submissions that the index was said not to have (`batch`)
+-- - the attempt itself (`attempt`), which adds the first one of each identity (`firsts`)
 pub record LookedUpLine : Type 0 where
   pub stored : List (List ℕ)
   pub batch : List BatchEntry
@@ -100,23 +106,23 @@ pub record LookedUpLine : Type 0 where
 abbrev pub line_attempts_of : List LookedUpLine → List LineAttempt
 line_attempts_of asked = map (λ b. b.attempt) asked
 
--- those whose lines the register took, in order
+-- those whose lines the lock took, in order
 abbrev pub taken_of_lines : List LookedUpLine → List LookedUpLine
 taken_of_lines asked = filter (λ b. b.attempt.took) asked
 
--- the store has a place for the identity of each of these entries
+-- the deduplication index has the identity of each of these entries
 abbrev pub StoresEach : List (List ℕ) → List BatchEntry → Type 0
 StoresEach stored batch = All (λ e. Contains stored (identity_of e.0)) batch
 
--- What is asked of the store, where the log began with the entries `known`. Each miss was true: the store had no place for an identity of the
--- batch when it was looked up (misses). And what was in the log by then was in the store: the identities of the known entries (had), and those
--- of each step that was taken before (written).
+-- The premises about the deduplication index, if the log began with the entries `known`:
+-- - Each miss was true: the index did not have an identity of the batch when it was looked up (`misses`).
+-- - The index had the identities of the known entries by then (`had`), and those of each step that was taken before (`written`).
 pub record LineMissesWereTrue (known : List Tiled) (steps : List LookedUpLine) : Type 0 where
   pub misses : All (λ b. All (λ e. ¬ (Contains b.stored (identity_of e.0))) b.batch) steps
   pub had : All (λ b. All (λ leaf. Contains b.stored (identity_of_leaf leaf)) (tree_leaves known)) steps
   pub written : AllPairs (λ a b. StoresEach b.stored a.batch) steps
 
--- the line that the register holds behind some attempts
+-- the line that the lock holds after some attempts
 abbrev pub held_behind : StateLine → List LineAttempt → StateLine
 held_behind held [] = held
 held_behind held (a ∷ rest) = held_behind (if a.took then a.step.line else held) rest
@@ -125,9 +131,10 @@ held_behind held (a ∷ rest) = held_behind (if a.took then a.step.line else hel
 abbrev pub logged_identities : List Tiled → List (List ℕ)
 logged_identities E = map identity_of_leaf (tree_leaves E)
 
--- Let E be the entries that were known, and after them those of each step that was taken, and let S have the strings that the makers of the steps hashed. If
--- the misses of the steps that were taken were true, the line that the register holds in the end is that of E, and E has at most one entry of an identity
--- after those that were known, and no known one's; or two strings collide that S has, or that are hashed for the log's lines.
+-- Let E be the entries that were known, followed by those of each step that was taken, and let S contain the strings that the makers of the
+-- steps hashed. If the misses of the steps that were taken were true, the line that the lock holds in the end is that of E. Also, E has at
+-- most one entry of each identity after those that were known, and none with an identity of a known entry. The alternative is a collision
+-- of two strings that S contains, or that are hashed for the log's lines.
 abbrev pub OneEntryAnIdentityByLines : Type 0
 OneEntryAnIdentityByLines =
     (H : List ℕ → List ℕ) (S : List (List ℕ)) (held : StateLine) (known : List Tiled) (asked : List LookedUpLine) → IsLog H known held

@@ -1,17 +1,17 @@
-//! What is answered to a request.
+//! The answer to a request.
 
-/// Why a request is refused.
+/// The reason why a request is refused.
 #[derive(Clone, Copy, Debug, PartialEq, Eq)]
 pub enum StepRefusal {
-    /// The batch is no list of submissions, or a claim's submission is none.
+    /// The batch is not a list of submissions, or a claim does not have exactly one submission.
     BadBatch,
-    /// What it gives as a state is none.
+    /// The bytes that it passes as a state are not one.
     BadState,
     /// Its batch has more than 4,096 submissions.
     TooMany,
-    /// The timestamp is too far beyond that of the state.
+    /// The timestamp is too far after that of the state.
     TooFar,
-    /// The partial tiles are not those of the state, or are no list of contents.
+    /// The partial tiles are not those of the state, or are not a list of contents.
     Edge,
     /// The partial data tile is not that of the state.
     Entries,
@@ -21,9 +21,9 @@ pub enum StepRefusal {
     Full,
     /// A data tile would have 2^32 bytes or more.
     TooLong,
-    /// The bundle is not that of the state.
+    /// The staged batch is not that of the state.
     Bundle,
-    /// The audit path doesn't lead from the claimed entry to the root of the state.
+    /// The audit path does not lead from the claimed entry to the root of the state.
     Claim,
 }
 

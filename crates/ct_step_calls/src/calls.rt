@@ -17,25 +17,25 @@ use ct_codec::Submission;
 use ct_growth::Claim;
 use std::alloc::{AllocError, Global};
 
-// How many submissions a batch has at most.
+// The maximum number of submissions in a batch.
 const MOST: usize = 4096;
 
-/// The state of a log without leaves, at a timestamp.
+/// Returns the state of a log without leaves, at a timestamp.
 pub fn begin(alloc: Global, timestamp: u64) -> Result<Answer, AllocError>
     ensures { IfOk result (λ t. IsReplyText [] t (IsReplyTo (for_begin timestamp))) }
 {
     begun_line(alloc, &first_line(timestamp))
 }
 
-/// The names of what a step from a state has to be handed, in order.
+/// Returns the names of the objects that a step from a state needs, in order.
 pub fn needs(alloc: Global, state: &[u8]) -> Result<Answer, AllocError>
     ensures { IfOk result (λ t. IsReplyText [] t (IsReplyTo (for_needs state.now))) }
 {
     needs_reply(alloc, state)
 }
 
-/// A step of a log with this origin from a state: of a batch and with the contents of the objects that it needs, at a timestamp that may be so many
-/// milliseconds beyond the state's.
+/// Makes a step of a log with this origin from a state, with a batch and the contents of the objects that it needs. Its timestamp may be at
+/// most `most` milliseconds after the state's.
 pub fn step(
     alloc: Global,
     origin: &str,
@@ -60,7 +60,7 @@ pub fn step(
     }
 }
 
-/// The objects of the step that made a state, by its bundle, of a log with this origin.
+/// Returns the objects of the step that made a state of a log with this origin, by its staged batch.
 pub fn resume(
     alloc: Global,
     origin: &str,
@@ -72,7 +72,7 @@ pub fn resume(
     resume_reply(alloc, origin, bundle, state)
 }
 
-// The submission of a batch of one.
+// Returns the submission of a batch that has exactly one.
 fn one_of(batch: &[Entry]) -> Option<&Submission>
     ensures { option_map {U = Submitted} (λ s. s.now) result ≡ one_submission (map entry_parts batch.now) }
 {
@@ -86,7 +86,7 @@ fn one_of(batch: &[Entry]) -> Option<&Submission>
     }
 }
 
-// Replies to a place that is claimed for the one submission of a batch.
+// Replies to the index that is claimed for the only submission of a batch.
 fn claim_of(
     alloc: Global,
     state: &[u8],
@@ -102,7 +102,8 @@ fn claim_of(
     }
 }
 
-/// What is signed in the receipt of a submission's entry, by the place that is claimed for it and an audit path to the root of a state.
+/// Returns the bytes to be signed in the receipt of a submission's entry, by the index and timestamp that are claimed for it and an audit
+/// path to the root of a state.
 pub fn claim(
     alloc: Global,
     state: &[u8],

@@ -1,11 +1,12 @@
-//! The contents at a log's edge, as a step takes them.
+//! The contents at a log's right edge, in the form that a step takes.
 
 ghost use Rattle.std.specs.Prelude.{◌≡◌, ℕ, List, IfOk, map, option_map};
 ghost use Rattle.ct_step_calls.specs.StepAnswers.{edge_part, edge_of};
 
 use std::alloc::{AllocError, Global};
 
-// The bytes of the partial tile that so many hashes or entries leave, none where they leave none, and the contents behind them.
+// Returns the bytes of the partial tile that `count` hashes or entries leave, which are empty if they leave none, and the contents after
+// them.
 fn part_of<'a>(count: u64, contents: &'a [Vec<u8>]) -> Option<(&'a [u8], &'a [Vec<u8>])>
     ensures { option_map {U = List ℕ × List (List ℕ)} (λ p. (p.0.now, map (λ b. b.items) p.1.now)) result ≡ edge_part count (map (λ b. b.items) contents.now) }
 {
@@ -18,8 +19,8 @@ fn part_of<'a>(count: u64, contents: &'a [Vec<u8>]) -> Option<(&'a [u8], &'a [Ve
     }
 }
 
-// The bytes of the 8 partial tiles of a log of this size, and those of its partial data tile. None where there are more or fewer contents
-// than these.
+// Returns the bytes of the 8 partial tiles of a log of this size, and those of its partial data tile, or None if there are more or fewer
+// contents than these.
 pub(crate) fn edge_of<'a>(
     alloc: Global,
     size: u64,

@@ -1,4 +1,4 @@
-//! What an error of a crate below says of a run.
+//! The meaning of the errors of other crates for a call.
 
 ghost use Rattle.std.specs.Prelude.{◌≡◌, ◌≢◌, MatchResult, MatchOption};
 ghost use Rattle.ct_log_state.specs.declared.rolling_out.ResumeFault.TheVariants.{Bundle, Memory as ResumeMemory};
@@ -20,7 +20,8 @@ use ct_step::StepFault;
 use ct_tile_names::NameFault;
 use std::alloc::AllocError;
 
-// Of a step that wasn't taken: the name of the refusal, unless a growth was refused. Another refusal of the codec has none.
+// The meaning of a step that was not made: the name of the refusal, unless memory could not be allocated. Another refusal of the codec has
+// no name.
 #[derive(Drop)]
 pub(crate) struct NotTaken {
     pub(crate) told: Result<Option<StepRefusal>, AllocError>,
@@ -45,7 +46,7 @@ impl From<StepFault> for NotTaken {
     }
 }
 
-// Of a bundle that isn't rolled out: it is none of the line, unless a growth was refused.
+// The meaning of a staged batch that is not read: it is not that of the line, unless memory could not be allocated.
 #[derive(Drop)]
 pub(crate) struct NotRolledOut {
     pub(crate) told: Result<(), AllocError>,
@@ -63,7 +64,7 @@ impl From<ResumeFault> for NotRolledOut {
     }
 }
 
-// Of a claim that isn't believed: it isn't true of the state, unless a growth was refused.
+// The meaning of a claim that is not believed: it is not true of the state, unless memory could not be allocated.
 #[derive(Drop)]
 pub(crate) struct NotBelieved {
     pub(crate) told: Result<(), AllocError>,
@@ -83,7 +84,7 @@ impl From<ClaimFault> for NotBelieved {
     }
 }
 
-// Of a text that isn't read as a tile's name: it is none, unless a growth was refused.
+// The meaning of a text that is not read as a tile's name: it is not one, unless memory could not be allocated.
 #[derive(Drop)]
 pub(crate) struct NoName {
     pub(crate) told: Result<(), AllocError>,
@@ -101,7 +102,7 @@ impl From<NameFault> for NoName {
     }
 }
 
-// Of bytes that aren't made: whether a growth was refused.
+// The meaning of bytes that are not made: whether memory could not be allocated.
 #[derive(Drop)]
 pub(crate) struct NotMade {
     pub(crate) told: Result<(), AllocError>,
@@ -119,7 +120,7 @@ impl From<Refusal> for NotMade {
     }
 }
 
-// Of bytes that aren't read as tile leaves: they are none, unless a growth was refused.
+// The meaning of bytes that are not read as tile leaves: they are not, unless memory could not be allocated.
 #[derive(Drop)]
 pub(crate) struct NoTile {
     pub(crate) told: Result<(), AllocError>,

@@ -1,15 +1,16 @@
-//! Steps of a tiled log, by calls over values: the state that a log begins with, what a step from a state has to be handed, the step itself, the objects of
-//! a step that was decided, and what is signed at a claimed place.
+//! Steps of a tiled log, as calls over values: the first state of a log, the objects that a step from a state needs, the step itself, the
+//! objects of a step that was decided, and the bytes that are signed for a claimed index.
 //!
-//! [`begin`], [`needs`], [`step`], [`resume`] and [`claim`] are the calls. Nothing is kept between them. `ct_step` says what a step is, and `ct_log_state`
-//! what a bundle is.
+//! [`begin`], [`needs`], [`step`], [`resume`] and [`claim`] are the calls. Nothing is kept between them. `ct_step` defines a step, and
+//! `ct_log_state` a staged batch (called a bundle here).
 //!
-//! - `reading` reads a batch and an edge, and `entry` is one of a batch.
-//! - `repeats` takes the repeats out of a batch.
-//! - `edge` sets the contents at a log's edge out as a step takes them.
-//! - `stepping` replies to a request, `places` says where a step's objects stand in its bundle, `replies` writes what is replied, and `answer` is that.
-//! - `fault` has what an error of a crate below says of a call.
-//! - `laws` says that the steps are those of the law over sequencers.
+//! - `reading` reads a batch and an edge, and `entry` is an entry of a batch.
+//! - `repeats` removes the repeats from a batch.
+//! - `edge` arranges the contents at a log's right edge as a step takes them.
+//! - `stepping` replies to a request, `places` finds the offsets of a step's objects in its staged batch, `replies` writes a reply, and
+//!   `answer` is one.
+//! - `fault` has the meaning of the errors of other crates for a call.
+//! - `laws` proves that the theorem about sequencers applies to the steps.
 #![tactic(auto)]
 
 mod answer;

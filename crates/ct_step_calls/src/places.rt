@@ -1,4 +1,4 @@
-//! Where the objects of a step stand in its bundle.
+//! Finds the offsets of the objects of a step in its staged batch.
 
 ghost use Rattle.std.specs.Prelude.{◌≡◌, ◌<◌, ◌^◌, IfOk, map};
 ghost use Rattle.sha2.specs.Sha256.{sha256};
@@ -9,7 +9,7 @@ use ct_log_state::Object;
 use ct_tree::{NodeHash, Sha256Hash};
 use std::alloc::{AllocError, Global};
 
-// Where an object stands in a bundle: its name, at which byte its content begins, how many bytes that has, and its SHA-256.
+// The position of an object in a staged batch: its name, the byte offset and the length of its content, and the content's SHA-256 digest.
 #[derive(Drop)]
 pub struct Place<'a> {
     pub(crate) name: &'a [u8],
@@ -18,7 +18,7 @@ pub struct Place<'a> {
     pub(crate) digest: [u8; 32],
 }
 
-// Where the objects of a bundle stand in it.
+// Returns the positions of the objects of a staged batch.
 pub(crate) fn places_of<'a>(
     alloc: Global,
     objects: &[Object<'a>],

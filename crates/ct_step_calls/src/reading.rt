@@ -1,4 +1,4 @@
-//! What a call is handed: a batch, and the contents of the objects at a log's edge, read from bytes.
+//! Reads the input of a call from bytes: a batch, and the contents of the objects at a log's right edge.
 
 ghost use Rattle.std.specs.Prelude.{◌≡◌, ◌++◌, ◌<◌, ◌^◌, ℕ, List, IfOk, IfSome, IfNone, option_map, map, length};
 ghost use Rattle.ct_codec.specs.Bytes.{vec};
@@ -14,7 +14,7 @@ use ct_codec::{LentEntry, Reader, Submission};
 use ct_data_tiles::{TileLeaf, tile_leaves};
 use std::alloc::{AllocError, Global};
 
-// The fingerprints of a chain.
+// Returns the fingerprints of a chain, or None if there are more than 2,047.
 fn chain_of(alloc: Global, fingerprints: &[u8]) -> Result<Option<Vec<[u8; 32]>>, AllocError>
     ensures chain { IfOk result (λ o. option_map (λ c. c.items) o ≡ chain_in fingerprints.now) }
     ensures short { IfOk result (λ o. IfSome o (λ c. AreShort c.items)) }
@@ -27,7 +27,7 @@ fn chain_of(alloc: Global, fingerprints: &[u8]) -> Result<Option<Vec<[u8; 32]>>,
     }
 }
 
-// A certificate.
+// Returns the submission of a certificate.
 fn certificate_of(alloc: Global, certificate: &[u8]) -> Result<Option<Submission>, AllocError>
     ensures { IfOk result (λ o. o ≡ certificate_in certificate.now) }
 {
@@ -36,7 +36,7 @@ fn certificate_of(alloc: Global, certificate: &[u8]) -> Result<Option<Submission
     Ok(Submission::x509(chain).ok())
 }
 
-// A precertificate, with its TBSCertificate and the hash of its issuer's key.
+// Returns the submission of a precertificate, with its TBSCertificate and the hash of its issuer's key.
 fn precertificate_of(
     alloc: Global,
     key_hash: [u8; 32],
@@ -51,7 +51,7 @@ fn precertificate_of(
     Ok(Submission::precert(key_hash, tbs, chain).ok())
 }
 
-// The submission of a tile leaf.
+// Returns the submission of a tile leaf.
 fn submitted_of(alloc: Global, leaf: &TileLeaf<'_>) -> Result<Option<Submission>, AllocError>
     ensures { IfOk result (λ o. o ≡ submitted_in (entry_lent leaf.now.entry) leaf.now.precertificate.now) }
 {
@@ -63,14 +63,14 @@ fn submitted_of(alloc: Global, leaf: &TileLeaf<'_>) -> Result<Option<Submission>
     }
 }
 
-// Whether a tile leaf has no timestamp and no extensions.
+// Reports whether a tile leaf has the timestamp 0 and no extensions.
 fn is_submitted(leaf: &TileLeaf<'_>) -> bool
     ensures { result ≡ is_submitted (tiled leaf.now) }
 {
     leaf.timestamp == 0 && leaf.extensions.is_empty()
 }
 
-// The submission that a tile leaf is, with its chain's fingerprints.
+// Returns the submission that a tile leaf represents, with its chain's fingerprints.
 fn entry_of(alloc: Global, leaf: &TileLeaf<'_>) -> Result<Option<Entry>, AllocError>
     ensures { IfOk result (λ o. option_map entry_parts o ≡ submission_in (tiled leaf.now)) }
 {
@@ -86,7 +86,7 @@ fn entry_of(alloc: Global, leaf: &TileLeaf<'_>) -> Result<Option<Entry>, AllocEr
     }
 }
 
-// The batch of tile leaves, each of which is a submission.
+// Returns the batch of tile leaves, if each of them represents a submission.
 fn batch_of_leaves(alloc: Global, leaves: &[TileLeaf<'_>]) -> Result<Option<Vec<Entry>>, AllocError>
     ensures { IfOk result (λ o. option_map (λ b. map entry_parts b.items) o ≡ batch_in (tiled_all leaves.now)) }
 {
@@ -100,7 +100,7 @@ fn batch_of_leaves(alloc: Global, leaves: &[TileLeaf<'_>]) -> Result<Option<Vec<
     Ok(Some(batch))
 }
 
-/// The batch that the bytes are, if they are one.
+/// Returns the batch that the bytes represent, if they are one.
 pub(crate) fn batch_of(alloc: Global, bytes: &[u8]) -> Result<Option<Vec<Entry>>, AllocError>
     ensures { IfOk result (λ o. IsBatchText bytes.now (option_map (λ b. map entry_parts b.items) o)) }
 {
@@ -113,7 +113,7 @@ pub(crate) fn batch_of(alloc: Global, bytes: &[u8]) -> Result<Option<Vec<Entry>>
     }
 }
 
-// A content whose length stands in 8 bytes.
+// Reads a content whose length has 8 bytes.
 #[tactic(auto, using(crate::proofs::Contents::no_length))]
 fn content_at<'a>(reader: &mut Reader<'a>) -> Option<&'a [u8]>
     ensures some { IfSome result (λ x. (length x.now < 2 ^ 64) × (reader.old ≡ vec 8 x.now ++ reader.new)) }
@@ -128,7 +128,7 @@ fn content_at<'a>(reader: &mut Reader<'a>) -> Option<&'a [u8]>
     Some(content)
 }
 
-/// The contents that the bytes are, if they are such a list.
+/// Returns the contents that the bytes represent, if they are such a list.
 pub(crate) fn contents_of(alloc: Global, bytes: &[u8]) -> Result<Option<Vec<Vec<u8>>>, AllocError>
     ensures { IfOk result (λ o. IsContentsText bytes.now (option_map (λ v. map (λ b. b.items) v.items) o)) }
 {

@@ -1,4 +1,4 @@
-//! Taking the repeats out of a batch.
+//! Removes the repeats from a batch.
 
 ghost use Rattle.std.specs.Prelude.{◌≡◌, ◌++◌, List, [], ◌∷◌, map, IfOk, OnOk};
 ghost use Rattle.ct_codec.specs.Submitted.{identity_of};
@@ -13,14 +13,14 @@ use ct_step::Batch;
 use indexmap::IndexSet;
 use std::alloc::{AllocError, Global};
 
-// A batch without the repeats in it, and for each entry of the whole batch the place among these of the one that has its identity.
+// A batch without its repeats, and for each entry of the whole batch the index in it of the one with the same identity.
 #[derive(Drop)]
 pub(crate) struct SplitBatch {
     pub(crate) firsts: Batch,
     pub(crate) places: Vec<usize>,
 }
 
-// The bytes that are a submission's identity.
+// Returns the bytes that are a submission's identity.
 fn identity_bytes(alloc: Global, submission: &Submission) -> Result<Vec<u8>, AllocError>
     ensures { IfOk result (λ b. b.items ≡ identity_of submission.now) }
 {
@@ -33,7 +33,8 @@ fn identity_bytes(alloc: Global, submission: &Submission) -> Result<Vec<u8>, All
     }
 }
 
-// What is split of the first entries of a batch: their identities, the first submission of each, with its chain, and for each entry the place among these.
+// The state of the split after the first entries of a batch: their identities, the first submission of each, with its chain, and for each
+// entry the index among these.
 #[derive(Drop)]
 struct Splitting {
     identities: IndexSet<Vec<u8>>,
@@ -42,7 +43,7 @@ struct Splitting {
     places: Vec<usize>,
 }
 
-// Takes one entry more: the first of its identity stays. The identity is looked up once in a table.
+// Takes one more entry, which stays if it is the first one with its identity. The identity is looked up once in a table.
 fn take_entry(alloc: Global, split: &mut Splitting, entry: Entry) -> Result<(), AllocError>
     ensures { OnOk result ((seen : List BatchEntry) → IsSplit seen split.old → IsSplit (seen ++ entry_parts entry ∷ []) split.new) }
 {
@@ -57,7 +58,7 @@ fn take_entry(alloc: Global, split: &mut Splitting, entry: Entry) -> Result<(), 
     Ok(())
 }
 
-// Takes the repeats out of a batch: of the entries that have one identity the first stays.
+// Removes the repeats from a batch: of the entries with the same identity, the first one stays.
 pub(crate) fn split_batch(alloc: Global, batch: Vec<Entry>) -> Result<SplitBatch, AllocError>
     ensures firsts { IfOk result (λ s. s.firsts ≡ first_of_each [] (map entry_parts batch.items)) }
     ensures places { IfOk result (λ s. s.places.items ≡ places_of_all [] (map entry_parts batch.items)) }

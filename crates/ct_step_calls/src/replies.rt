@@ -1,4 +1,4 @@
-//! The bytes of a reply, in the presentation language of RFC 5246 (section 4).
+//! Writes the bytes of a reply, in the presentation language of RFC 5246 (section 4).
 
 ghost use Rattle.std.specs.Prelude.{◌≡◌, ◌++◌, OnOk, IfOk, map, filter_map, slice_get, Ok, Err};
 ghost use Rattle.std.specs.List.{flat_map};
@@ -21,7 +21,7 @@ use ct_log_state::StateLine;
 use ct_step::Step;
 use std::alloc::{AllocError, Global};
 
-// A number in 8 bytes.
+// Appends a number in 8 bytes.
 fn push_number(text: &mut Vec<u8>, n: u64) -> Result<(), AllocError>
     ensures { OnOk result (text.new.items ≡ text.old.items ++ num 8 n) }
 {
@@ -29,7 +29,7 @@ fn push_number(text: &mut Vec<u8>, n: u64) -> Result<(), AllocError>
     Ok(())
 }
 
-// Bytes as a vector whose length stands in 8 bytes.
+// Appends bytes as a vector whose length has 8 bytes.
 fn push_vector(text: &mut Vec<u8>, bytes: &[u8]) -> Result<(), AllocError>
     ensures { OnOk result (text.new.items ≡ text.old.items ++ vec 8 bytes.now) }
 {
@@ -72,7 +72,7 @@ fn push_receipts(
     Ok(())
 }
 
-// Where an object stands in its bundle.
+// Appends the position of an object in its staged batch.
 fn push_place(text: &mut Vec<u8>, place: &Place<'_>) -> Result<(), AllocError>
     ensures { OnOk result (text.new.items ≡ text.old.items ++ reference_text (place_parts place.now)) }
 {
@@ -83,7 +83,7 @@ fn push_place(text: &mut Vec<u8>, place: &Place<'_>) -> Result<(), AllocError>
     Ok(())
 }
 
-// Where objects stand in their bundle.
+// Returns the positions of objects in their staged batch.
 fn places_text(alloc: Global, places: &[Place<'_>]) -> Result<Vec<u8>, AllocError>
     ensures { IfOk result (λ t. t.items ≡ flat_map reference_text (map place_parts places.now)) }
 {
@@ -94,7 +94,7 @@ fn places_text(alloc: Global, places: &[Place<'_>]) -> Result<Vec<u8>, AllocErro
     Ok(text)
 }
 
-// The text of the checkpoint for a line's head, and where objects stand in their bundle.
+// Appends the text of the checkpoint for a line's head, and the positions of objects in their staged batch.
 fn push_published(
     alloc: Global,
     text: &mut Vec<u8>,
@@ -111,7 +111,7 @@ fn push_published(
     push_vector(text, &standing)
 }
 
-// The bytes under the signature of a line's head.
+// Returns the bytes that are signed for a line's head.
 fn head_input(alloc: Global, line: &StateLine) -> Result<Vec<u8>, AllocError>
     ensures { IfOk result (λ b. b.items ≡ tree_head_text line.now.timestamp line.now.tree_size line.now.root) }
 {
@@ -124,7 +124,7 @@ fn head_input(alloc: Global, line: &StateLine) -> Result<Vec<u8>, AllocError>
     }
 }
 
-/// The state of a log that begins.
+/// Returns the state of a new log.
 pub(crate) fn begun_line(alloc: Global, line: &StateLine) -> Result<Answer, AllocError>
     ensures { IfOk result (λ t. answer_parts t ≡ Ok (state_line_text line.now)) }
 {
@@ -132,7 +132,7 @@ pub(crate) fn begun_line(alloc: Global, line: &StateLine) -> Result<Answer, Allo
     Ok(Answer::Text(text.into_bytes()))
 }
 
-/// The names of what a step has to be given.
+/// Returns the names of the objects that a step needs.
 pub(crate) fn names_line(alloc: Global, names: &[Vec<u8>]) -> Result<Answer, AllocError>
     ensures { IfOk result (λ t. answer_parts t ≡ Ok (flat_map (vec 8) (map (λ n. n.items) names.now))) }
 {
@@ -141,7 +141,8 @@ pub(crate) fn names_line(alloc: Global, names: &[Vec<u8>]) -> Result<Answer, All
     Ok(Answer::Text(text))
 }
 
-/// A step of a log with this origin, with the receipt at each of these places of its own, and where its objects stand in its bundle.
+/// Returns a step of a log with this origin, with the step's receipt at each of these indexes, and the positions of its objects in its
+/// staged batch.
 pub(crate) fn stepped_line(
     alloc: Global,
     origin: &str,
@@ -161,7 +162,7 @@ pub(crate) fn stepped_line(
     Ok(Answer::Text(text))
 }
 
-/// A step that was decided, of a log with this origin: its head, and where its objects stand in its bundle.
+/// Returns a step that was decided, of a log with this origin: its head, and the positions of its objects in its staged batch.
 pub(crate) fn resumed_line(
     alloc: Global,
     origin: &str,
@@ -175,14 +176,14 @@ pub(crate) fn resumed_line(
     Ok(Answer::Text(text))
 }
 
-/// What is signed in an entry's receipt.
+/// Returns the bytes that are signed in an entry's receipt.
 pub(crate) fn claimed_line(receipt: Receipt) -> Result<Answer, AllocError>
     ensures { IfOk result (λ t. answer_parts t ≡ Ok receipt.signed.items) }
 {
     Ok(Answer::Text(receipt.signed))
 }
 
-/// A refusal.
+/// Returns a refusal.
 pub(crate) fn refused_line(refusal: StepRefusal) -> Result<Answer, AllocError>
     ensures { IfOk result (λ t. answer_parts t ≡ Err refusal) }
 {

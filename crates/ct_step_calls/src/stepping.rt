@@ -1,4 +1,4 @@
-//! What is replied to a request.
+//! Replies to requests.
 
 ghost use Rattle.std.specs.Prelude.{◌≡◌, ◌+◌, ◌^◌, ◌<◌, ◌≤◌, ℕ, List, [], All, IfOk, map, Some};
 ghost use Rattle.std.specs.Bool.{MatchBool};
@@ -27,7 +27,7 @@ use ct_tile_names::Tile;
 use ct_tree::{Head, NodeHash, Sha256Hash};
 use std::alloc::{AllocError, Global};
 
-// The line of a log without leaves at a moment.
+// Returns the line of a log without leaves at a timestamp.
 pub(crate) fn first_line(moment: u64) -> StateLine
     ensures { result ≡ first_line moment }
 {
@@ -42,7 +42,7 @@ pub(crate) fn first_line(moment: u64) -> StateLine
     }
 }
 
-// Replies with the names of what a step from a line needs.
+// Replies with the names of the objects that a step from a line needs.
 fn named_needs(alloc: Global, line: &StateLine) -> Result<Answer, AllocError>
     requires { IsStateLine line.now }
     ensures { IfOk result (λ t. IsReplyText [] t (λ reply. reply ≡ names_edge (needed_names line.now.tree_size))) }
@@ -51,7 +51,7 @@ fn named_needs(alloc: Global, line: &StateLine) -> Result<Answer, AllocError>
     names_line(alloc, &names)
 }
 
-// Replies to the request for what a step from a state needs.
+// Replies to the request for the names of the objects that a step from a state needs.
 pub(crate) fn needs_reply(alloc: Global, state: &[u8]) -> Result<Answer, AllocError>
     ensures { IfOk result (λ t. IsReplyText [] t (IsReplyTo (for_needs state.now))) }
 {
@@ -61,7 +61,7 @@ pub(crate) fn needs_reply(alloc: Global, state: &[u8]) -> Result<Answer, AllocEr
     }
 }
 
-// Whether a text is the name of a tile.
+// Reports whether a text is the name of a tile.
 fn is_tile_name(alloc: Global, name: &[u8]) -> Result<bool, AllocError>
     ensures { IfOk result (λ b. MatchBool b (IsTileName name.now) (IsTileName name.now → ⊥)) }
 {
@@ -74,7 +74,7 @@ fn is_tile_name(alloc: Global, name: &[u8]) -> Result<bool, AllocError>
     }
 }
 
-// Whether each of the objects stands under the name of a tile.
+// Reports whether each of the objects has the name of a tile.
 fn are_tiles(alloc: Global, objects: &[Object<'_>]) -> Result<bool, AllocError>
     ensures { IfOk result (λ b. MatchBool b (All IsTileName (map (λ o. (object_parts o).0) objects.now))
         (All IsTileName (map (λ o. (object_parts o).0) objects.now) → ⊥)) }
@@ -87,7 +87,7 @@ fn are_tiles(alloc: Global, objects: &[Object<'_>]) -> Result<bool, AllocError>
     Ok(true)
 }
 
-// The objects of the bundle of a line, where it is one of objects under the names of tiles, and else none.
+// Returns the objects of a line's staged batch if it is one of objects with the names of tiles, and otherwise no objects.
 fn objects_in<'a>(
     alloc: Global,
     line: &StateLine,
@@ -112,7 +112,7 @@ fn objects_in<'a>(
     }
 }
 
-// Replies with a step and the places of a batch's submissions among its entries.
+// Replies with a step and the indexes of a batch's submissions among its entries.
 fn step_made(
     alloc: Global,
     origin: &str,
@@ -127,7 +127,7 @@ fn step_made(
     stepped_line(alloc, origin, step, places, &standing)
 }
 
-// Replies to a step from a line with its edge.
+// Replies to the request for a step from a line with its edge.
 fn taken(
     alloc: Global,
     origin: &str,
@@ -150,7 +150,7 @@ fn taken(
     }
 }
 
-// Replies to a step from a line.
+// Replies to the request for a step from a line.
 fn stepped(
     alloc: Global,
     origin: &str,
@@ -168,14 +168,14 @@ fn stepped(
     }
 }
 
-// Whether a moment is more than so many milliseconds beyond a line's.
+// Reports whether a timestamp is more than `most` milliseconds after a line's.
 fn is_too_far(line: &StateLine, now: u64, most: u64) -> bool
     ensures { MatchBool result (line.now.timestamp + most < now) (now ≤ line.now.timestamp + most) }
 {
     now > line.timestamp && now - line.timestamp > most
 }
 
-// Replies to a step from a line whose moment may be so many milliseconds beyond the line's.
+// Replies to the request for a step from a line whose timestamp may be at most `most` milliseconds after the line's.
 fn bounded(
     alloc: Global,
     origin: &str,
@@ -251,7 +251,7 @@ pub(crate) fn resume_reply(
     }
 }
 
-// Replies to a place that is claimed for a submission, of the log of a line.
+// Replies to the index that is claimed for a submission in the log of a line.
 fn claimed(
     alloc: Global,
     line: &StateLine,
