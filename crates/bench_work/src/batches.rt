@@ -9,7 +9,7 @@ use std::io;
 use std::thread::Threads;
 use std::time::Instant;
 
-// So many leaves of 1,500 bytes.
+// Returns `count` leaves of 1,500 bytes.
 fn leaves(heap: Global, count: u64) -> Result<Vec<Vec<u8>>, AllocError> {
     let mut leaves = Vec::new(heap);
     for _ in 0..count {
@@ -18,7 +18,7 @@ fn leaves(heap: Global, count: u64) -> Result<Vec<Vec<u8>>, AllocError> {
     Ok(leaves)
 }
 
-// How many leaves are hashed in so many batches of these, by so many workers.
+// Returns how many leaves are hashed in this number of batches, each of which has these leaves, by this number of workers.
 fn hashed<R: Threads + Sync>(
     threads: &R,
     heap: Global,
@@ -36,7 +36,7 @@ fn hashed<R: Threads + Sync>(
     Ok(hashed)
 }
 
-// Prints how long a leaf takes in ten batches of these, by so many workers.
+// Prints how long one leaf takes in ten batches of these leaves, by this number of workers.
 fn time_batches<R: Threads + Sync>(
     rt: &HostRuntime,
     threads: &R,
@@ -55,7 +55,7 @@ fn time_batches<R: Threads + Sync>(
     report(rt, "leaf", hashed, time)
 }
 
-// The same of batches of so many leaves, by 1 to 64 workers.
+// Prints the same for batches of `count` leaves. The number of workers is limited to 1 to 64.
 pub(crate) fn time<R: Threads + Sync>(
     rt: &HostRuntime,
     threads: &R,

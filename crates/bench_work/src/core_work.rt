@@ -1,4 +1,4 @@
-//! The calls of a core whose time is taken, many times over.
+//! The calls of a core that are timed, many times over.
 
 use crate::prepared::{ReadyItem, prepare};
 use ct_codec::Refusal;
@@ -6,16 +6,16 @@ use ct_core::{Query, Reply, Settled};
 use ct_sequencing::Core;
 use std::alloc::{AllocError, Global};
 
-// How many queries of a kind there are.
+// The number of queries of each kind.
 const ASKED: u64 = 1_000;
 
-// How many records are read.
+// The number of records that are read.
 const READ: u64 = 1_000_000;
 
-// How far the numbers asked for lie from one another, before they are brought below the number of all.
+// The distance between the numbers that are asked for, before they are reduced below the number of all.
 const STEP: u64 = 7_919;
 
-// What a core is asked for.
+// The kind of a query to a core.
 #[derive(Clone, Copy)]
 pub(crate) enum Kind {
     Proof,
@@ -23,17 +23,17 @@ pub(crate) enum Kind {
     Entry,
 }
 
-// What is read of a core, many times over.
+// The data that is read from a core, many times over.
 #[derive(Clone, Copy)]
 pub(crate) enum Reading<'a> {
     Queries(&'a [Query]),
-    // Records out of the settlement's list.
+    // Records from the settlement's list.
     List,
-    // The same records out of a vector.
+    // The same records from a vector.
     Vector(&'a [Settled]),
 }
 
-// Settles these items, and answers how many were firsts.
+// Settles these items, and returns how many of them were not repeats.
 pub(crate) fn settle_all(
     heap: Global,
     core: &mut Core,
@@ -49,12 +49,12 @@ pub(crate) fn settle_all(
     Ok(firsts)
 }
 
-// The k-th of some numbers below `size` that lie apart.
+// Returns the k-th of some numbers below `size` that are far apart.
 fn spread(k: u64, size: u64) -> u64 {
     k.wrapping_mul(STEP).checked_rem(size).unwrap_or(0)
 }
 
-// The query for what is there of the certificate with a number, in a log of `size` entries.
+// Returns the query about the certificate with a number, in a log of `size` entries.
 fn query(heap: Global, kind: Kind, size: u64, number: u64) -> Result<Query, Refusal> {
     match kind {
         Kind::Proof => Ok(Query::ProofByHash {
@@ -78,7 +78,7 @@ pub(crate) fn queries(heap: Global, kind: Kind, size: u64) -> Result<Vec<Query>,
     Ok(queries)
 }
 
-// The leaf's index that a reply shows, or how many entries.
+// Returns the leaf's index in a reply, or the number of its entries.
 fn number_in(reply: &Reply) -> u64 {
     match reply {
         Reply::ProofByHash { leaf_index, .. } | Reply::Receipt { leaf_index, .. } => *leaf_index,
@@ -87,7 +87,7 @@ fn number_in(reply: &Reply) -> u64 {
     }
 }
 
-// Asks, and answers the sum of the numbers in the replies.
+// Makes the queries, and returns the sum of the numbers in the replies.
 fn ask_all(heap: Global, core: &Core, queries: &[Query]) -> Result<u64, Refusal> {
     let mut sum = 0u64;
     for query in queries {
@@ -97,7 +97,7 @@ fn ask_all(heap: Global, core: &Core, queries: &[Query]) -> Result<u64, Refusal>
     Ok(sum)
 }
 
-// Reads records one by one, all over the settlement's list, and answers the sum of their indexes.
+// Reads records one by one, all over the settlement's list, and returns the sum of their indexes.
 fn read_list(core: &Core) -> u64 {
     let list = core.published().settlement();
     let mut sum = 0u64;
@@ -108,7 +108,7 @@ fn read_list(core: &Core) -> u64 {
     sum
 }
 
-// The same of a slice.
+// Does the same with a slice.
 fn read_slice(records: &[Settled]) -> u64 {
     let mut sum = 0u64;
     for k in 0..READ {
@@ -118,7 +118,7 @@ fn read_slice(records: &[Settled]) -> u64 {
     sum
 }
 
-// The records of the settlement.
+// Returns the records of the settlement.
 pub(crate) fn all_records(heap: Global, core: &Core) -> Result<Vec<Settled>, AllocError> {
     let mut records = Vec::new(heap);
     for record in core.published().settlement().iter() {
@@ -127,7 +127,7 @@ pub(crate) fn all_records(heap: Global, core: &Core) -> Result<Vec<Settled>, All
     Ok(records)
 }
 
-// Reads, and answers the sum of the numbers found.
+// Reads, and returns the sum of the numbers found.
 pub(crate) fn sum_of(heap: Global, core: &Core, reading: Reading) -> Result<u64, Refusal> {
     match reading {
         Reading::Queries(queries) => ask_all(heap, core, queries),
@@ -136,7 +136,7 @@ pub(crate) fn sum_of(heap: Global, core: &Core, reading: Reading) -> Result<u64,
     }
 }
 
-// How much is read.
+// Returns the number of queries or records that are read.
 pub(crate) fn count_of(reading: Reading) -> u64 {
     match reading {
         Reading::Queries(queries) => queries.len() as u64,

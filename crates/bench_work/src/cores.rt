@@ -9,10 +9,11 @@ use ct_sequencing::Core;
 use std::alloc::Global;
 use std::time::{Duration, Instant};
 
-// How many items are prepared at a time.
+// The number of items that are prepared at a time.
 const BATCH: u64 = 1_000;
 
-// How long the core takes to settle items of certificates from the one with the number `first` on. What prepares the items isn't counted.
+// Returns how long the core takes to settle items of certificates from the one with the number `first` on. The preparation of the items is
+// not timed.
 fn settling(
     rt: &HostRuntime,
     core: &mut Core,
@@ -26,7 +27,7 @@ fn settling(
     Ok(start.elapsed(rt)?)
 }
 
-// Prints how long it takes to settle the items of the first `size` certificates, whole batches of them.
+// Prints how long it takes to settle the items of the first `size` certificates, in whole batches.
 fn time_settling(rt: &HostRuntime, core: &mut Core, what: &str, size: u64) -> anyhow::Result<()> {
     let mut time = Duration::ZERO;
     for batch in 0..size / BATCH {
@@ -36,7 +37,7 @@ fn time_settling(rt: &HostRuntime, core: &mut Core, what: &str, size: u64) -> an
     Ok(report(rt, what, size, time)?)
 }
 
-// How long publications take at the moments from `first` on.
+// Returns how long publications take at the timestamps from `first` on.
 fn publishing(
     rt: &HostRuntime,
     core: &mut Core,
@@ -82,7 +83,7 @@ fn time_growth(rt: &HostRuntime, core: &mut Core, size: u64) -> anyhow::Result<(
     time_tens(rt, core, size)
 }
 
-// Prints what is found where so much is asked for or read, and how long each took.
+// Prints the sum of the numbers found by these queries or reads, and how long each one took.
 fn time_reading(
     rt: &HostRuntime,
     core: &Core,
@@ -97,7 +98,7 @@ fn time_reading(
     Ok(report(rt, what, work::count_of(reading), time)?)
 }
 
-// Prints it of queries all over a log of `size` entries.
+// Prints this for queries all over a log of `size` entries.
 fn time_answers(
     rt: &HostRuntime,
     core: &Core,
@@ -110,7 +111,7 @@ fn time_answers(
     time_reading(rt, core, Reading::Queries(&queries), found, what)
 }
 
-// Prints it of records, out of the settlement's list and out of a vector.
+// Prints this for records, from the settlement's list and from a vector.
 fn time_records(rt: &HostRuntime, core: &Core) -> anyhow::Result<()> {
     let what = "records of leaves";
     time_reading(rt, core, Reading::List, what, "record read")?;
@@ -124,7 +125,7 @@ fn time_records(rt: &HostRuntime, core: &Core) -> anyhow::Result<()> {
     )
 }
 
-// Prints it of all of these.
+// Prints this for all of these.
 fn time_readings(rt: &HostRuntime, core: &Core, size: u64) -> anyhow::Result<()> {
     time_answers(
         rt,
@@ -153,7 +154,7 @@ fn time_readings(rt: &HostRuntime, core: &Core, size: u64) -> anyhow::Result<()>
     time_records(rt, core)
 }
 
-// All times on a new core.
+// Prints all times on a new core.
 fn time(rt: &HostRuntime, core: &mut Core, size: u64) -> anyhow::Result<()> {
     println!(rt; "{size} entries")?;
     time_growth(rt, core, size)?;
@@ -162,7 +163,7 @@ fn time(rt: &HostRuntime, core: &mut Core, size: u64) -> anyhow::Result<()> {
     Ok(())
 }
 
-// Settles a hundred items of the certificates from one number on, and answers how many were firsts.
+// Settles a hundred items of the certificates from the one with the number `first` on, and returns how many of them were not repeats.
 fn settle_hundred(heap: Global, core: &mut Core, first: u64) -> Result<u64, Refusal> {
     let items = prepare_all(heap, first, 100, 1)?;
     work::settle_all(heap, core, items)
@@ -176,7 +177,7 @@ fn show_head(rt: &HostRuntime, core: &mut Core) -> anyhow::Result<()> {
     Ok(show_root(rt, &head.root)?)
 }
 
-// A fixed amount of work on a new core: certificates of the first hundred come again.
+// Does a fixed amount of work on a new core: some certificates of the first hundred are repeated.
 fn show(rt: &HostRuntime, core: &mut Core) -> anyhow::Result<()> {
     let firsts = settle_hundred(rt.alloc(), core, 0)?;
     let more = settle_hundred(rt.alloc(), core, 60)?;
@@ -184,8 +185,8 @@ fn show(rt: &HostRuntime, core: &mut Core) -> anyhow::Result<()> {
     show_head(rt, core)
 }
 
-// Times the settling of `size` certificates of 1,500 bytes, whole thousands of them, then of repeats, then publications, audit paths by leaf hash,
-// receipts, entries, and records. Without a size, a fixed amount of work.
+// Times the settling of `size` certificates of 1,500 bytes, in whole thousands. Then it times repeats, publications, audit paths by leaf
+// hash, receipts, entries, and records. Without a size, it does a fixed amount of work.
 pub(crate) fn with_core(rt: &HostRuntime, size: Option<u64>) -> anyhow::Result<()> {
     let mut core = Core::open(rt.alloc(), 0)?;
     match size {

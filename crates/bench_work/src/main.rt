@@ -1,14 +1,14 @@
-//! Work whose time is taken: over the sequencing core, over the tree and its tiles, and steps of a tiled log. Without arguments it does a fixed
-//! amount of each and prints what came out. Else the first word says which work, and the numbers behind it how much:
+//! Work that is timed: with the sequencing core, with the tree and its tiles, and with steps of a tiled log. Without arguments it does a
+//! fixed amount of each and prints the results. Otherwise the first argument selects the work, and the numbers after it say how much:
 //!
-//! - `core ENTRIES` prints how many nanoseconds a call of the sequencing core takes;
-//! - `tree LEAVES` the same of `ct_tree`, and `batch LEAVES WORKERS` of a leaf that is hashed among so many;
-//! - `tree append LEAVES` and `tree take-in LEAVES BATCH` grow a log, as `Nodes` and as tiles, these by so many leaves at a time, and print the
-//!   root;
-//! - `tree path LEAVES CALLS` and `tree tile-path LEAVES CALLS` make the audit path of a leaf in a third of the log so many times, out of
-//!   `Nodes` and out of tiles, and print how many hashes these have;
-//! - `step LEAVES BATCH STEPS` makes so many steps of a log whose edge is made up, each of so many submissions and each from one state of so
-//!   many leaves, and prints the line of the last.
+//! - `core ENTRIES` prints how many nanoseconds each call of the sequencing core takes.
+//! - `tree LEAVES` prints the same for `ct_tree`, and `batch LEAVES WORKERS` for one leaf that is hashed among this number of leaves.
+//! - `tree append LEAVES` and `tree take-in LEAVES BATCH` build a log and print its root. The first uses `Nodes`. The second uses tiles,
+//!   and adds BATCH leaves at a time.
+//! - `tree path LEAVES CALLS` and `tree tile-path LEAVES CALLS` make the audit path of a leaf in a third of the log CALLS times, from
+//!   `Nodes` and from tiles, and print how many hashes these paths have.
+//! - `step LEAVES BATCH STEPS` makes STEPS steps of a log with an invented right edge, and prints the line of the last one. Each has BATCH
+//!   submissions, and begins with the same state of LEAVES leaves.
 #![tactic(auto)]
 
 mod batches;
@@ -24,7 +24,7 @@ use crate::trees::Task;
 use std::env;
 use std::thread::Threads;
 
-// The number that stands at a place of the words, and 0 where none does.
+// Returns the number at an index of the arguments, or 0 if there is none.
 fn number(words: &[String], place: usize) -> u64 {
     match words.get(place) {
         Some(word) => word.parse::<u64>().unwrap_or(0),
@@ -32,12 +32,12 @@ fn number(words: &[String], place: usize) -> u64 {
     }
 }
 
-// The first of these words that is no number.
+// Returns the first of these arguments that is not a number.
 fn other_word(words: &[String]) -> Option<&String> {
     words.iter().find(|word| word.parse::<u64>().is_err())
 }
 
-// A fixed amount of each work.
+// Does a fixed amount of each work.
 fn show_all<R: Threads + Sync>(rt: &HostRuntime, threads: &R) -> anyhow::Result<()> {
     cores::with_core(rt, None)?;
     trees::with_tree(rt, 1_000, Task::Show)?;
@@ -47,7 +47,7 @@ fn show_all<R: Threads + Sync>(rt: &HostRuntime, threads: &R) -> anyhow::Result<
     steps::show(rt, 1_000, 30, 2)
 }
 
-// The work with a name, of so much as the numbers behind it say.
+// Does the work with a name, as much as the numbers after it say.
 fn work<R: Threads + Sync>(
     rt: &HostRuntime,
     threads: &R,
@@ -72,7 +72,7 @@ fn work<R: Threads + Sync>(
     }
 }
 
-// The work with a name, where what stands behind it are numbers.
+// Does the work with a name, if the arguments after it are numbers.
 fn try_work<R: Threads + Sync>(
     rt: &HostRuntime,
     threads: &R,
@@ -88,7 +88,7 @@ fn try_work<R: Threads + Sync>(
     }
 }
 
-// What the words ask for. `tree` may stand before the name of a work that has one of its own.
+// Does the work that the arguments select. `tree` may precede the name of a work that has a name of its own.
 fn run<R: Threads + Sync>(rt: &HostRuntime, threads: &R, words: &[String]) -> anyhow::Result<()> {
     match words {
         [tree, name, numbers @ ..] if tree.as_str() == "tree" && !numbers.is_empty() => {

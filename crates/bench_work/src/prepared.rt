@@ -8,7 +8,7 @@ use ct_codec::{Item, Refusal, Submission, leaf_input};
 use ct_tree::{Sha256Hash, leaf_hash};
 use std::alloc::{AllocError, Global};
 
-// An item, and the hash of the leaf that it gets where it is settled at that moment.
+// An item, and the hash of the leaf that it gets if it is settled at that timestamp.
 #[derive(Drop)]
 pub(crate) struct ReadyItem {
     pub(crate) item: Item,
@@ -17,7 +17,7 @@ pub(crate) struct ReadyItem {
     ghost hashed: { hash ≡ sha256_leaf (leaf_at item.submission moment) },
 }
 
-// The certificate with that number.
+// Returns the certificate with that number.
 fn certificate(heap: Global, number: u64) -> Result<Vec<u8>, AllocError> {
     let mut certificate = Vec::with_capacity(heap, 1_500)?;
     certificate.extend_from_slice(&number.to_be_bytes())?;
@@ -25,14 +25,14 @@ fn certificate(heap: Global, number: u64) -> Result<Vec<u8>, AllocError> {
     Ok(certificate)
 }
 
-// The submission of the certificate with that number.
+// Returns the submission of the certificate with that number.
 pub(crate) fn submission(heap: Global, number: u64) -> Result<Submission, Refusal> {
     let mut chain = Vec::new(heap);
     chain.push(certificate(heap, number)?)?;
     Submission::x509(chain)
 }
 
-// The item of the certificate with that number, for that moment.
+// Returns the item of the certificate with that number, for that timestamp.
 #[tactic(auto, unfolding(ct_core::specs::Leaf::leaf_at, ct_core::specs::Tree::sha256_leaf))]
 pub(crate) fn prepare(heap: Global, number: u64, moment: u64) -> Result<ReadyItem, Refusal> {
     let submission = submission(heap, number)?;
@@ -45,7 +45,7 @@ pub(crate) fn prepare(heap: Global, number: u64, moment: u64) -> Result<ReadyIte
     Ok(ReadyItem { item, hash, moment })
 }
 
-// The items of `count` certificates, from the one with the number `first`.
+// Returns the items of `count` certificates, from the one with the number `first` on.
 pub(crate) fn prepare_all(
     heap: Global,
     first: u64,

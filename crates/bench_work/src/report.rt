@@ -1,9 +1,9 @@
-//! What is printed of every work.
+//! The output that all works have in common.
 
 use std::io;
 use std::time::Duration;
 
-// Prints a time as nanoseconds a call, of `count` calls.
+// Prints a time as nanoseconds for each of `count` calls.
 pub(crate) fn report(rt: &HostRuntime, what: &str, count: u64, time: Duration) -> io::Result<()> {
     let each = if count > 0 {
         time.as_nanos() / u128::from(count)

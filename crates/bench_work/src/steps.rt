@@ -1,4 +1,4 @@
-//! Steps of a tiled log whose edge is made up.
+//! Steps of a tiled log with an invented right edge.
 
 use crate::prepared::submission;
 use anyhow::Context;
@@ -9,13 +9,13 @@ use ct_tiles::Edge;
 use ct_tree::{NodeHash, Sha256Hash};
 use std::alloc::{AllocError, Global};
 
-// The moment of the state, and of the first step.
+// The timestamp of the state. That of the first step is one millisecond later.
 const MOMENT: u64 = 1_000;
 
-// How many bytes an entry of the made-up partial data tile has.
+// The number of bytes of each entry in the invented partial data tile.
 const ENTRY: usize = 1_590;
 
-// A state, and what a step of it is handed.
+// A state, and the objects that a step from it needs.
 #[derive(Drop)]
 struct Log {
     line: StateLine,
@@ -23,7 +23,7 @@ struct Log {
     entries: Vec<u8>,
 }
 
-// A partial tile: the hash at a place is that of the level and the place.
+// Returns a partial tile: the hash at an index is that of the level and the index.
 fn tile_of(heap: Global, level: u8, width: u8) -> Result<Vec<[u8; 32]>, AllocError> {
     let mut tile = Vec::new(heap);
     for place in 0..width {
@@ -32,7 +32,7 @@ fn tile_of(heap: Global, level: u8, width: u8) -> Result<Vec<[u8; 32]>, AllocErr
     Ok(tile)
 }
 
-// The partial tiles of so many leaves.
+// Returns the partial tiles of `size` leaves.
 fn tiles_of(heap: Global, size: u64) -> Result<Vec<Vec<[u8; 32]>>, AllocError> {
     let mut tiles = Vec::new(heap);
     let mut count = size;
@@ -43,7 +43,7 @@ fn tiles_of(heap: Global, size: u64) -> Result<Vec<Vec<[u8; 32]>>, AllocError> {
     Ok(tiles)
 }
 
-// The bytes of an edge's tiles.
+// Returns the bytes of an edge's tiles.
 fn bytes_of(heap: Global, edge: &Edge) -> Result<Vec<Vec<u8>>, AllocError> {
     let mut bytes = Vec::new(heap);
     for level in 0..8usize {
@@ -52,7 +52,7 @@ fn bytes_of(heap: Global, edge: &Edge) -> Result<Vec<Vec<u8>>, AllocError> {
     Ok(bytes)
 }
 
-// A log with this edge.
+// Returns a log with this edge.
 fn log_with(heap: Global, edge: &Edge) -> Result<Log, AllocError> {
     let entries = vec![in heap; 7u8; (edge.size() % 256) as usize * ENTRY]?;
     let line = StateLine {
@@ -71,18 +71,18 @@ fn log_with(heap: Global, edge: &Edge) -> Result<Log, AllocError> {
     })
 }
 
-// The edge of a log of so many leaves.
+// Returns the edge of a log of `size` leaves.
 fn edge_of(heap: Global, size: u64) -> anyhow::Result<Edge> {
     Edge::from_parts(size, tiles_of(heap, size)?).context("an edge has eight tiles")
 }
 
-// A log of so many leaves, of which the edge is there.
+// Returns a log of `size` leaves with its edge.
 fn log_of(heap: Global, size: u64) -> anyhow::Result<Log> {
     let edge = edge_of(heap, size)?;
     Ok(log_with(heap, &edge)?)
 }
 
-// The submissions of the certificates with so many numbers from one on.
+// Returns the submissions of `count` certificates, from the one with the number `first` on.
 fn submissions(heap: Global, first: u64, count: u64) -> Result<Vec<Submission>, Refusal> {
     let mut submissions = Vec::new(heap);
     for k in 0..count {
@@ -91,7 +91,7 @@ fn submissions(heap: Global, first: u64, count: u64) -> Result<Vec<Submission>, 
     Ok(submissions)
 }
 
-// So many chains, each of two fingerprints.
+// Returns `count` chains, each of two fingerprints.
 fn chains(heap: Global, count: u64) -> Result<Vec<Vec<[u8; 32]>>, AllocError> {
     let mut chains = Vec::new(heap);
     for _ in 0..count {
@@ -100,13 +100,13 @@ fn chains(heap: Global, count: u64) -> Result<Vec<Vec<[u8; 32]>>, AllocError> {
     Ok(chains)
 }
 
-// The certificates with so many numbers from one on.
+// Returns the batch of `count` certificates, from the one with the number `first` on.
 fn batch_of(heap: Global, first: u64, count: u64) -> anyhow::Result<Batch> {
     let submissions = submissions(heap, first, count)?;
     Batch::new(submissions, chains(heap, count)?).context("a chain is too long")
 }
 
-// The line of a step of a log.
+// Returns the line of a step of a log.
 fn line_of(heap: Global, log: &Log, step: u64, count: u64) -> anyhow::Result<StateLine> {
     let batch = batch_of(heap, step.wrapping_mul(count), count)?;
     let now = MOMENT.wrapping_add(1).wrapping_add(step);
@@ -122,7 +122,7 @@ fn line_of(heap: Global, log: &Log, step: u64, count: u64) -> anyhow::Result<Sta
     Ok(made.line)
 }
 
-// Makes steps of so many submissions, each from one log of so many leaves, and answers the line of the last.
+// Makes steps of `count` submissions, each from the same log of `size` leaves, and returns the line of the last one.
 fn last_line(heap: Global, size: u64, count: u64, steps: u64) -> anyhow::Result<StateLine> {
     let log = log_of(heap, size)?;
     let mut line = log.line;
@@ -132,7 +132,7 @@ fn last_line(heap: Global, size: u64, count: u64, steps: u64) -> anyhow::Result<
     Ok(line)
 }
 
-// Prints that line.
+// Prints the line of the last step.
 pub(crate) fn show(rt: &HostRuntime, size: u64, count: u64, steps: u64) -> anyhow::Result<()> {
     let line = last_line(rt.alloc(), size, count, steps)?;
     let text = line.write(rt.alloc())?;

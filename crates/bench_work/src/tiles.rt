@@ -1,4 +1,4 @@
-//! The tiles of a log: leaves taken in, and audit paths made of the tiles.
+//! The tiles of a log: leaves are added, and audit paths are computed from the tiles.
 
 ghost use Rattle.std.specs.Prelude.{◌<◌};
 
@@ -9,7 +9,7 @@ use ct_tree::{Sha256Hash, leaf_hash};
 use std::alloc::{AllocError, Global};
 use std::io;
 
-// The hashes of so many leaves from an index on.
+// Returns the hashes of `count` leaves from an index on.
 fn hashes(heap: Global, first: u64, count: u64) -> Result<Vec<[u8; 32]>, AllocError> {
     let mut hashes = Vec::new(heap);
     for k in 0..count {
@@ -19,13 +19,13 @@ fn hashes(heap: Global, first: u64, count: u64) -> Result<Vec<[u8; 32]>, AllocEr
     Ok(hashes)
 }
 
-// What no leaves make of a log without leaves.
+// Returns the tiles of a log to which no leaves were added.
 fn begun(heap: Global) -> Result<Advance, AllocError> {
     let edge = Edge::empty(heap)?;
     take_leaves_in(heap, &Sha256Hash, &edge, &[])
 }
 
-// What the last leaves made of a log of `count` leaves that were taken in so many at a time.
+// Returns the tiles after the last leaves were added to a log of `count` leaves, `batch` at a time.
 fn grown(heap: Global, count: u64, batch: u64) -> Result<Advance, AllocError> {
     let mut advance = begun(heap)?;
     for _ in 0..count {
@@ -39,14 +39,14 @@ fn grown(heap: Global, count: u64, batch: u64) -> Result<Advance, AllocError> {
     Ok(advance)
 }
 
-// Prints the root of a log that took in so many leaves at a time.
+// Prints the root of a log to which `batch` leaves were added at a time.
 pub(crate) fn take_in(rt: &HostRuntime, count: u64, batch: u64) -> io::Result<()> {
     let advance = grown(rt.alloc(), count, batch)?;
     let root = advance.edge.root(rt.alloc(), &Sha256Hash)?;
     show_root(rt, &root)
 }
 
-// The bytes of a tile, and none where it isn't there.
+// Returns the bytes of a tile, or no bytes if it does not exist.
 fn content(heap: Global, rows: &[Row], tile: &NeededTile) -> Result<Vec<u8>, AllocError> {
     if tile.level < 8 && tile.index < 1_000_000_000_000 {
         if let Some(row) = rows.get(tile.level as usize) {
@@ -58,7 +58,7 @@ fn content(heap: Global, rows: &[Row], tile: &NeededTile) -> Result<Vec<u8>, All
     Ok(Vec::new(heap))
 }
 
-// The bytes of the tiles of which the path of the leaf at index `m` of `n` is made.
+// Returns the bytes of the tiles from which the path of the leaf at index `m` of `n` is computed.
 fn contents(heap: Global, m: u64, n: u64) -> Result<Vec<Vec<u8>>, AllocError>
     requires { m < n }
 {
@@ -70,7 +70,7 @@ fn contents(heap: Global, m: u64, n: u64) -> Result<Vec<Vec<u8>>, AllocError>
     Ok(contents)
 }
 
-// How many hashes the path of the leaf at index `m` has, made so many times of the tiles of `n` leaves.
+// Returns how many hashes the path of the leaf at index `m` has in all, if it is computed `calls` times from the tiles of `n` leaves.
 fn in_paths(
     heap: Global,
     contents: &[Vec<u8>],
@@ -88,7 +88,7 @@ fn in_paths(
     Ok(hashes)
 }
 
-// Prints how many hashes there are in so many paths of the leaf in a third of a log of `n` leaves.
+// Prints how many hashes `calls` paths have of the leaf in a third of a log of `n` leaves.
 pub(crate) fn paths(rt: &HostRuntime, n: u64, calls: u64) -> anyhow::Result<()> {
     if n > 0 {
         let contents = contents(rt.alloc(), n / 3, n)?;

@@ -1,4 +1,4 @@
-//! Work over the tree of `ct_tree`.
+//! Work with the tree of `ct_tree`.
 
 ghost use Rattle.std.specs.Prelude.{◌≡◌, ◌<◌, length};
 
@@ -8,22 +8,22 @@ use std::alloc::{AllocError, Global};
 use std::io;
 use std::time::{Duration, Instant};
 
-// How many roots, paths and proofs are asked for.
+// The number of roots, paths and proofs that are asked for.
 const CALLS: u64 = 10_000;
 
-// How far the places asked for lie from one another, before they are brought below the number of leaves.
+// The distance between the indexes that are asked for, before they are reduced below the number of leaves.
 const STEP: u64 = 7_919;
 
-// What is done with a tree.
+// The work to do with a tree.
 #[derive(Clone, Copy)]
 pub(crate) enum Task {
     // Print the times of appends, roots, paths, proofs and a copy.
     Time,
-    // Print what a few calls give.
+    // Print the results of a few calls.
     Show,
     // Print the root.
     Root,
-    // Make the path of the leaf in a third of the tree so many times.
+    // Compute the path of the leaf in a third of the tree this number of times.
     Path { calls: u64 },
 }
 
@@ -36,7 +36,8 @@ enum Call {
     Copy,
 }
 
-// Makes a call at a place, and answers how many hashes it gave, or leaves, or whether the root there differs from the root of all.
+// Makes a call at an index, and returns the number of hashes or leaves in its result, or whether the root there differs from the root of
+// all.
 fn answer(
     heap: Global,
     nodes: &Nodes<Sha256Hash>,
@@ -64,7 +65,7 @@ fn answer(
     }
 }
 
-// The sum of the answers to `count` calls at places from `first` on.
+// Returns the sum of the answers to `count` calls at indexes from `first` on.
 fn answers(
     heap: Global,
     nodes: &Nodes<Sha256Hash>,
@@ -81,7 +82,7 @@ fn answers(
     Ok(sum)
 }
 
-// Makes so many calls, prints how long each of `parts` of them took, and answers the sum of the answers.
+// Makes calls, prints how long each of `parts` of them took, and returns the sum of the answers.
 fn time_calls(
     rt: &HostRuntime,
     nodes: &Nodes<Sha256Hash>,
@@ -113,14 +114,14 @@ fn time_all(rt: &HostRuntime, nodes: &Nodes<Sha256Hash>) -> io::Result<()> {
     Ok(())
 }
 
-// The same, and first how long appends took.
+// Prints the same, and before it how long appends took.
 fn time(rt: &HostRuntime, nodes: &Nodes<Sha256Hash>, appends: Duration) -> io::Result<()> {
     println!(rt; "{} leaves", nodes.size())?;
     report(rt, "leaf hash and append", nodes.size(), appends)?;
     time_all(rt, nodes)
 }
 
-// Prints what a hundred calls of a kind give.
+// Prints the result of a hundred calls of a kind.
 fn show_hundred(
     rt: &HostRuntime,
     nodes: &Nodes<Sha256Hash>,
@@ -131,7 +132,7 @@ fn show_hundred(
     println!(rt; "{what} {sum}")
 }
 
-// Prints the size, the root, and what a hundred calls of each kind give.
+// Prints the size, the root, and the result of a hundred calls of each kind.
 fn show(rt: &HostRuntime, nodes: &Nodes<Sha256Hash>) -> io::Result<()> {
     println!(rt; "leaves {}", nodes.size())?;
     show_root(rt, &nodes.root_at(nodes.size()))?;
@@ -140,13 +141,13 @@ fn show(rt: &HostRuntime, nodes: &Nodes<Sha256Hash>) -> io::Result<()> {
     show_hundred(rt, nodes, "hashes in proofs", Call::Proof)
 }
 
-// Prints how many hashes there are in so many paths of one leaf.
+// Prints how many hashes `calls` paths of one leaf have.
 fn show_paths(rt: &HostRuntime, nodes: &Nodes<Sha256Hash>, calls: u64) -> io::Result<()> {
     let hashes = answers(rt.alloc(), nodes, Call::Path, nodes.size() / 3, 0, calls)?;
     println!(rt; "hashes in paths {hashes}")
 }
 
-// Appends the leaf hashes of `size` leaves, and answers how long it took.
+// Appends the leaf hashes of `size` leaves, and returns how long it took.
 fn fill(rt: &HostRuntime, nodes: &mut Nodes<Sha256Hash>, size: u64) -> io::Result<Duration> {
     let start = Instant::now(rt)?;
     for k in 0..size {
@@ -155,7 +156,7 @@ fn fill(rt: &HostRuntime, nodes: &mut Nodes<Sha256Hash>, size: u64) -> io::Resul
     start.elapsed(rt)
 }
 
-// A task over a tree that was filled, which took so long.
+// Does a task with a filled tree. `appends` is how long the filling took.
 fn perform(
     rt: &HostRuntime,
     nodes: &Nodes<Sha256Hash>,
@@ -170,7 +171,7 @@ fn perform(
     }
 }
 
-// A task over a tree of `size` leaves.
+// Does a task with a tree of `size` leaves.
 pub(crate) fn with_tree(rt: &HostRuntime, size: u64, task: Task) -> io::Result<()> {
     let mut nodes = Nodes::new(rt.alloc(), Sha256Hash);
     let appends = fill(rt, &mut nodes, size)?;

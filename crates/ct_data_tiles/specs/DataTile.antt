@@ -22,8 +22,8 @@ pub record IsDataTile (L : List Tiled) (b : List ℕ) : Type 0 where
 abbrev pub tiled_all : List TileLeaf → List Tiled
 tiled_all leaves = map tiled leaves
 
--- The first fault of the bytes of a data tile. AtLeaf: the bytes begin with as many leaves as the index says, all in range, more bytes
--- follow them, and these have this fault as a leaf. Memory: the bytes are a data tile.
+-- The first fault of the bytes of a data tile. `AtLeaf`: the bytes begin with as many leaves as the index says, all in range, more bytes
+-- follow them, and these have this fault as a leaf. `Memory`: the bytes are a data tile.
 abbrev pub DataTileFaulty : DataTileFault → List ℕ → Type 0
 DataTileFaulty (AtLeaf index f) b =
     (L : List Tiled) × (s : List ℕ) × AllByRecursion IsTileLeaf L × (length L ≡ index) × (0 < length s) × (b ≡ tile_leaves_text L ++ s) × TileLeafFaulty f s

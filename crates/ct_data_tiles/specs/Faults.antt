@@ -8,8 +8,8 @@ use Rattle.ct_data_tiles.specs.TileLeaf.{IsBesideEntry, beside_text}
 use Rattle.ct_data_tiles.specs.declared.fault.TileFault.{TileFault}
 use Rattle.ct_data_tiles.specs.declared.fault.TileFault.TheVariants.{Field, PartialFingerprint}
 
--- The fingerprints are missing or wrong. Truncated: b ends before their length is complete, or before as many bytes as the length says.
--- PartialFingerprint: their length is not a multiple of 32.
+-- The fingerprints are missing or wrong. `Truncated`: b ends before their length is complete, or before as many bytes as the length says.
+-- `PartialFingerprint`: their length is not a multiple of 32.
 abbrev pub FingerprintsFaulty : TileFault → List ℕ → Type 0
 FingerprintsFaulty (Field Truncated) b =
     (length b < 2) ⊎ ((n : ℕ) × (r : List ℕ) × (n < 2 ^ 16) × (n % 32 ≡ 0) × (b ≡ num 2 n ++ r) × (length r < n))
@@ -40,8 +40,8 @@ EntryMissing _ b = ⊥
 abbrev pub FaultyBehindTimestamp : TileFault → List ℕ → Type 0
 FaultyBehindTimestamp f b = EntryMissing f b ⊎ ((e : SignedEntry) × (r : List ℕ) × IsEntry e × (b ≡ entry_text e ++ r) × FaultyBehindEntry e f r)
 
--- The fault of bytes that do not begin with a tile leaf. Truncated: the bytes end before a field is complete. BadEntryType, EmptyVector and
--- PartialFingerprint: the field is complete and wrong. Everything before the field is complete and valid.
+-- The fault of bytes that do not begin with a tile leaf. `Truncated`: the bytes end before a field is complete. `BadEntryType`,
+-- `EmptyVector` and `PartialFingerprint`: the field is complete and wrong. Everything before the field is complete and valid.
 abbrev pub TileLeafFaulty : TileFault → List ℕ → Type 0
 TileLeafFaulty f b =
     ((f ≡ Field Truncated) × (length b < 8)) ⊎ ((t : ℕ) × (r : List ℕ) × (t < 2 ^ 64) × (b ≡ num 8 t ++ r) × FaultyBehindTimestamp f r)

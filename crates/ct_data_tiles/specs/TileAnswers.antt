@@ -24,9 +24,9 @@ abbrev pub IsDamageOf : DataTileFault → Damage → Type 0
 IsDamageOf (tile_fault.AtLeaf place f) damage = damage ≡ AtLeaf place f
 IsDamageOf tile_fault.Memory damage = ⊥
 
--- The damage. NoDataTile: the name is not that of a data tile. AtLeaf: the tile has the entry at `next`, and its bytes have this first
--- fault at the leaf with that index in the tile. OtherCount: it has that entry, and its bytes are this number of leaves, which differs from
--- the one in the name.
+-- The damage. `NoDataTile`: the name is not that of a data tile. `AtLeaf`: the tile has the entry at `next`, and its bytes have this first
+-- fault at the leaf with that index in the tile. `OtherCount`: it has that entry, and its bytes are this number of leaves, which differs
+-- from the one in the name.
 abbrev pub IsDamaged : ℕ → List ℕ → List ℕ → Damage → Type 0
 IsDamaged next name b NoDataTile = (tile : Tile) → IsDataTileName name tile → ⊥
 IsDamaged next name b (AtLeaf place f) = (tile : Tile) × IsDataTileName name tile × HasEntry tile next × DataTileFaulty (tile_fault.AtLeaf place f) b
@@ -34,10 +34,10 @@ IsDamaged next name b (OtherCount count) =
     (tile : Tile) × (L : List Tiled) × IsDataTileName name tile × HasEntry tile next × IsDataTile L b × (length L ≡ count) × (¬ (count ≡ tile.width))
 
 -- The relation of the data tile of this name and these bytes to a client that has read the entries before the index `next`:
--- - Gap: it begins after that index.
--- - Known: it ends before that index.
--- - Damaged: it is not the data tile of that name.
--- - Entries: it is that data tile and has the entry at `next`, and the result has the entries from that one on.
+-- - `Gap`: it begins after that index.
+-- - `Known`: it ends before that index.
+-- - `Damaged`: it is not the data tile of that name.
+-- - `Entries`: it is that data tile and has the entry at `next`, and the result has the entries from that one on.
 --
 -- Only the name is needed for the first two.
 abbrev pub IsTileAnswer : ℕ → List ℕ → List ℕ → DataTileAnswer → Type 0

@@ -139,7 +139,8 @@ fn entries_of_bytes(
 ///
 /// Allocates the entries that are returned, and a list of the tile's leaves, which borrow their parts from its bytes.
 ///
-/// # Errors Memory could not be allocated.
+/// # Errors
+/// Memory could not be allocated.
 pub fn entries_of_tile(
     alloc: Global,
     next: u64,

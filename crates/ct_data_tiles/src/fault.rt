@@ -11,7 +11,7 @@ use thiserror::Error;
 /// The reason why bytes do not begin with a tile leaf: the first fault from the left. A fault's text is its name.
 #[derive(Clone, Copy, Debug, PartialEq, Eq, Error)]
 pub enum TileFault {
-    /// A field that the codec reads is missing or wrong: Truncated, BadEntryType or EmptyVector.
+    /// A field that the codec reads is missing or wrong: `Truncated`, `BadEntryType` or `EmptyVector`.
     #[error("{0}")]
     Field(DecodeFault),
     /// The length of the fingerprints is not a multiple of 32.

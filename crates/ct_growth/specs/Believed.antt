@@ -45,9 +45,9 @@ pub record BelievesState (H : List ℕ → List ℕ) (head : Head) (tiles : List
   pub moment : state.timestamp ≡ head.timestamp
 
 -- The reason why partial tiles are not believed for a head:
--- - OtherWidths: a tile does not have the width that the head's size requires, or there are not 8 tiles.
--- - OtherRoot: they have these widths, and they lead to another root.
--- - Memory: they have these widths.
+-- - `OtherWidths`: a tile does not have the width that the head's size requires, or there are not 8 tiles.
+-- - `OtherRoot`: they have these widths, and they lead to another root.
+-- - `Memory`: they have these widths.
 abbrev pub StopsBelief : (List ℕ → List ℕ) → Head → List (List (List ℕ)) → EdgeFault → Type 0
 StopsBelief H head tiles OtherWidths = HaveWidths head.tree_size tiles → ⊥
 StopsBelief H head tiles OtherRoot = HaveWidths head.tree_size tiles × (edge_root H tiles ≡ head.root → ⊥)

@@ -30,9 +30,9 @@ pub record IsAnsweredAt (H : List ℕ → List ℕ) (head : Head) (e : SignedEnt
   pub receipt : receipt_parts r ≡ (claim.leaf_index, claim.timestamp, timestamp_text claim.timestamp e (index_extension claim.leaf_index))
 
 -- The reason why a claim for an entry is not believed at a head:
--- - IndexTooLarge: no leaf can have that index.
--- - ProofRefused: a leaf can have the index, and the verifier refuses the path for this reason.
--- - Refused: a leaf can have the index, and memory could not be allocated.
+-- - `IndexTooLarge`: no leaf can have that index.
+-- - `ProofRefused`: a leaf can have the index, and the verifier refuses the path for this reason.
+-- - `Refused`: a leaf can have the index, and memory could not be allocated.
 abbrev pub StopsClaim : (List ℕ → List ℕ) → Head → SignedEntry → Claim → List (List ℕ) → ClaimFault → Type 0
 StopsClaim H head e claim path IndexTooLarge = 2 ^ 40 ≤ claim.leaf_index
 StopsClaim H head e claim path (ProofRefused fault) =

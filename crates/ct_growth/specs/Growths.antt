@@ -21,9 +21,9 @@ abbrev pub MayGrow : State → ℕ → ℕ → Type 0
 MayGrow state count now = (state.timestamp < now) × (state.edge.0 + count ≤ 2 ^ 40)
 
 -- The reason why `count` submissions are not added at the timestamp `now`:
--- - ClockBack: the timestamp is not later than the state's.
--- - Full: it is later, and the log would have more than 2^40 leaves.
--- - Refused: the submissions may be added, and memory could not be allocated.
+-- - `ClockBack`: the timestamp is not later than the state's.
+-- - `Full`: it is later, and the log would have more than 2^40 leaves.
+-- - `Refused`: the submissions may be added, and memory could not be allocated.
 abbrev pub StopsGrowth : State → ℕ → ℕ → GrowthFault → Type 0
 StopsGrowth state count now ClockBack = now ≤ state.timestamp
 StopsGrowth state count now Full = (state.timestamp < now) × (2 ^ 40 < state.edge.0 + count)

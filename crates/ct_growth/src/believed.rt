@@ -100,7 +100,8 @@ impl State {
     ///
     /// Hashes at most 8 times 256 nodes, and allocates memory for one level at a time.
     ///
-    /// # Errors In this order: `OtherWidths`; `Memory` if memory could not be allocated; `OtherRoot`.
+    /// # Errors
+    /// In this order: `OtherWidths`; `Memory` if memory could not be allocated; `OtherRoot`.
     pub fn believed<H: NodeHash>(
         alloc: Global,
         h: &H,

@@ -67,8 +67,9 @@ impl From<Refusal> for ClaimFault {
 ///
 /// Allocates the bytes to be signed, and hashes them and at most two nodes for each element of the path.
 ///
-/// # Errors In this order: `IndexTooLarge` if the index is 2^40 or more; `Refused(Memory)` if memory could not be allocated; `ProofRefused`
-/// with the verifier's refusal.
+/// # Errors
+/// In this order: `IndexTooLarge` if the index is 2^40 or more; `Refused(Memory)` if memory could not be allocated; `ProofRefused` with the
+/// verifier's refusal.
 pub fn answer_repeat<H: NodeHash>(
     alloc: Global,
     h: &H,

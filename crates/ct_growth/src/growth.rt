@@ -72,8 +72,9 @@ impl From<AllocError> for GrowthFault {
 ///
 /// Allocates the receipts and the tiles that change or are new.
 ///
-/// # Errors In this order: `ClockBack` if the timestamp is not later than the state's (RFC 6962, section 3.5); `Full` if the log would have
-/// more than 2^40 leaves; `Refused(Memory)` if memory could not be allocated.
+/// # Errors
+/// In this order: `ClockBack` if the timestamp is not later than the state's (RFC 6962, section 3.5); `Full` if the log would have more
+/// than 2^40 leaves; `Refused(Memory)` if memory could not be allocated.
 pub fn grow<H: NodeHash>(
     alloc: Global,
     h: &H,

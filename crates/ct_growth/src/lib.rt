@@ -1,5 +1,5 @@
-//! One step of a tiled log over values, and repeated submissions. A step takes a state and a batch, and returns receipts, tiles, a head to
-//! be signed and the next state.
+//! One step of a tiled log over values: from a state and a batch to receipts, tiles, a head to be signed and the next state. Repeated
+//! submissions are answered, too.
 //!
 //! - [`State`] is everything that a sequencer keeps of a log: the right edge of its tiles, and the timestamp of its last head.
 //! - [`State::believed`] is the state of a head whose partial tiles were kept elsewhere. They are believed if their widths are those of its

@@ -20,8 +20,8 @@ NoBundle bytes = (objects : List (List ℕ × List ℕ)) → IsBundleOf objects 
 abbrev pub IsSomeBundle : List ℕ → Type 0
 IsSomeBundle bytes = (objects : List (List ℕ × List ℕ)) × IsBundleOf objects bytes
 
--- The reason why no objects are returned. Bundle: the digest of the bytes is not the line's, or they are not the staged batch of any
--- objects. Memory: the digest is the line's, and they are a staged batch.
+-- The reason why no objects are returned. `Bundle`: the digest of the bytes is not the line's, or they are not the staged batch of any
+-- objects. `Memory`: the digest is the line's, and they are a staged batch.
 abbrev pub StopsResume : (List ℕ → List ℕ) → StateLine → List ℕ → ResumeFault → Type 0
 StopsResume H line bytes Bundle = (H bytes ≡ line.bundle → ⊥) ⊎ NoBundle bytes
 StopsResume H line bytes Memory = (H bytes ≡ line.bundle) × IsSomeBundle bytes

@@ -1,8 +1,8 @@
 //! The state of a tiled log between two steps: a line of text, which the lock holds, and the objects of the step that made it.
 //!
-//! - A [`StateLine`] is the only state from which the next step may be made. It has a head without its signature. It also has three
-//!   digests: of all the objects of the step that made it, of the partial data tile at the log's end, of which the tree hashes do not cover
-//!   everything, and of the line before it.
+//! - A [`StateLine`] decides which step is next: the lock takes a step's line only in place of the line from which it was made. A line has
+//!   a head without its signature. It also has three digests: of all the objects of the step that made it, of the partial data tile at the
+//!   log's end, of which the tree hashes do not cover everything, and of the line before it.
 //! - [`StateLine::write`] writes a line, and [`StateLine::read`] reads it, both by the definition `state_line_text` (`specs/Lines.antt`).
 //!   Each text that is read is the text of the line that is returned, each text that is written can be read, and no two lines have the same
 //!   text ([`laws::state_lines`]). A text is the word growth, a space, and 288 hexadecimal digits in lower case: 295 bytes without an end

@@ -35,8 +35,9 @@ impl From<AllocError> for ResumeFault {
 ///
 /// Allocates only the list.
 ///
-/// # Errors `Bundle` if the digest of the bytes is not the line's, or they are not a staged batch; `Memory` if they are the line's staged
-/// batch, and memory could not be allocated.
+/// # Errors
+/// `Bundle` if the digest of the bytes is not the line's, or they are not a staged batch; `Memory` if they are the line's staged batch, and
+/// memory could not be allocated.
 pub fn resume<'a, H: NodeHash>(
     alloc: Global,
     h: &H,

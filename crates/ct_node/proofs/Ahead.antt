@@ -130,7 +130,7 @@ guard_had g None f = refl
 guard_had g (Some q) f =
     let r = f q refl in subst (λ (z : Option Other). guard_reaches z (Some q) ≡ true) (sym r.1) (reached r.0.at q r.2)
 
--- ---- what a node does
+-- ---- the decision of a node
 abbrev IsGoes : Beginning → Type 0
 IsGoes Goes = ⊤
 IsGoes b = ⊥

@@ -74,7 +74,7 @@ same_state l k e =
     (subst (λ t. (t && k.salt == k.salt) ≡ true) (sym p) q)
 
 module _ (count : State → ℕ) (b : State) where
-  -- the state isn't the newest one and never will be
+  -- the state is not the newest one and never will be
   abbrev pub Dead : World → State → Type 0
   Dead w l = (l ≡ w.held → ⊥) × (l.before < w.held.moment)
 

@@ -8,9 +8,12 @@ use Rattle.ct_node.specs.Worlds.{Has, World, Happening, Makes, beginning, happen
 abbrev pub ShareNone : List (List ℕ) → List (List ℕ) → Type 0
 ShareNone known new = (i : List ℕ) → Has i known → Has i new → ⊥
 
--- A step from the state k to l is made after a look-up in the deduplication index. ids gives the identities of the entries that a state
--- adds. The node that looked had the command to have a step made from k (`stepping`). The index returned entries for these identities
--- (`stored`). It misses no entry of a state whose entries were added to it (`found`). It returned none of the step's identities (`missed`).
+-- A step from the state k to l is made after a look-up in the deduplication index. ids returns the identities of the entries that a state
+-- adds. For a look-up:
+-- - The node that made it had the command to have a step made from k (`stepping`).
+-- - The index returned these identities (`stored`).
+-- - It misses no entry of a state whose entries were added to it (`found`).
+-- - It returned none of the step's identities (`missed`).
 pub record IsLookedUp (ids : State → List (List ℕ)) (w : World) (k l : State) : Type 0 where
   pub stepping : Has (Stepping k) w.sent
   pub stored : List (List ℕ)

@@ -32,7 +32,7 @@ abbrev pub is_free_of_other : Point → Option Other → Bool
 is_free_of_other p None = true
 is_free_of_other p (Some o) = reaches_other p o
 
--- there is another head of this size and moment
+-- there is another head of this size and timestamp
 abbrev pub is_two : Point → Option Other → Bool
 is_two p None = false
 is_two p (Some o) = is_at p o.at

@@ -20,9 +20,9 @@ abbrev pub swept_beginning : State → SweptWorld
 swept_beginning b = record { world = beginning b; objects = []; heads = b ∷ [] }
 
 -- The things that may happen:
--- - Beside: anything except such a deletion.
--- - TileGoes: the objects with this tile are deleted, since the given object was put. The list has the objects that are left.
--- - HeadGoes: the heads with the first state's timestamp are deleted, since the second state's head was put. The list has the heads that
+-- - `Beside`: anything except such a deletion.
+-- - `TileGoes`: the objects with this tile are deleted, since the given object was put. The list has the objects that are left.
+-- - `HeadGoes`: the heads with the first state's timestamp are deleted, since the second state's head was put. The list has the heads that
 --   are left.
 pub data SweptHappening : Type 0 where
   Beside : Happening → SweptHappening

@@ -62,12 +62,12 @@ beginning b =
     }
 
 -- The things that may happen:
--- - Comes: a command that was given, by any node and however long ago, takes effect. A command may take effect never, or any number of
+-- - `Comes`: a command that was given, by any node and however long ago, takes effect. A command may take effect never, or any number of
 --   times.
--- - Makes: a step is made. This is nobody's command.
--- - Puts: one of the objects that a command puts exists, before or after the command takes effect.
--- - Goes: a command to delete the staged batch of the state l, given at the state k, takes effect, and these staged batches are left.
--- - Told: a node that gave a command gets its outcome and continues. This may happen to each command that was ever given. So it covers
+-- - `Makes`: a step is made. This is nobody's command.
+-- - `Puts`: one of the objects that a command puts exists, before or after the command takes effect.
+-- - `Goes`: a command to delete the staged batch of the state l, given at the state k, takes effect, and these staged batches are left.
+-- - `Told`: a node that gave a command gets its outcome and continues. This may happen to each command that was ever given. So it covers
 --   nodes that were killed, that get an outcome twice, or that continue from an earlier command.
 pub data Happening : Type 0 where
   Comes : Node → Happening
@@ -231,8 +231,8 @@ AskedAreTaken =
     (count : State → ℕ) (b : State) (hs : List Happening) (w : World) → IsFirstState count b → LeadTo count (beginning b) hs w → (l : State)
     → Has (Heading l) w.sent → Has l w.past
 
--- If a node was given the command to have a step made from a state, then all entries of that state and of the earlier ones are in the deduplication
--- index, and all their objects exist.
+-- If a node was given the command to have a step made from a state, then all entries of that state and of the earlier ones are in the
+-- deduplication index, and all their objects exist.
 abbrev pub StepsFindAll : Type 0
 StepsFindAll =
     (count : State → ℕ) (b : State) (hs : List Happening) (w : World) → IsFirstState count b → LeadTo count (beginning b) hs w → (k l : State)

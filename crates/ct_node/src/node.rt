@@ -9,22 +9,22 @@ use crate::state::State;
 /// A count is the number of objects in a state's staged batch.
 #[derive(Clone, Copy, Debug, PartialEq, Eq)]
 pub enum Node {
-    /// Read the register.
+    /// Read the lock.
     Reading,
     /// Look up whether this state's head exists. If it does not, read the state's staged batch.
     Looking(State),
     /// The state is published: have a step made from it, or name a staged batch that may not be needed any more.
     Stepping(State),
-    /// A step from the first state led to the second one, which has so many objects: store its staged batch.
+    /// A step from the first state led to the second one, which has this number of objects: store its staged batch.
     Staging(State, State, u64),
     /// Replace the first state in the lock by the second one.
     Swapping(State, State, u64),
-    /// If the log answers with a promise once the lock took a state: answer the requests that wait for this state, which has so many
+    /// If the log answers with a promise once the lock took a state: answer the requests that wait for this state, which has this number of
     /// objects.
     Promising(State, u64),
     /// The first state is published: delete the staged batch of the second one.
     Deleting(State, State),
-    /// Put all objects of the state's staged batch, of which there are so many, in any order or several at once.
+    /// Put all objects of the state's staged batch, which has this number of them, in any order or several at once.
     Putting(State, u64),
     /// Add the state's entries to the deduplication index.
     Placing(State),
@@ -47,7 +47,7 @@ pub enum Outcome {
     Read(State),
     /// The head exists.
     Published,
-    /// The staged batch has so many objects.
+    /// The number of objects in the staged batch.
     Bundle(u64),
     /// A step was made: its state, and the number of objects in its staged batch.
     Stepped(State, u64),

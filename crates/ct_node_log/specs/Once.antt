@@ -27,10 +27,11 @@ abbrev pub AreStepsAdding : (List ℕ → List ℕ) → List (List ℕ) → (Sta
 AreStepsAdding H S line step ids made =
     (m : Made) → Has m made → IsAttempt H S line m (step m) × (batch_identities (step m) ≡ ids m.new) × AreApart (ids m.new)
 
--- Whatever happens, let E be the log that the lock took, and let S contain the strings that nodes hashed when they made steps. Suppose that
--- each step was looked up before it was made, that the deduplication index misses no entry, and that no batch has an identity twice. Then
--- the lock's line is that of E, and E begins with the entries that were known. After these, E has no identity that occurs before. The
--- alternative is a collision of two strings that S contains, or that are hashed for the log's lines.
+-- Whatever happens, let E be the log that the lock took, and let S contain the strings that nodes hashed when they made steps. ids returns
+-- the identities that a state adds, and for the first state those of the known entries. Suppose that each step was looked up before it was
+-- made, that the deduplication index misses no entry, and that no batch has an identity twice. Then the lock's line is that of E, and E
+-- begins with the entries that were known. After these, E has no identity that occurs before. The alternative is a collision of two strings
+-- that S contains, or that are hashed for the log's lines.
 abbrev pub NodesAddOnce : Type 0
 NodesAddOnce =
     (H : List ℕ → List ℕ) (S : List (List ℕ)) (line : State → StateLine) (step : Made → LineAttempt) (ids : State → List (List ℕ)) (known : List Tiled)

@@ -106,13 +106,13 @@ pub record AreReadFrom (edge : List (List ℕ)) (tiles : List (List (List ℕ)))
 abbrev pub NotBelieved : (List ℕ → List ℕ) → StateLine → List (List ℕ) → Type 0
 NotBelieved H line edge = (T : List (List (List ℕ))) → AreBytesOf T edge → AreBelieved H (line_head line) T → ⊥
 
--- The reason why bytes are not read as tiles. Edge: the bytes of a tile are not whole hashes. Growth: out of memory.
+-- The reason why bytes are not read as tiles. `Edge`: the bytes of a tile are not whole hashes. `Growth`: out of memory.
 abbrev pub StopsTiles : List (List ℕ) → StepFault → Type 0
 StopsTiles edge Edge = (T : List (List (List ℕ))) → AreBytesOf T edge → All AreHashes T → ⊥
 StopsTiles edge (Growth fault) = fault ≡ Refused refused.Memory
 StopsTiles edge _ = ⊥
 
--- The reason why a line has no state with these partial tiles. Edge: they are not believed. Growth: out of memory.
+-- The reason why a line has no state with these partial tiles. `Edge`: they are not believed. `Growth`: out of memory.
 abbrev pub StopsState : (List ℕ → List ℕ) → StateLine → List (List ℕ) → StepFault → Type 0
 StopsState H line edge Edge = NotBelieved H line edge
 StopsState H line edge (Growth fault) = fault ≡ Refused refused.Memory
@@ -175,12 +175,12 @@ pub record MayStep (H : List ℕ → List ℕ) (line : StateLine) (edge : List (
   pub fits : line.tree_size + length batch ≤ 2 ^ 40
 
 -- The reason why there is no step:
--- - Edge: the partial tiles are not believed.
--- - Entries: they are believed, and the partial data tile is not the line's.
--- - ClockBack: both are the line's, and the timestamp is not later than the line's.
--- - Full: it is later, and the log would have more than 2^40 leaves.
--- - TooLong: the log would not be full, and for every log that has this edge, a data tile would have 2^32 bytes or more.
--- - Refused: memory could not be allocated.
+-- - `Edge`: the partial tiles are not believed.
+-- - `Entries`: they are believed, and the partial data tile is not the line's.
+-- - `ClockBack`: both are the line's, and the timestamp is not later than the line's.
+-- - `Full`: it is later, and the log would have more than 2^40 leaves.
+-- - `TooLong`: the log would not be full, and for every log that has this edge, a data tile would have 2^32 bytes or more.
+-- - `Refused`: memory could not be allocated.
 abbrev pub StopsStep : (List ℕ → List ℕ) → StateLine → List (List ℕ) → List ℕ → List (Submitted × List (List ℕ)) → ℕ → StepFault → Type 0
 StopsStep H line edge entries batch now Edge = NotBelieved H line edge
 StopsStep H line edge entries batch now Entries =

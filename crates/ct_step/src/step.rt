@@ -235,7 +235,8 @@ fn step_of<H: NodeHash>(
 ///
 /// Allocates the new tiles and data tiles, three times over, the receipts and the edge.
 ///
-/// # Errors In this order:
+/// # Errors
+/// In this order:
 /// - `Edge` if the partial tiles are not as wide as those of the line's size, or do not lead to its root
 /// - `Entries` if the digest of the partial data tile is not the line's
 /// - `Growth(ClockBack)` if the timestamp is not later than the line's

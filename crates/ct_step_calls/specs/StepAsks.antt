@@ -6,15 +6,15 @@ use Rattle.ct_step_calls.specs.StepBytes.{IsBatchText, IsContentsText}
 use Rattle.ct_step_calls.specs.StepRepeats.{BatchEntry}
 
 -- The requests. A state is given as its text.
--- - for_begin: the state of a log without leaves at a timestamp
--- - for_needs: the names of the objects that a step from a state needs
--- - for_step: a step, of submissions with their chains' fingerprints, the contents at the edge, a timestamp, a state and the maximum number
---   of milliseconds by which the timestamp may be after that of the state
--- - for_too_many: a step of more submissions than a call may have
--- - for_no_edge: a step with an edge that is not a list of contents
--- - for_resume: the objects of a step that was decided, by its staged batch and its state
--- - for_claim: the receipt of a submission's entry, by the index and timestamp that are claimed for it, an audit path and a state
--- - for_no_batch: a step or a receipt for bytes that are not submissions
+-- - `for_begin`: the state of a log without leaves at a timestamp
+-- - `for_needs`: the names of the objects that a step from a state needs
+-- - `for_step`: a step, of submissions with their chains' fingerprints, the contents at the edge, a timestamp, a state and the maximum
+--   number of milliseconds by which the timestamp may be after that of the state
+-- - `for_too_many`: a step of more submissions than a call may have
+-- - `for_no_edge`: a step with an edge that is not a list of contents
+-- - `for_resume`: the objects of a step that was decided, by its staged batch and its state
+-- - `for_claim`: the receipt of a submission's entry, by the index and timestamp that are claimed for it, an audit path and a state
+-- - `for_no_batch`: a step or a receipt for bytes that are not submissions
 pub data StepAsk : Type 0 where
   for_begin : ℕ → StepAsk
   for_needs : List ℕ → StepAsk

@@ -56,12 +56,12 @@ abbrev pub receipts_at : Step → List ℕ → List (ℕ × ℕ × List ℕ)
 receipts_at step places = filter_map (slice_get (map receipt_parts step.receipts.items)) places
 
 -- The replies:
--- - begins: the state of a new log
--- - names_edge: the names of the objects that a step needs
--- - steps: a step, the indexes of the submissions among its entries, and the positions of its objects in its staged batch
--- - rolls_out: these positions for a step that was decided, with its line
--- - stands: the receipt of an entry (leaf index, timestamp, bytes to be signed)
--- - refuses: a refusal
+-- - `begins`: the state of a new log
+-- - `names_edge`: the names of the objects that a step needs
+-- - `steps`: a step, the indexes of the submissions among its entries, and the positions of its objects in its staged batch
+-- - `rolls_out`: these positions for a step that was decided, with its line
+-- - `stands`: the receipt of an entry (leaf index, timestamp, bytes to be signed)
+-- - `refuses`: a refusal
 pub data StepReply : Type 0 where
   begins : StateLine → StepReply
   names_edge : List (List ℕ) → StepReply

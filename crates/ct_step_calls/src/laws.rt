@@ -3,8 +3,8 @@
 ghost use Rattle.ct_step_calls.specs.RolledOut.{ReferencesAreSlices, RepliedObjectsChange, ResumedLinesAreRolledOut};
 ghost use Rattle.ct_step_calls.specs.StepLaws.{BatchesAreSplit, ClaimsStandThere, FirstLineBegins, OneEntryAnIdentityByLines, ReceiptsNameEntries, RepliedStepsAreAttempts};
 
-/// The first line of a log is that of a log without entries. These theorems hold for every hash function, and those about collisions hold
-/// for every one with digests of 32 bytes. The library uses SHA-256.
+/// The first line of a log is that of a log without entries. The theorems of this module hold for every hash function, except that
+/// [`claims`] and the clause `change` of [`objects_stand_there`] need digests of 32 bytes. The library uses SHA-256.
 pub fn first_line_begins()
     ensures { FirstLineBegins }
 {}

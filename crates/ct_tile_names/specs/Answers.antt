@@ -5,12 +5,12 @@ use Rattle.ct_tile_names.specs.declared.tile.NameFault.{NameFault}
 use Rattle.ct_tile_names.specs.declared.tile.NameFault.TheVariants.{NoSuchTile, Memory}
 use Rattle.ct_tile_names.specs.declared.tile.Tile.{Tile}
 
--- The reason why a tile's name is not written. NoSuchTile: no tile has this level or width. Memory: nothing is known.
+-- The reason why a tile's name is not written. `NoSuchTile`: no tile has this level or width. `Memory`: nothing is known.
 abbrev pub NotWritten : Tile → NameFault → Type 0
 NotWritten tile NoSuchTile = IsTile tile → ⊥
 NotWritten tile Memory = ⊤
 
--- The reason why no tile is read. NoSuchTile: the text is the name of no tile. Memory: nothing is known.
+-- The reason why no tile is read. `NoSuchTile`: the text is the name of no tile. `Memory`: nothing is known.
 abbrev pub NotRead : List ℕ → NameFault → Type 0
 NotRead text NoSuchTile = (tile : Tile) → IsTile tile → name_text tile ≡ text → ⊥
 NotRead text Memory = ⊤

@@ -9,8 +9,8 @@ use Rattle.ct_tile_reader.specs.declared.handed.HandedFault.TheVariants.{Missing
 abbrev pub contents_in : {A : Type 0} → List (Vec ℕ A) → List (List ℕ)
 contents_in contents = map (λ c. c.items) contents
 
--- the fault of the first tile of the list without bytes of the right length: there are none for it (Missing), or they are not 32 for each
--- of its hashes (BadLength)
+-- the fault of the first tile of the list without bytes of the right length: there are none for it (`Missing`), or they are not 32 for each
+-- of its hashes (`BadLength`)
 unfoldable pub handed_fault : List NeededTile → List (List ℕ) → Option HandedFault
 handed_fault [] contents = None
 handed_fault (tile ∷ tiles) [] = Some (Missing tile)
@@ -18,7 +18,7 @@ handed_fault (tile ∷ tiles) (content ∷ contents) =
     if nat_eq (length content) (32 * tile.width) then handed_fault tiles contents else Some (BadLength tile)
 
 -- The reason why there is no result: the fault of the first tile without bytes of the right length, or memory could not be allocated
--- (Memory). No clause can say when the latter happens.
+-- (`Memory`). No clause can say when the latter happens.
 abbrev pub IsHandedFault : HandedFault → List NeededTile → List (List ℕ) → Type 0
 IsHandedFault Memory tiles contents = ⊤
 IsHandedFault fault tiles contents = handed_fault tiles contents ≡ Some fault

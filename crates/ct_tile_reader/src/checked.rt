@@ -15,8 +15,8 @@ use std::alloc::Global;
 /// Returns the audit path of the leaf at index `m` in the tree of the first `n` leaves, checked against a root (RFC 6962, section 2.1.1;
 /// RFC 9162, section 2.1.3.2). So the tiles may come from anywhere.
 ///
-/// Errors: IndexOutOfRange if `m` is not below `n`; RootMismatch from the verifier, whose other refusals cannot occur, since the path has
-/// the right length; or out of memory. If the tiles are those of a list that has this leaf and this root, the path is never refused.
+/// Errors: `IndexOutOfRange` if `m` is not below `n`; `RootMismatch` from the verifier, whose other refusals cannot occur, since the path
+/// has the right length; or out of memory. If the tiles are those of a list that has this leaf and this root, the path is never refused.
 pub fn checked_path<H: NodeHash, T: TileSource>(
     alloc: Global,
     h: &H,
@@ -44,8 +44,9 @@ pub fn checked_path<H: NodeHash, T: TileSource>(
 /// Returns the consistency proof from the tree of the first `m` leaves to that of the first `n`, checked against the roots of both (RFC
 /// 6962, section 2.1.2; RFC 9162, section 2.1.4.2). So the tiles may come from anywhere.
 ///
-/// Errors: SizesOutOfRange unless 0 < `m` < `n`; FirstMismatch or RootMismatch from the verifier, whose other refusals cannot occur, since
-/// the proof has the right length; or out of memory. If the tiles are those of a list that has these roots, the proof is never refused.
+/// Errors: `SizesOutOfRange` unless 0 < `m` < `n`; `FirstMismatch` or `RootMismatch` from the verifier, whose other refusals cannot occur,
+/// since the proof has the right length; or out of memory. If the tiles are those of a list that has these roots, the proof is never
+/// refused.
 pub fn checked_proof<H: NodeHash, T: TileSource>(
     alloc: Global,
     h: &H,

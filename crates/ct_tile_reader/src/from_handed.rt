@@ -36,8 +36,8 @@ fn are_hashes(hashes: &[[u8; 32]])
 /// Returns the root of the first `n` leaves (MTH of RFC 6962, section 2.1), computed from the bytes of the tiles that [`tiles_for_root`]
 /// lists, in this order.
 ///
-/// Errors: Missing and BadLength name the first of these tiles that has no bytes, or not 32 for each of its hashes. Memory is returned if
-/// memory could not be allocated.
+/// Errors: `Missing` and `BadLength` name the first of these tiles that has no bytes, or not 32 for each of its hashes. `Memory` is
+/// returned if memory could not be allocated.
 pub fn root_of_handed<H: NodeHash>(
     alloc: Global,
     h: &H,

@@ -92,7 +92,7 @@ impl<'a> HandedTiles<'a> {
     /// Makes a source from a list of tiles, as `tiles_for_path` returns it, and their bytes in the same order: 32 for each hash, as C2SP
     /// tlog-tiles stores them. Bytes after those of the last tile are not read. Allocates no memory.
     ///
-    /// Errors: Missing and BadLength, if and only if a tile has no bytes or a wrong number of them.
+    /// Errors: `Missing` and `BadLength`, if and only if a tile has no bytes or a wrong number of them.
     pub fn new(
         tiles: &'a [NeededTile],
         contents: &'a [Vec<u8>],

@@ -1,7 +1,7 @@
 use ct_checkpoint::{CheckpointFault, read_checkpoint, write_checkpoint};
 use std::alloc::{AllocError, Global};
 
-// The root is the SHA-256 of the empty string, as RFC 6962 section 2.1 gives it for no leaves.
+// The root is the SHA-256 of the empty string, which RFC 6962 section 2.1 defines for no leaves.
 const ROOT: [u8; 32] = [
     0xe3, 0xb0, 0xc4, 0x42, 0x98, 0xfc, 0x1c, 0x14, 0x9a, 0xfb, 0xf4, 0xc8, 0x99, 0x6f, 0xb9, 0x24,
     0x27, 0xae, 0x41, 0xe4, 0x64, 0x9b, 0x93, 0x4c, 0xa4, 0x95, 0x99, 0x1b, 0x78, 0x52, 0xb8, 0x55,
@@ -9,7 +9,7 @@ const ROOT: [u8; 32] = [
 
 const TEXT: &str = "example.com/log\n20852163\n47DEQpj8HBSa+/TImW+5JCeuQeRkm5NMpJWZG3hSuFU=\n";
 
-// Whether the checkpoint is read of its text.
+// Reports whether the checkpoint is read from its text.
 fn is_read(alloc: Global) -> bool {
     match read_checkpoint(alloc, TEXT) {
         Ok(read) => {
@@ -26,7 +26,7 @@ fn a_checkpoint_is_written_and_read(rt: HostRuntime) -> Result<(), AllocError> {
     Ok(())
 }
 
-// Why a text is refused.
+// Returns the reason why a text is refused.
 pub(crate) fn fault_of(alloc: Global, text: &str) -> Option<CheckpointFault> {
     read_checkpoint(alloc, text).err()
 }

@@ -1,10 +1,10 @@
-// What the bytes and the hashes have to be, without a call of what is tested.
+// The expected bytes and hashes, computed without a call of the code under test.
 ghost use Rattle.std.specs.Prelude.{◌<◌, length};
 
 use sha2::{Digest, Sha256};
 use std::alloc::{AllocError, Global};
 
-// SHA-256 of three strings joined.
+// Returns the SHA-256 of three joined strings.
 pub(crate) fn sha256(first: &[u8], second: &[u8], third: &[u8]) -> [u8; 32] {
     let mut hasher = Sha256::new();
     hasher.update(first);
@@ -13,7 +13,7 @@ pub(crate) fn sha256(first: &[u8], second: &[u8], third: &[u8]) -> [u8; 32] {
     hasher.finalize()
 }
 
-// The largest power of two smaller than `n`.
+// Returns the largest power of two smaller than `n`.
 fn split(n: usize) -> usize
     requires { 1 < n }
     ensures positive { 0 < result }
@@ -22,7 +22,7 @@ fn split(n: usize) -> usize
     if n == 2 { 1 } else { 2 * split(n - n / 2) }
 }
 
-// MTH(D) of leaf hashes, by the recursion of RFC 6962, section 2.1.
+// Returns MTH(D) of leaf hashes, by the recursion of RFC 6962, section 2.1.
 pub(crate) fn root_of(leaves: &[[u8; 32]]) -> [u8; 32] {
     if leaves.len() < 2 {
         return match leaves.first() {
@@ -36,12 +36,12 @@ pub(crate) fn root_of(leaves: &[[u8; 32]]) -> [u8; 32] {
     sha256(b"\x01", &left, &right)
 }
 
-// The certificate with a number in a batch of a sequencer: one of three bytes.
+// Returns the certificate with this number in a batch of a sequencer, which has three bytes.
 pub(crate) fn certificate(who: u8, batch: u8, number: u8) -> [u8; 3] {
     [who, batch, number]
 }
 
-// A leaf with a certificate of three bytes at an index (RFC 6962, section 3.4), whose extension names the index (C2SP static-ct-api).
+// Returns a leaf with a certificate of three bytes at an index (RFC 6962, section 3.4), whose extension has the index (C2SP static-ct-api).
 pub(crate) fn leaf_of(
     alloc: Global,
     moment: u64,

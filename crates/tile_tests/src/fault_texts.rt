@@ -1,4 +1,4 @@
-// What a reader of `Display` is told of each fault of a step, of a claim and of a bundle.
+// The text that `Display` writes for each fault of a step, of a claim and of a staged batch.
 use ct_codec::Refusal;
 use ct_growth::{ClaimFault, EdgeFault, GrowthFault};
 use ct_log_state::ResumeFault;
@@ -7,7 +7,7 @@ use ct_verify::ProofFault;
 use std::alloc::Global;
 use std::fmt::Display;
 
-// Whether the fault is told in these words.
+// Reports whether the fault has this text.
 fn is_told<T: Display>(alloc: Global, fault: &T, words: &str) -> bool {
     match format!(in alloc; "{fault}") {
         Ok(text) => text.as_str() == words,
@@ -15,7 +15,7 @@ fn is_told<T: Display>(alloc: Global, fault: &T, words: &str) -> bool {
     }
 }
 
-// The same of each of them.
+// Reports the same for each of them.
 fn are_told<T: Display>(alloc: Global, faults: &[(T, &str)]) -> bool {
     for (fault, words) in faults {
         if !is_told(alloc, fault, words) {

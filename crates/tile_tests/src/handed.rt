@@ -1,5 +1,5 @@
-// The last tiles of a log, handed over as they are and damaged in every way: each answer is the list's, or a refusal by a tile's name, or refused
-// by the verifiers. The values are those of tests/tiles/hostile.py.
+// The last tiles of a log, unchanged and damaged in every way. Each result is that of the log, or a refusal that names a tile, or it is
+// refused by the verifiers. The values are those of tests/tiles/hostile.py.
 ghost use Rattle.std.specs.Prelude.{◌<◌};
 
 use crate::hostile::{FIRST_ROOT, PATH, PROOF, ROOT, SMALL_ROOT, TILES};
@@ -12,7 +12,7 @@ use ct_tree::{Sha256Hash, leaf_hash};
 use ct_verify::{EvidenceFault, ProofFault, verify_consistency, verify_inclusion};
 use std::alloc::{AllocError, Global};
 
-// The leaves of the log, and the index of its last leaf but one.
+// The number of leaves of the log, and the index of its last leaf but one.
 const SIZE: u64 = 197_379;
 
 const INDEX: u64 = 197_377;
@@ -43,12 +43,12 @@ fn contents(alloc: Global, tiles: &[u8; 288]) -> Result<Vec<Vec<u8>>, AllocError
     Ok(contents)
 }
 
-// What is answered of the root: whether it is the log's.
+// Reports whether the root that is computed is the log's.
 fn root_answer(alloc: Global, contents: &[Vec<u8>]) -> Result<bool, HandedFault> {
     Ok(root_of_handed(alloc, &Sha256Hash, SIZE, contents)? == ROOT)
 }
 
-// Of the path: whether it is the log's, and what the verifier says of it.
+// Reports whether the path that is computed is the log's, and the verifier's verdict.
 fn path_answer(
     alloc: Global,
     contents: &[Vec<u8>],
@@ -59,7 +59,7 @@ fn path_answer(
     Ok((path.as_flattened() == PATH.as_slice(), verdict))
 }
 
-// Of the proof from all leaves but the last, the same.
+// Reports the same for the proof from all leaves except the last.
 fn proof_answer(
     alloc: Global,
     contents: &[Vec<u8>],
@@ -69,21 +69,21 @@ fn proof_answer(
     Ok((proof.as_flattened() == PROOF.as_slice(), verdict))
 }
 
-// Whether all three answers are the log's, and are accepted.
+// Reports whether all three results are the log's and are accepted.
 fn are_right(alloc: Global, contents: &[Vec<u8>]) -> bool {
     root_answer(alloc, contents) == Ok(true)
         && path_answer(alloc, contents) == Ok((true, Ok(())))
         && proof_answer(alloc, contents) == Ok((true, Ok(())))
 }
 
-// Whether all three are refused by this fault.
+// Reports whether all three are refused with this fault.
 fn are_refused(alloc: Global, contents: &[Vec<u8>], fault: HandedFault) -> bool {
     root_answer(alloc, contents) == Err(fault)
         && path_answer(alloc, contents) == Err(fault)
         && proof_answer(alloc, contents) == Err(fault)
 }
 
-// Whether these are the needed tiles.
+// Reports whether these are the needed tiles.
 fn are_needed(tiles: Result<Vec<NeededTile>, AllocError>) -> bool {
     match tiles {
         Ok(tiles) => tiles.as_slice() == NEEDED.as_slice(),
@@ -98,7 +98,7 @@ fn tiles_are_listed(rt: HostRuntime) {
     assert!(rt; are_needed(tiles_for_proof(rt.alloc(), SIZE - 1, SIZE)));
 }
 
-// Whether the tiles are answered, as they are and with one behind the last that isn't read.
+// Reports whether the tiles lead to the right results, both unchanged and with one more tile after the last, which is not read.
 fn are_answered(alloc: Global) -> Result<bool, AllocError> {
     let mut all = contents(alloc, &TILES)?;
     let is_right = are_right(alloc, &all);
@@ -111,7 +111,7 @@ fn right_tiles_are_answered(rt: HostRuntime) {
     assert!(rt; are_answered(rt.alloc()) == Ok(true));
 }
 
-// Whether the first that isn't there is named, where only so many are.
+// Reports whether the first missing tile is named if there are only `count` tiles.
 fn is_missing_named(alloc: Global, count: usize) -> Result<bool, AllocError>
     requires { count < 3 }
 {
@@ -127,7 +127,8 @@ fn missing_tiles_are_named(rt: HostRuntime) {
     }
 }
 
-// The tiles with so many bytes, of its own first, for the one at a place, and nothing behind it.
+// Returns the tiles before the one at an index, and `size` bytes in place of that one, which begin with those of the tiles. No tiles follow
+// it.
 fn with_length(alloc: Global, place: usize, size: usize) -> Result<Vec<Vec<u8>>, AllocError> {
     let mut all = contents(alloc, &TILES)?;
     all.truncate(place);
@@ -139,7 +140,7 @@ fn with_length(alloc: Global, place: usize, size: usize) -> Result<Vec<Vec<u8>>,
     Ok(all)
 }
 
-// Whether the one at a place is named, where it has so many bytes.
+// Reports whether the tile at an index is named if it has `size` bytes.
 fn is_length_named(alloc: Global, place: usize, size: usize) -> Result<bool, AllocError>
     requires { place < 3 }
 {
@@ -156,7 +157,7 @@ fn wrong_lengths_are_named(rt: HostRuntime) {
     }
 }
 
-// The tiles at these places of the list, each in the place of one.
+// Returns the tiles at these indexes of the list, one for each.
 fn of_places(alloc: Global, places: [usize; 3]) -> Result<Vec<Vec<u8>>, AllocError> {
     let right = contents(alloc, &TILES)?;
     let mut all = Vec::new(alloc);
@@ -168,7 +169,7 @@ fn of_places(alloc: Global, places: [usize; 3]) -> Result<Vec<Vec<u8>>, AllocErr
     Ok(all)
 }
 
-// Whether the answers are a root that isn't the log's, this one of the path, and a proof that is refused by this fault.
+// Reports whether the results are a root that is not the log's, this result for the path, and a proof that is refused with this fault.
 fn are_wrong(
     alloc: Global,
     contents: &[Vec<u8>],
@@ -182,7 +183,7 @@ fn are_wrong(
 
 const REFUSED_PATH: (bool, Result<(), ProofFault>) = (false, Err(ProofFault::RootMismatch));
 
-// Whether the tiles in this order are answered where it is theirs, and refused else.
+// Reports whether the tiles lead to the right results if they are in their own order, and to refused ones otherwise.
 fn is_order_right(alloc: Global, order: usize) -> Result<bool, AllocError> {
     let places = [order / 9, order / 3 % 3, order % 3];
     let contents = of_places(alloc, places)?;
@@ -199,7 +200,7 @@ fn tiles_of_other_levels_are_refused(rt: HostRuntime) {
     }
 }
 
-// The tiles with one bit changed.
+// Returns the tiles with one bit changed.
 fn with_bit(alloc: Global, bit: usize) -> Result<Vec<Vec<u8>>, AllocError>
     requires { bit < 2304 }
 {
@@ -208,8 +209,8 @@ fn with_bit(alloc: Global, bit: usize) -> Result<Vec<Vec<u8>>, AllocError>
     contents(alloc, &tiles)
 }
 
-// Whether the tiles with one bit changed are refused. The leaf's own hash, the second, isn't in its path; the last leaf's, the third, isn't in
-// the first root.
+// Reports whether the tiles with one bit changed are refused. The leaf's own hash, which is the second, is not in its path. The last leaf's
+// hash, which is the third, is not in the first root.
 fn is_bit_refused(alloc: Global, bit: usize) -> Result<bool, AllocError>
     requires { bit < 2304 }
 {
@@ -235,7 +236,7 @@ fn a_changed_bit_is_refused(rt: HostRuntime) {
     assert!(rt; are_answered(rt.alloc()) == Ok(true));
 }
 
-// Why the checked path of these tiles is refused, and why the checked proof.
+// Returns the reasons why the checked path of these tiles is refused, and why the checked proof is.
 fn checked_faults(
     alloc: Global,
     tiles: &HandedTiles<'_>,
@@ -254,7 +255,7 @@ fn checked_faults(
     (path.err(), proof.err())
 }
 
-// Whether the path of a source of tiles is the log's.
+// Reports whether the path of a source of tiles is the log's.
 fn is_path_of(alloc: Global, tiles: &HandedTiles<'_>) -> bool {
     match path(alloc, &Sha256Hash, tiles, INDEX, SIZE) {
         Ok(path) => path.as_flattened() == PATH.as_slice(),
@@ -262,7 +263,7 @@ fn is_path_of(alloc: Global, tiles: &HandedTiles<'_>) -> bool {
     }
 }
 
-// Whether its proof is.
+// Reports whether the proof of a source of tiles is the log's.
 fn is_proof_of(alloc: Global, tiles: &HandedTiles<'_>) -> bool {
     match proof(alloc, &Sha256Hash, tiles, SIZE - 1, SIZE) {
         Ok(proof) => proof.as_flattened() == PROOF.as_slice(),
@@ -290,7 +291,7 @@ fn wrong_answers_of_a_source_are_refused(rt: HostRuntime) -> Result<(), HandedFa
     Ok(())
 }
 
-// The hashes of the leaves from one number to another.
+// Returns the hashes of the leaves with the numbers from `first` to the one before `behind`.
 fn numbered_hashes(alloc: Global, first: u64, behind: u64) -> Result<Vec<[u8; 32]>, AllocError> {
     let mut leaves = Vec::new(alloc);
     for index in first..behind {
@@ -299,7 +300,7 @@ fn numbered_hashes(alloc: Global, first: u64, behind: u64) -> Result<Vec<[u8; 32
     Ok(leaves)
 }
 
-// The bytes of the three tiles of 300 leaves, the first of which is full.
+// Returns the bytes of the three tiles of 300 leaves, the first of which is full.
 fn small_contents(alloc: Global) -> Result<Vec<Vec<u8>>, AllocError> {
     let full = numbered_hashes(alloc, 0, 256)?;
     let rest = numbered_hashes(alloc, 256, 300)?;
@@ -319,7 +320,7 @@ fn a_path_within_a_full_tile_is_made(rt: HostRuntime) -> Result<(), HandedFault>
     Ok(())
 }
 
-// Why no path of the leaf behind the last one is answered, and why no proof from a tree to itself.
+// Returns the reasons why there is no path for an index after the last leaf, and why there is no proof from a tree to itself.
 fn faults_out_of_range(
     alloc: Global,
     tiles: &HandedTiles<'_>,

@@ -1,5 +1,5 @@
-// A checkpoint cut off at each place, and with each byte below 128 at each place (tests/tiles/hostile.py says what is read of each), and sizes,
-// roots and ends that none has.
+// A checkpoint that is cut off at each byte, and one with each value below 128 at each byte (tests/tiles/hostile.py says what must be read
+// from each). Also sizes, roots and ends that no checkpoint has.
 ghost use Rattle.std.specs.Prelude.{◌<◌};
 
 use crate::checkpoints::fault_of;
@@ -11,7 +11,7 @@ use std::str;
 
 const ROOT: &str = "47DEQpj8HBSa+/TImW+5JCeuQeRkm5NMpJWZG3hSuFU=";
 
-// What is read of a text: its parts, or the fault. The bytes are below 128.
+// Appends the result of reading a text: its parts, or the fault. The bytes are below 128.
 fn push_reading(alloc: Global, seen: &mut Vec<u8>, bytes: &[u8]) -> Result<(), AllocError> {
     let Ok(text) = str::from_utf8(bytes) else {
         return Ok(());
@@ -30,7 +30,7 @@ fn push_reading(alloc: Global, seen: &mut Vec<u8>, bytes: &[u8]) -> Result<(), A
     Ok(())
 }
 
-// The readings of the checkpoint with each byte below 128 at a place.
+// Returns the readings of the checkpoint with each value below 128 at one byte.
 fn changed(alloc: Global, place: usize) -> Result<u32, AllocError> {
     let mut bytes = Vec::from_slice(alloc, CHECKPOINT.as_bytes())?;
     let mut seen = Vec::new(alloc);
@@ -50,7 +50,7 @@ fn each_byte_is_read_or_refused(rt: HostRuntime) {
     }
 }
 
-// The readings of each beginning of the checkpoint.
+// Returns the readings of each beginning of the checkpoint.
 fn cut(alloc: Global) -> Result<u32, AllocError> {
     let mut seen = Vec::new(alloc);
     for end in 0..=CHECKPOINT.len() {
@@ -64,7 +64,7 @@ fn each_beginning_is_read_or_refused(rt: HostRuntime) {
     assert!(rt; cut(rt.alloc()) == Ok(CUT_CHECKPOINT));
 }
 
-// Texts in the place of the size, and why they are refused.
+// Texts in place of the size, and the reasons why they are refused.
 const SIZES: [(&str, Option<CheckpointFault>); 26] = [
     ("0", None),
     ("18446744073709551615", None),
@@ -97,7 +97,7 @@ const SIZES: [(&str, Option<CheckpointFault>); 26] = [
     ("\u{661}", Some(CheckpointFault::BadSize)),
 ];
 
-// Why a checkpoint with such a size is refused.
+// Returns the reason why a checkpoint with this size is refused.
 fn fault_of_size(alloc: Global, size: &str) -> Result<Option<CheckpointFault>, AllocError> {
     let text = format!(in alloc; "a\n{size}\n{ROOT}\n")?;
     Ok(fault_of(alloc, &text))
@@ -110,7 +110,7 @@ fn only_numbers_as_they_are_written_are_sizes(rt: HostRuntime) {
     }
 }
 
-// Texts in the place of the root and all behind it.
+// Texts in place of the root and everything after it.
 const ROOTS: [&str; 20] = [
     "",
     "\n",
@@ -134,7 +134,7 @@ const ROOTS: [&str; 20] = [
     "47DEQpj8HBSa+/TImW+5JCeuQeRkm5NMpJWZG3hSuFU=\n\n\u{2014} a AAAAAA==\n",
 ];
 
-// Why a checkpoint with such a root is refused.
+// Returns the reason why a checkpoint with this root is refused.
 fn fault_of_root(alloc: Global, root: &str) -> Result<Option<CheckpointFault>, AllocError> {
     let text = format!(in alloc; "a\n1\n{root}")?;
     Ok(fault_of(alloc, &text))

@@ -1,4 +1,5 @@
-// A data tile cut off at each place, and with each byte at each place. tests/tiles/hostile.py says what is read of each, by the grammar.
+// A data tile that is cut off at each byte, and one with each value at each byte. tests/tiles/hostile.py says what must be read from each,
+// by the grammar.
 ghost use Rattle.std.specs.Prelude.{◌<◌};
 
 use crate::hostile::{CHANGED, CUT, DATA_TILE};
@@ -7,14 +8,14 @@ use ct_data_tiles::{DataTileFault, TileFault, TileLeaf, count_tile_leaves, tile_
 use ct_tree::{Sha256Hash, leaf_hash};
 use std::alloc::{AllocError, Global};
 
-// Bytes behind their length in 8 bytes.
+// Appends bytes after their length in 8 bytes.
 pub(crate) fn push_counted(seen: &mut Vec<u8>, content: &[u8]) -> Result<(), AllocError> {
     seen.extend_from_slice(&(content.len() as u64).to_be_bytes())?;
     seen.extend_from_slice(content)?;
     Ok(())
 }
 
-// The first four bytes of SHA-256 of a byte 0 and the readings.
+// Returns the first four bytes of the SHA-256 of a byte 0 and the readings.
 pub(crate) fn number_of(readings: &[u8]) -> u32 {
     let digest = leaf_hash(&Sha256Hash, readings);
     u32::from_be_bytes([digest[0], digest[1], digest[2], digest[3]])
@@ -42,7 +43,7 @@ fn push_leaf(seen: &mut Vec<u8>, leaf: &TileLeaf<'_>) -> Result<(), AllocError> 
     push_counted(seen, leaf.fingerprints)
 }
 
-// What is counted: a number, or the fault.
+// Appends the result of counting: a number, or the fault.
 fn push_count(alloc: Global, seen: &mut Vec<u8>, bytes: &[u8]) -> Result<(), AllocError> {
     let text = match count_tile_leaves(bytes) {
         Ok(count) => format!(in alloc; "{count}\n")?,
@@ -52,7 +53,7 @@ fn push_count(alloc: Global, seen: &mut Vec<u8>, bytes: &[u8]) -> Result<(), All
     Ok(())
 }
 
-// What is read: the leaves, or the fault.
+// Appends the result of reading: the leaves, or the fault.
 fn push_leaves(alloc: Global, seen: &mut Vec<u8>, bytes: &[u8]) -> Result<(), AllocError> {
     match tile_leaves(alloc, bytes) {
         Ok(leaves) => {
@@ -73,7 +74,7 @@ fn push_reading(alloc: Global, seen: &mut Vec<u8>, bytes: &[u8]) -> Result<(), A
     push_leaves(alloc, seen, bytes)
 }
 
-// The readings of the tile with each byte at a place.
+// Returns the readings of the tile with each value at one byte.
 fn changed(alloc: Global, place: usize) -> Result<u32, AllocError>
     requires { place < 126 }
 {
@@ -93,7 +94,7 @@ fn each_byte_is_read_or_refused(rt: HostRuntime) {
     }
 }
 
-// The readings of each beginning of the tile.
+// Returns the readings of each beginning of the tile.
 fn cut(alloc: Global) -> Result<u32, AllocError> {
     let mut seen = Vec::new(alloc);
     for end in 0..=126 {
@@ -107,7 +108,7 @@ fn each_beginning_is_read_or_refused(rt: HostRuntime) {
     assert!(rt; cut(rt.alloc()) == Ok(CUT));
 }
 
-// What is counted of a beginning of the tile.
+// Returns the expected result of counting for a beginning of the tile.
 fn count_wanted(end: usize) -> Result<usize, DataTileFault> {
     let cut = TileFault::Field(DecodeFault::Truncated);
     match end {

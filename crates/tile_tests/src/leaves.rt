@@ -44,7 +44,7 @@ fn chain(alloc: Global, first: u8) -> Result<Vec<Vec<u8>>, Refusal> {
     Ok(chain)
 }
 
-// The bytes of the submission's tile leaf.
+// Returns the bytes of the submission's tile leaf.
 fn written(alloc: Global, submission: &Submission) -> Result<Vec<u8>, Refusal> {
     let extensions = index_extension(INDEX);
     let leaf = tile_leaf_of(submission, MOMENT, &extensions, &FINGERPRINTS);
@@ -70,8 +70,8 @@ fn a_precertificates_leaf_is_written(rt: HostRuntime) -> Result<(), Refusal> {
     Ok(())
 }
 
-// The index, the leaf's bytes behind the first two and the fingerprints, as they are read from the front of the bytes; and whether all
-// was read.
+// Reports whether the tile leaf is read from all of the bytes, with the right index and fingerprints. The bytes of the tree's leaf after
+// the first two must be the first `behind` bytes of the tile leaf.
 fn is_read(alloc: Global, bytes: &[u8], behind: usize) -> Result<bool, Refusal> {
     let mut reader = Reader::new(bytes);
     let Ok(leaf) = tile_leaf_at(&mut reader) else {
@@ -93,7 +93,7 @@ fn leaves_are_read(rt: HostRuntime) -> Result<(), Refusal> {
     Ok(())
 }
 
-// The fault of bytes that begin with no tile leaf.
+// Returns the fault of bytes that do not begin with a tile leaf.
 fn fault_of(bytes: &[u8]) -> Option<TileFault> {
     tile_leaf_at(&mut Reader::new(bytes)).err()
 }
@@ -107,7 +107,7 @@ fn each_beginning_is_cut(rt: HostRuntime) {
     }
 }
 
-// The fault of the precertificate's leaf with another byte at a place.
+// Returns the fault of the precertificate's leaf with another value at one byte.
 fn fault_with(place: usize, byte: u8) -> Option<TileFault> {
     let mut bytes = PRECERTIFICATE;
     if let Some(old) = bytes.get_mut(place) {

@@ -1,4 +1,4 @@
-// A register in memory that holds the line of a log: it takes a line only in place of the one that it holds.
+// A lock in memory that holds the line of a log. It takes a line only in place of the one that it holds.
 ghost use Rattle.std.specs.Prelude.{◌≡◌};
 
 use ct_growth::Receipt;
@@ -7,8 +7,8 @@ use std::alloc::{AllocError, Global};
 use std::sync::OnceLock;
 use std::sync::atomic::{AtomicU64, Ordering};
 
-// A line that was offered, what its sequencer kept beside it, and what it was made of: the number of the offer whose line was read, and
-// the batch of a sequencer.
+// A line that was offered, the objects and receipts that its sequencer kept for it, and its origin: the number of the offer whose line was
+// read, and the batch of a sequencer.
 #[derive(Drop)]
 pub(crate) struct Offer {
     pub(crate) line: StateLine,
@@ -21,8 +21,8 @@ pub(crate) struct Offer {
     pub(crate) batch: u8,
 }
 
-// The offers, each written once under its number, and the number of that whose line is held. No two offers have one number, so the number is
-// exchanged where the line is.
+// The offers, each of which is written once under its number, and the number of the offer whose line is held. No two offers have the same
+// number, so the lock exchanges numbers instead of lines.
 #[derive(Drop)]
 pub(crate) struct Register {
     offers: Vec<OnceLock<Offer>>,
@@ -32,7 +32,7 @@ pub(crate) struct Register {
 }
 
 impl Register {
-    // A register with room for so many offers more, which holds the first.
+    // Returns a lock with room for `room` more offers, which holds the first one.
     pub(crate) fn open(
         alloc: Global,
         first: Offer,
@@ -51,17 +51,17 @@ impl Register {
         })
     }
 
-    // The number of the offer whose line is held.
+    // Returns the number of the offer whose line is held.
     pub(crate) fn held(&self) -> u64 {
         self.held.load(Ordering::SeqCst)
     }
 
-    // The offer with a number.
+    // Returns the offer with a number.
     pub(crate) fn offer(&self, number: u64) -> Option<&Offer> {
         self.offers.get(number as usize)?.get()
     }
 
-    // Writes an offer under its number. False where there is one.
+    // Writes an offer under its number. Returns false if there is one already.
     pub(crate) fn keep(&self, number: u64, offer: Offer) -> bool {
         match self.offers.get(number as usize) {
             Some(place) => place.try_set(offer).is_ok(),
@@ -69,7 +69,7 @@ impl Register {
         }
     }
 
-    // Takes the line of an offer in place of that of another, where it holds that.
+    // Takes the line of an offer in place of that of another, if it holds the latter.
     pub(crate) fn take(&self, seen: u64, number: u64) -> bool {
         if self.takes_all {
             self.held.store(number, Ordering::SeqCst);

@@ -1,4 +1,4 @@
-// Sixteen sequencers in threads of their own carry on one log over a register, two batches each.
+// Sixteen sequencers, each in its own thread, carry on one log over a lock, with two batches each.
 use crate::expected::{certificate, leaf_of, root_of, sha256};
 use crate::register::{Offer, Register};
 use ct_codec::{Refusal, Submission};
@@ -11,15 +11,16 @@ use std::test::Fail;
 use std::thread;
 use std::thread::Threads;
 
-// How many sequencers there are, and how many batches each has.
+// The number of sequencers, and the number of batches of each.
 const SEQUENCERS: u8 = 16;
 
 const BATCHES: u8 = 2;
 
-// How many batches there are. A sequencer makes no more attempts: where one isn't taken, one of another was taken meanwhile.
+// The number of all batches. A sequencer makes at most this number of attempts: if one is not taken, then one of another sequencer was
+// taken meanwhile.
 const STEPS: u64 = 32;
 
-// Why a sequencer stopped.
+// The reason why a sequencer stopped.
 #[derive(Drop)]
 enum Stop {
     Step(StepFault),
@@ -58,19 +59,19 @@ impl<T: Drop> From<AllocFailed<T>> for Stop {
     }
 }
 
-// How many submissions a batch has: five to thirteen, and all batches 285.
+// Returns the number of submissions in a batch: five to thirteen, and 285 in all batches.
 fn count_of(who: u8, batch: u8) -> u8 {
     5 + (who % 16 * 2 + batch % 2 * 5) % 9
 }
 
-// A submission of one certificate.
+// Returns a submission of one certificate.
 fn submission(alloc: Global, certificate: &[u8; 3]) -> Result<Submission, Refusal> {
     let mut chain = Vec::new(alloc);
     chain.push(Vec::from_slice(alloc, certificate)?)?;
     Submission::x509(chain)
 }
 
-// A batch of a sequencer. Each chain has the sequencer's fingerprint.
+// Returns a batch of a sequencer. Each chain has the sequencer's fingerprint.
 fn batch_of(alloc: Global, who: u8, batch: u8) -> Result<Batch, Stop> {
     let mut submissions = Vec::new(alloc);
     let mut chains = Vec::new(alloc);
@@ -81,7 +82,7 @@ fn batch_of(alloc: Global, who: u8, batch: u8) -> Result<Batch, Stop> {
     Batch::new(submissions, chains).ok_or(Stop::NoOffer)
 }
 
-// The content of the object with this name, or what stood in its place before.
+// Returns the content of the object with this name, or `before` if there is none.
 fn content_of(
     alloc: Global,
     objects: &[Object<'_>],
@@ -96,7 +97,7 @@ fn content_of(
     Vec::from_slice(alloc, before)
 }
 
-// The partial tiles of a line, of whose step these are the objects, behind those of the line before.
+// Returns the partial tiles of a line, given the objects of its step and the partial tiles of the line before.
 fn edge_of(
     alloc: Global,
     size: u64,
@@ -120,7 +121,7 @@ fn edge_of(
     Ok(edge)
 }
 
-// The partial data tile of a line, of whose step these are the objects, behind that of the line before.
+// Returns the partial data tile of a line, given the objects of its step and the partial data tile of the line before.
 fn entries_of(
     alloc: Global,
     size: u64,
@@ -134,7 +135,7 @@ fn entries_of(
     }
 }
 
-// The partial tiles and the partial data tile of a line, of whose step this is the bundle, behind those of an offer.
+// Returns the partial tiles and the partial data tile of a line, given the staged batch of its step and the offer before it.
 fn kept_of(
     alloc: Global,
     before: &Offer,
@@ -148,7 +149,7 @@ fn kept_of(
     Ok((edge, entries))
 }
 
-// The offer of a step from the line of another.
+// Returns the offer of a step from the line of another offer.
 fn offer_of(
     alloc: Global,
     before: &Offer,
@@ -174,7 +175,7 @@ fn offer_of(
     })
 }
 
-// The step of a batch from the line of an offer. The clocks of sequencers differ.
+// Makes the step of a batch from the line of an offer. The clocks of sequencers differ.
 fn step_of(alloc: Global, before: &Offer, (who, batch): (u8, u8)) -> Result<Step, Stop> {
     let now = before
         .line
@@ -194,7 +195,7 @@ fn step_of(alloc: Global, before: &Offer, (who, batch): (u8, u8)) -> Result<Step
     Ok(step)
 }
 
-// Makes an attempt from the line of an offer: whether the register took it.
+// Makes an attempt from the line of an offer, and reports whether the lock took it.
 fn attempt(
     alloc: Global,
     register: &Register,
@@ -213,7 +214,7 @@ fn attempt(
     Ok(register.take(seen, number))
 }
 
-// Carries on the log with all batches of a sequencer, which read the first line before any was taken. How many attempts it made.
+// Carries on the log with all batches of a sequencer, which begins with the first line, and returns how many attempts it made.
 fn carry_on(alloc: Global, register: &Register, who: u8) -> Result<u64, Stop> {
     let mut seen = 0u64;
     let mut batch = 0u8;
@@ -230,7 +231,7 @@ fn carry_on(alloc: Global, register: &Register, who: u8) -> Result<u64, Stop> {
     Ok(STEPS)
 }
 
-// The offer of a log without entries.
+// Returns the offer of a log without entries.
 fn empty(alloc: Global) -> Result<Offer, AllocError> {
     let nothing = sha256(b"", b"", b"");
     let mut edge = Vec::new(alloc);
@@ -255,7 +256,7 @@ fn empty(alloc: Global) -> Result<Offer, AllocError> {
     })
 }
 
-// The numbers of the offers whose lines were taken, the last one first.
+// Returns the numbers of the offers whose lines were taken, the last one first.
 fn taken_of(alloc: Global, register: &Register) -> Result<Vec<u64>, Fail> {
     let mut taken = Vec::new(alloc);
     let mut number = register.held();
@@ -269,7 +270,7 @@ fn taken_of(alloc: Global, register: &Register) -> Result<Vec<u64>, Fail> {
     Ok(taken)
 }
 
-// The log as the taken steps make it: its leaves' hashes, and the entries behind the last full data tile.
+// The log that the taken steps make: its leaves' hashes, and the entries after the last full data tile.
 #[derive(Drop)]
 struct Log {
     leaves: Vec<[u8; 32]>,
@@ -286,7 +287,7 @@ impl Log {
         }
     }
 
-    // Whether a batch wasn't taken before.
+    // Reports whether a batch was not taken before.
     fn is_first(&mut self, who: u8, batch: u8) -> bool {
         match self
             .taken
@@ -300,7 +301,7 @@ impl Log {
         }
     }
 
-    // Takes in an entry.
+    // Adds an entry.
     fn push(&mut self, leaf: &[u8], who: u8) -> Result<(), AllocError> {
         self.leaves.push(sha256(b"\x00", leaf, b""))?;
         self.entries
@@ -313,7 +314,7 @@ impl Log {
         Ok(())
     }
 
-    // Whether a receipt names the next place of the log and this certificate, which is taken in.
+    // Reports whether a receipt has the next index of the log and this certificate, which is added.
     fn follows(
         &mut self,
         alloc: Global,
@@ -330,7 +331,7 @@ impl Log {
         Ok(is_so)
     }
 
-    // Whether each receipt of a step names the next place and its submission.
+    // Reports whether each receipt of a step has the next index and its submission.
     fn follow(&mut self, alloc: Global, offer: &Offer) -> Result<bool, AllocError> {
         for number in 0..count_of(offer.who, offer.batch) {
             let Some(receipt) = offer.receipts.get(usize::from(number)) else {
@@ -344,14 +345,14 @@ impl Log {
         Ok(offer.receipts.len() == usize::from(count_of(offer.who, offer.batch)))
     }
 
-    // Whether a line is that of the log.
+    // Reports whether a line is that of the log.
     fn has_line(&self, line: &StateLine) -> bool {
         line.tree_size == self.leaves.len() as u64
             && line.root == root_of(&self.leaves)
             && line.data_tile == sha256(&self.entries, b"", b"")
     }
 
-    // Whether a step carries on the log behind the line before.
+    // Reports whether a step carries on the log from the line before.
     fn carries_on(
         &mut self,
         alloc: Global,
@@ -369,13 +370,13 @@ impl Log {
     }
 }
 
-// The hash of a line's text.
+// Returns the hash of a line's text.
 fn hash_of(alloc: Global, line: &StateLine) -> Result<[u8; 32], AllocError> {
     let text = line.write(alloc)?;
     Ok(sha256(text.as_bytes(), b"", b""))
 }
 
-// Whether the step with this number carries on the log.
+// Reports whether the step with this number carries on the log.
 fn is_carried_on(
     alloc: Global,
     register: &Register,
@@ -387,7 +388,7 @@ fn is_carried_on(
     Ok(log.carries_on(alloc, &before.line, offer)?)
 }
 
-// Whether the steps with these numbers, the last one first, make one log with all batches.
+// Reports whether the steps with these numbers, the last one first, make one log with all batches.
 fn is_one_log(alloc: Global, register: &Register, taken: &[u64]) -> Result<bool, Fail> {
     let mut log = Log::new(alloc);
     for number in taken.iter().rev() {
@@ -398,7 +399,7 @@ fn is_one_log(alloc: Global, register: &Register, taken: &[u64]) -> Result<bool,
     Ok(!log.taken.contains(&false))
 }
 
-// All attempts of sequencers that made so many.
+// Returns the sum of the attempts of all sequencers, or None if one of them stopped.
 fn sum_of(made: &[Result<u64, Stop>]) -> Option<u64> {
     let mut sum = 0u64;
     for one in made {
@@ -410,13 +411,13 @@ fn sum_of(made: &[Result<u64, Stop>]) -> Option<u64> {
     Some(sum)
 }
 
-// Whether what was taken is one log with all batches.
+// Reports whether the lines that were taken are one log with all batches.
 fn is_one_taken(alloc: Global, register: &Register) -> Result<bool, Fail> {
     let taken = taken_of(alloc, register)?;
     is_one_log(alloc, register, &taken)
 }
 
-// How many attempts the sequencers made, and whether what was taken is one log with all batches.
+// Returns how many attempts the sequencers made, and whether the lines that were taken are one log with all batches.
 fn carried_on<R: Threads + Sync>(
     rt: &R,
     alloc: Global,
@@ -434,7 +435,7 @@ fn carried_on<R: Threads + Sync>(
     Ok((sum_of(&made), is_one))
 }
 
-// All read the first line, so at least fifteen of the attempts aren't taken.
+// Each sequencer reads the first line first, so at least fifteen of the attempts are not taken.
 #[test]
 fn sixteen_sequencers_carry_on_one_log(rt: HostRuntime) -> Result<(), Fail> {
     let (made, is_one) = carried_on(&rt, rt.alloc(), false)?;
