@@ -44,8 +44,8 @@ pub record IsGrownFrom (state : State) (entries : List SignedEntry) (now : ℕ) 
 -- - The first new leaf's index is the number of leaves (`first`).
 -- - Each entry has its receipt, in order, from that index on (`receipts`).
 -- - The tiles that are new or change are written (`rows`).
--- - The head is that of all leaves (`size`, `root`) and has this timestamp (`timestamp`). The next state also is and has (`state`,
---   `moment`).
+-- - The head is that of all leaves (`size`, `root`) and has this timestamp (`timestamp`).
+-- - The next state is that of all leaves (`state`), and has this timestamp, too (`moment`).
 pub record IsGrowth (H : List ℕ → List ℕ) (D : List (List ℕ)) (entries : List SignedEntry) (now : ℕ) (g : Growth) : Type 0 where
   pub first : g.first ≡ length D
   pub receipts : map receipt_parts g.receipts.items ≡ receipts_from now (length D) entries

@@ -58,7 +58,7 @@ pub record ComesBehind (a b : Attempt) : Type 0 where
 -- Steps, in the order in which they were taken, carry on one log with the leaves D, from a state that was held at the timestamp `since`:
 -- - Everything that each step wrote and promised belongs to D (`all`).
 -- - Each timestamp is later than `since` (`later`).
--- - For each two steps, the second came after the first (`order`).
+-- - For any two steps, the second came after the first (`order`).
 pub record CarryOn (H : List ℕ → List ℕ) (since : ℕ) (D : List (List ℕ)) (steps : List Attempt) : Type 0 where
   pub all : All (IsOfList H D) steps
   pub later : All (λ a. since < a.growth.head.timestamp) steps

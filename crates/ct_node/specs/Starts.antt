@@ -138,7 +138,7 @@ pub record NothingIsKnown (f : Found) : Type 0 where
   pub stands : f.stands ≡ false
   pub creates : f.creates ≡ true
 
--- a node creates a lock if and only if there is none, it may, and nothing is known of a log
+-- a node creates a lock if and only if there is no lock, one may be created, and nothing is known of a log
 abbrev pub CreatesOverNothing : Type 0
 CreatesOverNothing = (f : Found) → (started f ≡ Creates → NothingIsKnown f) × (NothingIsKnown f → started f ≡ Creates)
 

@@ -25,7 +25,7 @@ pub record Made : Type 0 where
 -- The history of a log so far:
 -- - The lock holds a state (`held`), and has taken these, the newest first (`past`).
 -- - These states have a staged batch (`bundles`), a head (`heads`), or their entries in the deduplication index (`places`).
--- - The requests that waited for these states were answered after the head was put (`answered`) or by a promise (`promised`).
+-- - The requests that waited for these states were answered (`answered`), or were answered by a promise (`promised`).
 -- - These objects exist under their public names (`objects`).
 -- - These steps were ever made (`made`).
 -- - These commands were ever given (`sent`), and these took effect (`came`).

@@ -44,9 +44,9 @@ pub record CanBeRead (count : State → ℕ) (of : Object → Tile) (plan : Obje
   pub heads : (l : State) → Has l w.world.heads → (m : State) × Has m w.heads × (l.moment ≤ m.moment)
 
 -- Whatever happens to the nodes' commands, let E be the log that the lock took, and let S contain the strings that nodes hashed when they
--- made steps and resumed them. Suppose that partial tiles are deleted only after the full one was put, and heads only after a later one was
--- put. Then everything that was put belongs to E, and it can be read. The alternative is a collision of two strings that S contains, or
--- that are hashed for the log's lines.
+-- made steps and resumed them. Suppose that each object that was put has the name of its tile, that partial tiles are deleted only after
+-- the full one was put, and heads only after a later one was put. Then everything that was put belongs to E, and it can be read. The
+-- alternative is a collision of two strings that S contains, or that are hashed for the log's lines.
 abbrev pub NodesKeepTiles : Type 0
 NodesKeepTiles =
     (H : List ℕ → List ℕ) (S : List (List ℕ)) (line : State → StateLine) (step : Made → LineAttempt) (plan : Object → List ℕ × List ℕ) (of : Object → Tile)

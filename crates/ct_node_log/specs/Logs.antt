@@ -47,9 +47,11 @@ IsOf H line step made b E l =
 
 -- Everything in the stores belongs to the entries E:
 -- - each state that the lock took (`past`)
--- - each state whose waiting requests were answered after its head was put, and this head was put (`answered`)
+-- - each state whose waiting requests were answered, except by a promise, and such a state has a head (`answered`)
 -- - each state whose waiting requests were answered by a promise (`promised`)
--- - All objects that were ever put are tiles of E (`tiles`), with one content for each name (`names`).
+-- - each object that was ever put, which is a tile of E (`tiles`)
+--
+-- Each name has only one content (`names`).
 pub record StandsOf (H : List ℕ → List ℕ) (line : State → StateLine) (step : Made → LineAttempt) (b : State) (plan : Object → List ℕ × List ℕ) (E : List Tiled) (w : World) : Type 0 where
   pub past : (l : State) → Has l w.past → IsOf H line step w.made b E l
   pub answered : (l : State) → Has l w.answered → Has l w.heads × IsOf H line step w.made b E l

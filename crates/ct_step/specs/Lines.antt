@@ -19,8 +19,8 @@ pub record LineAttempt : Type 0 where
   pub step : Step
   pub took : Bool
 
--- The attempt's step is the result of `take_step` for its line, its batch and its timestamp, and for any received edge and data tile. S
--- contains the strings that its maker hashed:
+-- The attempt's step is a result of `take_step` for its line, its batch, its timestamp, and any received edge and data tile. S contains the
+-- strings that its maker hashed:
 -- - The attempt's timestamp is later than the line's, and S contains its staged batch.
 -- - It is the step of each log that has the line, or two strings collide, each of which S contains or is hashed for the line of that log.
 abbrev pub IsMadeOfLine : (List ℕ → List ℕ) → List (List ℕ) → LineAttempt → Type 0
@@ -59,7 +59,7 @@ pub record ComesBehindLine (a b : LineAttempt) : Type 0 where
 -- Steps, in the order in which they were taken, carry on one log with the entries E, from a line with the timestamp `since`:
 -- - Everything that each step wrote and promised belongs to E (`all`).
 -- - Each timestamp is later than `since` (`later`).
--- - For each two steps, the second came after the first (`order`).
+-- - For any two steps, the second came after the first (`order`).
 pub record CarryOnLines (H : List ℕ → List ℕ) (since : ℕ) (E : List Tiled) (steps : List LineAttempt) : Type 0 where
   pub all : All (IsStepOf H E) steps
   pub later : All (λ a. since < a.step.line.timestamp) steps
@@ -112,8 +112,8 @@ AreTrueAttempts H held E (b ∷ rest) =
 abbrev pub handed_line_attempts : List HandedLineAttempt → List LineAttempt
 handed_line_attempts attempts = map (λ b. b.attempt) attempts
 
--- If each step that was taken received the edge of the log, there is one list of entries, which begins with those that were known, that all
--- the steps whose lines the lock took carry on.
+-- Suppose that each step that was taken received the edge of the log. Then there is one list of entries that all the steps carry on whose
+-- lines the lock took. It begins with the entries that were known.
 abbrev pub TrueEdgesAgree : Type 0
 TrueEdgesAgree =
     (H : List ℕ → List ℕ) (held : StateLine) (known : List Tiled) (attempts : List HandedLineAttempt) → IsLog H known held

@@ -12,7 +12,7 @@ tile_at level index size = record {
 }
 
 -- The tiles of a level that has `size` hashes:
--- - the tile with the hash at index `own`, unless the tile of index `last` is no later, or the first `first` hashes end with this tile
+-- - the tile with the hash at index `own`, unless it is the tile of index `last` or a later one, or the first `first` hashes end with it
 -- - the tile of index `last` if it has a hash before that index, and on level 0 in any case
 abbrev pub level_tiles : ℕ → ℕ → ℕ → ℕ → ℕ → List NeededTile
 level_tiles level first own last size =
