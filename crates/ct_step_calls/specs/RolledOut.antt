@@ -35,8 +35,8 @@ RepliedObjectsChange =
     → (objects ≡ references_of H (step_objects H E (new_entries E (first_of_each [] batch) now)))
     ⊎ CollideAmong H (λ s. IsHashedOfContents H line.tree_size contents s ⊎ IsHashedOfLog H E s)
 
--- The objects in a reply for a step's line and any bytes are those that its maker would have put. For the step's own staged batch they are
--- the tiles and data tiles that the step changes. Other bytes collide with it.
+-- Take a reply with objects for a step's line and some bytes. If the bytes are the step's own staged batch, the objects are the tiles and
+-- data tiles that the step changes, which its maker would have put. Other bytes collide with that staged batch.
 abbrev pub ResumedLinesAreRolledOut : Type 0
 ResumedLinesAreRolledOut =
     (H : List ℕ → List ℕ) (seen : StateLine) (E : List Tiled) (batch : List BatchEntry) (now : ℕ) (s : Step) (bytes : List ℕ) (line : StateLine)
