@@ -364,7 +364,7 @@ impl Log {
             self.is_first(offer.who, offer.batch)
                 && self.follow(alloc, offer)?
                 && self.has_line(&offer.line)
-                && offer.line.timestamp >= before.timestamp
+                && offer.line.timestamp > before.timestamp
                 && offer.line.before == hash,
         )
     }
