@@ -1,4 +1,4 @@
--- What clients can be shown at one index: one leaf, or two of the strings that were hashed collide.
+-- The leaves that clients can be shown at one index: there is one leaf, or two of the hashed strings collide.
 use Rattle.std.proofs.Common.{◌≡◌, ℕ, ◌+◌, ◌-◌, ◌*◌, ◌<◌, ◌≤◌, refl, subst, sym, ◌∙◌, ap, arith, ◌⊎◌, inl, inr, ⊎_elim, Bool, true, List, [], ◌∷◌, ◌++◌, length, reverse, Some}
 use Rattle.std.specs.Prelude.{All, Contains, flat_map}
 use Rattle.std.proofs.Math.Seq.{take-append_seam, drop-append_seam}
@@ -51,7 +51,7 @@ module _ (H : List ℕ → List ℕ) (hash_length : (x : List ℕ) → length (H
       (λ (pair : CollideAmong H S). inr pair)
       (agree H hash_length S a.0 b.0 i n (hash_leaf H x) (hash_leaf H y) root (hash_length (0 ∷ x)) (hash_length (0 ∷ y)) a.2 b.2 a.3 b.3)
 
-  -- a path goes on along a consistency proof
+  -- a path is continued along a consistency proof
   pub further : (m n i : ℕ) (a b : List ℕ) (x : List ℕ) (proof : List (List ℕ)) → AreHashes proof → length a ≡ 32 → AcceptsConsistency H m n a b proof → i < m
       → All S (proof_strings H m n true a proof) → Leads H hash_length S i m (hash_leaf H x) a → Leads H hash_length S i n (hash_leaf H x) b ⊎ CollideAmong H S
   unfolding both_roots proof_strings

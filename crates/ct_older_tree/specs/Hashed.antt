@@ -17,16 +17,16 @@ pub data IsHashedIn (H : List ℕ → List ℕ) : List (List ℕ) → List ℕ �
   left : (D : List (List ℕ)) (k : ℕ) (s : List ℕ) → 1 < length D → k ≡ split (length D) → IsHashedIn H (take k D) s → IsHashedIn H D s
   right : (D : List (List ℕ)) (k : ℕ) (s : List ℕ) → 1 < length D → k ≡ split (length D) → IsHashedIn H (drop k D) s → IsHashedIn H D s
 
--- the strings that are hashed when the root of some beginning of the leaves D is computed, as a log does while it grows
+-- the strings that are hashed when the root of some prefix of the leaves D is computed, as a log does while it grows
 abbrev pub IsHashedInLog : (List ℕ → List ℕ) → List (List ℕ) → List ℕ → Type 0
 IsHashedInLog H D s = (n : ℕ) × (n ≤ length D) × IsHashedIn H (take n D) s
 
--- the string of a node over this hash, if there is one, and other strings after it
+-- the string of a node over this hash, if there is a hash, and other strings after it
 abbrev pub with_string : Option (List ℕ) → (List ℕ → List ℕ) → List (List ℕ) → List (List ℕ)
 with_string None string others = others
 with_string (Some r) string others = string r ∷ others
 
--- the strings of nodes over these two hashes, if they are there, and other strings after them
+-- the strings of nodes over these two hashes, if there are hashes, and other strings after them
 abbrev pub with_strings : Option (List ℕ × List ℕ) → (List ℕ → List ℕ → List (List ℕ)) → List (List ℕ) → List (List ℕ)
 with_strings None strings others = others
 with_strings (Some (x, y)) strings others = strings x y ++ others

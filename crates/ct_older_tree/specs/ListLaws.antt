@@ -1,4 +1,5 @@
--- What accepted proofs say of lists of leaves, or else which strings collide. H is any hash function on byte lists with hashes of 32 bytes.
+-- The meaning of accepted proofs for lists of leaves, or otherwise the strings that collide. H is any hash function on byte lists with
+-- hashes of 32 bytes.
 use Rattle.std.specs.Prelude.{◌≡◌, ◌⊎◌, ℕ, true, List, ◌∷◌, length, Contains}
 use Rattle.ct_tree.specs.Tree.{hash_leaf, mth_of_leaves}
 use Rattle.ct_verify.specs.ConsistencyEvidence.{IsAcceptedFor, IsBeginning}
@@ -13,7 +14,7 @@ OneRootIsOfOneList =
     (H : List ℕ → List ℕ) → ((x : List ℕ) → length (H x) ≡ 32) → (E D : List (List ℕ)) → length E ≡ length D
     → mth_of_leaves H E ≡ mth_of_leaves H D → (E ≡ D) ⊎ CollideAmong H (λ s. IsHashedIn H E s ⊎ IsHashedIn H D s)
 
--- The strings that are hashed where a client checks the audit path p of a leaf, and those in the tree of the leaves D.
+-- The strings that are hashed when a client checks the audit path p of a leaf, and those in the tree of the leaves D.
 abbrev pub IsHashedInAudit : (List ℕ → List ℕ) → List (List ℕ) → List ℕ → ℕ → List (List ℕ) → List ℕ → Type 0
 IsHashedInAudit H D leaf m p s =
     Contains ((0 ∷ leaf) ∷ path_strings H m (length D) (hash_leaf H leaf) p) s ⊎ IsHashedIn H D s
@@ -25,7 +26,8 @@ AcceptedPathIsPath =
     (H : List ℕ → List ℕ) → ((x : List ℕ) → length (H x) ≡ 32) → (D : List (List ℕ)) (leaf : List ℕ) (m : ℕ) (p : List (List ℕ))
     → IsAccepted H D leaf m p → IsAudited H D leaf m p ⊎ CollideAmong H (IsHashedInAudit H D leaf m p)
 
--- The strings that are hashed where the consistency proof p between the lists E and D is checked, and those in the trees of E and of the beginnings of D.
+-- The strings that are hashed when the consistency proof p between the lists E and D is checked, and those in the trees of E and of the
+-- prefixes of D.
 abbrev pub IsHashedBetween : (List ℕ → List ℕ) → List (List ℕ) → List (List ℕ) → List (List ℕ) → List ℕ → Type 0
 IsHashedBetween H E D p s =
     Contains (proof_strings H (length E) (length D) true (mth_of_leaves H E) p) s ⊎ (IsHashedIn H E s ⊎ IsHashedInLog H D s)
