@@ -7,7 +7,7 @@
 //! [`proof_goes_back`] requires nothing of the older tree's root: the proof shows that it is the root of the first leaves of the newer
 //! tree's list. So a caller that keeps a chain of trees, with a proof from each tree to the next, needs a list only of the newest tree.
 //!
-//! [`heads`] is about clients of a log that lies. Such a log has no list of leaves, so the law requires none: a client holds a head, an
+//! [`heads`] is about clients of a dishonest log. Such a log has no list of leaves, so the law requires none: a client holds a head, an
 //! audit path to a leaf, and perhaps a consistency proof from one head to another.
 //!
 //! The laws hold for every hash function with digests of 32 bytes.

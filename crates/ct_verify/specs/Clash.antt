@@ -1,5 +1,5 @@
 -- The collision that the evidence for a consistency proof returns. H is any hash function on byte lists, E is the old leaves, D the new
--- ones, n their number and k the largest power of two smaller than n. Of two strings that are compared, the proof's comes before a list's
+-- ones, n their number and k the largest power of two smaller than n. When two strings are compared, the proof's comes before a list's
 -- and the old list's before the new one's.
 use Rattle.std.specs.Prelude.{◌≡◌, ℕ, ◌-◌, ◌<◌, ◌≤◌, if◌then◌else◌, bytes_eq, Bool, false, List, [], ◌∷◌, ◌++◌, length, take, drop, Option, Some, None}
 use Rattle.std.specs.Option.{option_or}

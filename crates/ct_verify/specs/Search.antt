@@ -16,11 +16,11 @@ clash_strings (Nodes a b) = (children_string a, children_string b)
 abbrev pub found_strings : Option Clash → Option (List ℕ × List ℕ)
 found_strings o = option_map clash_strings o
 
--- if the hashes of two nodes are equal, so are their parts
+-- if the hashes of two nodes are equal, their parts are equal
 abbrev pub NodesApart : (List ℕ → List ℕ) → List ℕ → List ℕ → List ℕ → List ℕ → Type 0
 NodesApart H a b c d = hash_node H a b ≡ hash_node H c d → (a ≡ c) × (b ≡ d)
 
--- two lists of one length: if their roots are equal, so are the lists
+-- two lists of one length: if their roots are equal, the lists are equal
 abbrev pub SameRoot : (List ℕ → List ℕ) → List (List ℕ) → List (List ℕ) → Type 0
 SameRoot H E D = mth_of_leaves H E ≡ mth_of_leaves H D → E ≡ D
 
