@@ -1,11 +1,11 @@
--- The data that a log has shown to a watcher, and how a verdict changes it.
+-- The data that a log has handed out to a watcher, and how a verdict changes it.
 use Rattle.std.specs.Prelude.{ℕ, ◌-◌, List, [], ◌++◌, length, take, Some, None}
 use Rattle.std.specs.declared.option.Option.{Option}
 use Rattle.ct_tree.specs.declared.head.Head.{Head}
 use Rattle.ct_monitor.specs.declared.verdict.Verdict.{Verdict}
 use Rattle.ct_monitor.specs.declared.verdict.Verdict.TheVariants.{Accepted, Pending, RootMismatch}
 
--- The data that a log has shown: the last accepted head with its leaves, the newer head that waits, and the leaves that were read after the
+-- The data that a log has handed out: the last accepted head with its leaves, the newer head that waits, and the leaves that were read after the
 -- accepted ones.
 pub record Watched : Type 0 where
   pub accepted : Option Head
@@ -30,7 +30,7 @@ with_more D head E = D ++ take (head.tree_size - length D) E
 abbrev pub read_on : Watched → Head → List (List ℕ) → Watched
 read_on w head E = record w { ahead = w.ahead ++ take (head.tree_size - length (leaves_read w)) E }
 
--- the data shown after a verdict on the waiting head. The head is accepted with all leaves that were read, or it is discarded with the
+-- the data handed out after a verdict on the waiting head. The head is accepted with all leaves that were read, or it is discarded with the
 -- leaves that were not accepted, or it keeps waiting
 abbrev pub after_verdict : Watched → Head → Verdict → Watched
 after_verdict w head Accepted = record { accepted = Some head; sure = leaves_read w; waiting = None; ahead = [] }
@@ -38,6 +38,6 @@ after_verdict w head (RootMismatch root) = record w { waiting = None; ahead = []
 after_verdict w head Pending = record w { waiting = Some head }
 after_verdict w head v = w
 
--- nothing was shown yet
+-- nothing was handed out yet
 abbrev pub nothing_seen : Watched
 nothing_seen = record { accepted = None; sure = []; waiting = None; ahead = [] }

@@ -1,5 +1,5 @@
--- The strings that are hashed when a path or a proof is checked, and a collision among strings. H is any function from byte lists to byte lists, k the
--- largest power of two smaller than n, s the last element of a path or proof, and q the elements before it.
+-- The strings that are hashed when a path or a proof is checked, and a collision among strings. H is any function from byte lists to byte
+-- lists, k the largest power of two smaller than n, s the last element of a path or proof, and q the elements before it.
 use Rattle.std.specs.Prelude.{◌≡◌, ℕ, ◌-◌, ◌<◌, ◌≤◌, Bool, false, nat_lt, if◌then◌else◌, List, [], ◌∷◌, ◌++◌, length, take, drop, reverse, Option, Some, None}
 use Rattle.ct_tree.specs.Tree.{split}
 use Rattle.ct_verify.specs.Clash.{root_string}
@@ -10,7 +10,8 @@ use Rattle.ct_verify.specs.Rebuild.{rebuild_down, both_down}
 abbrev pub CollideAmong : (List ℕ → List ℕ) → (List ℕ → Type 0) → Type 0
 CollideAmong H S = (a b : List ℕ) × S a × S b × Collides H a b
 
--- the strings that are hashed when the root of the leaves D is computed (RFC 6962, section 2.1): 00 || leaf, and 01 || left || right of each node
+-- the strings that are hashed when the root of the leaves D is computed (RFC 6962, section 2.1): 00 || leaf, and 01 || left || right of
+-- each node
 pub data IsHashedIn (H : List ℕ → List ℕ) : List (List ℕ) → List ℕ → Type 0 where
   leaf : (d : List ℕ) → IsHashedIn H (d ∷ []) (0 ∷ d)
   node : (D : List (List ℕ)) (k : ℕ) → 1 < length D → k ≡ split (length D) → IsHashedIn H D (root_string H k D)

@@ -32,8 +32,8 @@ abbrev pub IsHashedBetween : (List ℕ → List ℕ) → List (List ℕ) → Lis
 IsHashedBetween H E D p s =
     Contains (proof_strings H (length E) (length D) true (mth_of_leaves H E) p) s ⊎ (IsHashedIn H E s ⊎ IsHashedInLog H D s)
 
--- A consistency proof p (elements of 32 bytes) that is accepted between the roots of two lists shows that the old list E begins the new list D; or two
--- strings that are hashed collide.
+-- A consistency proof p (elements of 32 bytes) that is accepted between the roots of two lists shows that the old list E begins the new
+-- list D; or two strings that are hashed collide.
 abbrev pub AcceptedProofIsOfBeginning : Type 0
 AcceptedProofIsOfBeginning =
     (H : List ℕ → List ℕ) → ((x : List ℕ) → length (H x) ≡ 32) → (E D p : List (List ℕ)) → AreHashes p

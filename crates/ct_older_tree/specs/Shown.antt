@@ -1,4 +1,5 @@
--- The view of a log's clients that hold heads, proofs between them, and audit paths. The laws need no list of leaves, because a dishonest log has none. H is any hash function on byte lists with hashes of 32 bytes.
+-- The view of a log's clients that hold heads, proofs between them, and audit paths. The laws need no list of leaves, because a dishonest
+-- log has none. H is any hash function on byte lists with hashes of 32 bytes.
 use Rattle.std.specs.Prelude.{◌≡◌, ◌⊎◌, ℕ, true, List, ◌∷◌, ◌++◌, length, Contains}
 use Rattle.ct_tree.specs.Tree.{hash_leaf}
 use Rattle.ct_verify.specs.Laws.{AreHashes}
