@@ -31,8 +31,8 @@ after_steps w (s ∷ steps) = after_steps s.1 steps
 abbrev pub IsOfBeginning : (List ℕ → List ℕ) → List (List ℕ) → Verdict × Watched → Type 0
 IsOfBeginning H D s = SaysAccepted s.0 → (head : Head) × (n : ℕ) × (s.1.accepted ≡ Some head) × IsHeadOfAll H (take n D) head
 
--- From the first answer on, each accepted head is the head of a prefix of one list of leaves: the leaves that the log has handed out and that
--- are accepted after the last step.
+-- From the first answer on, each accepted head is the head of a prefix of one list of leaves: the leaves that the log has handed out and
+-- that are accepted after the last step.
 abbrev pub AcceptedHeadsAgree : Type 0
 AcceptedHeadsAgree = (H : List ℕ → List ℕ) (steps : List (Verdict × Watched)) → AreSteps H nothing_seen steps
     → All (IsOfBeginning H (after_steps nothing_seen steps).sure) steps

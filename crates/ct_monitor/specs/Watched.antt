@@ -5,8 +5,8 @@ use Rattle.ct_tree.specs.declared.head.Head.{Head}
 use Rattle.ct_monitor.specs.declared.verdict.Verdict.{Verdict}
 use Rattle.ct_monitor.specs.declared.verdict.Verdict.TheVariants.{Accepted, Pending, RootMismatch}
 
--- The data that a log has handed out: the last accepted head with its leaves, the newer head that waits, and the leaves that were read after the
--- accepted ones.
+-- The data that a log has handed out: the last accepted head with its leaves, the newer head that waits, and the leaves that were read
+-- after the accepted ones.
 pub record Watched : Type 0 where
   pub accepted : Option Head
   pub sure : List (List ℕ)

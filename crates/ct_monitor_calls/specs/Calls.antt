@@ -38,8 +38,8 @@ IsComparedOver H s (entries_from start E) v t = v ≡ Accepted → (head : Head)
     → Stands H s.all (map (hash_leaf H) D) → IsHeadOfAll H (with_more D head E) head
 IsComparedOver H s (a_proof path) v t = ProofSays H s.accepted s.waiting path v × (t ≡ s)
 
--- A state s gives this verdict on an answer, and t is the state after it. If s keeps w, the verdict is right for w, and t keeps w with this answer. That holds for
--- every such w.
+-- A state s gives this verdict on an answer, and t is the state after it. If s keeps w, the verdict is right for w, and t keeps w with this
+-- answer. That holds for every such w.
 abbrev pub StateJudges : (List ℕ → List ℕ) → WatcherState → Handed → Verdict → WatcherState → Type 0
 StateJudges H s handed v t = ((w : Watched) → Keeps H s w → (next : Watched) × Keeps H t next × HandedSays H w handed v next) × IsComparedOver H s handed v t
 

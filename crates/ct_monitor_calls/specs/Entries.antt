@@ -21,7 +21,8 @@ IsLeafInBytes bytes = (timestamp : ℕ) × HasTimestamp timestamp bytes
 abbrev pub IsFaulty : DecodeFault → List ℕ → Type 0
 IsFaulty fault bytes = LeafFaulty fault bytes × (fault ≢ Memory)
 
--- the bytes are a leaf with this timestamp, and later than a head with the timestamp `moment` (RFC 6962, section 3.5: a head is at least as recent as each entry of its tree)
+-- the bytes are a leaf with this timestamp, and later than a head with the timestamp `moment` (RFC 6962, section 3.5: a head is at least as
+-- recent as each entry of its tree)
 abbrev pub IsLaterThan : ℕ → ℕ → List ℕ → Type 0
 IsLaterThan moment timestamp bytes = HasTimestamp timestamp bytes × (moment < timestamp)
 

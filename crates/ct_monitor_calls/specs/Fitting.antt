@@ -18,7 +18,8 @@ AcceptedFits H (Some head) sure = (head.tree_size ≡ sure.0) × (head.root ≡ 
 abbrev pub AreAcceptedOf : ℕ × List (List ℕ) → ℕ × List (List ℕ) → Type 0
 AreAcceptedOf sure all = (sure.0 < all.0) ⊎ ((sure.0 ≡ all.0) × (sure.1 ≡ all.1))
 
--- the waiting head is larger and later than the accepted one, and has more leaves than were read; if no head waits, all leaves that were read are accepted
+-- the waiting head is larger and later than the accepted one, and has more leaves than were read; if no head waits, all leaves that were
+-- read are accepted
 abbrev pub WaitingFits : Option Head → Option Head → ℕ × List (List ℕ) → ℕ × List (List ℕ) → Type 0
 WaitingFits accepted None sure all = (sure.0 ≡ all.0) × (sure.1 ≡ all.1)
 WaitingFits accepted (Some head) sure all = IsGrownLater accepted head × (all.0 < head.tree_size) × AreAcceptedOf sure all

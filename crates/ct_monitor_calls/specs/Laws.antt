@@ -67,7 +67,8 @@ CallsAgree =
     (H : List ℕ → List ℕ) → ((x : List ℕ) → length (H x) ≡ 32) → (first : List ℕ) (calls : List MonitorCall) → IsMonitorBegin H first → AreCalls H first calls
     → (w : Watched) × CallsHandOut H first calls nothing_seen w
 
--- the waiting head is larger and later than the accepted one, and has more leaves than were read; if no head waits, all leaves that were read are accepted
+-- the waiting head is larger and later than the accepted one, and has more leaves than were read; if no head waits, all leaves that were
+-- read are accepted
 abbrev pub IsWaiting : Watched → Option Head → Type 0
 IsWaiting w None = w.ahead ≡ []
 IsWaiting w (Some head) = IsGrownLater w.accepted head × (length (leaves_read w) < head.tree_size)

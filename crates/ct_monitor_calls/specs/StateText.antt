@@ -1,4 +1,5 @@
--- The bytes of a monitor's state, in the presentation language of RFC 5246 (section 4). H is any hash function on byte lists. The library's is SHA-256.
+-- The bytes of a monitor's state, in the presentation language of RFC 5246 (section 4). H is any hash function on byte lists. The library's
+-- is SHA-256.
 use Rattle.std.specs.Prelude.{◌≡◌, ◌<◌, ◌^◌, ◌++◌, ◌∷◌, [], ⊤, ℕ, List, length, Option, Some, None}
 use Rattle.ct_codec.specs.Bytes.{num, vec}
 use Rattle.ct_codec.specs.Parts.{joined}

@@ -74,7 +74,7 @@ found_in ns w = if some_told true ns (plain_of w) then Some AltName else (if som
 abbrev pub HoldsFor : List ℕ → List ℕ → Type 0
 HoldsFor name w = Same (plain_of name) w ⊎ IsWildcardOver (plain_of name) w
 
--- The name matches the watched one. A watched name that begins with a dot also stands for all names below it.
+-- The name matches the watched one. A watched name that begins with a dot also includes all names below it.
 abbrev pub IsToldFor : List ℕ → List ℕ → Type 0
 IsToldFor name [] = HoldsFor name []
 IsToldFor name (x ∷ w) = ((x ≡ 46) × Covers name w) ⊎ ((x ≡ 46 → ⊥) × HoldsFor name (x ∷ w))
