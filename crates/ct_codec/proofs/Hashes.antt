@@ -1,4 +1,4 @@
--- The hashed bytes of entries with one identity, and of an entry in range.
+-- The hashed bytes of entries with the same identity, and of an entry in range.
 use Rattle.std.proofs.Common.{◌≡◌, ◌++◌, ℕ, List, [], ◌∷◌, take, drop, length, refl, sym, ap, ◌∙◌, arith}
 use Rattle.std.proofs.Math.Seq.{take-append_seam, drop-append_seam}
 use Rattle.ct_codec.specs.Bytes.{num, vec}
@@ -7,7 +7,7 @@ use Rattle.ct_codec.specs.Hashed.{hashed_of}
 use Rattle.ct_codec.proofs.Refusals.{length-num}
 use Rattle.ct_codec.proofs.Apart.{split_equal, num_split}
 
--- entries of one text have one hash, whatever their lengths
+-- entries with the same text have the same hash, whatever their lengths
 pub one_hash : (d e : SignedEntry) → entry_text d ≡ entry_text e → hashed_of d ≡ hashed_of e
 one_hash (certificate c) (certificate f) same =
     let rest = (split_equal (num 2 0) (num 2 0) (vec 3 c) (vec 3 f) refl same).1 in

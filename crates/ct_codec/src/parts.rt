@@ -28,7 +28,7 @@ impl<'a> Model for LeafParts<'a> {
     ghost view = { λ p. p.head ∷ p.key_hash.now ∷ p.size ∷ p.certificate.now ∷ p.end ∷ [] };
 }
 
-// The bytes before the signed entry's own fields: the version, the leaf type, the timestamp and the entry type.
+// The bytes before the signed entry: the version, the leaf type, the timestamp and the entry type.
 #[tactic(auto, unfolding(crate::specs::Bytes::num))]
 fn leaf_head(timestamp: u64, entry_type: u16) -> [u8; 12]
     ensures { result ≡ 0 ∷ 0 ∷ (num 8 timestamp ++ num 2 entry_type) }

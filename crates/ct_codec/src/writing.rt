@@ -61,7 +61,7 @@ pub fn identity<A: Allocator, S: Allocator>(
     Ok(text)
 }
 
-/// Reports whether two submissions have one identity. It copies no byte of either.
+/// Reports whether two submissions have the same identity. It copies no byte of either.
 pub fn same_identity<A: Allocator, B: Allocator>(a: &Submission<A>, b: &Submission<B>) -> bool
     ensures { result ≡ bytes_eq (identity_of a.now) (identity_of b.now) }
 {

@@ -28,7 +28,7 @@ ElementsStandApart =
 abbrev pub BeginningsAreTruncated : Type 0
 BeginningsAreTruncated = (t : ℕ) (c x y s : List ℕ) → IsTlv t c x → 0 < length s → x ≡ y ++ s → element_at y ≡ Err Truncated
 
--- An element has one text.
+-- An element has exactly one text.
 abbrev pub ElementsHaveOneText : Type 0
 ElementsHaveOneText = (t : ℕ) (c x y : List ℕ) → IsTlv t c x → IsTlv t c y → x ≡ y
 

@@ -26,7 +26,7 @@ pub fn beginnings_are_truncated()
     ensures { BeginningsAreTruncated }
 {}
 
-/// An element has one text.
+/// An element has exactly one text.
 #[tactic(auto, using(crate::proofs::Written::elements_have_one_text))]
 pub fn elements_have_one_text()
     ensures { ElementsHaveOneText }

@@ -6,7 +6,7 @@
 //! - A [`DerFault`] is the first fault from the left. The forms that BER allows besides DER (indefinite and padded lengths), tags of
 //!   several bytes, and lengths of 2^32 and more are each refused with a fault of their own.
 //! - [`laws`] shows that an element that is read is present, that an element that is present is read, that no bytes begin with two
-//!   elements, and that each proper prefix of an element is refused as truncated. An element has one text.
+//!   elements, and that each proper prefix of an element is refused as truncated. An element has exactly one text.
 #![tactic(auto)]
 
 mod fault;

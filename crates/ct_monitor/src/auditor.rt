@@ -69,7 +69,7 @@ impl<H: NodeHash + Drop> Auditor<H> {
     }
 
     /// Explains an audit path for the list of the leaves, as [`explain_inclusion`] does: the leaf is at the index and the path is its own
-    /// (`Holds`), or two strings differ and have one hash (`Collision`).
+    /// (`Holds`), or two strings differ and have the same hash (`Collision`).
     ///
     /// If [`check`](Auditor::check) accepted a path against a head that has the root and the number of these leaves, it is not refused
     /// here. So without the assumption that the hash function has no collisions, an accepted path means that the leaf is present, or that

@@ -15,8 +15,8 @@ use ct_tree::{Head, NodeHash};
 use std::alloc::{Allocator, Global};
 use std::marker::Model;
 
-/// A follower follows a log's tree heads and keeps the roots of the perfect subtrees in place of the leaves, with one hash function. It
-/// needs at most 64 hashes and a head, whatever the size of the log. The state can be saved, and passed in again.
+/// A follower follows a log's tree heads and keeps the roots of the perfect subtrees in place of the leaves, with one hash function.
+/// It needs at most 64 hashes and a head, whatever the size of the log. The state can be saved, and passed in again.
 #[derive(Drop)]
 pub struct Follower<H: NodeHash + Drop, A: Allocator = Global> {
     h: H,

@@ -58,8 +58,8 @@ fn room_for(tree_size: u64, read: u64, available: usize) -> usize
     if room < available { room } else { available }
 }
 
-/// A watcher observes a log by its answers, with one hash function. It keeps heads and at most 128 hashes, and no leaf. Its state can be
-/// saved, and passed in again.
+/// A watcher observes a log by its answers, with one hash function. It keeps heads and at most 128 hashes, and no leaf. Its state can
+/// be saved, and passed in again.
 #[derive(Drop)]
 pub struct Watcher<H: NodeHash + Drop> {
     h: H,

@@ -53,8 +53,8 @@ module _ (H : List ℕ → List ℕ) (long : (x : List ℕ) → length (H x) ≡
       (All-append Has32 (peaks H E) (drop even D) (peaks_32 d E (omega (arith, size, p)) (level_32 (take even D) (All-take Has32 even D a))) (All-drop Has32 even D a))
 
   module _ (S : List ℕ → Type 0) where
-    -- subtrees that lead to one root are the same, if there are equally many; or two strings collide that are hashed when the subtrees are
-    -- joined
+    -- subtrees that lead to the same root are the same, if there are equally many; or two strings collide that are hashed when the subtrees
+    -- are joined
     peaks_tell : (p q : List (List ℕ)) → length p ≡ length q → AreHashes p → AreHashes q → All S (joining_strings H p) → All S (joining_strings H q)
         → root_of_peaks H p ≡ root_of_peaks H q → (p ≡ q) ⊎ CollideAmong H S
     unfolding root_of_peaks joining_strings

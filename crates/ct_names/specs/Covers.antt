@@ -32,7 +32,7 @@ star_parent [] = None
 star_parent (star ∷ []) = None
 star_parent (star ∷ dot ∷ t) = if star == 42 then (if dot == 46 then Some t else None) else None
 
--- whether both exist and are one text except for case
+-- whether both exist and are the same text except for case
 abbrev pub one_parent : Option (List ℕ) → Option (List ℕ) → Bool
 one_parent (Some t) (Some r) = str_eq_ignore_ascii_case r t
 one_parent (Some t) None = false
@@ -54,7 +54,7 @@ narrow (h ∷ l ∷ b) = (if h == 0 then l else 255) ∷ narrow b
 
 -- ---- the same in terms of names
 
--- one text except for the case of ASCII letters
+-- the same text except for the case of ASCII letters
 abbrev pub Same : List ℕ → List ℕ → Type 0
 Same a b = str_to_ascii_lowercase a ≡ str_to_ascii_lowercase b
 

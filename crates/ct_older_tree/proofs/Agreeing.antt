@@ -1,5 +1,5 @@
--- Two paths from one index to one root: the leaf hashes are equal, or two of the hashed strings collide. S is a property that these strings
--- have.
+-- Two paths from the same index to the same root: the leaf hashes are equal, or two of the hashed strings collide. S is a property that
+-- these strings have.
 use Rattle.std.proofs.Common.{◌≡◌, ℕ, ◌-◌, ◌<◌, ◌≤◌, refl, subst, sym, ◌∙◌, ap, arith, ◌⊎◌, inl, inr, ⊎_elim, true, false, List, [], ◌∷◌, ◌++◌, length, reverse, Some}
 use Rattle.std.specs.Prelude.{All}
 use Rattle.std.specs.Str.{bytes_eq}
@@ -32,7 +32,7 @@ same_or_not x y =
     (cases_Bool (bytes_eq x y))
 
 module _ (H : List ℕ → List ℕ) (S : List ℕ → Type 0) where
-  -- two strings with one hash
+  -- two strings with the same hash
   pub one_hash : (x y : List ℕ) → S x → S y → H x ≡ H y → (x ≡ y) ⊎ CollideAmong H S
   one_hash x y sx sy e =
       ⊎_elim
@@ -40,7 +40,7 @@ module _ (H : List ℕ → List ℕ) (S : List ℕ → Type 0) where
       (λ (other : ¬ (x ≡ y)). inr (x, y, sx, sy, (other, e)))
       (same_or_not x y)
 
-  -- two nodes with one hash, whose left or right parts are equally long
+  -- two nodes with the same hash, whose left or right parts are equally long
   pub left_nodes : (s y A B : List ℕ) → length s ≡ length A → S (1 ∷ s ++ y) → S (1 ∷ A ++ B) → hash_node H s y ≡ hash_node H A B → ((s ≡ A) × (y ≡ B)) ⊎ CollideAmong H S
   left_nodes s y A B l sx sy e =
       ⊎_elim

@@ -6,7 +6,7 @@ use Rattle.ct_verify.specs.Clash.{root_string}
 use Rattle.ct_verify.specs.Evidence.{Collides}
 use Rattle.ct_verify.specs.Rebuild.{rebuild_down, both_down}
 
--- two strings that S has differ and have one hash
+-- two strings that S has differ and have the same hash
 abbrev pub CollideAmong : (List ℕ → List ℕ) → (List ℕ → Type 0) → Type 0
 CollideAmong H S = (a b : List ℕ) × S a × S b × Collides H a b
 

@@ -8,7 +8,7 @@ use Rattle.ct_verify.specs.InclusionEvidence.{IsAccepted}
 use Rattle.ct_verify.specs.Laws.{AreHashes}
 use Rattle.ct_older_tree.specs.Hashed.{CollideAmong, IsHashedIn, IsHashedInLog, path_strings, proof_strings}
 
--- Two lists of one length with one root are one list; or two strings that are hashed in their trees collide.
+-- Two lists of equal length with the same root are the same list; or two strings that are hashed in their trees collide.
 abbrev pub OneRootIsOfOneList : Type 0
 OneRootIsOfOneList =
     (H : List ℕ → List ℕ) → ((x : List ℕ) → length (H x) ≡ 32) → (E D : List (List ℕ)) → length E ≡ length D

@@ -32,7 +32,7 @@ pub fn check_promise(
     // The path leads from that leaf to the root, or the reason why it does not is returned.
     ensures checked { MatchResult result (λ _. IsPromiseKept certificate.now issuer.now timestamp extensions.now index size path.now root.now)
         (IsUnkept certificate.now issuer.now timestamp extensions.now index size path.now root.now) }
-    // So the leaf is in each list with this root, or two strings have one hash.
+    // So the leaf is in each list with this root, or two strings have the same hash.
     ensures stands { IfOk result (λ _. StandsInAll certificate.now issuer.now timestamp extensions.now index size path.now root.now) }
 {
     let leaf = promised_leaf(alloc, certificate, issuer, timestamp, extensions)?;

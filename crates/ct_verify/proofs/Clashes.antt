@@ -53,7 +53,7 @@ or_some None v z e = inr e
 or_some (Some x) v z e = inl e
 
 module _ (H : List ℕ → List ℕ) where
-  -- strings with one hash that do not clash are equal
+  -- strings with the same hash that do not clash are equal
   clash_none : (a b : List ℕ) → clash H a b ≡ None → H a ≡ H b → a ≡ b
   clash_none a b e h =
       ⊎_elim

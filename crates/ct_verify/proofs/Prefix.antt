@@ -1,5 +1,5 @@
 -- The conclusion from a consistency proof for two lists: the old one begins the new one, if no two strings that are compared on the way
--- differ and have one hash. Each law is one step from the parts to the whole.
+-- differ and have the same hash. Each law is one step from the parts to the whole.
 use Rattle.std.proofs.Common.{refl, ◌≡◌, ℕ, ◌+◌, ◌-◌, ◌<◌, ◌≤◌, sym, ◌∙◌, ap, arith, Bool, false, List, [], ◌∷◌, ◌++◌, length, take, drop, Some}
 use Rattle.std.proofs.Common.{length-drop}
 use Rattle.std.specs.Option.{option_map}

@@ -61,7 +61,7 @@ module _ (H : List ℕ → List ℕ) where
   shows_map P Q None f s = f s
   shows_map P Q (Some z) f s = s
 
-  -- two strings with one hash, compared
+  -- two strings with the same hash, compared
   pub compared_shows : (P : Type 0) (x y : List ℕ) (below : Option (List ℕ × List ℕ)) → H x ≡ H y → ((x ≡ y) → Shows H P below) → Shows H P (compared x y below)
   compared_shows P x y below e under =
       ⊎_elim

@@ -18,7 +18,7 @@ abbrev pub IsBeginning : List (List ℕ) → List (List ℕ) → Type 0
 IsBeginning E D = E ≡ take (length E) D
 
 -- Holds: accepted, and the old list begins the new one. Collision: accepted, the old list does not begin the new one, and these are two
--- strings that differ and have one hash, the first clash along the proof
+-- strings that differ and have the same hash, the first clash along the proof
 abbrev pub ConsistencyEvidence : {A : Type 0} → (List ℕ → List ℕ) → List (List ℕ) → List (List ℕ) → List (List ℕ) → Evidence A → Type 0
 ConsistencyEvidence H E D p Holds = IsAcceptedFor H E D p × IsBeginning E D
 ConsistencyEvidence H E D p (Collision a b) =

@@ -5,7 +5,7 @@ use Rattle.std.specs.Str.{bytes_eq}
 use Rattle.ct_tree.specs.Tree.{split, hash_leaf, mth_of_leaves, path}
 use Rattle.ct_verify.specs.Rebuild.{rebuild_down}
 
--- a and b differ and have one hash
+-- a and b differ and have the same hash
 abbrev pub Collides : (List ℕ → List ℕ) → List ℕ → List ℕ → Type 0
 Collides H a b = (¬ (a ≡ b)) × (H a ≡ H b)
 

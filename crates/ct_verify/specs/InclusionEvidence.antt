@@ -13,7 +13,7 @@ abbrev pub IsAccepted : (List ℕ → List ℕ) → List (List ℕ) → List ℕ
 IsAccepted H D leaf m p = AcceptsInclusion H (hash_leaf H leaf) m (length D) p (mth_of_leaves H D)
 
 -- Holds: accepted against MTH of the list, and no string differs, so the leaf and the path are the list's. Collision: accepted, and these
--- are the first strings that differ, and they have one hash
+-- are the first strings that differ, and they have the same hash
 abbrev pub InclusionEvidence : {A : Type 0} → (List ℕ → List ℕ) → List (List ℕ) → List ℕ → ℕ → List (List ℕ) → Evidence A → Type 0
 InclusionEvidence H D leaf m p Holds = IsAccepted H D leaf m p × (evid H D leaf m p ≡ None) × IsAudited H D leaf m p
 InclusionEvidence H D leaf m p (Collision a b) =

@@ -20,7 +20,7 @@ found_strings o = option_map clash_strings o
 abbrev pub NodesApart : (List ℕ → List ℕ) → List ℕ → List ℕ → List ℕ → List ℕ → Type 0
 NodesApart H a b c d = hash_node H a b ≡ hash_node H c d → (a ≡ c) × (b ≡ d)
 
--- two lists of one length: if their roots are equal, the lists are equal
+-- two lists of equal length: if their roots are equal, the lists are equal
 abbrev pub SameRoot : (List ℕ → List ℕ) → List (List ℕ) → List (List ℕ) → Type 0
 SameRoot H E D = mth_of_leaves H E ≡ mth_of_leaves H D → E ≡ D
 

@@ -1,4 +1,4 @@
-//! Evidence for an accepted consistency proof: the old list begins the new one, or two strings have one hash.
+//! Evidence for an accepted consistency proof: the old list begins the new one, or two strings have the same hash.
 ghost use Rattle.std.specs.Prelude.{◌≡◌, ◌<◌, ◌≤◌, ◌↔◌, ℕ, List, ◌∷◌, ◌++◌, length, map, IfOk, IsTrue, MatchResult, Some, Ok, cond};
 ghost use Rattle.std.specs.Option.{option_or};
 ghost use Rattle.ct_tree.specs.Tree.{hash_leaf, hash_node, mth_of_leaves};
@@ -16,7 +16,7 @@ use crate::halves::{last_and_rest, root_of_leaves};
 use ct_tree::{NodeHash, largest_power_below, leaf_hash, node_hash};
 use std::alloc::{AllocError, Allocator};
 
-// Two strings that differ and have one hash, given by what is hashed: two leaves, or the children of two nodes.
+// Two strings that differ and have the same hash, given by what is hashed: two leaves, or the children of two nodes.
 #[derive(Clone, Copy)]
 enum Clash<'a> {
     Leaves(&'a [u8], &'a [u8]),
@@ -31,7 +31,7 @@ struct Met<'a> {
     found: Option<Clash<'a>>,
 }
 
-// Two lists of one length: their roots, and the first clash in them.
+// Two lists of equal length: their roots, and the first clash in them.
 #[derive(Clone, Copy)]
 struct Sides<'a> {
     old_root: [u8; 32],
@@ -117,7 +117,7 @@ fn over_parts<'a, H: NodeHash>(h: &H, left: Sides<'a>, right: Sides<'a>) -> Side
     }
 }
 
-// The roots of two lists of one length, and the first clash in them. Each leaf is hashed once.
+// The roots of two lists of equal length, and the first clash in them. Each leaf is hashed once.
 fn diverge<'a, H: NodeHash>(h: &H, old: &'a [Vec<u8>], new: &'a [Vec<u8>]) -> Sides<'a>
     requires some { 0 < length old.now }
     requires same { length old.now ≡ length new.now }
@@ -251,7 +251,7 @@ fn begins(old: &[Vec<u8>], new: &[Vec<u8>]) -> bool
     old == beginning
 }
 
-// The two strings with one hash.
+// The two strings with the same hash.
 fn collision<A: Allocator + Clone>(alloc: A, clash: Clash<'_>) -> Result<Evidence<A>, AllocError>
     ensures { IfOk result (IsCollision (clash_strings clash.entry)) }
 {
@@ -290,9 +290,9 @@ fn evidence_for<A: Allocator + Clone, H: NodeHash>(
 /// Explains a consistency proof for both lists of leaves: their roots and their numbers take the place of the tree heads.
 ///
 /// `Holds` means that the old list is the beginning of the new one. `Collision` means that it is not, and contains two strings that differ
-/// and have one hash. They are the first such pair, from the leaves up and from the left, that the proof, the old list and the new list
-/// hash at one position (`00` and the leaf for a leaf, `01` and two hashes for a node). The proof's string comes before a list's, and the
-/// old list's before the new one's. This holds for every hash function.
+/// and have the same hash. They are the first such pair, from the leaves up and from the left, that the proof, the old list and the new
+/// list hash at one position (`00` and the leaf for a leaf, `01` and two hashes for a node). The proof's string comes before a list's, and
+/// the old list's before the new one's. This holds for every hash function.
 ///
 /// Each leaf is hashed once, and once more if the proof is accepted and the old list does not begin the new one. Memory is taken only for
 /// such strings.

@@ -1,4 +1,4 @@
-//! Evidence for an accepted audit path: it is the list's own, or two strings have one hash.
+//! Evidence for an accepted audit path: it is the list's own, or two strings have the same hash.
 ghost use Rattle.std.specs.Prelude.{◌≡◌, ◌+◌, ◌-◌, ◌<◌, ◌≤◌, ℕ, List, length, map, get_or, IsTrue, ◌↔◌, [], ◌∷◌, ◌++◌, IfOk, OnOk, MatchResult, Some, None, Ok};
 ghost use Rattle.std.specs.Option.{option_map};
 ghost use Rattle.ct_tree.specs.Tree.{hash_leaf, mth_of_leaves};
@@ -129,7 +129,7 @@ fn compare<H: NodeHash>(
     }
 }
 
-// The two strings with one hash.
+// The two strings with the same hash.
 fn collision<A: Allocator + Clone>(
     alloc: A,
     difference: Difference,
@@ -172,9 +172,9 @@ fn evidence_for<A: Allocator + Clone, H: NodeHash>(
 /// Explains an audit path for the list of the leaves: their root and their number take the place of the tree head.
 ///
 /// `Holds` means that the leaf is the list's element at the index and that the path is its audit path. `Collision` contains two strings
-/// that differ and have one hash: the string that the proof hashes and the one that the list hashes, at the position nearest the root where
-/// they differ (`01` and two hashes for a node, `00` and the leaf for a leaf). This holds for every hash function. Each leaf is hashed
-/// once, and memory is taken only for the strings.
+/// that differ and have the same hash: the string that the proof hashes and the one that the list hashes, at the position nearest the root
+/// where they differ (`01` and two hashes for a node, `00` and the leaf for a leaf). This holds for every hash function. Each leaf is
+/// hashed once, and memory is taken only for the strings.
 ///
 /// # Errors
 ///

@@ -11,8 +11,8 @@
 //! every true proof is accepted, and the equations of `rebuild` and `both_roots`.
 //!
 //! [`explain_inclusion`] and [`explain_consistency`] say what an accepted proof means without the assumption that the hash function has no
-//! collisions. Given the lists themselves, they report that the proof is true of them, or return two strings that differ and have one hash.
-//! For an audit path these are the strings nearest the root (`specs/Evidence.antt`), for a consistency proof those nearest the leaves
+//! collisions. Given the lists themselves, they report that the proof is true of them, or return two strings that differ and have the same
+//! hash. For an audit path these are the strings nearest the root (`specs/Evidence.antt`), for a consistency proof those nearest the leaves
 //! (`specs/Clash.antt`).
 #![tactic(auto)]
 

@@ -1,4 +1,5 @@
--- The leaves that clients can be shown under trees that witnesses cosigned: one leaf at one index, or two of the hashed strings collide.
+-- The leaves that clients can be shown under trees that witnesses cosigned: only one leaf at each index, or two of the hashed strings
+-- collide.
 use Rattle.std.proofs.Common.{◌≡◌, ℕ, ◌+◌, ◌-◌, ◌*◌, ◌<◌, ◌≤◌, subst, sym, ◌∙◌, ap, arith, ◌⊎◌, inl, inr, ⊎_elim, true, List, [], ◌∷◌, ◌++◌, length}
 use Rattle.std.specs.Prelude.{All, Contains, flat_map}
 use Rattle.std.proofs.lemmas.List.Elements.{All-head, All-weaker, Contains-append_left, Contains-append_right}

@@ -7,7 +7,8 @@ use Rattle.ct_witness.specs.declared.tree.Tree.{Tree}
 use Rattle.ct_witness.specs.Runs.{Granted, IsWitness, IsCosigned, no_tree, granted_strings}
 use Rattle.ct_witness.specs.Quorums.{AtLeast, AllBut}
 
--- Two leaves that are shown at one index under two trees that one witness cosigned are one leaf; or two of the hashed strings collide.
+-- Two leaves that are shown at the same index under two trees that one witness cosigned are the same leaf; or two of the hashed strings
+-- collide.
 abbrev pub WitnessedTreesShowOneLeaf : Type 0
 WitnessedTreesShowOneLeaf =
     (H : List ℕ → List ℕ) → ((x : List ℕ) → length (H x) ≡ 32) → (steps : List Granted) → IsWitness H steps → (a b : Tree)
@@ -16,7 +17,8 @@ WitnessedTreesShowOneLeaf =
     → (x ≡ y) ⊎ CollideAmong H (Contains (granted_strings H (no_tree H) steps ++ shown_strings H x i a.size p ++ shown_strings H y i b.size q))
 
 -- Among n witnesses, of which at most f are faulty, j cosigned the tree a and k cosigned the tree b, and n + f < j + k. Then two leaves
--- that are shown at one index under these trees are one leaf; or two of the strings collide that the witnesses or the two clients hashed.
+-- that are shown at the same index under these trees are the same leaf; or two of the strings collide that the witnesses or the two clients
+-- hashed.
 abbrev pub QuorumsShowOneLeaf : Type 0
 QuorumsShowOneLeaf =
     (H : List ℕ → List ℕ) → ((x : List ℕ) → length (H x) ≡ 32) → (ws : List (List Granted)) (f j k : ℕ) → AllBut H f ws

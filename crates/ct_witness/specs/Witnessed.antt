@@ -5,15 +5,15 @@ use Rattle.ct_witness.specs.declared.tree.Tree.{Tree}
 use Rattle.ct_witness.specs.declared.refusal.WitnessRefusal.{WitnessRefusal}
 use Rattle.ct_witness.specs.declared.refusal.WitnessRefusal.TheVariants.{OldAbove, NotLast, Fork, ProofNotEmpty, Inconsistent}
 
--- the tree extends the last one by the proof p: both have one size and one root, and there is no proof; or the last has no leaves, this one
--- has some, and there is no proof; or the consistency proof is accepted
+-- the tree extends the last one by the proof p: both have the same size and the same root, and there is no proof; or the last has no
+-- leaves, this one has some, and there is no proof; or the consistency proof is accepted
 abbrev pub TreeGoesOn : (List ℕ → List ℕ) → Tree → Tree → List (List ℕ) → Type 0
 TreeGoesOn H last tree p =
     ((tree.size ≡ last.size) × (tree.root ≡ last.root) × (p ≡ [])) ⊎ (((last.size ≡ 0) × (0 < tree.size) × (p ≡ []))
     ⊎ AcceptsConsistency H last.size tree.size last.root tree.root p)
 
--- why a tree that is not smaller does not extend the last one. Fork: one size, and a different root. ProofNotEmpty: there is a proof, and
--- both have one size and root or the last has no leaves. Inconsistent: more leaves, and the consistency proof is refused
+-- why a tree that is not smaller does not extend the last one. Fork: the same size, and a different root. ProofNotEmpty: there is a proof,
+-- and both have the same size and root or the last has no leaves. Inconsistent: more leaves, and the consistency proof is refused
 abbrev pub StopsGoingOn : (List ℕ → List ℕ) → Tree → Tree → List (List ℕ) → WitnessRefusal → Type 0
 StopsGoingOn H last tree p OldAbove = ⊥
 StopsGoingOn H last tree p NotLast = ⊥

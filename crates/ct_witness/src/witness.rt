@@ -61,7 +61,7 @@ impl Witness {
     }
 
     /// Passes a tree, or refuses it (C2SP tlog-witness, add-checkpoint). The proof is a consistency proof (RFC 6962, section 2.1.2) from
-    /// the last tree to this one; `old` is the claimed number of leaves of the last tree. If the two have one size, or the last has no
+    /// the last tree to this one; `old` is the claimed number of leaves of the last tree. If the two have the same size, or the last has no
     /// leaves, the proof is empty. The last tree is passed again.
     ///
     /// After that, the caller may sign the cosignature's message for this tree's checkpoint (C2SP tlog-cosignature).

@@ -28,7 +28,7 @@ fn hashes_of<H: NodeHash>(
     Ok(hashes)
 }
 
-// Reports whether the result is two different strings with one hash.
+// Reports whether the result is two different strings with the same hash.
 fn is_true_collision<H: NodeHash>(h: &H, answer: &Result<Evidence, EvidenceFault>) -> bool {
     match answer {
         Ok(Evidence::Collision(a, b)) => {
@@ -148,7 +148,7 @@ fn differ_in_one_hash(answer: &Result<Evidence, EvidenceFault>) -> bool {
     }
 }
 
-// A list of leaves that all have one hash, under the hash of zeros.
+// A list of leaves that all have the same hash, under the hash of zeros.
 #[derive(Drop)]
 struct Listed {
     leaves: Vec<Vec<u8>>,
