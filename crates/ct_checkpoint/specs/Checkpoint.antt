@@ -21,8 +21,11 @@ IsWithinLine bytes = All (λ b. b ≢ 10) bytes
 abbrev pub IsRootOfTree : List ℕ → Type 0
 IsRootOfTree root = (length root ≡ 32) × IsBytes root
 
--- The text is that of a checkpoint with this origin, size and root: the origin is not empty (named) and is one line (line), the size is
--- below 2^64 (size), the root has 32 bytes (root), and the text is the one that is written for them (text).
+-- The text is that of a checkpoint with this origin, size and root:
+-- - the origin is not empty (named) and is one line (line),
+-- - the size is below 2^64 (size),
+-- - the root has 32 bytes (root),
+-- - and the text is the one that is written for them (text_is).
 pub record IsCheckpoint (origin : List ℕ) (tree_size : ℕ) (tree_root text : List ℕ) : Type 0 where
   pub named : 0 < length origin
   pub line : IsWithinLine origin

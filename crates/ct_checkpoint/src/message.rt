@@ -4,8 +4,9 @@ ghost use Rattle.ct_checkpoint.specs.Message.{cosignature_message};
 
 use std::alloc::{AllocError, Global};
 
-/// The bytes under a cosignature (C2SP tlog-cosignature) with this timestamp, in seconds since 1970, over a checkpoint's text: the note's
-/// text with its last line end, and without the empty line and the signatures after it. They are UTF-8, and end with the text.
+/// The bytes under a cosignature (C2SP tlog-cosignature) with this timestamp, in seconds since 1970, over a checkpoint's text. The text is
+/// the note's text with its last line end, and without the empty line and the signatures after it. The bytes are UTF-8, and end with the
+/// text.
 ///
 /// # Errors
 ///

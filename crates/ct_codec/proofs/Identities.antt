@@ -36,7 +36,7 @@ refuted : (b : Bool) → (b ≡ true → ⊥) → false ≡ b
 refuted true f = absurd (f refl)
 refuted false f = refl
 
--- entries with the same type and the same key hash have the same identity if the same is signed
+-- entries with the same type and the same key hash have the same identity if their signed parts are the same
 pub same_signed : (s t : Submitted) → IsEntry (entry_of s) → IsEntry (entry_of t) → type_of (entry_of s) ≡ type_of (entry_of t)
     → key_hash_of (entry_of s) ≡ key_hash_of (entry_of t)
     → bytes_eq (signed_of (entry_of s)) (signed_of (entry_of t)) ≡ bytes_eq (identity_of s) (identity_of t)

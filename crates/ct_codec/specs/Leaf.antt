@@ -74,15 +74,15 @@ AreCertificates y = (cs : List (List ℕ)) × AllByRecursion IsCertificate cs ×
 abbrev pub chain_text : List (List ℕ) → List ℕ
 chain_text cs = vec 3 (chain_bytes cs)
 
--- b is the text of the chain of these certificates, all in range: each has 1 to 2^24 - 1 bytes, and with their lengths they have at most
--- that many in all (RFC 6962, section 3.1 and 4.6)
+-- b is the text of the chain of these certificates. All are in range: each has 1 to 2^24 - 1 bytes, and together with their lengths they
+-- have at most 2^24 - 1 bytes (RFC 6962, section 3.1 and 4.6)
 pub record ChainText (cs : List (List ℕ)) (b : List ℕ) : Type 0 where
   pub certificates : AllByRecursion IsCertificate cs
   pub fits : length (chain_bytes cs) < 2 ^ 24
   pub text : b ≡ chain_text cs
 
 -- b is the text of a precertificate c and of the chain after it (PrecertChainEntry): the certificate vector of c, which is not empty,
--- followed by the text of the chain of cs, all in range (RFC 6962, section 3.1 and 4.6)
+-- followed by the text of the chain of cs. All are in range (RFC 6962, section 3.1 and 4.6)
 pub record PreChainText (c : List ℕ) (cs : List (List ℕ)) (b : List ℕ) : Type 0 where
   pub precertificate : IsCertificate c
   pub chain : ChainText cs (chain_text cs)

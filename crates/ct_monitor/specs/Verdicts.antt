@@ -39,8 +39,10 @@ abbrev pub IsGrownLater : Option Head → Head → Type 0
 IsGrownLater None head = ⊤
 IsGrownLater (Some known) head = (known.tree_size < head.tree_size) × (known.timestamp < head.timestamp)
 
--- the verdict on a head compared with the leaves D: accepted, if it is their head; a root mismatch, with the root of D, if it has their
--- number of leaves and a different root; pending, if it has a different number of leaves
+-- the verdict on a head compared with the leaves D:
+-- - accepted, if it is their head;
+-- - a root mismatch, with the root of D, if it has their number of leaves and a different root;
+-- - pending, if it has a different number of leaves
 abbrev pub LeavesSay : (List ℕ → List ℕ) → List (List ℕ) → Head → Verdict → Type 0
 LeavesSay H D head Accepted = (head.tree_size ≡ length D) × (head.root ≡ mth_of_leaves H D)
 LeavesSay H D head (RootMismatch root) = (head.tree_size ≡ length D) × (root ≡ mth_of_leaves H D) × (¬ (head.root ≡ root))

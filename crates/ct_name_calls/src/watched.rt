@@ -64,8 +64,8 @@ fn text_of(alloc: Global, names: &[Name<'_>], watched: &[&[u8]]) -> Result<Vec<u
     Ok(text)
 }
 
-/// Returns the bytes of the watched names that are found in an entry's certificate or TBSCertificate: the position of each one in the list,
-/// and the kind of names in which it is found, which is subjectAltName or only a common name.
+/// Returns the bytes of the watched names that are found in an entry's certificate or TBSCertificate. They are the position of each one in
+/// the list, and the kind of names in which it is found: subjectAltName, or only a common name.
 ///
 /// # Errors
 ///

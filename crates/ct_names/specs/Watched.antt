@@ -32,8 +32,8 @@ abbrev pub host_told : Option (List ℕ) → List ℕ → Bool
 host_told None w = false
 host_told (Some h) w = told_for h w
 
--- whether a name of this kind with these bytes matches a watched one: a common name or a dNSName by its characters, a mail address and a
--- URI by their host, and an IP address by its text
+-- whether a name of this kind with these bytes matches a watched one: a common name or a dNSName by its characters, a mail address or a URI
+-- by its host, and an IP address by its text
 unfoldable pub kind_told : NameKind → List ℕ → List ℕ → Bool
 kind_told Common b w = told_for b w
 kind_told WideCommon b w = told_for (narrow b) w

@@ -19,8 +19,8 @@ abbrev pub IsHashedInAudit : (List ℕ → List ℕ) → List (List ℕ) → Lis
 IsHashedInAudit H D leaf m p s =
     Contains ((0 ∷ leaf) ∷ path_strings H m (length D) (hash_leaf H leaf) p) s ⊎ IsHashedIn H D s
 
--- An audit path p that is accepted to the root of the list D shows that the leaf is the element of D at index m, and is its PATH; or
--- two strings that are hashed collide.
+-- If an audit path p is accepted to the root of the list D, the leaf is the element of D at index m, and p is its PATH; or two strings that
+-- are hashed collide.
 abbrev pub AcceptedPathIsPath : Type 0
 AcceptedPathIsPath =
     (H : List ℕ → List ℕ) → ((x : List ℕ) → length (H x) ≡ 32) → (D : List (List ℕ)) (leaf : List ℕ) (m : ℕ) (p : List (List ℕ))
@@ -32,8 +32,8 @@ abbrev pub IsHashedBetween : (List ℕ → List ℕ) → List (List ℕ) → Lis
 IsHashedBetween H E D p s =
     Contains (proof_strings H (length E) (length D) true (mth_of_leaves H E) p) s ⊎ (IsHashedIn H E s ⊎ IsHashedInLog H D s)
 
--- A consistency proof p (elements of 32 bytes) that is accepted between the roots of two lists shows that the old list E begins the new
--- list D; or two strings that are hashed collide.
+-- If a consistency proof p (elements of 32 bytes) is accepted between the roots of two lists, the old list E begins the new list D; or two
+-- strings that are hashed collide.
 abbrev pub AcceptedProofIsOfBeginning : Type 0
 AcceptedProofIsOfBeginning =
     (H : List ℕ → List ℕ) → ((x : List ℕ) → length (H x) ≡ 32) → (E D p : List (List ℕ)) → AreHashes p

@@ -5,8 +5,8 @@ use Rattle.ct_verify.specs.Laws.{AreHashes}
 use Rattle.ct_verify.specs.Verdict.{AcceptsConsistency}
 use Rattle.ct_older_tree.specs.Hashed.{CollideAmong, IsHashedIn, proof_strings}
 
--- if a consistency proof p of elements of 32 bytes leads from size m and root x to MTH of the leaves D, then x is MTH of the first m of
--- them; or two strings collide that are hashed when the proof is checked or in the tree of D. Nothing is required of x
+-- Let a consistency proof p of elements of 32 bytes lead from size m and root x to MTH of the leaves D. Then x is MTH of the first m of
+-- them, or two strings collide that are hashed when the proof is checked or in the tree of D. Nothing is required of x.
 abbrev pub ProofGoesBack : Type 0
 ProofGoesBack =
     (H : List ℕ → List ℕ) → ((x : List ℕ) → length (H x) ≡ 32) → (D p : List (List ℕ)) (m : ℕ) (x : List ℕ) → AreHashes p

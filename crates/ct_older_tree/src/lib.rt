@@ -17,8 +17,8 @@ ghost use Rattle.ct_older_tree.specs.ListLaws.{OneRootIsOfOneList, AcceptedPathI
 ghost use Rattle.ct_older_tree.specs.OlderTree.{ProofGoesBack};
 ghost use Rattle.ct_older_tree.specs.Shown.{OneHeadShowsOneLeaf, ConsistentHeadsShowOneLeaf};
 
-/// If a consistency proof (RFC 6962, section 2.1.2) from a size and root to the tree of a list of leaves is accepted, that root is the root
-/// of that many first leaves of the list, or two of the hashed strings collide.
+/// Let a consistency proof (RFC 6962, section 2.1.2) from a size and root to the tree of a list of leaves be accepted. Then that root is
+/// the root of that many first leaves of the list, or two of the hashed strings collide.
 #[tactic(auto, using(crate::proofs::OlderTree::proof_goes_back))]
 pub fn proof_goes_back()
     ensures { ProofGoesBack }
@@ -34,8 +34,8 @@ pub fn lists()
     ensures proof { AcceptedProofIsOfBeginning }
 {}
 
-/// Two leaves that two clients are shown at the same index are the same leaf, if both hold the same head, or heads between which there is a
-/// consistency proof (RFC 6962, section 2.1.2); or two of the hashed strings collide.
+/// Two leaves that two clients are shown at the same index are the same leaf, or two of the hashed strings collide. This holds if both
+/// clients hold the same head, or heads between which there is a consistency proof (RFC 6962, section 2.1.2).
 #[tactic(auto, using(crate::proofs::Viewing::one_head_shows_one_leaf, crate::proofs::Viewing::consistent_heads_show_one_leaf))]
 pub fn heads()
     ensures one { OneHeadShowsOneLeaf }

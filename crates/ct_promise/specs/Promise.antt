@@ -72,7 +72,7 @@ GivesPromise view (Err e) read = FailsPromise e read
 abbrev pub IsEntryOf : List ℕ → List ℕ → Type 0
 IsEntryOf b c = (p : Parts) × IsParted poison_identifier p b × (p.cut ≡ poison_text) × IsWithout p c
 
--- The leaf is the one that a timestamp t embedded in a certificate promises, with extensions x: it consists of the certificate's
+-- The leaf is the one that a timestamp t embedded in a certificate promises, with extensions x. It consists of the certificate's
 -- TBSCertificate without the list of timestamps, and SHA-256 of the issuer's key (RFC 6962, 3.2 to 3.4).
 pub record IsPromised (certificate issuer : List ℕ) (t : ℕ) (x leaf : List ℕ) : Type 0 where
   pub tbs : List ℕ

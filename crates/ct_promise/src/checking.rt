@@ -9,8 +9,8 @@ use ct_tree::{Sha256Hash, leaf_hash};
 use ct_verify::verify_inclusion;
 use std::alloc::Global;
 
-/// Checks that the leaf that a timestamp embedded in a certificate promises, with this timestamp and these extensions, is at an index of a
-/// tree of `size` leaves with this root, by an audit path (RFC 6962, section 2.1.1).
+/// Checks that a promised leaf is in a tree, by an audit path (RFC 6962, section 2.1.1). The leaf is the one that a timestamp embedded in
+/// the certificate promises, with this timestamp and these extensions. The path leads from it, at the index, to this root of `size` leaves.
 ///
 /// # Errors
 ///

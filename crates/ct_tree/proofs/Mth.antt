@@ -96,7 +96,7 @@ level_two H (x ∷ y ∷ []) e =
     mth-split_at H (x ∷ y ∷ []) 1 (omega arith) split_two
     ∙ rw (mth-one H x, mth-one H y) (sym (mth-one H (hash_node H x y)))
 
--- MTH is that of the list one level up: D of more than two leaves
+-- MTH of the list equals MTH of the list one level up, for a list D of more than two leaves
 level_more : (H : List ℕ → List ℕ) (D : List (List ℕ)) → 2 < length D
     → mth H (take (split (length D)) D) ≡ mth H (level H (take (split (length D)) D))
     → mth H (drop (split (length D)) D) ≡ mth H (level H (drop (split (length D)) D))

@@ -106,7 +106,7 @@ root-with_none : (H : List ℕ → List ℕ) (D : List (List ℕ)) (r : List ℕ
 unfolding root_of_peaks
 root-with_none H D r e = let f : D ≡ [] = nil_from_length D e in rw (f, peaks-nil H) (sym (mth-one H r))
 
--- the roots of the perfect subtrees of D, and one more node r, give the root of D and the leaf r
+-- the roots of the perfect subtrees of D and one more node r yield the root of D followed by the leaf r
 root-with : (H : List ℕ → List ℕ) (n : ℕ) (D : List (List ℕ)) (r : List ℕ) → length D ≡ n → root_of_peaks H (peaks H D ++ r ∷ []) ≡ mth H (D ++ r ∷ [])
 root-with H =
     bin_ind (λ n. (D : List (List ℕ)) (r : List ℕ) → length D ≡ n → root_of_peaks H (peaks H D ++ r ∷ []) ≡ mth H (D ++ r ∷ []))

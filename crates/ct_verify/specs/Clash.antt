@@ -18,7 +18,7 @@ clash H a b = clash_by (H a) (H b) a b
 abbrev pub root_string : (List ℕ → List ℕ) → ℕ → List (List ℕ) → List ℕ
 root_string H k D = 1 ∷ mth_of_leaves H (take k D) ++ mth_of_leaves H (drop k D)
 
--- the first clash of two lists of equal length: the clash of two leaves at the same index, or of the two nodes over one part; the left part
+-- the first clash of two lists of equal length: the clash of two leaves at the same index, or of the two nodes over one part. The left part
 -- comes before the right one, and both come before the node over them
 pub data ClashOfLists (H : List ℕ → List ℕ) : List (List ℕ) → List (List ℕ) → Option (List ℕ × List ℕ) → Type 0 where
   leaf : {E D : List (List ℕ)} {found : Option (List ℕ × List ℕ)} (e d : List ℕ) → E ≡ e ∷ [] → D ≡ d ∷ []
@@ -29,10 +29,10 @@ pub data ClashOfLists (H : List ℕ → List ℕ) : List (List ℕ) → List (Li
       → found ≡ option_or (option_or left right) (clash H (root_string H k E) (root_string H k D))
       → ClashOfLists H E D found
 
--- the first clash along a proof p from E to D: two strings that differ and have the same hash. The proof, the old list and the new list
--- hash such strings, and each of the two comes from a different one of these. If b is true, r is the root of E. Let p = q : s, and let x
--- and y be the roots that q yields. The strings below the node over D come first. If E is within the left part, the proof's node is 01 || y
--- || s. Otherwise the proof's nodes are 01 || s || x over E and 01 || s || y over D
+-- the first clash along a proof p from E to D: two strings that differ and have the same hash. Each of the two is hashed by a different one
+-- of these: the proof, the old list, the new list. If b is true, r is the root of E. Let p = q : s, and let x and y be the roots that q
+-- yields. The strings below the node over D come first. If E is within the left part, the proof's node is 01 || y || s. Otherwise the
+-- proof's nodes are 01 || s || x over E and 01 || s || y over D
 pub data ClashAlong (H : List ℕ → List ℕ) : Bool → List ℕ → List (List ℕ) → List (List ℕ) → List (List ℕ) → Option (List ℕ × List ℕ) → Type 0 where
   whole : {b : Bool} {r : List ℕ} {E D p : List (List ℕ)} {found : Option (List ℕ × List ℕ)}
       → length E ≡ length D → ClashOfLists H E D found → ClashAlong H b r E D p found

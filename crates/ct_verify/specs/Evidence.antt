@@ -18,9 +18,8 @@ abbrev pub compared_with : Option (List ℕ) → (List ℕ → List ℕ) → Lis
 compared_with None string listed below = None
 compared_with (Some r) string listed below = compared (string r) listed below
 
--- going down from the root by the path q, from its last element to its first: at n > 1 the proof's string
--- 01 || left || right against the list's 01 || MTH(D[0:k]) || MTH(D[k:n]), at n = 1 the proof's 00 || leaf against the
--- list's 00 || d0
+-- going down from the root by the path q, from its last element to its first. At n > 1 the proof's string 01 || left || right is compared
+-- with the list's 01 || MTH(D[0:k]) || MTH(D[k:n]); at n = 1 the proof's 00 || leaf with the list's 00 || d0
 unfoldable pub evid_down : (List ℕ → List ℕ) → List (List ℕ) → List ℕ → ℕ → List (List ℕ) → Option (List ℕ × List ℕ)
 evid_down H D leaf m [] = compared (0 ∷ leaf) (0 ∷ get_or D 0 []) None
 evid_down H D leaf m (s ∷ q) =

@@ -1,6 +1,9 @@
--- The laws of the verifiers' definitions: the equations of `rebuild` and `both_roots`; when these two are defined; that every proof of RFC
--- 6962 is accepted; that no accepted proof is refused; and that no proof is refused in two ways. H is any hash function on byte lists, k
--- the largest power of two smaller than n, and q : s is the path q ++ s ∷ [].
+-- The laws of the verifiers' definitions. H is any hash function on byte lists, k the largest power of two smaller than n, and q : s is the
+-- path q ++ s ∷ []. The laws state
+-- - the equations of `rebuild` and `both_roots`, and when these two are defined,
+-- - that every proof of RFC 6962 is accepted,
+-- - that no accepted proof is refused,
+-- - and that no proof is refused in two ways.
 use Rattle.std.specs.Prelude.{◌≡◌, ℕ, ◌-◌, ◌<◌, ◌≤◌, ◌↔◌, Bool, true, false, List, [], ◌∷◌, ◌++◌, length, take, get_or, Some, None, IsSome, All, ◌⊎◌}
 use Rattle.std.specs.Option.{option_map}
 use Rattle.ct_tree.specs.Tree.{split, hash_leaf, hash_node, mth, mth_of_leaves, path, proof}

@@ -16,8 +16,8 @@ rebuild_down H m n h (s ∷ q) =
     else option_map (λ r. hash_node H s r) (rebuild_down H (m - k) (n - k) h q))
     else None
 
--- the root of n leaves that the path p yields for the leaf hash h at index m, for m < n, from the root down; none if p does not have the
--- length of PATH (own form of RFC 6962, section 2.1.1)
+-- the root of n leaves that the path p yields for the leaf hash h at index m, for m < n, from the root down. There is none if p does not
+-- have the length of PATH (own form of RFC 6962, section 2.1.1)
 unfoldable pub rebuild : (List ℕ → List ℕ) → ℕ → ℕ → List ℕ → List (List ℕ) → Option (List ℕ)
 rebuild H m n h p = rebuild_down H m n h (reverse p)
 
@@ -36,7 +36,7 @@ both_down H m n b r (s ∷ q) =
     else option_map (λ (x, y). (x, hash_node H y s)) (both_down H m k b r q))
     else (if b then None else same_pair s q)
 
--- the roots of the first m leaves and of all n that the consistency proof p yields, for 0 < m, m ≤ n, from the root down; if b is true, r
+-- the roots of the first m leaves and of all n that the consistency proof p yields, for 0 < m, m ≤ n, from the root down. If b is true, r
 -- is the root of the first m (own form of RFC 6962, section 2.1.2)
 unfoldable pub both_roots : (List ℕ → List ℕ) → ℕ → ℕ → Bool → List ℕ → List (List ℕ) → Option (List ℕ × List ℕ)
 both_roots H m n b r p = both_down H m n b r (reverse p)

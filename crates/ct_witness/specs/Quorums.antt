@@ -41,7 +41,7 @@ QuorumsAgree =
     → length ws + f < j + k → (a b : Tree) → AtLeast (IsCosigned a) j ws → AtLeast (IsCosigned b) k ws → a.size ≤ b.size
     → (D : List (List ℕ)) → IsTreeOf H D b → IsTreeOfFirst H D a ⊎ CollideAmong H (IsHashedByAny H ws D)
 
--- With the same n, f, j and k: if j of the witnesses cosigned the tree h last, and h is the tree of a list, each tree a that k of them
+-- The same witnesses and numbers. If j of the witnesses cosigned the tree h last, and h is the tree of a list, each tree a that k of them
 -- cosigned is the tree of a prefix of that list; or two of the hashed strings collide.
 abbrev pub StartsBehindNone : Type 0
 StartsBehindNone =
@@ -49,8 +49,8 @@ StartsBehindNone =
     → length ws + f < j + k → (h a : Tree) → AtLeast (λ w. newest_tree (no_tree H) w ≡ h) j ws → AtLeast (IsCosigned a) k ws
     → (D : List (List ℕ)) → IsTreeOf H D h → IsTreeOfFirst H D a ⊎ CollideAmong H (IsHashedByAny H ws D)
 
--- The bound is exact. If n + f < j + k does not hold, and j, k <= n <= j + k, any two trees that have leaves can be cosigned by j and by k
--- of n witnesses, at most f of which are faulty.
+-- The bound is exact. If n + f < j + k does not hold, j and k are at most n, and n <= j + k, then any two trees that have leaves can be
+-- cosigned by j and by k of n witnesses, at most f of which are faulty.
 abbrev pub BoundIsExact : Type 0
 BoundIsExact =
     (H : List ℕ → List ℕ) (n f j k : ℕ) → j ≤ n → k ≤ n → n ≤ j + k → j + k ≤ n + f → (a b : Tree) → 0 < a.size → 0 < b.size

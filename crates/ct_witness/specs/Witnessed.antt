@@ -5,8 +5,10 @@ use Rattle.ct_witness.specs.declared.tree.Tree.{Tree}
 use Rattle.ct_witness.specs.declared.refusal.WitnessRefusal.{WitnessRefusal}
 use Rattle.ct_witness.specs.declared.refusal.WitnessRefusal.TheVariants.{OldAbove, NotLast, Fork, ProofNotEmpty, Inconsistent}
 
--- the tree extends the last one by the proof p: both have the same size and the same root, and there is no proof; or the last has no
--- leaves, this one has some, and there is no proof; or the consistency proof is accepted
+-- the tree extends the last one by the proof p, in one of three ways:
+-- - both have the same size and the same root, and there is no proof;
+-- - the last has no leaves, this one has some, and there is no proof;
+-- - the consistency proof is accepted
 abbrev pub TreeGoesOn : (List ℕ → List ℕ) → Tree → Tree → List (List ℕ) → Type 0
 TreeGoesOn H last tree p =
     ((tree.size ≡ last.size) × (tree.root ≡ last.root) × (p ≡ [])) ⊎ (((last.size ≡ 0) × (0 < tree.size) × (p ≡ []))

@@ -1,6 +1,10 @@
-// Forged audit paths and consistency proofs of the sizes 1 to 9 under SHA-256: an element left out, doubled, swapped with another or with
-// one bit changed; an index or a size that differs by one; a leaf or root with one bit changed. The expected results are computed from the
-// root down, by the recursions of RFC 6962, sections 2.1.1 and 2.1.2, while the verifiers go up from the leaf.
+// Forged audit paths and consistency proofs of the sizes 1 to 9 under SHA-256, each with one of these changes:
+// - an element left out, doubled, swapped with another or with one bit changed,
+// - an index or a size that differs by one,
+// - a leaf or root with one bit changed.
+//
+// The expected results are computed from the root down, by the recursions of RFC 6962, sections 2.1.1 and 2.1.2, while the verifiers go up
+// from the leaf.
 //
 // Python computed the numbers of proofs, and of accepted ones. Accepted are the 45 true paths and 36 true proofs, and in 44 and 48 cases
 // the same ones at another index or size for which they use the same sides. A path does not prove the size of its tree: the tree head does.
