@@ -113,7 +113,7 @@ pub fn root_at<H: NodeHash, S: NodeSource<H>>(h: &H, source: &S, n: u64) -> [u8;
 }
 
 /// The audit path of the leaf at index `m` in the tree of the first `n` leaves (PATH of RFC 6962, section 2.1.1). The hash nearest the root
-/// is the last one. It asks for at most two nodes per level, and takes memory once, for the result.
+/// is the last one. The call asks for at most two nodes per level, and takes memory once, for the result.
 pub fn path<A: Allocator, H: NodeHash, S: NodeSource<H>>(
     alloc: A,
     h: &H,
@@ -146,7 +146,7 @@ pub fn path<A: Allocator, H: NodeHash, S: NodeSource<H>>(
 }
 
 /// The consistency proof from the tree of the first `m` leaves to that of the first `n` (PROOF of RFC 6962, section 2.1.2). The hash
-/// nearest the root is the last one. It asks for at most two nodes per level, and takes memory once, for the result.
+/// nearest the root is the last one. The call asks for at most two nodes per level, and takes memory once, for the result.
 pub fn proof<A: Allocator, H: NodeHash, S: NodeSource<H>>(
     alloc: A,
     h: &H,
