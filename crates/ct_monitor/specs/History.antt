@@ -12,7 +12,7 @@ abbrev pub SaysAccepted : Verdict → Type 0
 SaysAccepted Accepted = ⊤
 SaysAccepted v = ⊥
 
--- a head or entries, their verdict v, and the data handed out afterwards (a proof changes nothing)
+-- a head or entries, their verdict v, and the data that was handed out up to then (a proof changes nothing)
 abbrev pub IsStep : (List ℕ → List ℕ) → Watched → Verdict → Watched → Type 0
 IsStep H w v next = ((head : Head) × HeadSays H w head v × (next ≡ after_verdict w (waiting_or w.waiting head) v))
     ⊎ ((start : ℕ) × (E : List (List ℕ)) × EntriesSay H w w.waiting start E v × (next ≡ after_entries w w.waiting E v))
@@ -22,7 +22,7 @@ unfoldable pub AreSteps : (List ℕ → List ℕ) → Watched → List (Verdict 
 AreSteps H w [] = ⊤
 AreSteps H w (s ∷ steps) = IsStep H w s.0 s.1 × AreSteps H s.1 steps
 
--- the data handed out after the last of these steps
+-- the data that was handed out up to the last of these steps
 abbrev pub after_steps : Watched → List (Verdict × Watched) → Watched
 after_steps w [] = w
 after_steps w (s ∷ steps) = after_steps s.1 steps

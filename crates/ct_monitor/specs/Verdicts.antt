@@ -65,7 +65,7 @@ EntriesSay H w None start E v = v ≡ Gap
 EntriesSay H w (Some head) start E v = ((v ≡ Gap) × (¬ (start ≡ length (leaves_read w))))
     ⊎ ((start ≡ length (leaves_read w)) × WaitingSays H (read_on w head E) head v)
 
--- the data handed out after these entries and the verdict on them
+-- the data that was handed out up to these entries and the verdict on them
 abbrev pub after_entries : Watched → Option Head → List (List ℕ) → Verdict → Watched
 after_entries w None E v = w
 after_entries w (Some head) E Gap = w

@@ -30,8 +30,8 @@ with_more D head E = D ++ take (head.tree_size - length D) E
 abbrev pub read_on : Watched → Head → List (List ℕ) → Watched
 read_on w head E = record w { ahead = w.ahead ++ take (head.tree_size - length (leaves_read w)) E }
 
--- the data handed out after a verdict on the waiting head. The head is accepted with all leaves that were read, or it is discarded with the
--- leaves that were not accepted, or it keeps waiting
+-- the data that was handed out, after a verdict on the waiting head. The head is accepted with all leaves that were read, or it is
+-- discarded with the leaves that were not accepted, or it keeps waiting
 abbrev pub after_verdict : Watched → Head → Verdict → Watched
 after_verdict w head Accepted = record { accepted = Some head; sure = leaves_read w; waiting = None; ahead = [] }
 after_verdict w head (RootMismatch root) = record w { waiting = None; ahead = [] }

@@ -131,8 +131,8 @@ impl<H: NodeHash + Drop, A: Allocator + Clone> Follower<H, A> {
     ///
     /// # Errors
     ///
-    /// The errors that [`Monitor::observe`](crate::Monitor::observe) returns if it keeps the leaves, in its order. An error changes
-    /// nothing.
+    /// The errors that [`Monitor::observe`](crate::Monitor::observe) of a monitor that keeps these leaves returns, in its order. An error
+    /// changes nothing.
     pub fn observe<L: Allocator>(
         &mut self,
         head: Head,

@@ -180,7 +180,7 @@ impl<H: NodeHash + Drop> Watcher<H> {
     }
 
     /// Takes a tree head. If it is larger and later than the accepted and the waiting head, and no head waited, it waits from then on. If
-    /// another head waited, that one keeps waiting and the verdict is about it.
+    /// another head waited, the verdict is about that one.
     ///
     /// # Errors
     ///

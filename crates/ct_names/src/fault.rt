@@ -10,7 +10,7 @@ use thiserror::Error;
 /// Why there are no names.
 #[derive(Clone, Copy, Debug, PartialEq, Eq, Error)]
 pub enum NamesFault {
-    /// The bytes are not a certificate, or a TBSCertificate, in the grammar of `specs/Certificate.antt`. It has the first fault that
+    /// The bytes are not a certificate, or a TBSCertificate, in the grammar of `specs/Certificate.antt`. The value is the first fault that
     /// reading finds. Reading goes through the frame of the certificate, the frame of the TBSCertificate, the subject and then the
     /// extensions.
     #[error("{0}")]
