@@ -179,8 +179,8 @@ impl<H: NodeHash + Drop> Watcher<H> {
         }
     }
 
-    /// Takes a tree head. If it is larger and later than the accepted and the waiting head, and no head waited, it waits from then on. If
-    /// another head waited, the verdict is about that one.
+    /// Takes a tree head. If it is larger and later than the accepted and the waiting head, and no head waited, it becomes the waiting
+    /// head. The verdict is then about the waiting head, which may be an earlier one.
     ///
     /// # Errors
     ///
