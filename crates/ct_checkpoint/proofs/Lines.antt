@@ -57,7 +57,7 @@ first_end text a b p e f =
       subst IsWithinLine (sym e) (within text),
     )
 
--- what `split_once` at a line end gives
+-- the result of `split_once` at a line end
 pub line_cut : (text : List ℕ) (r : Option (Bor (List ℕ) × Bor (List ℕ)))
     → MatchOption r (position_or_len is_end text ≡ length text)
     (λ x. (position_or_len is_end text < length text) × (x.0.now ≡ before_first is_end text) × (x.1.now ≡ after_first is_end text))
@@ -73,7 +73,7 @@ uncut (b ∷ text) none =
     (λ e. none [] text (ap (λ (n : ℕ). n ∷ text) e))
     (uncut text (λ line rest e. none (b ∷ line) rest (ap (λ (xs : List ℕ). b ∷ xs) e)))
 
--- where it isn't cut
+-- if the text is not cut
 pub none_cut : (text : List ℕ) (r : Option (Bor (List ℕ) × Bor (List ℕ)))
     → MatchOption r (position_or_len is_end text ≡ length text)
     (λ x. (position_or_len is_end text < length text) × (x.0.now ≡ before_first is_end text) × (x.1.now ≡ after_first is_end text))
@@ -103,13 +103,13 @@ digits_within (c ∷ cs) h =
 number_within : (n : ℕ) → n < 2 ^ 64 → IsWithinLine (decimal n)
 number_within n h = digits_within (decimal n) (decimal_is_IsNumeral n h).0.1
 
--- what reading a number gives
+-- the result of reading a number
 pub number_read : {E : Type 0} (text : List ℕ) (r : Result ℕ E) (o : Option ℕ) → ParsesUnsigned 64 10 text r → o ≡ result_ok r
     → MatchOption o ((n : ℕ) → n < 2 ^ 64 → text ≡ decimal n → ⊥) (λ k. (n : ℕ) → n < 2 ^ 64 → text ≡ decimal n → n ≡ k)
 number_read text r None p e = λ n h t. let is = parse-decimal 64 n text r h h t p in let none : None ≡ Some n = e ∙ ap result_ok is in cc
 number_read text r (Some k) p e = λ n h t. let is = parse-decimal 64 n text r h h t p in let some : Some k ≡ Some n = e ∙ ap result_ok is in cc
 
--- what reading a number says of the text
+-- the conclusion about the text from the result of reading a number
 pub number_is : {E : Type 0} (text : List ℕ) (r : Result ℕ E) (o : Option ℕ) → ParsesUnsigned 64 10 text r → o ≡ result_ok r
     → MatchOption o ((n : ℕ) → IsNumber n text → ⊥) (λ n. IsNumber n text)
 number_is text (Ok x) None p e = absurd (none-some x e)
@@ -134,7 +134,7 @@ pub no_lines : (origin : List ℕ) (tree_size : ℕ) (tree_root text : List ℕ)
 unfolding checkpoint_text
 no_lines origin n root text c none = none origin (decimal n ++ 10 ∷ (encode_of standard root ++ 10 ∷ [])) c.text_is
 
--- the number and what stands behind it
+-- the number and the text after it
 pub number_and_rest : (tree_size : ℕ) (tree_root behind number rest : List ℕ) → tree_size < 2 ^ 64
     → behind ≡ decimal tree_size ++ 10 ∷ (encode_of standard tree_root ++ 10 ∷ []) → behind ≡ number ++ 10 ∷ rest → IsWithinLine number
     → (number ≡ decimal tree_size) × (rest ≡ encode_of standard tree_root ++ 10 ∷ [])
@@ -146,7 +146,7 @@ never_both : {X Y : Type 0} (r : Result X Y) (x : X) (y : Y) → r ≡ Ok x → 
 never_both (Ok a) x y e f = cc
 never_both (Err b) x y e f = cc
 
--- what isn't decoded is nothing's base64
+-- a text that is not decoded is no byte string's base64
 pub undecoded : (text root : List ℕ) (error : DecodeAllocError) → of_decoding error ≢ Memory → IsDecodeFailure standard text error
     → decode_of standard text ≡ Ok root → ⊥
 undecoded text root (Failed why) is failed ok = never_both (decode_of standard text) root why ok failed
@@ -160,7 +160,7 @@ failed_test true A B m e = absurd (the_false e)
     the_false e = cc
 failed_test false A B m e = m
 
--- a checkpoint's text is written for the parts that were read
+-- a checkpoint's text is the text that is written for the parts that were read
 pub as_written : (origin : List ℕ) (tree_size : ℕ) (tree_root text first written root : List ℕ) (number : ℕ)
     → IsCheckpoint origin tree_size tree_root text → origin ≡ first → tree_size ≡ number → tree_root ≡ root
     → written ≡ checkpoint_text first number root
@@ -169,7 +169,7 @@ as_written origin n tree_root text first written root number c e f g w =
     w ∙ ap (λ (x : List ℕ). checkpoint_text x number root) (sym e) ∙ ap (λ (m : ℕ). checkpoint_text origin m root) (sym f)
     ∙ ap (λ (x : List ℕ). checkpoint_text origin n x) (sym g) ∙ sym c.text_is
 
--- where no root's base64 follows, that is the fault, unless memory was refused
+-- if no root's base64 follows, that is the fault, unless memory was refused
 pub root_fault : (fault : CheckpointFault) (text origin rest behind : List ℕ) (n : ℕ) → IsOriginOf text origin rest → HasSize rest n behind
     → (fault ≡ BadRoot) ⊎ (fault ≡ Memory)
     → (fault ≢ Memory → (root : List ℕ) (last : ℕ) → IsRootOfTree root → behind ≡ encode_of standard root ++ last ∷ [] → ⊥)
@@ -183,7 +183,7 @@ root_fault fault text origin rest behind n o s (inl is) none =
 root_fault fault text origin rest behind n o s (inr is) none =
     subst (λ (f : CheckpointFault). IsCheckpointFault f text) (sym is) (origin, rest, n, behind, o, s)
 
--- what isn't empty has bytes
+-- a line that is not empty has bytes
 pub has_bytes : (line : List ℕ) (t : Bool) → t ≡ (length line == 0) → t ≡ false → 0 < length line
 has_bytes [] t e f = absurd (the_true (sym e ∙ f))
   where

@@ -1,4 +1,4 @@
--- What a cosignature's message says.
+-- The contents of a cosignature's message.
 use Rattle.std.proofs.Common.{refl, ⊎_elim, cond, Bool, true, false, ◌==◌, ◌≡◌, ◌≢◌, ◌<◌, ◌^◌, ◌∙◌, ℕ, List, [], ◌∷◌, ◌++◌, Ok, codes, decimal, sym, ap, arith}
 use Rattle.std.specs.Str.Parse.{AllDigits, IsNumeral, digits_value}
 use Rattle.std.proofs.lemmas.Bool.{cases_Bool, cond-true, cond-false, eq-eqb}
@@ -12,7 +12,7 @@ use Rattle.ct_checkpoint.proofs.Lines.{one_first}
 use Rattle.ct_checkpoint.specs.Checkpoint.{checkpoint_text, IsWithinLine}
 use Rattle.ct_checkpoint.specs.Message.{cosignature_message, MessagesDiffer, CheckpointsDiffer, MessageIsNoCheckpoint}
 
--- what stands behind one beginning
+-- the text after one prefix
 behind_one : (a s t : List ℕ) → a ++ s ≡ a ++ t → s ≡ t
 behind_one [] s t e = e
 behind_one (x ∷ a) s t e =
@@ -29,7 +29,7 @@ digits_within (c ∷ cs) h =
 number_within : (n : ℕ) → n < 2 ^ 64 → IsWithinLine (decimal n)
 number_within n h = digits_within (decimal n) (decimal_is_IsNumeral n h).0.1
 
--- a number in decimal says the number
+-- a number in decimal determines the number
 one_number : (m n : ℕ) → m < 2 ^ 64 → n < 2 ^ 64 → decimal m ≡ decimal n → m ≡ n
 one_number m n h i e = sym (decimal_is_IsNumeral m h).1 ∙ ap (digits_value 10) e ∙ (decimal_is_IsNumeral n i).1
 
@@ -81,7 +81,7 @@ one_line (x ∷ xs) e =
     true_is_not : false ≡ true → ⊥
     true_is_not f = cc
 
--- a number's first digit isn't a letter
+-- a number's first digit is not a letter
 no_letter : (ds rest behind : List ℕ) → IsNumeral 10 ds → 116 ∷ rest ≡ ds ++ behind → ⊥
 no_letter [] rest behind is e = absurd (omega (arith, is.0))
 no_letter (c ∷ cs) rest behind is e =

@@ -21,8 +21,11 @@ IsWithinLine bytes = All (λ b. b ≢ 10) bytes
 abbrev pub IsRootOfTree : List ℕ → Type 0
 IsRootOfTree root = (length root ≡ 32) × IsBytes root
 
--- The text is that of a checkpoint with this origin, size and root: the origin has bytes (named) and is one line (line), the size is below
--- 2^64 (size), the root has 32 bytes (root), and the text is what is written for them (text).
+-- The text is that of a checkpoint with this origin, size and root:
+-- - the origin is not empty (named) and is one line (line),
+-- - the size is below 2^64 (size),
+-- - the root has 32 bytes (root),
+-- - and the text is the one that is written for them (text_is).
 pub record IsCheckpoint (origin : List ℕ) (tree_size : ℕ) (tree_root text : List ℕ) : Type 0 where
   pub named : 0 < length origin
   pub line : IsWithinLine origin
@@ -30,32 +33,35 @@ pub record IsCheckpoint (origin : List ℕ) (tree_size : ℕ) (tree_root text : 
   pub root : IsRootOfTree tree_root
   pub text_is : text ≡ checkpoint_text origin tree_size tree_root
 
--- the fault that a failure to decode is: the text is no base64, or a growth was refused
+-- the checkpoint fault for a failure to decode: the text is not base64, or memory was refused
 abbrev pub of_decoding : DecodeAllocError → CheckpointFault
 of_decoding (Failed why) = BadRoot
 of_decoding OutOfMemory = Memory
 
--- the text is read as this number, below 2^64: digits, and a plus may stand before them
+-- the text is read as this number, below 2^64: digits, with an optional plus before them
 abbrev pub IsNumber : ℕ → List ℕ → Type 0
 IsNumber n text = IsNumeral 10 (without_leading_plus text) × (digits_value 10 (without_leading_plus text) ≡ n) × (n < 2 ^ 64)
 
--- the text's first line, which has bytes, and what follows its end
+-- the text's first line, which is not empty, and the text after its end
 abbrev pub IsOriginOf : List ℕ → List ℕ → List ℕ → Type 0
 IsOriginOf text origin rest = (0 < length origin) × IsWithinLine origin × (text ≡ origin ++ (10 ∷ rest))
 
--- behind the origin there is no line that is a number: no line end, or a line that is none
+-- after the origin there is no line that is a number: there is no line end, or the line is not a number
 abbrev pub HasNoSize : List ℕ → Type 0
 HasNoSize rest =
     IsWithinLine rest ⊎ ((line : List ℕ) × (behind : List ℕ) × IsWithinLine line × (rest ≡ line ++ (10 ∷ behind)) × ((n : ℕ) → IsNumber n line → ⊥))
 
--- behind the origin there is a line that is this number, and this behind its end
+-- after the origin there is a line that is this number, and `behind` follows its end
 abbrev pub HasSize : List ℕ → ℕ → List ℕ → Type 0
 HasSize rest n behind = (line : List ℕ) × IsWithinLine line × (rest ≡ line ++ (10 ∷ behind)) × IsNumber n line
 
--- Why a text is no checkpoint's, the first fault from the left. BadOrigin: it has no line end, or begins with one. BadSize: behind an origin
--- there is no line that is a number. BadRoot: behind both stands no root's base64 with one byte behind it. NotAsWritten: there stands one, and the
--- text isn't what is written for the three, so its size begins with a plus or a zero too many, or its last byte is no line end. A growth may be
--- refused only behind an origin and a number.
+-- Why a text is not a checkpoint's, the first fault from the left.
+-- - BadOrigin: it has no line end, or begins with one.
+-- - BadSize: after an origin there is no line that is a number.
+-- - BadRoot: the text after both is not a root's base64 followed by one byte.
+-- - NotAsWritten: that text is such a base64 with one more byte, and the whole text is not the one that is written for the three. So the
+--   size begins with a plus or a superfluous zero, or the last byte is not a line end.
+-- - Memory: memory may be refused only after an origin and a number.
 abbrev pub IsCheckpointFault : CheckpointFault → List ℕ → Type 0
 IsCheckpointFault BadOrigin text = IsWithinLine text ⊎ ((rest : List ℕ) × (text ≡ 10 ∷ rest))
 IsCheckpointFault BadSize text = (origin : List ℕ) × (rest : List ℕ) × IsOriginOf text origin rest × HasNoSize rest

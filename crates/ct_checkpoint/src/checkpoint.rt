@@ -12,7 +12,7 @@ use base64::DecodeAllocError;
 use base64::engine::general_purpose::STANDARD;
 use std::alloc::{AllocError, Global};
 
-/// What a checkpoint says, where its origin stands.
+/// The contents of a checkpoint; the origin is borrowed from the text.
 #[derive(Clone, Copy, Debug, PartialEq, Eq)]
 pub struct Checkpoint<'a> {
     /// The log's origin: its name, as a URL without a scheme.
@@ -23,7 +23,7 @@ pub struct Checkpoint<'a> {
     pub root: [u8; 32],
 }
 
-/// The text of a checkpoint. That the origin is not empty and has no line end is the caller's to see to.
+/// The text of a checkpoint. The caller must ensure that the origin is not empty and has no line end.
 #[tactic(auto, unfolding(crate::specs::Checkpoint::checkpoint_text))]
 pub fn write_checkpoint(
     alloc: Global,
@@ -37,12 +37,12 @@ pub fn write_checkpoint(
     format!(in alloc; "{origin}\n{size}\n{root}\n")
 }
 
-// A law, which does nothing: what the type says of a root.
+// A law; the function does nothing. A root's type implies these facts about it.
 fn is_root(root: [u8; 32])
     ensures { IsRootOfTree root }
 {}
 
-// A text's first line, and what follows its end.
+// A text's first line, and the text after its end.
 fn first_line(text: &str) -> Option<(&str, &str)>
     ensures cut { MatchOption result ((line rest : List ℕ) → text.now ≡ line ++ 10 ∷ rest → ⊥)
         (λ r. (text.now ≡ r.0.now ++ 10 ∷ r.1.now) × IsWithinLine r.0.now) }
@@ -51,7 +51,7 @@ fn first_line(text: &str) -> Option<(&str, &str)>
     text.split_once('\n')
 }
 
-// The number that a text is, where it is one as it is written.
+// The number that a text represents, if it represents one as it is written.
 fn number_of(text: &str) -> Option<u64>
     ensures written { MatchOption result ((n : ℕ) → n < 2 ^ 64 → text.now ≡ decimal n → ⊥) (λ r. (n : ℕ) → n < 2 ^ 64 → text.now ≡ decimal n → n ≡ r) }
     ensures number { MatchOption result ((n : ℕ) → IsNumber n text.now → ⊥) (λ n. IsNumber n text.now) }
@@ -59,14 +59,14 @@ fn number_of(text: &str) -> Option<u64>
     text.parse::<u64>().ok()
 }
 
-// The fault that a failure to decode is.
+// The checkpoint fault for a failure to decode.
 fn fault_of(error: DecodeAllocError) -> CheckpointFault
     ensures { result ≡ of_decoding error }
 {
     CheckpointFault::from(error)
 }
 
-// The 32 bytes whose base64 the bytes are.
+// The 32 bytes whose base64 is this text.
 fn root_of(alloc: Global, text: &[u8]) -> Result<[u8; 32], CheckpointFault>
     ensures found { IfOk result (λ r. (root : List ℕ) → IsRootOfTree root → text.now ≡ encode_of standard root → root ≡ r) }
     ensures written { IfOk result (λ r. text.now ≡ encode_of standard r) }
@@ -83,14 +83,14 @@ fn root_of(alloc: Global, text: &[u8]) -> Result<[u8; 32], CheckpointFault>
     }
 }
 
-// Whether a text is another.
+// Reports whether two texts are equal.
 fn is_same(written: &str, text: &str) -> bool
     ensures { MatchBool result (written.now ≡ text.now) (written.now ≡ text.now → ⊥) }
 {
     written == text
 }
 
-// The 32 bytes whose base64 the bytes are, with a line end behind it.
+// The 32 bytes whose base64 is this line without its last byte, the line end.
 fn root_of_line(alloc: Global, line: &[u8]) -> Result<[u8; 32], CheckpointFault>
     ensures found { IfOk result (λ r. (root : List ℕ) → IsRootOfTree root → line.now ≡ encode_of standard root ++ 10 ∷ [] → root ≡ r) }
     ensures refused { IfErr result (λ f. f ≢ Memory → (root : List ℕ) (last : ℕ) → IsRootOfTree root → line.now ≡ encode_of standard root ++ last ∷ [] → ⊥) }
@@ -103,11 +103,12 @@ fn root_of_line(alloc: Global, line: &[u8]) -> Result<[u8; 32], CheckpointFault>
     }
 }
 
-/// The checkpoint of which this is the text (C2SP tlog-checkpoint, "Note text").
+/// The checkpoint whose text this is (C2SP tlog-checkpoint, "Note text").
 ///
 /// # Errors
-/// The first fault from the left, as [`CheckpointFault`] has them: BadOrigin, BadSize, BadRoot, NotAsWritten. Memory, where a growth was refused,
-/// alone may stand against a text that is one's.
+///
+/// The first fault from the left, as [`CheckpointFault`] lists them: BadOrigin, BadSize, BadRoot, NotAsWritten. Only Memory, if memory was
+/// refused, can be returned for a text that is a checkpoint's.
 pub fn read_checkpoint(alloc: Global, text: &str) -> Result<Checkpoint<'_>, CheckpointFault>
     ensures found { IfOk result (λ c. IsCheckpoint c.origin.now c.size c.root text.now) }
     ensures refused { IfErr result (λ f. f ≢ Memory → (origin : List ℕ) (size : ℕ) (root : List ℕ) → IsCheckpoint origin size root text.now → ⊥) }

@@ -8,23 +8,23 @@ use base64::DecodeAllocError;
 use std::alloc::AllocError;
 use thiserror::Error;
 
-/// Why a text is no checkpoint. A fault's text is its name.
+/// Why a text is not a checkpoint. A fault's text is its name.
 #[derive(Clone, Copy, Debug, PartialEq, Eq, Error)]
 pub enum CheckpointFault {
     /// There is no first line, or the origin in it is empty.
     #[error("BadOrigin")]
     BadOrigin,
-    /// There is no second line, or it is no number below 2^64.
+    /// There is no second line, or it is not a number below 2^64.
     #[error("BadSize")]
     BadSize,
-    /// What follows the second line is not the base64 of 32 bytes and one byte more: an extension line is none.
+    /// The text after the second line is not the base64 of 32 bytes and one more byte. A text with an extension line is refused so.
     #[error("BadRoot")]
     BadRoot,
-    /// The text is not the one that is written for this origin, size and root: the size has a leading zero or a plus, or the last byte is no
-    /// line end.
+    /// The text is not the one that is written for this origin, size and root: the size has a leading zero or a plus, or the last byte is
+    /// not a line end.
     #[error("NotAsWritten")]
     NotAsWritten,
-    /// A growth was refused.
+    /// Memory could not be allocated.
     #[error("Memory")]
     Memory,
 }

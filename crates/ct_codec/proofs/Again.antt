@@ -1,4 +1,4 @@
--- What was written is read again.
+-- Written bytes can be read again.
 use Rattle.std.proofs.Common.{◌≡◌, ℕ, List, [], Result, Ok, Err, Vec, refl, ◌∙◌, ◌<◌, ◌^◌, length, ◌⊎◌}
 use Rattle.std.specs.Prelude.{IfOk, IfErr}
 use Rattle.std.specs.Result.{IsErrAnd}
@@ -45,7 +45,7 @@ pub chain_left : {A : Type 0} (r : Result (Vec (Vec ℕ A) A) DecodeFault) (f : 
 chain_left (Ok l) f cs b q met v = absurd met
 chain_left (Err g) f cs b q met v = (tt, met ∙ chain_texts_have_no_fault cs b f q v)
 
--- the answer of who copies a chain that was walked over
+-- the result of a function that copies a chain after it walked over it
 pub chain_copied : {A : Type 0} (cs : List (List ℕ)) (b y : List ℕ) (r : Result (Vec (Vec ℕ A) A) DecodeFault) → length y < 2 ^ 24 → b ≡ vec 3 y
     → AreCertificates y → ChainText cs b
     → IfOk r (λ v. AllByRecursion IsCertificate (certificates_in v) × (y ≡ chain_bytes (certificates_in v)))
@@ -59,7 +59,7 @@ same_pre_chain v c cs b p q =
     let same = pre_chains_stand_apart v.0.items c (certificates_in v.1) cs b b [] [] p q refl in
     (same.0, same.1)
 
--- what answers a text with a reading of it, or with a fault of it, gives what it is the text of
+-- if a result is a reading of a text or a fault of it, it is the value that the text encodes
 pub pre_chain_again : {A : Type 0} (c : List ℕ) (cs : List (List ℕ)) (b : List ℕ) (r : Result (Vec ℕ A × Vec (Vec ℕ A) A) DecodeFault)
     → PreChainText c cs b → AnswersPreChain b r → GivesPreChain c cs r
 pre_chain_again c cs b (Ok v) q a = (same_pre_chain v c cs b a.0 q, tt)

@@ -27,7 +27,7 @@ one_more cs c b r s w one e =
       text = w.text ∙ ap (λ l. chain_bytes cs ++ l) e ∙ sym step;
     }
 
--- within a chain only two faults come
+-- within a chain only two faults are possible
 pub within_chain : (f : DecodeFault) (b y r : List ℕ) → length y < 2 ^ 24 → b ≡ vec 3 y ++ r → CertificatesFaulty f y → ChainFaulty f b
 within_chain Truncated b y r h e v = inr (y, r, h, e, v)
 within_chain EmptyVector b y r h e v = (y, r, h, e, v)
@@ -48,13 +48,13 @@ chain_text_of cs b y all h e f = record {
 pub chain_memory : (b y : List ℕ) → length y < 2 ^ 24 → b ≡ vec 3 y → AreCertificates y → ChainFaulty Memory b
 chain_memory b y h e are = (are.0, chain_text_of are.0 b y are.1 h e are.2)
 
--- what stands against the copying of a chain that was walked over
+-- the possible fault when a chain that was walked over is copied
 pub chain_copy : (f : DecodeFault) (b y : List ℕ) → length y < 2 ^ 24 → b ≡ vec 3 y → AreCertificates y → (f ≡ Memory)
     ⊎ CertificatesFaulty f y → ChainFaulty f b
 chain_copy f b y h e are (inl same) = rw same (chain_memory b y h e are)
 chain_copy f b y h e are (inr v) = within_chain f b y [] h (e ∙ sym (append-nil (vec 3 y))) v
 
--- a precertificate, and behind it the chain's text
+-- a precertificate, followed by the chain's text
 pub pre_chain_text_of : (c : List ℕ) (cs : List (List ℕ)) (b r y : List ℕ) → IsCertificate c → b ≡ vec 3 c ++ r → AllByRecursion IsCertificate cs
     → length y < 2 ^ 24 → r ≡ vec 3 y → y ≡ chain_bytes cs → PreChainText c cs b
 pre_chain_text_of c cs b r y one front all h e f =
@@ -65,7 +65,7 @@ pre_chain_text_of c cs b r y one front all h e f =
       text = front ∙ ap (λ l. vec 3 c ++ l) text.text;
     }
 
--- what stands against the chain stands against the whole
+-- a fault of the chain is a fault of the whole
 pub behind : (f : DecodeFault) (b c r : List ℕ) → IsCertificate c → b ≡ vec 3 c ++ r → ChainFaulty f r → PreChainFaulty f b
 behind f b c r one front v = inr (c, r, one, front, v)
 

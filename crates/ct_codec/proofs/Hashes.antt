@@ -1,4 +1,4 @@
--- What is hashed of entries of one identity, and of an entry in range.
+-- The hashed bytes of entries with the same identity, and of an entry in range.
 use Rattle.std.proofs.Common.{◌≡◌, ◌++◌, ℕ, List, [], ◌∷◌, take, drop, length, refl, sym, ap, ◌∙◌, arith}
 use Rattle.std.proofs.Math.Seq.{take-append_seam, drop-append_seam}
 use Rattle.ct_codec.specs.Bytes.{num, vec}
@@ -7,7 +7,7 @@ use Rattle.ct_codec.specs.Hashed.{hashed_of}
 use Rattle.ct_codec.proofs.Refusals.{length-num}
 use Rattle.ct_codec.proofs.Apart.{split_equal, num_split}
 
--- entries of one text have one hash, whatever their lengths
+-- entries with the same text have the same hash, whatever their lengths
 pub one_hash : (d e : SignedEntry) → entry_text d ≡ entry_text e → hashed_of d ≡ hashed_of e
 one_hash (certificate c) (certificate f) same =
     let rest = (split_equal (num 2 0) (num 2 0) (vec 3 c) (vec 3 f) refl same).1 in
@@ -29,7 +29,7 @@ take_front n a b e = ap (λ m. take m (a ++ b)) (sym e) ∙ take-append_seam a b
 drop_front : (n : ℕ) (a b : List ℕ) → length a ≡ n → drop n (a ++ b) ≡ b
 drop_front n a b e = ap (λ m. drop m (a ++ b)) (sym e) ∙ drop-append_seam a b
 
--- what is hashed of an entry in range
+-- the hashed bytes of an entry in range
 pub hashed_certificate : (e : SignedEntry) (c : List ℕ) → e ≡ certificate c → hashed_of e ≡ signed_of e ∷ []
 hashed_certificate (certificate d) c same = refl
 hashed_certificate (precertificate k d) c same = let types = ap type_of same in absurd (omega (arith, types))

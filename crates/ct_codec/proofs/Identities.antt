@@ -1,4 +1,4 @@
--- Identities, and the entries that they are of.
+-- Identities, and the entries that have them.
 use Rattle.std.proofs.Common.{◌≡◌, ◌++◌, [], refl, sym, ap, ◌∙◌, arith, append-nil}
 use Rattle.std.specs.Prelude.{Bool, true, false}
 use Rattle.std.specs.Str.{bytes_eq}
@@ -36,7 +36,7 @@ refuted : (b : Bool) → (b ≡ true → ⊥) → false ≡ b
 refuted true f = absurd (f refl)
 refuted false f = refl
 
--- entries of one type and of one key hash are of one identity where the same is signed
+-- entries with the same type and the same key hash have the same identity if their signed parts are the same
 pub same_signed : (s t : Submitted) → IsEntry (entry_of s) → IsEntry (entry_of t) → type_of (entry_of s) ≡ type_of (entry_of t)
     → key_hash_of (entry_of s) ≡ key_hash_of (entry_of t)
     → bytes_eq (signed_of (entry_of s)) (signed_of (entry_of t)) ≡ bytes_eq (identity_of s) (identity_of t)
@@ -46,7 +46,7 @@ same_signed s t p q types keys =
     let law = identities_are_entries s t p q in
     alike _ _ (λ h. whole.1 (law.1 (same_parts (entry_of s) (entry_of t) types keys (signed.0 h)))) (λ h. signed.1 (ap signed_of (law.0 (whole.0 h))))
 
--- entries of two types, or of two key hashes, are of two identities
+-- entries with different types, or different key hashes, have different identities
 pub other_type : (s t : Submitted) → IsEntry (entry_of s) → IsEntry (entry_of t) → (type_of (entry_of s) ≡ type_of (entry_of t) → ⊥)
     → false ≡ bytes_eq (identity_of s) (identity_of t)
 other_type s t p q differ = refuted _ (λ h. differ (ap type_of ((identities_are_entries s t p q).0 ((bytes_decides (identity_of s) (identity_of t)).0 h))))

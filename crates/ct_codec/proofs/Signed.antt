@@ -1,4 +1,4 @@
--- What is signed stands apart.
+-- Signed texts of different things are different.
 use Rattle.std.proofs.Common.{◌≡◌, ◌<◌, ◌^◌, ℕ, List, ◌++◌, refl, arith}
 use Rattle.ct_codec.specs.Bytes.{num}
 use Rattle.ct_codec.specs.Leaf.{SignedEntry}

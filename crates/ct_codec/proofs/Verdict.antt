@@ -1,4 +1,5 @@
--- One fault for each input: leaves and chains read by functions on lists, which each fault and each text determine.
+-- Each input has at most one fault. Leaves and chains are read by functions on lists, and each fault and each text determines what these
+-- functions return.
 use Rattle.std.proofs.Common.{◌≡◌, ◌<◌, ◌≤◌, ◌^◌, ◌+◌, ℕ, zero, suc, List, [], ◌∷◌, ◌++◌, length, take, drop, cond, nat_lt, Result, Ok, Err, ◌⊎◌, inl, inr}
 use Rattle.std.proofs.Common.{refl, sym, ap, ◌∙◌, arith, length-append, append_assoc, append-nil}
 use Rattle.std.proofs.lemmas.Bool.{lt-ltb, le-ltb}
@@ -17,7 +18,7 @@ use Rattle.ct_codec.specs.declared.fault.DecodeFault.TheVariants.{Truncated, Bad
 use Rattle.ct_codec.proofs.Refusals.{length-num, length-vec}
 use Rattle.ct_codec.proofs.Apart.{regrouped}
 
--- what follows a field, or the fault
+-- the bytes after a field, or the fault
 abbrev pub Read : Type 0
 Read = Result (List ℕ) DecodeFault
 
@@ -67,7 +68,7 @@ after_types b = then_read (bytes_at 8 b) after_time
 abbrev pub leaf_read : List ℕ → Read
 leaf_read b = then_read (zero_at BadVersion b) (λ r. then_read (zero_at BadLeafType r) after_types)
 
--- the fault of a text is Memory, which alone can come in its place
+-- the fault of a text is Memory, the only fault that can occur for it
 abbrev pub fault_of : Read → DecodeFault
 fault_of (Ok r) = Memory
 fault_of (Err f) = f
@@ -133,7 +134,7 @@ other_zero f (suc n) r h = refl
 time_here : (t : ℕ) (s : List ℕ) → after_types (num 8 t ++ s) ≡ after_time s
 time_here t s = ap (λ x. then_read x after_time) (bytes_here 8 (num 8 t) s (num 8 t ++ s) (length-num 8 t) refl)
 
--- a cut in the fields that are read, or behind them
+-- a cut in the fields that are read, or after them
 abbrev pub Cut : List (List ℕ) → Read → Type 0
 Cut gs res = (res ≡ Err Truncated) ⊎ ((s : List ℕ) × (res ≡ Ok s) × IsCut gs s)
 
@@ -214,7 +215,7 @@ trailing_here (x ∷ r) h = refl
 text_read : (t : ℕ) (e : SignedEntry) (x b : List ℕ) → LeafText t e x b → leaf_read b ≡ Ok []
 text_read t e x b p = leaf_here t e x b [] p.entry p.extensions (p.text ∙ sym (append-nil (leaf_text t e x)))
 
--- each fault of a leaf is the one that reading finds
+-- each fault of a leaf is the fault that reading finds
 leaf_verdict : (f : DecodeFault) (b : List ℕ) → LeafFaulty f b → fault_of (leaf_read b) ≡ f
 leaf_verdict Truncated b v = ap fault_of (leaf_cut v.0 v.1 v.2 b v.4 v.5 v.6)
 leaf_verdict BadVersion b v = ap (λ s. fault_of (leaf_read s)) v.3
@@ -326,7 +327,7 @@ chain_text_read cs b a r p e =
     chain_here (chain_bytes cs) r b p.fits (e ∙ ap (λ l. l ++ r) p.text)
     ∙ ap (λ x. then_read x (λ _. end_at r)) (certificates_whole (length (chain_bytes cs)) cs (chain_bytes cs) (omega arith) p.certificates refl)
 
--- each fault of a chain is the one that reading finds
+-- each fault of a chain is the fault that reading finds
 chain_verdict : (f : DecodeFault) (b : List ℕ) → ChainFaulty f b → fault_of (chain_read b) ≡ f
 chain_verdict Truncated b (inl v) = ap fault_of (chain_cut v.0 b v.1 v.2)
 chain_verdict Truncated b (inr v) = ap fault_of (within_verdict Truncated b v)
@@ -348,7 +349,7 @@ chain_texts_have_no_fault cs b f p v = sym (chain_verdict f b v) ∙ ap fault_of
 abbrev pub pre_chain_read : List ℕ → Read
 pre_chain_read b = then_read (certificate_at b) chain_read
 
--- each fault of a precertificate with its chain is the one that reading finds
+-- each fault of a precertificate with its chain is the fault that reading finds
 pre_chain_verdict : (f : DecodeFault) (b : List ℕ) → PreChainFaulty f b → fault_of (pre_chain_read b) ≡ f
 pre_chain_verdict f b (inl v) = ap (λ x. fault_of (then_read x chain_read)) (certificate_verdict f b v)
 pre_chain_verdict f b (inr v) = ap (λ x. fault_of (then_read x chain_read)) (certificate_here v.0 v.1 b v.2 v.3) ∙ chain_verdict f v.1 v.4

@@ -1,4 +1,4 @@
--- What is read from bytes: leaves and chains.
+-- Values read from bytes: leaves and chains.
 use Rattle.std.specs.Prelude.{◌≡◌, ℕ, List, map, Vec, Result, IfOk, IfErr, IsOkUnless}
 use Rattle.ct_codec.specs.Leaf.{SignedEntry, certificate, precertificate, LeafText, ChainText, PreChainText}
 use Rattle.ct_codec.specs.Faults.{LeafFaulty, ChainFaulty, PreChainFaulty}
@@ -15,7 +15,7 @@ abbrev pub entry_in : {A : Type 0} → LeafEntry A → SignedEntry
 entry_in (owned.X509 c) = certificate c.items
 entry_in (owned.Precert k c) = precertificate k c.items
 
--- the entry of a leaf that stands in the input
+-- the entry of a leaf that is a view of the input
 abbrev pub entry_lent : LentEntry → SignedEntry
 entry_lent (lent.X509 c) = certificate c.now
 entry_lent (lent.Precert k c) = precertificate k c.now
@@ -32,26 +32,26 @@ IsTextOf l b = LeafText l.timestamp (entry_in l.entry) l.extensions.items b
 abbrev pub IsLeaf : {A : Type 0} → ℕ → SignedEntry → List ℕ → Leaf A → Type 0
 IsLeaf t e x l = (l.timestamp ≡ t) × (entry_in l.entry ≡ e) × (l.extensions.items ≡ x)
 
--- the answer, in whatever allocator it lies, is the leaf with timestamp t, entry e and extensions x, unless memory was refused
+-- the result, in any allocator, is the leaf with timestamp t, entry e and extensions x, unless memory was refused
 abbrev pub GivesLeaf : {A : Type 0} → ℕ → SignedEntry → List ℕ → Result (Leaf A) DecodeFault → Type 0
 GivesLeaf t e x r = IfOk r (IsLeaf t e x) × IsOkUnless r Memory
 
--- the answer, in whatever allocator it lies, is the chain of these certificates, unless memory was refused
+-- the result, in any allocator, is the chain of these certificates, unless memory was refused
 abbrev pub GivesChain : {A : Type 0} → List (List ℕ) → Result (Vec (Vec ℕ A) A) DecodeFault → Type 0
 GivesChain cs r = IfOk r (λ v. certificates_in v ≡ cs) × IsOkUnless r Memory
 
--- the answer is a leaf of which b is the text, or a fault of b
+-- the result is a leaf whose text is b, or a fault of b
 abbrev pub AnswersLeaf : {A : Type 0} → List ℕ → Result (Leaf A) DecodeFault → Type 0
 AnswersLeaf b r = IfOk r (λ l. IsTextOf l b) × IfErr r (λ f. LeafFaulty f b)
 
--- the answer is a chain of which b is the text, or a fault of b
+-- the result is a chain whose text is b, or a fault of b
 abbrev pub AnswersChain : {A : Type 0} → List ℕ → Result (Vec (Vec ℕ A) A) DecodeFault → Type 0
 AnswersChain b r = IfOk r (λ v. ChainText (certificates_in v) b) × IfErr r (λ f. ChainFaulty f b)
 
--- the answer, in whatever allocator it lies, is this precertificate and the chain of these certificates, unless memory was refused
+-- the result, in any allocator, is this precertificate and the chain of these certificates, unless memory was refused
 abbrev pub GivesPreChain : {A : Type 0} → List ℕ → List (List ℕ) → Result (Vec ℕ A × Vec (Vec ℕ A) A) DecodeFault → Type 0
 GivesPreChain c cs r = IfOk r (λ v. (v.0.items ≡ c) × (certificates_in v.1 ≡ cs)) × IsOkUnless r Memory
 
--- the answer is a precertificate and a chain of which b is the text, or a fault of b
+-- the result is a precertificate and a chain whose text is b, or a fault of b
 abbrev pub AnswersPreChain : {A : Type 0} → List ℕ → Result (Vec ℕ A × Vec (Vec ℕ A) A) DecodeFault → Type 0
 AnswersPreChain b r = IfOk r (λ v. PreChainText v.0.items (certificates_in v.1) b) × IfErr r (λ f. PreChainFaulty f b)

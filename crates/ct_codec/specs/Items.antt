@@ -2,11 +2,11 @@
 use Rattle.std.specs.Prelude.{◌≡◌, ℕ, ◌+◌, ◌<◌, ◌==◌, List, [], ◌∷◌, length, map, filter, slice_get, Some, All, AllPairs, flat_map, if◌then◌else◌, nat_lt}
 use Rattle.ct_codec.specs.declared.item.Item.{Item}
 
--- the items that came through that front, in order
+-- the items that were submitted through that front, in order
 abbrev pub items_of : ℕ → List Item → List Item
 items_of front items = filter (λ x. x.front == front) items
 
--- Each item carries the number of one of the lists, and for each number the items that carry it are, in order, the list with that number.
+-- Each item carries the number of one of the lists. For each number, the items that carry it are, in order, the list with that number.
 pub record Merge (lists : List (List Item)) (items : List Item) : Type 0 where
   pub numbered : All (λ x. x.front < length lists) items
   pub in_order : (f : ℕ) (xs : List Item) → slice_get lists f ≡ Some xs → items_of f items ≡ xs
@@ -15,7 +15,7 @@ pub record Merge (lists : List (List Item)) (items : List Item) : Type 0 where
 abbrev pub tickets_of : List Item → List ℕ
 tickets_of items = map (λ (x : Item). x.ticket) items
 
--- how often x stands in the list
+-- the number of times that x occurs in the list
 abbrev pub times : ℕ → List ℕ → ℕ
 times x [] = 0
 times x (y ∷ ys) = (if y == x then 1 else 0) + times x ys

@@ -3,8 +3,8 @@ use Rattle.std.specs.Prelude.{◌≡◌, ◌<◌, ◌^◌, ◌++◌, ◌∷◌, 
 use Rattle.std.specs.List.{AllByRecursion, flat_map}
 use Rattle.ct_codec.specs.Bytes.{num, vec}
 
--- What a leaf is about: a certificate, or a precertificate by the hash of its issuer's key and its TBSCertificate (RFC 6962, section 3.1
--- and 3.2).
+-- The subject of a leaf: a certificate, or a precertificate, given by the hash of its issuer's key and its TBSCertificate (RFC 6962,
+-- section 3.1 and 3.2).
 pub data SignedEntry : Type 0 where
   certificate : List ℕ → SignedEntry
   precertificate : List ℕ → List ℕ → SignedEntry
@@ -13,7 +13,8 @@ pub data SignedEntry : Type 0 where
 abbrev pub IsCertificate : List ℕ → Type 0
 IsCertificate c = (0 < length c) × (length c < 2 ^ 24)
 
--- an entry in range: its certificate or TBSCertificate has 1 to 2^24 - 1 bytes, the hash of a key has 32 (RFC 6962, section 3.1 and 3.2)
+-- an entry in range: its certificate or TBSCertificate has 1 to 2^24 - 1 bytes, and the hash of a key has 32 (RFC 6962, section 3.1 and
+-- 3.2)
 abbrev pub IsEntry : SignedEntry → Type 0
 IsEntry (certificate c) = IsCertificate c
 IsEntry (precertificate k c) = (length k ≡ 32) × IsCertificate c
@@ -28,7 +29,7 @@ abbrev pub type_of : SignedEntry → ℕ
 type_of (certificate c) = 0
 type_of (precertificate k c) = 1
 
--- the hash of the issuer's key, or no bytes where the entry is a certificate (RFC 6962, section 3.2)
+-- the hash of the issuer's key, or no bytes if the entry is a certificate (RFC 6962, section 3.2)
 abbrev pub key_hash_of : SignedEntry → List ℕ
 key_hash_of (certificate c) = []
 key_hash_of (precertificate k c) = k
@@ -47,8 +48,8 @@ timestamped_text t e x = num 8 t ++ (entry_text e ++ vec 2 x)
 abbrev pub leaf_text : ℕ → SignedEntry → List ℕ → List ℕ
 leaf_text t e x = 0 ∷ 0 ∷ timestamped_text t e x
 
--- the extensions of a leaf whose index in the log is i, where they name it and nothing else (leaf_index, C2SP static-ct-api): the
--- extension type 0 in one byte, and the index in five bytes as a vector
+-- the extensions of a leaf that contain its index i in the log and nothing else (leaf_index, C2SP static-ct-api): the extension type 0 in
+-- one byte, and the index in five bytes as a vector
 abbrev pub index_extension : ℕ → List ℕ
 index_extension i = 0 ∷ vec 2 (num 5 i)
 
@@ -73,15 +74,15 @@ AreCertificates y = (cs : List (List ℕ)) × AllByRecursion IsCertificate cs ×
 abbrev pub chain_text : List (List ℕ) → List ℕ
 chain_text cs = vec 3 (chain_bytes cs)
 
--- b is the text of the chain of these certificates, all in range: each has 1 to 2^24 - 1 bytes, and so many at most they have in all, with
--- their lengths (RFC 6962, section 3.1 and 4.6)
+-- b is the text of the chain of these certificates. All are in range: each has 1 to 2^24 - 1 bytes, and together with their lengths they
+-- have at most 2^24 - 1 bytes (RFC 6962, section 3.1 and 4.6)
 pub record ChainText (cs : List (List ℕ)) (b : List ℕ) : Type 0 where
   pub certificates : AllByRecursion IsCertificate cs
   pub fits : length (chain_bytes cs) < 2 ^ 24
   pub text : b ≡ chain_text cs
 
--- b is the text of a precertificate c and of the chain behind it (PrecertChainEntry): the certificate vector of c, which is not empty,
--- followed by the text of the chain of cs, all in range (RFC 6962, section 3.1 and 4.6)
+-- b is the text of a precertificate c and of the chain after it (PrecertChainEntry): the certificate vector of c, which is not empty,
+-- followed by the text of the chain of cs. All are in range (RFC 6962, section 3.1 and 4.6)
 pub record PreChainText (c : List ℕ) (cs : List (List ℕ)) (b : List ℕ) : Type 0 where
   pub precertificate : IsCertificate c
   pub chain : ChainText cs (chain_text cs)
@@ -96,7 +97,7 @@ entry_fields (precertificate k c) = num 2 1 ∷ k ∷ num 3 (length c) ∷ c ∷
 abbrev pub leaf_fields : ℕ → SignedEntry → List ℕ → List (List ℕ)
 leaf_fields t e x = (0 ∷ []) ∷ (0 ∷ []) ∷ num 8 t ∷ (entry_fields e ++ (num 2 (length x) ∷ x ∷ []))
 
--- the entry type, and what stands before the length of the certificate or TBSCertificate
+-- the entry type, and the bytes before the length of the certificate or TBSCertificate
 abbrev pub entry_front : SignedEntry → List ℕ
 entry_front (certificate c) = num 2 0
 entry_front (precertificate k c) = num 2 1 ++ k

@@ -4,7 +4,7 @@ ghost use Rattle.std.specs.Prelude.{◌≡◌, ◌++◌, ◌∷◌, [], map, OnO
 
 use std::alloc::{AllocError, Allocator};
 
-/// Adds a copy of a certificate, over memory of its own.
+/// Adds a copy of a certificate, in memory of its own.
 pub fn push_copy<A: Allocator + Clone>(
     alloc: &A,
     certificates: &mut Vec<Vec<u8, A>, A>,

@@ -1,4 +1,4 @@
-//! Why bytes are no leaf or no chain.
+//! Why bytes are not a leaf or a chain.
 
 ghost use Rattle.std.specs.Prelude.{◌≡◌};
 ghost use Rattle.ct_codec.specs.declared.fault.DecodeFault.TheVariants.{Memory};
@@ -8,14 +8,14 @@ use std::fmt;
 use std::fmt::{Debug, Display, Formatter, Write};
 use thiserror::Error;
 
-/// Why bytes are no leaf or no chain: the first fault from the left. A fault's text is its name.
+/// The reason why bytes are not a leaf or a chain: the first fault from the left. A fault's text is its name.
 #[derive(Clone, Copy, Debug, PartialEq, Eq, Error)]
 pub enum DecodeFault {
-    /// The input, or the chain that a certificate stands in, ends before a field is whole.
+    /// The input, or the chain that contains a certificate, ends before a field is whole.
     Truncated,
-    /// The version is not 0, which stands for v1 (RFC 6962 section 3.2).
+    /// The version is not 0, which means v1 (RFC 6962 section 3.2).
     BadVersion,
-    /// The leaf type is not 0, which stands for timestamped_entry (RFC 6962 section 3.4).
+    /// The leaf type is not 0, which means timestamped_entry (RFC 6962 section 3.4).
     BadLeafType,
     /// The entry type is neither 0, x509_entry, nor 1, precert_entry (RFC 6962 section 3.1).
     BadEntryType,
@@ -23,7 +23,7 @@ pub enum DecodeFault {
     EmptyVector,
     /// Bytes follow the last field.
     Trailing,
-    /// A growth was refused. The bytes have no fault.
+    /// Memory could not be allocated. The bytes have no fault.
     Memory,
 }
 

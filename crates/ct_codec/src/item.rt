@@ -5,10 +5,10 @@ use crate::submission::Submission;
 /// An accepted submission.
 #[derive(Debug, Drop)]
 pub struct Item {
-    /// The number of the front that it came through.
+    /// The number of the front through which it was submitted.
     pub front: u16,
     /// The ticket that it was given.
     pub ticket: u64,
-    /// What was submitted.
+    /// The submission.
     pub submission: Submission,
 }

@@ -1,20 +1,20 @@
 //! Submissions to the log, the bytes of leaves and chains, and the refusals.
 //!
-//! - `Submission` is what is submitted: a chain of certificates whose lengths are in range, or that of a precertificate with the hash of
-//!   its issuer's key and its TBSCertificate. `Item` is one that was accepted.
-//! - `identity`, `leaf_input` and `extra_data` write its bytes (RFC 6962 sections 3.1, 3.4 and 4.6), numbers by `byteorder`.
+//! - `Submission` is what a client submits: a chain of certificates whose lengths are in range, or a precertificate's chain with the hash
+//!   of its issuer's key and its TBSCertificate. `Item` is an accepted submission.
+//! - `identity`, `leaf_input` and `extra_data` write its bytes (RFC 6962 sections 3.1, 3.4 and 4.6), and write numbers by `byteorder`.
 //!   `same_identity` compares two submissions by their identities, and writes none.
-//! - `leaf_input_with_extensions` and `push_timestamped_entry` write a leaf with extensions, and `index_extension` those that name its
-//!   index in the log (C2SP static-ct-api). The same extensions stand in the leaf, under the signature and in the receipt.
-//! - `decode_leaf`, `decode_chain` and `decode_pre_chain` read a leaf of either entry type, a chain, and a precertificate with its
-//!   chain from bytes. Where the bytes are none they answer the first fault from the left, before any memory is taken: the walk over
-//!   the input (`lend_leaf`, `last_chain`) has no allocator. `lend_leaf` reads a leaf where it stands, for who needs no copy.
-//!   `Reader` and `entry_at` read the fields that other formats have in common with a leaf.
-//! - `tree_head_signature_input` and `certificate_timestamp_signature_input` write what a log signs (sections 3.5 and 3.2).
+//! - `leaf_input_with_extensions` and `push_timestamped_entry` write a leaf with extensions. `index_extension` writes the extensions that
+//!   contain its index in the log (C2SP static-ct-api). The same extensions are in the leaf, in the signed bytes and in the receipt.
+//! - `decode_leaf`, `decode_chain` and `decode_pre_chain` read from bytes: a leaf of either entry type, a chain, and a precertificate with
+//!   its chain. If the bytes are malformed, they return the first fault from the left before they take any memory: the walk over the input
+//!   (`lend_leaf`, `last_chain`) has no allocator. `lend_leaf` reads a leaf in place, for callers that need no copy. `Reader` and
+//!   `entry_at` read the fields that other formats share with a leaf.
+//! - `tree_head_signature_input` and `certificate_timestamp_signature_input` write the bytes that a log signs (sections 3.5 and 3.2).
 //! - `Refusal` has every reason for which a call of the log is refused.
 //! - The functions of [`laws`] do nothing: their contracts are laws of the formats.
 //!
-//! What the bytes are stands in `specs`: `Bytes` (numbers and vectors), `Leaf` (leaves and chains), `Submitted`, `Hashed`, `Faults`,
+//! The definitions of the bytes are in `specs`: `Bytes` (numbers and vectors), `Leaf` (leaves and chains), `Submitted`, `Hashed`, `Faults`,
 //! `Items`, `Signed`, `Laws`.
 #![tactic(auto)]
 

@@ -51,14 +51,14 @@ pub fn number_bytes_8(n: u64) -> [u8; 8]
     bytes
 }
 
-/// The number that stands in two bytes.
+/// The number that two bytes encode.
 pub fn number_of_2(bytes: &[u8; 2]) -> u16
     ensures { num 2 result ≡ bytes.now }
 {
     u16::from_be_bytes(*bytes)
 }
 
-/// The number that stands in three bytes.
+/// The number that three bytes encode.
 #[tactic(auto, unfolding(crate::specs::Bytes::num))]
 pub fn number_of_3(bytes: &[u8; 3]) -> u32
     ensures value { num 3 result ≡ bytes.now }
@@ -67,7 +67,7 @@ pub fn number_of_3(bytes: &[u8; 3]) -> u32
     u32::from_be_bytes([0, bytes[0], bytes[1], bytes[2]])
 }
 
-/// The number that stands in five bytes.
+/// The number that five bytes encode.
 #[tactic(auto, unfolding(crate::specs::Bytes::num))]
 pub fn number_of_5(bytes: &[u8; 5]) -> u64
     ensures value { num 5 result ≡ bytes.now }
@@ -76,7 +76,7 @@ pub fn number_of_5(bytes: &[u8; 5]) -> u64
     u64::from_be_bytes([0, 0, 0, bytes[0], bytes[1], bytes[2], bytes[3], bytes[4]])
 }
 
-/// The number that stands in eight bytes.
+/// The number that eight bytes encode.
 pub fn number_of_8(bytes: &[u8; 8]) -> u64
     ensures { num 8 result ≡ bytes.now }
 {

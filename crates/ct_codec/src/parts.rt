@@ -1,4 +1,4 @@
-//! The bytes of a leaf in parts, of which none is copied from the submission.
+//! The bytes of a leaf in parts, without copies of the submission's bytes.
 
 ghost use Rattle.std.specs.Prelude.{◌≡◌, ◌<◌, ◌^◌, ◌++◌, ◌∷◌, [], ℕ, List, map};
 ghost use Rattle.ct_codec.specs.Bytes.{num, vec};
@@ -28,7 +28,7 @@ impl<'a> Model for LeafParts<'a> {
     ghost view = { λ p. p.head ∷ p.key_hash.now ∷ p.size ∷ p.certificate.now ∷ p.end ∷ [] };
 }
 
-// What stands before the signed entry: the version, the leaf type, the timestamp and the entry type.
+// The bytes before the signed entry: the version, the leaf type, the timestamp and the entry type.
 #[tactic(auto, unfolding(crate::specs::Bytes::num))]
 fn leaf_head(timestamp: u64, entry_type: u16) -> [u8; 12]
     ensures { result ≡ 0 ∷ 0 ∷ (num 8 timestamp ++ num 2 entry_type) }
@@ -40,8 +40,8 @@ fn leaf_head(timestamp: u64, entry_type: u16) -> [u8; 12]
     ]
 }
 
-/// The parts of the submission's leaf at this moment, in milliseconds, with no extensions: joined they are what `leaf_input` writes. It
-/// takes no memory.
+/// The parts of the submission's leaf with this timestamp, in milliseconds, and no extensions. Joined, they are the bytes that `leaf_input`
+/// writes. It takes no memory.
 pub fn leaf_parts<S: Allocator>(submission: &Submission<S>, timestamp: u64) -> LeafParts<'_>
     ensures { LeafText timestamp (entry_of submission.now) [] (joined result) }
 {
@@ -68,8 +68,12 @@ fn five_slices<'a>(a: &'a [u8], b: &'a [u8], c: &'a [u8], d: &'a [u8], e: &'a [u
 }
 
 impl<'a> LeafParts<'a> {
-    /// The parts: the 12 bytes up to the entry type, the hash of the issuer's key (no bytes for a certificate), the length of 3 bytes,
-    /// the certificate or TBSCertificate, the length of the extensions.
+    /// The parts:
+    /// - the 12 bytes up to and including the entry type,
+    /// - the hash of the issuer's key (no bytes for a certificate),
+    /// - the length, in 3 bytes,
+    /// - the certificate or TBSCertificate,
+    /// - the length of the extensions.
     pub fn parts(&self) -> [&[u8]; 5]
         ensures { map (λ p. p.now) result ≡ self.now }
     {

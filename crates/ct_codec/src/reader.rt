@@ -1,4 +1,4 @@
-//! Fields read from the front of an input (RFC 5246 section 4), without memory.
+//! Fields read from the front of an input (RFC 5246 section 4), without taking memory.
 
 ghost use Rattle.std.specs.Prelude.{◌≡◌, ◌<◌, ◌^◌, ◌++◌, ◌∷◌, ◌==◌, ℕ, List, length, IfSome, IfNone, IfOk, IfErr};
 ghost use Rattle.ct_codec.specs.Bytes.{num, vec};
@@ -9,9 +9,9 @@ use crate::fault::DecodeFault;
 use crate::numbers::{number_of_2, number_of_3, number_of_8};
 use std::marker::Model;
 
-/// What is left of an input. Contracts see it as the list of the bytes that were not read yet.
+/// The remaining bytes of an input. Contracts see it as the list of the bytes that were not read yet.
 ///
-/// Each method reads one field from the front. Where the field is not there, nothing more is to be read.
+/// Each method reads one field from the front. If the field is missing, nothing more may be read.
 #[derive(Drop)]
 pub struct Reader<'a> {
     rest: &'a [u8],
@@ -24,21 +24,21 @@ impl<'a> Model for Reader<'a> {
 }
 
 impl<'a> Reader<'a> {
-    /// Reads from the first of the bytes.
+    /// A reader that starts at the first of the bytes.
     pub fn new(bytes: &'a [u8]) -> Reader<'a>
         ensures { result ≡ bytes.now }
     {
         Reader { rest: bytes }
     }
 
-    /// Whether all was read.
+    /// Reports whether everything was read.
     pub fn is_at_end(&self) -> bool
         ensures { result ≡ (length self.now == 0) }
     {
         self.rest.is_empty()
     }
 
-    /// The next bytes, as many as are asked for.
+    /// The next bytes, `count` of them.
     pub fn bytes(&mut self, count: usize) -> Option<&'a [u8]>
         ensures some { IfSome result (λ b. (length b.now ≡ count) × (self.old ≡ b.now ++ self.new)) }
         ensures none { IfNone result (length self.old < count) }
@@ -121,7 +121,7 @@ impl<'a> Reader<'a> {
         Ok(certificate)
     }
 
-    /// A vector whose length stands in two bytes.
+    /// A vector with a length of two bytes.
     pub fn vector_2(&mut self) -> Option<&'a [u8]>
         ensures some { IfSome result (λ x. (length x.now < 2 ^ 16) × (self.old ≡ vec 2 x.now ++ self.new)) }
         ensures none { IfNone result (VectorCut 2 self.old) }
@@ -135,7 +135,7 @@ impl<'a> Reader<'a> {
         Some(content)
     }
 
-    /// A vector whose length stands in three bytes.
+    /// A vector with a length of three bytes.
     pub fn vector_3(&mut self) -> Option<&'a [u8]>
         ensures some { IfSome result (λ x. (length x.now < 2 ^ 24) × (self.old ≡ vec 3 x.now ++ self.new)) }
         ensures none { IfNone result (VectorCut 3 self.old) }

@@ -14,7 +14,7 @@ use crate::fault::DecodeFault;
 use crate::reader::Reader;
 use std::alloc::{AllocError, Allocator, Global};
 
-/// What a leaf is about (RFC 6962 sections 3.1 and 3.2).
+/// The subject of a leaf (RFC 6962 sections 3.1 and 3.2).
 #[derive(Debug, PartialEq, Eq, Drop)]
 pub enum LeafEntry<A: Allocator = Global> {
     /// A certificate.
@@ -26,15 +26,15 @@ pub enum LeafEntry<A: Allocator = Global> {
 /// A leaf as it was read (RFC 6962 section 3.4).
 #[derive(Debug, PartialEq, Eq, Drop)]
 pub struct Leaf<A: Allocator = Global> {
-    /// The moment, in milliseconds.
+    /// The timestamp, in milliseconds.
     pub timestamp: u64,
-    /// What the leaf is about.
+    /// The subject of the leaf.
     pub entry: LeafEntry<A>,
     /// The extensions, 0 to 65,535 bytes.
     pub extensions: Vec<u8, A>,
 }
 
-/// What a leaf is about, where it stands in the input (RFC 6962 sections 3.1 and 3.2).
+/// The subject of a leaf, as a view of the input (RFC 6962 sections 3.1 and 3.2).
 #[derive(Clone, Copy)]
 pub enum LentEntry<'a> {
     /// A certificate.
@@ -43,12 +43,12 @@ pub enum LentEntry<'a> {
     Precert([u8; 32], &'a [u8]),
 }
 
-/// A leaf, where it stands in the input (RFC 6962 section 3.4).
+/// A leaf, as a view of the input (RFC 6962 section 3.4).
 #[derive(Clone, Copy)]
 pub struct LentLeaf<'a> {
-    /// The moment, in milliseconds.
+    /// The timestamp, in milliseconds.
     pub timestamp: u64,
-    /// What the leaf is about.
+    /// The subject of the leaf.
     pub entry: LentEntry<'a>,
     /// The extensions, 0 to 65,535 bytes.
     pub extensions: &'a [u8],
@@ -78,7 +78,7 @@ fn timestamp_at(reader: &mut Reader<'_>) -> Result<u64, DecodeFault>
     Ok(timestamp)
 }
 
-/// The entry type and the signed entry, read from the front, where they stand. It takes no memory.
+/// The entry type and the signed entry, read from the front as a view of the input. It takes no memory.
 ///
 /// The fault is the first from the left, and never `Memory`.
 pub fn entry_at<'a>(reader: &mut Reader<'a>) -> Result<LentEntry<'a>, DecodeFault>
@@ -101,15 +101,15 @@ pub fn entry_at<'a>(reader: &mut Reader<'a>) -> Result<LentEntry<'a>, DecodeFaul
     }
 }
 
-/// The leaf that the bytes are, all of them, where they stand. It takes no memory.
+/// The leaf that all of the bytes encode, as a view of the input. It takes no memory.
 ///
 /// The fault is the first from the left, and never `Memory`.
 pub fn lend_leaf(bytes: &[u8]) -> Result<LentLeaf<'_>, DecodeFault>
-    // What is read is what the bytes are the text of.
+    // A leaf is returned only if the bytes are its text.
     ensures found { IfOk result (λ l. LeafText l.timestamp (entry_lent l.entry) l.extensions.now bytes.now) }
-    // Which fault it is.
+    // A fault is returned only if the bytes have it.
     ensures fault { IfErr result (λ f. LeafFaulty f bytes.now) }
-    // A leaf's text is read, since no memory can be refused.
+    // The text of a leaf is always read, because no memory can be refused.
     ensures named { IfErr result (λ f. f ≢ Memory) }
 {
     let mut input = Reader::new(bytes);
@@ -144,13 +144,13 @@ fn copy_entry<A: Allocator>(alloc: A, entry: LentEntry<'_>) -> Result<LeafEntry<
     }
 }
 
-/// The leaf that the bytes are, all of them. The faults of the bytes are found before memory is taken.
+/// The leaf that all of the bytes encode. The faults of the bytes are found before memory is taken.
 pub fn decode_leaf<A: Allocator + Clone>(alloc: A, bytes: &[u8]) -> Result<Leaf<A>, DecodeFault>
-    // What is read is what the bytes are the text of.
+    // A leaf is returned only if the bytes are its text.
     ensures found { IfOk result (λ l. IsTextOf l bytes.now) }
-    // A leaf's text is read, unless memory is refused.
+    // The text of a leaf is always read, unless memory is refused.
     ensures every { (t : ℕ) (e : SignedEntry) (x : List ℕ) → LeafText t e x bytes.now → GivesLeaf t e x result }
-    // Which fault it is.
+    // A fault is returned only if the bytes have it.
     ensures fault { IfErr result (λ f. LeafFaulty f bytes.now) }
 {
     let leaf = lend_leaf(bytes)?;
@@ -163,7 +163,7 @@ pub fn decode_leaf<A: Allocator + Clone>(alloc: A, bytes: &[u8]) -> Result<Leaf<
     })
 }
 
-// Walks over the certificates that the bytes are, one after the other. It takes no memory.
+// Walks over the certificates that the bytes consist of, one after the other. It takes no memory.
 fn check_certificates(bytes: &[u8]) -> Result<(), DecodeFault>
     ensures found { OnOk result (AreCertificates bytes.now) }
     ensures fault { IfErr result (λ f. CertificatesFaulty f bytes.now) }
@@ -175,7 +175,7 @@ fn check_certificates(bytes: &[u8]) -> Result<(), DecodeFault>
     Ok(())
 }
 
-// The certificates that the bytes are, one after the other, copied out of the input.
+// The certificates that the bytes consist of, one after the other, copied out of the input.
 fn copy_certificates<A: Allocator + Clone>(
     alloc: A,
     bytes: &[u8],
@@ -192,7 +192,7 @@ fn copy_certificates<A: Allocator + Clone>(
     Ok(certificates)
 }
 
-// The certificates' bytes of the chain with which the input ends. It takes no memory.
+// The bytes of the certificates of the chain that ends the input. It takes no memory.
 fn last_chain<'a>(reader: &mut Reader<'a>) -> Result<&'a [u8], DecodeFault>
     ensures found { IfOk result (λ y. (length y.now < 2 ^ 24) × (reader.old ≡ vec 3 y.now) × AreCertificates y.now) }
     ensures fault { IfErr result (λ f. ChainFaulty f reader.old) }
@@ -207,16 +207,16 @@ fn last_chain<'a>(reader: &mut Reader<'a>) -> Result<&'a [u8], DecodeFault>
     Ok(certificates)
 }
 
-/// The certificates of the chain that the bytes are, all of them. The faults of the bytes are found before memory is taken.
+/// The certificates of the chain that all of the bytes encode. The faults of the bytes are found before memory is taken.
 pub fn decode_chain<A: Allocator + Clone>(
     alloc: A,
     bytes: &[u8],
 ) -> Result<Vec<Vec<u8, A>, A>, DecodeFault>
-    // What is read is what the bytes are the text of.
+    // A chain is returned only if the bytes are its text.
     ensures found { IfOk result (λ cs. ChainText (certificates_in cs) bytes.now) }
-    // A chain's text is read, unless memory is refused.
+    // The text of a chain is always read, unless memory is refused.
     ensures every { (cs : List (List ℕ)) → ChainText cs bytes.now → GivesChain cs result }
-    // Which fault it is.
+    // A fault is returned only if the bytes have it.
     ensures fault { IfErr result (λ f. ChainFaulty f bytes.now) }
 {
     let mut reader = Reader::new(bytes);
@@ -224,17 +224,17 @@ pub fn decode_chain<A: Allocator + Clone>(
     copy_certificates(alloc, certificates)
 }
 
-/// The precertificate that the bytes begin with, and the certificates of the chain behind it (PrecertChainEntry, RFC 6962 sections 3.1
-/// and 4.6), all of the bytes. The faults of the bytes are found before memory is taken.
+/// The precertificate that the bytes begin with, and the certificates of the chain after it (PrecertChainEntry, RFC 6962 sections 3.1 and
+/// 4.6). They are all of the bytes. The faults of the bytes are found before memory is taken.
 pub fn decode_pre_chain<A: Allocator + Clone>(
     alloc: A,
     bytes: &[u8],
 ) -> Result<(Vec<u8, A>, Vec<Vec<u8, A>, A>), DecodeFault>
-    // What is read is what the bytes are the text of.
+    // A precertificate and a chain are returned only if the bytes are their text.
     ensures found { IfOk result (λ v. PreChainText v.0.items (certificates_in v.1) bytes.now) }
-    // The text of a precertificate with its chain is read, unless memory is refused.
+    // The text of a precertificate with its chain is always read, unless memory is refused.
     ensures every { (c : List ℕ) (cs : List (List ℕ)) → PreChainText c cs bytes.now → GivesPreChain c cs result }
-    // Which fault it is.
+    // A fault is returned only if the bytes have it.
     ensures fault { IfErr result (λ f. PreChainFaulty f bytes.now) }
 {
     let mut reader = Reader::new(bytes);

@@ -1,4 +1,4 @@
-//! The bytes that a log signs (RFC 6962 sections 3.2 and 3.5). The signature itself is made by who holds the log's key.
+//! The bytes that a log signs (RFC 6962 sections 3.2 and 3.5). The holder of the log's key makes the signature itself.
 
 ghost use Rattle.std.specs.Prelude.{◌≡◌, ◌<◌, ◌^◌, [], length, IfOk, IsOkUnless};
 ghost use Rattle.ct_codec.specs.Submitted.{entry_of};
@@ -10,8 +10,8 @@ use crate::submission::Submission;
 use crate::writing::{leaf_input, leaf_input_with_extensions};
 use std::alloc::Allocator;
 
-/// What stands under the signature of a tree head (TreeHeadSignature, RFC 6962 section 3.5): its 50 bytes, for the moment at which the
-/// head was made, in milliseconds, the tree's number of leaves, and its root.
+/// The signed bytes of a tree head (TreeHeadSignature, RFC 6962 section 3.5). It has 50 bytes, made from the head's timestamp in
+/// milliseconds, the tree's number of leaves, and its root.
 pub fn tree_head_signature_input<A: Allocator>(
     alloc: A,
     timestamp: u64,
@@ -29,8 +29,8 @@ pub fn tree_head_signature_input<A: Allocator>(
     Ok(bytes)
 }
 
-/// What stands under the signature of a signed certificate timestamp (RFC 6962 section 3.2) for the submission at this moment, in
-/// milliseconds, with these extensions, at most 65,535 bytes. These are the bytes of its leaf with the same extensions
+/// The signed bytes of a signed certificate timestamp (RFC 6962 section 3.2) for the submission with this timestamp, in milliseconds, and
+/// these extensions, at most 65,535 bytes. These are the bytes of its leaf with the same extensions
 /// ([`crate::laws::signed_timestamps_are_leaves`]).
 pub fn certificate_timestamp_signature_input_with_extensions<A: Allocator, S: Allocator>(
     alloc: A,
@@ -45,8 +45,8 @@ pub fn certificate_timestamp_signature_input_with_extensions<A: Allocator, S: Al
     leaf_input_with_extensions(alloc, submission, timestamp, extensions)
 }
 
-/// What stands under the signature of a signed certificate timestamp (RFC 6962 section 3.2) for the submission at this moment, in
-/// milliseconds, with no extensions. These are the bytes of its leaf ([`crate::laws::signed_timestamps_are_leaves`]).
+/// The signed bytes of a signed certificate timestamp (RFC 6962 section 3.2) for the submission with this timestamp, in milliseconds, and
+/// no extensions. These are the bytes of its leaf ([`crate::laws::signed_timestamps_are_leaves`]).
 pub fn certificate_timestamp_signature_input<A: Allocator, S: Allocator>(
     alloc: A,
     submission: &Submission<S>,

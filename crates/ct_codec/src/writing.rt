@@ -22,7 +22,7 @@ pub fn push_vector<A: Allocator>(out: &mut Vec<u8, A>, bytes: &[u8]) -> Result<(
     Ok(())
 }
 
-// The number of the entry type, and the hash of the issuer's key, which is no bytes where a certificate was submitted.
+// The number of the entry type, and the hash of the issuer's key, which is empty if a certificate was submitted.
 pub(crate) fn type_and_key_hash<S: Allocator>(submission: &Submission<S>) -> (u16, &[u8])
     ensures number { result.0 ≡ type_of (entry_of submission.now) }
     ensures key_hash { result.1.now ≡ key_hash_of (entry_of submission.now) }
@@ -47,8 +47,8 @@ fn push_entry<A: Allocator, S: Allocator>(
     push_vector(out, submission.signed())
 }
 
-/// The submission's identity: the entry type and the signed entry, without timestamp and chain. Of a precertificate these are the hash of
-/// its issuer's key and its TBSCertificate, so the precertificate itself does not count.
+/// The submission's identity: the entry type and the signed entry, without timestamp and chain. For a precertificate, the signed entry is
+/// the hash of its issuer's key and its TBSCertificate, so the precertificate itself does not count.
 pub fn identity<A: Allocator, S: Allocator>(
     alloc: A,
     submission: &Submission<S>,
@@ -61,7 +61,7 @@ pub fn identity<A: Allocator, S: Allocator>(
     Ok(text)
 }
 
-/// Whether two submissions have one identity. No byte of either is copied.
+/// Reports whether two submissions have the same identity. It copies no byte of either.
 pub fn same_identity<A: Allocator, B: Allocator>(a: &Submission<A>, b: &Submission<B>) -> bool
     ensures { result ≡ bytes_eq (identity_of a.now) (identity_of b.now) }
 {
@@ -72,7 +72,7 @@ pub fn same_identity<A: Allocator, B: Allocator>(a: &Submission<A>, b: &Submissi
     a_type == b_type && a_key_hash == b_key_hash && a.signed() == b.signed()
 }
 
-/// Writes the timestamped entry (TimestampedEntry, RFC 6962 section 3.4) of the submission at this moment, in milliseconds, with these
+/// Writes the timestamped entry (TimestampedEntry, RFC 6962 section 3.4) of the submission with this timestamp, in milliseconds, and these
 /// extensions, at most 65,535 bytes.
 pub fn push_timestamped_entry<A: Allocator, S: Allocator>(
     out: &mut Vec<u8, A>,
@@ -91,7 +91,7 @@ pub fn push_timestamped_entry<A: Allocator, S: Allocator>(
     Ok(())
 }
 
-/// The bytes of the submission's leaf (MerkleTreeLeaf, RFC 6962 section 3.4) at this moment, in milliseconds, with these extensions, at
+/// The bytes of the submission's leaf (MerkleTreeLeaf, RFC 6962 section 3.4) with this timestamp, in milliseconds, and these extensions, at
 /// most 65,535 bytes.
 pub fn leaf_input_with_extensions<A: Allocator, S: Allocator>(
     alloc: A,
@@ -110,7 +110,7 @@ pub fn leaf_input_with_extensions<A: Allocator, S: Allocator>(
     Ok(bytes)
 }
 
-/// The bytes of the submission's leaf (MerkleTreeLeaf, RFC 6962 section 3.4) at this moment, in milliseconds, with no extensions.
+/// The bytes of the submission's leaf (MerkleTreeLeaf, RFC 6962 section 3.4) with this timestamp, in milliseconds, and no extensions.
 pub fn leaf_input<A: Allocator, S: Allocator>(
     alloc: A,
     submission: &Submission<S>,
@@ -122,7 +122,7 @@ pub fn leaf_input<A: Allocator, S: Allocator>(
     leaf_input_with_extensions(alloc, submission, timestamp, &[])
 }
 
-/// The extensions of a leaf that name its index in the log and nothing else (leaf_index, C2SP static-ct-api), for an index below 2^40.
+/// The extensions of a leaf that contain its index in the log and nothing else (leaf_index, C2SP static-ct-api), for an index below 2^40.
 #[tactic(auto, unfolding(crate::specs::Bytes::num))]
 pub fn index_extension(index: u64) -> [u8; 8]
     requires { index < 2 ^ 40 }
@@ -160,7 +160,7 @@ fn push_chain<A: Allocator, S: Allocator>(
     Ok(())
 }
 
-/// Writes the precertificate as a vector, where one was submitted.
+/// Writes the precertificate as a vector, if one was submitted.
 pub fn push_precertificate<A: Allocator, S: Allocator>(
     out: &mut Vec<u8, A>,
     submission: &Submission<S>,
@@ -175,8 +175,8 @@ pub fn push_precertificate<A: Allocator, S: Allocator>(
     Ok(())
 }
 
-/// The bytes that go with the submission's leaf (RFC 6962 section 4.6): the certificates behind the first, as a chain, and before them the
-/// precertificate as a vector, where one was submitted (PrecertChainEntry).
+/// The bytes that accompany the submission's leaf (RFC 6962 section 4.6): the certificates after the first, as a chain. If a precertificate
+/// was submitted, it comes before them as a vector (PrecertChainEntry).
 pub fn extra_data<A: Allocator, S: Allocator>(
     alloc: A,
     submission: &Submission<S>,

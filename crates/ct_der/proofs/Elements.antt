@@ -1,4 +1,4 @@
--- What is read is an element, and an element is read.
+-- The bytes that are read are an element, and each element can be read.
 use Rattle.std.proofs.Common.{◌≡◌, ◌<◌, ◌≤◌, ◌+◌, ◌*◌, ◌%◌, ℕ, suc, Bool, true, false, cond, eqb, ltb, List, [], ◌∷◌, ◌++◌, length, take, drop, Result, Ok, Err, refl, sym, ap, subst, ◌∙◌, ◌⊎◌, inl, inr, append_assoc, arith}
 use Rattle.std.proofs.lemmas.Bool.{ltb-false, ltb-true, le-ltb, lt-ltb, eqb-true, eqb-false, ne_eqb}
 use Rattle.std.proofs.lemmas.List.{take-append-drop, length-take-le, length-append}
@@ -38,7 +38,7 @@ not_failed d y r p q = absurd cc
 
 -- ---- lengths
 
--- what the bytes behind a first byte h give
+-- the result for the bytes after a first byte h
 abbrev Long : ℕ → List ℕ → ℕ → List ℕ → Type 0
 Long h b n r = (l : List ℕ) × IsLength l n × (h ∷ b ≡ l ++ r)
 

@@ -1,4 +1,4 @@
--- Each proper beginning of an element is refused as truncated.
+-- Each proper prefix of an element is refused as truncated.
 use Rattle.std.proofs.Common.{◌≡◌, ◌<◌, ℕ, List, [], ◌∷◌, ◌++◌, length, Result, Err, refl, sym, ap, subst, ◌∙◌, ◌⊎◌, inl, inr, arith}
 use Rattle.std.proofs.lemmas.Bool.{lt-ltb}
 use Rattle.std.proofs.lemmas.List.{length-append}
@@ -15,7 +15,7 @@ same_head a b x y e = cc
 same_tail : (a b : ℕ) (x y : List ℕ) → a ∷ x ≡ b ∷ y → x ≡ y
 same_tail a b x y e = cc
 
--- of two beginnings of a list one begins the other
+-- of two prefixes of a list, one is a prefix of the other
 split : (l c y s : List ℕ) → l ++ c ≡ y ++ s
     → ((d : List ℕ) × (y ≡ l ++ d) × (c ≡ d ++ s)) ⊎ ((z : List ℕ) × (0 < length z) × (l ≡ y ++ z))
 split [] c y s e = inl (y, refl, e)

@@ -1,4 +1,4 @@
--- Elements with a tag: what is read is there, and what is there is read.
+-- Elements with a tag: an element that is read is present, and an element that is present is read.
 use Rattle.std.proofs.Common.{◌≡◌, ◌<◌, ◌+◌, ℕ, suc, Bool, true, false, cond, eqb, List, [], ◌∷◌, ◌++◌, length, take, drop, Option, Some, None, Result, Ok, Err, refl, sym, ap, subst, ◌∙◌, ◌⊎◌, inl, inr, arith}
 use Rattle.std.proofs.lemmas.Bool.{eqb-true, cases_lt, ne_eqb}
 use Rattle.std.proofs.lemmas.List.{append-nil, nil_from_length, get_or-drop, get_or-take, get_or_past, length-take}
@@ -9,7 +9,7 @@ use Rattle.ct_der.specs.Reading.{◌>>=◌, element_at, expected_at, only_at, op
 use Rattle.ct_der.specs.Laws.{IsBytes}
 use Rattle.ct_der.proofs.Elements.{read_elements_are_there, elements_are_read, bind_ok}
 
--- ---- what is there is read
+-- ---- an element that is present is read
 
 same_tag : (n : ℕ) → eqb n n ≡ true
 same_tag n = grind arith
@@ -24,7 +24,7 @@ only_here tag c x is =
     let e : expected_at tag x ≡ Ok (c, []) = ap (expected_at tag) (sym (append-nil x)) ∙ expected_here tag c x [] is in
     rw e refl
 
--- the bytes don't begin with this tag
+-- the bytes do not begin with this tag
 abbrev pub NotFirst : ℕ → List ℕ → Type 0
 NotFirst tag [] = Unit {0}
 NotFirst tag (x ∷ b) = x ≡ tag → ⊥
@@ -47,7 +47,7 @@ other_first tag t c x r is other = subst (λ (y : List ℕ). NotFirst tag (y ++ 
 pub some_bytes : (tag : ℕ) (c x : List ℕ) → IsTlv tag c x → 0 < length x
 some_bytes tag c x is = let e = ap length is.text in omega (arith, e)
 
--- ---- what is read is there
+-- ---- an element that is read is present
 
 pub bytes_behind : (x r : List ℕ) → IsBytes (x ++ r) → IsBytes r
 bytes_behind x r h =
@@ -68,7 +68,7 @@ tail_bytes a x h i = h (suc i)
 pub content_bytes : (tag : ℕ) (c x : List ℕ) → IsTlv tag c x → IsBytes x → IsBytes c
 content_bytes tag c x is h = bytes_behind is.size c (tail_bytes tag (is.size ++ c) (subst IsBytes is.text h))
 
--- an element in front, what follows it, and that all are bytes
+-- an element in front, the bytes after it, and that all of them are bytes
 pub record Front (tag : ℕ) (b c r : List ℕ) : Type 0 where
   pub x : List ℕ
   pub is : IsTlv tag c x
@@ -94,7 +94,7 @@ expected_found tag b v fits e =
     let front = element_found b a.0.1 a.0.2 a.0.0 fits a.1 in
     subst (λ (p : List ℕ × List ℕ). Front tag b p.0 p.1) g.1 (subst (λ (t : ℕ). Front t b a.0.1 a.0.2) (eqb-true a.0.0 tag g.0) front)
 
--- the element that the bytes are
+-- the element that the bytes consist of
 pub record Whole (tag : ℕ) (b c : List ℕ) : Type 0 where
   pub is : IsTlv tag c b
   pub inner : IsBytes c
@@ -111,7 +111,7 @@ only_found tag b c fits e =
     let g = chosen_ok (eqb (length a.0.1) 0) Trailing a.0.0 c (cond (eqb (length a.0.1) 0) (Ok a.0.0) (Err Trailing)) refl a.2 in
     subst (λ (y : List ℕ). Whole tag b y) g.1 (whole_of tag b a.0.0 a.0.1 (expected_found tag b a.0 fits a.1) (eqb-true (length a.0.1) 0 g.0))
 
--- an element or nothing, and what follows it
+-- an element or nothing, and the bytes after it
 pub record Maybe (tag : ℕ) (b r : List ℕ) : Type 0 where
   pub x : List ℕ
   pub is : (x ≡ []) ⊎ ((c : List ℕ) × IsTlv tag c x)

@@ -1,4 +1,4 @@
--- An element has one text, and that is written.
+-- An element has exactly one text, and that text is written.
 use Rattle.std.proofs.Common.{◌≡◌, ◌<◌, ◌≤◌, ◌+◌, ◌/◌, ◌%◌, ℕ, suc, Bool, true, false, cond, ltb, List, [], ◌∷◌, ◌++◌, length, refl, sym, ap, ◌∙◌, arith}
 use Rattle.std.proofs.lemmas.Bool.{ltb-false, ltb-true, le-ltb, lt-ltb}
 use Rattle.std.proofs.lemmas.List.{length-append}
@@ -53,7 +53,7 @@ elements_are_written t c x is = is.text ∙ ap (λ (l : List ℕ). t ∷ (l ++ c
 pub elements_have_one_text : ElementsHaveOneText
 elements_have_one_text t c x y p q = elements_are_written t c x p ∙ sym (elements_are_written t c y q)
 
--- the length octets by how many there are
+-- the length octets, by their number
 octets_5 : (n : ℕ) → n < 4294967296 → (small low middle high : Bool) → ltb n 128 ≡ small → ltb n 256 ≡ low → ltb n 65536 ≡ middle
     → ltb n 16777216 ≡ high
     → IsLength (cond small (n ∷ []) (cond low (129 ∷ n ∷ []) (cond middle (130 ∷ (n / 256) ∷ (n % 256) ∷ [])
@@ -78,7 +78,7 @@ pub written_elements_are_there : WrittenElementsAreThere
 written_elements_are_there t c byte short fits =
     record { size = length_octets (length c); byte = byte; short = short; definite = are_octets (length c) fits; text = refl }
 
--- of a smaller number there aren't more length octets
+-- a smaller number does not have more length octets
 octets_grow : (l k : List ℕ) (n m : ℕ) → IsLength l n → IsLength k m → n ≤ m → length l ≤ length k
 octets_grow [] k n m h g low = absurd h
 octets_grow (a ∷ l) [] n m h g low = absurd g
@@ -112,7 +112,7 @@ short_octets (x ∷ a ∷ b ∷ c ∷ d ∷ e ∷ s) n h = absurd h
 pub contents_fit : (t : ℕ) (c x : List ℕ) → IsTlv t c x → length c < 4294967296
 contents_fit t c x is = short_octets is.size (length c) is.definite
 
--- an element with no more content has no more bytes
+-- if an element's content is not longer than another's, its text is not longer either
 pub elements_grow : (t u : ℕ) (c d x : List ℕ) → IsTlv u d x → length c ≤ length d → length (element_text t c) ≤ length x
 elements_grow t u c d x is low =
     let l = length_octets (length c) in

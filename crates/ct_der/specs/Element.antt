@@ -1,8 +1,8 @@
 -- The elements of DER (X.690, 8.1 and 10.1): tag, length, content.
 use Rattle.std.specs.Prelude.{◌≡◌, ◌<◌, ◌≤◌, ◌+◌, ◌*◌, ◌%◌, ◌++◌, [], ◌∷◌, ℕ, List, length}
 
--- The bytes are the length octets of n (X.690, 8.1.3 and 10.1): n itself below 128, else the number of bytes of n plus 128, and n in that
--- many bytes, the highest first, and no more than it needs. At most four.
+-- The bytes are the length octets of n (X.690, 8.1.3 and 10.1). Below 128 they are n itself. Otherwise they are the number of bytes of n
+-- plus 128, and n in that many bytes, the highest first, and no more bytes than it needs. There are at most four.
 abbrev pub IsLength : List ℕ → ℕ → Type 0
 IsLength [] n = ⊥
 IsLength (a ∷ []) n = (a < 128) × (n ≡ a)

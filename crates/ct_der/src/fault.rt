@@ -1,11 +1,11 @@
-//! Why bytes begin with no element.
+//! Why bytes do not begin with an element.
 
 ghost use Rattle.std.specs.Prelude.{◌≡◌};
 ghost use Rattle.ct_der.specs.FaultName.{der_fault_name};
 
 use thiserror::Error;
 
-/// Why bytes begin with no element: the first fault from the left (X.690, sections 8.1 and 10.1). A fault's text is its name.
+/// Why bytes do not begin with an element: the first fault from the left (X.690, sections 8.1 and 10.1). A fault's text is its name.
 #[derive(Clone, Copy, Debug, PartialEq, Eq, Error)]
 pub enum DerFault {
     /// The bytes end before the element is whole.
@@ -17,13 +17,13 @@ pub enum DerFault {
     /// The length is indefinite, which BER allows (X.690, sections 8.1.3.6 and 10.1).
     #[error("indefinite-length")]
     IndefiniteLength,
-    /// The length has more than four bytes behind the first.
+    /// The length has more than four bytes after the first.
     #[error("long-length")]
     LongLength,
     /// The length has more bytes than it needs, which BER allows (X.690, section 10.1).
     #[error("padded-length")]
     PaddedLength,
-    /// The element has another tag than it must have.
+    /// The element has a different tag from the expected one.
     #[error("other-tag")]
     OtherTag,
     /// Bytes follow the last element.
@@ -32,7 +32,7 @@ pub enum DerFault {
 }
 
 impl DerFault {
-    /// Its name.
+    /// The fault's name.
     pub fn name(self) -> &'static str
         ensures { result.now ≡ der_fault_name self }
     {

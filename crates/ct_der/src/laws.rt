@@ -2,7 +2,7 @@
 
 ghost use Rattle.ct_der.specs.Laws.{ReadElementsAreThere, ElementsAreRead, ElementsStandApart, BeginningsAreTruncated, ElementsHaveOneText, WrittenElementsAreThere, ElementsAreWritten};
 
-/// What `element` reads is what the bytes begin with.
+/// An element that `element` reads is a prefix of the bytes.
 #[tactic(auto, using(crate::proofs::Elements::read_elements_are_there))]
 pub fn read_elements_are_there()
     ensures { ReadElementsAreThere }
@@ -14,25 +14,26 @@ pub fn elements_are_read()
     ensures { ElementsAreRead }
 {}
 
-/// No bytes have two readings: those that begin with two elements begin with one, and the same follows.
+/// No bytes have two readings: if bytes begin with two elements, the elements are one, and the same bytes follow.
 #[tactic(auto, using(crate::proofs::Elements::elements_stand_apart))]
 pub fn elements_stand_apart()
     ensures { ElementsStandApart }
 {}
 
-/// Each proper beginning of an element is refused as truncated.
+/// Each proper prefix of an element is refused as truncated.
 #[tactic(auto, using(crate::proofs::Prefixes::beginnings_are_truncated))]
 pub fn beginnings_are_truncated()
     ensures { BeginningsAreTruncated }
 {}
 
-/// An element has one text.
+/// An element has exactly one text.
 #[tactic(auto, using(crate::proofs::Written::elements_have_one_text))]
 pub fn elements_have_one_text()
     ensures { ElementsHaveOneText }
 {}
 
-/// What is written of a tag of one byte and of fewer than 2^32 bytes is their element, and each element is what is written of it.
+/// The text written for a tag of one byte and fewer than 2^32 bytes of content is their element, and each element is the text written for
+/// it.
 #[tactic(auto, using(crate::proofs::Written::written_elements_are_there, crate::proofs::Written::elements_are_written))]
 pub fn elements_are_written()
     ensures there { WrittenElementsAreThere }

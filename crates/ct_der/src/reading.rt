@@ -6,7 +6,7 @@ ghost use Rattle.ct_der.specs.Reading.{Gives, minimal, long_1, long_2, long_3, l
 
 use crate::fault::DerFault;
 
-/// An element where it stands (X.690, section 8.1.1): its tag, and the bytes of its content.
+/// An element as a view of the input (X.690, section 8.1.1): its tag, and the bytes of its content.
 #[derive(Clone, Copy)]
 pub struct Element<'a> {
     /// The identifier octet: the tag's number, with its class and form.
@@ -15,7 +15,7 @@ pub struct Element<'a> {
     pub content: &'a [u8],
 }
 
-// The length, unless fewer bytes would do, and the bytes behind it. `least` is the least length that needs so many bytes.
+// The length, unless fewer bytes would do, and the bytes after it. `least` is the least length that needs that many bytes.
 fn minimal_length(least: usize, size: usize, rest: &[u8]) -> Result<(usize, &[u8]), DerFault>
     ensures gives { Gives (λ x. (x.0, x.1.now)) result (minimal least size rest.now) }
     ensures same { IfOk result (λ x. x.1.now ≡ rest.now) }
@@ -26,7 +26,7 @@ fn minimal_length(least: usize, size: usize, rest: &[u8]) -> Result<(usize, &[u8
     Ok((size, rest))
 }
 
-// The length in one byte, and the bytes behind it.
+// The length in one byte, and the bytes after it.
 #[tactic(auto, unfolding(crate::specs::Reading::long_1))]
 fn length_of_1(bytes: &[u8]) -> Result<(usize, &[u8]), DerFault>
     ensures gives { Gives (λ x. (x.0, x.1.now)) result (long_1 bytes.now) }
@@ -38,7 +38,7 @@ fn length_of_1(bytes: &[u8]) -> Result<(usize, &[u8]), DerFault>
     }
 }
 
-// The length in two bytes, and the bytes behind it.
+// The length in two bytes, and the bytes after it.
 #[tactic(auto, unfolding(crate::specs::Reading::long_2))]
 fn length_of_2(bytes: &[u8]) -> Result<(usize, &[u8]), DerFault>
     ensures gives { Gives (λ x. (x.0, x.1.now)) result (long_2 bytes.now) }
@@ -50,7 +50,7 @@ fn length_of_2(bytes: &[u8]) -> Result<(usize, &[u8]), DerFault>
     }
 }
 
-// The length in three bytes, and the bytes behind it.
+// The length in three bytes, and the bytes after it.
 #[tactic(auto, unfolding(crate::specs::Reading::long_3))]
 fn length_of_3(bytes: &[u8]) -> Result<(usize, &[u8]), DerFault>
     ensures gives { Gives (λ x. (x.0, x.1.now)) result (long_3 bytes.now) }
@@ -66,7 +66,7 @@ fn length_of_3(bytes: &[u8]) -> Result<(usize, &[u8]), DerFault>
     }
 }
 
-// The length in four bytes, and the bytes behind it.
+// The length in four bytes, and the bytes after it.
 #[tactic(auto, unfolding(crate::specs::Reading::long_4))]
 fn length_of_4(bytes: &[u8]) -> Result<(usize, &[u8]), DerFault>
     ensures gives { Gives (λ x. (x.0, x.1.now)) result (long_4 bytes.now) }
@@ -82,7 +82,7 @@ fn length_of_4(bytes: &[u8]) -> Result<(usize, &[u8]), DerFault>
     }
 }
 
-// The length that the bytes begin with, and the bytes behind it.
+// The length that the bytes begin with, and the bytes after it.
 #[tactic(auto, unfolding(crate::specs::Reading::length_at))]
 fn length_and_rest(bytes: &[u8]) -> Result<(usize, &[u8]), DerFault>
     ensures shorter { IfOk result (λ x. length x.1.now < length bytes.now) }
@@ -110,11 +110,11 @@ fn length_and_rest(bytes: &[u8]) -> Result<(usize, &[u8]), DerFault>
     }
 }
 
-/// The element that the bytes begin with, and the bytes behind it (X.690, section 8.1.1).
+/// The element that the bytes begin with, and the bytes after it (X.690, section 8.1.1).
 ///
 /// # Errors
 ///
-/// Where the bytes begin with none: the first fault from the left.
+/// If the bytes do not begin with an element: the first fault from the left.
 #[tactic(auto, unfolding(crate::specs::Reading::element_at))]
 pub fn next_element(bytes: &[u8]) -> Result<(Element<'_>, &[u8]), DerFault>
     ensures gives { Gives (λ x. (x.0.tag, x.0.content.now, x.1.now)) result (element_at bytes.now) }
@@ -136,11 +136,11 @@ pub fn next_element(bytes: &[u8]) -> Result<(Element<'_>, &[u8]), DerFault>
     }
 }
 
-/// The content of the element with this tag that the bytes begin with, and the bytes behind it.
+/// The content of the element with this tag that the bytes begin with, and the bytes after it.
 ///
 /// # Errors
 ///
-/// As [`next_element`], and `OtherTag` where the bytes begin with an element of another tag.
+/// The errors of [`next_element`], and `OtherTag` if the bytes begin with an element with another tag.
 #[tactic(auto, unfolding(crate::specs::Reading::expected_at))]
 pub fn expected(tag: u8, bytes: &[u8]) -> Result<(&[u8], &[u8]), DerFault>
     ensures gives { Gives (λ x. (x.0.now, x.1.now)) result (expected_at tag bytes.now) }
@@ -153,11 +153,11 @@ pub fn expected(tag: u8, bytes: &[u8]) -> Result<(&[u8], &[u8]), DerFault>
     Ok((found.content, rest))
 }
 
-/// The content of the element with this tag that the bytes are, to their end.
+/// The content of the element with this tag that the bytes consist of, to their end.
 ///
 /// # Errors
 ///
-/// As [`expected`], and `Trailing` where bytes follow the element.
+/// The errors of [`expected`], and `Trailing` if bytes follow the element.
 #[tactic(auto, unfolding(crate::specs::Reading::only_at))]
 pub fn only(tag: u8, bytes: &[u8]) -> Result<&[u8], DerFault>
     ensures { Gives (λ x. x.now) result (only_at tag bytes.now) }
@@ -169,12 +169,12 @@ pub fn only(tag: u8, bytes: &[u8]) -> Result<&[u8], DerFault>
     Ok(content)
 }
 
-/// The content of the element with this tag that the bytes begin with, and the bytes behind it; none, and all the bytes, where they are empty
-/// or begin with another tag.
+/// The content of the element with this tag that the bytes begin with, and the bytes after it. If the bytes are empty or begin with another
+/// tag, it returns no content and all the bytes.
 ///
 /// # Errors
 ///
-/// As [`expected`], where the bytes begin with this tag.
+/// The errors of [`expected`], if the bytes begin with this tag.
 #[tactic(auto, unfolding(crate::specs::Reading::optional_at))]
 pub fn optional(tag: u8, bytes: &[u8]) -> Result<(Option<&[u8]>, &[u8]), DerFault>
     ensures { Gives (λ x. (option_map (λ c. c.now) x.0, x.1.now)) result (optional_at tag bytes.now) }

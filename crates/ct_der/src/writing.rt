@@ -36,11 +36,11 @@ fn push_length(out: &mut Vec<u8>, size: usize) -> Result<(), AllocError>
     }
 }
 
-/// Writes the element with this tag and this content behind what stands in `out`: its one text, with the length in the fewest bytes.
+/// Appends the element with this tag and this content to `out`: its only text, with the length in the fewest bytes.
 ///
 /// # Errors
 ///
-/// Where a growth is refused. Some of the element may stand in `out` then.
+/// Returns an error if memory runs out. Some of the element may have been written to `out` then.
 #[tactic(auto, using(crate::proofs::Written::written_elements_are_there))]
 pub fn push_element(out: &mut Vec<u8>, tag: u8, content: &[u8]) -> Result<(), AllocError>
     requires short { tag % 32 < 31 }

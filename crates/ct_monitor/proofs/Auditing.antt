@@ -1,4 +1,4 @@
--- What is accepted against the head of a list isn't refused by an explanation.
+-- A proof that is accepted against the head of a list is not refused by an explanation.
 use Rattle.std.proofs.Common.{ℕ, List, length, Ok, Err, Result, MatchResult}
 use Rattle.ct_tree.specs.Tree.{hash_leaf, mth_of_leaves}
 use Rattle.ct_verify.proofs.Defined.{accepted_not_refused}

@@ -12,7 +12,7 @@ use Rattle.ct_monitor.specs.declared.verdict.Verdict.{Verdict}
 use Rattle.ct_monitor.specs.declared.verdict.Verdict.TheVariants.{Accepted, Pending, Again, Stale, Shrunk, Fork, TimeNotLater, RootMismatch, Gap, Consistent, Inconsistent}
 use Rattle.ct_monitor.proofs.Steps.{said_changes_nothing}
 
--- a step keeps the sure leaves, and accepts a head of the new ones
+-- a step keeps the accepted leaves, and any head that it accepts is the head of the new accepted leaves
 abbrev Grows : (List ℕ → List ℕ) → Watched → Verdict → Watched → Type 0
 Grows H w v next = ((Y : List (List ℕ)) × (next.sure ≡ w.sure ++ Y))
     × (SaysAccepted v → (head : Head) × (next.accepted ≡ Some head) × IsHeadOfAll H next.sure head)
@@ -40,7 +40,7 @@ said_grows : (H : List ℕ → List ℕ) (w : Watched) (waiting : Head) (known :
 said_grows H w waiting known head v s =
     subst (Grows H w v) (sym (said_changes_nothing w waiting known head v s)) (unchanged_grows H w v (said_accepts_nothing known head v s))
 
--- the leaves `ahead` are those of w, or these and more
+-- the leaves `ahead` are those of w, or those and more
 settled_grows : (H : List ℕ → List ℕ) (w : Watched) (head : Head) (v : Verdict) → WaitingSays H w head v → Grows H w v (after_verdict w head v)
 settled_grows H w head Accepted s = ((w.ahead, refl), λ a. (head, refl, s))
 settled_grows H w head (RootMismatch root) s = (([], sym (append-nil w.sure)), λ a. absurd a)
@@ -86,7 +86,7 @@ step_grows : (H : List ℕ → List ℕ) (w : Watched) (v : Verdict) (next : Wat
 step_grows H w v next (inl (head, says, e)) = subst (Grows H w v) (sym e) (head_grows H w head v says)
 step_grows H w v next (inr (start, E, says, e)) = subst (Grows H w v) (sym e) (entries_grow H w w.waiting start E v says)
 
--- the head that a step accepted is that of a beginning of any longer list
+-- the head that a step accepted is the head of a prefix of any longer list
 of_beginning_at : (H : List ℕ → List ℕ) (next : Watched) (Z : List (List ℕ)) → ((head : Head) × (next.accepted ≡ Some head) × IsHeadOfAll H next.sure head)
     → (head : Head) × (n : ℕ) × (next.accepted ≡ Some head) × IsHeadOfAll H (take n (next.sure ++ Z)) head
 of_beginning_at H next Z (head, e, s) = (head, length next.sure, e, rw (take-append_seam next.sure Z) s)
@@ -96,7 +96,7 @@ of_beginning : (H : List ℕ → List ℕ) (v : Verdict) (next : Watched) (Z : L
     → IsOfBeginning H (next.sure ++ Z) (v, next)
 of_beginning H v next Z g a = of_beginning_at H next Z (g a)
 
--- the accepted leaves stay, and more may come behind them
+-- the accepted leaves stay, and more may be added after them
 steps_grow : (H : List ℕ → List ℕ) (w : Watched) (steps : List (Verdict × Watched)) → AreSteps H w steps
     → (Z : List (List ℕ)) × ((after_steps w steps).sure ≡ w.sure ++ Z)
 unfolding AreSteps

@@ -1,4 +1,4 @@
--- What subtrees that are extended, or aren't, say of a follower.
+-- The consequences for a follower if its subtrees are extended, or are not extended.
 use Rattle.std.proofs.Common.{◌≡◌, ◌∙◌, ◌+◌, ◌<◌, ◌^◌, ℕ, List, ◌++◌, length, map, Ok, Err, Result, IfOk, IfErr, sym}
 use Rattle.std.proofs.lemmas.List.{length-append}
 use Rattle.ct_tree.specs.Stack.{Stands}
@@ -22,7 +22,7 @@ refused_at_last H old head E TimeNotLater o n = absurd n
 refused_at_last H old head E CountMismatch o n = absurd n
 refused_at_last H old head E Memory o n = o
 
--- The three answers of `longer`, where n is the number of the new leaves E, as a slice counts them.
+-- The three results of `longer`; n is the number of the new leaves E, as a slice counts them.
 pub stands_for_all : {P F : Type 0} (H : List ℕ → List ℕ) (state : FollowerState) (E : List (List ℕ)) (n : ℕ) (seen : P → ℕ × List (List ℕ)) (r : Result P F)
     → ((D : List (List ℕ)) → Follows H state D → length D + n < 2 ^ 64)
     → IfOk r (λ p. (D : List (List ℕ)) → length D + n < 2 ^ 64 → Stands H state.peaks (map (hash_leaf H) D) → Stands H (seen p) (map (hash_leaf H) (D ++ E)))

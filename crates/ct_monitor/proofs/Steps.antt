@@ -1,4 +1,4 @@
--- What a watcher stands for after a step.
+-- The data that a watcher represents after a step.
 use Rattle.std.proofs.Common.{◌≡◌, ◌⊎◌, ◌∙◌, ◌≤◌, ◌-◌, ℕ, List, ◌++◌, length, map, take, Option, Some, None, Vec, Global, arith, sym, refl, ap, subst, inl, inr}
 use Rattle.std.proofs.Common.{Ok, Err, Result, IfOk}
 use Rattle.std.proofs.lemmas.Option.{same_Some}
@@ -13,7 +13,7 @@ use Rattle.ct_monitor.specs.WatcherState.{WatcherState, Keeps}
 use Rattle.ct_monitor.specs.declared.verdict.Verdict.{Verdict}
 use Rattle.ct_monitor.specs.declared.verdict.Verdict.TheVariants.{Accepted, Pending, Again, Stale, Shrunk, Fork, TimeNotLater, RootMismatch, Gap, Consistent, Inconsistent}
 
--- a verdict that stands against a head at once changes nothing
+-- an immediate verdict on a head changes nothing
 pub said_changes_nothing : (w : Watched) (waiting : Head) (known : Option Head) (head : Head) (v : Verdict) → IsSaid known head v
     → after_verdict w waiting v ≡ w
 said_changes_nothing w waiting None head v s = absurd s
@@ -32,14 +32,14 @@ said_changes_nothing w waiting (Some known) head (Inconsistent fault) s = absurd
 abbrev bytes : Vec ℕ Global → List ℕ
 bytes l = l.items
 
--- the leaves up to a count, where that is the room or all there are
+-- the leaves up to a count, if the count is the room or the number of all leaves
 pub as_far_as : (leaves : List (Vec ℕ Global)) (count room : ℕ) → (count ≡ room) ⊎ ((length leaves ≤ room) × (count ≡ length leaves))
     → map bytes (take count leaves) ≡ take room (map bytes leaves)
 as_far_as leaves count room (inl e) = rw e (sym (take-map bytes room leaves))
 as_far_as leaves count room (inr e) =
     rw (e.1, take_all (length leaves) leaves (omega arith), take_all room (map bytes leaves) (omega (arith, e.0, length-map leaves bytes))) refl
 
--- the subtrees with T behind them, where T is what there is of the leaves E as far as the head goes
+-- the subtrees extended by T, if T is the leaves E as far as the head goes
 pub stands_read_on : (H : List ℕ → List ℕ) (old : ℕ × List (List ℕ)) (D : List (List ℕ)) (head : Head) (E T : List (List ℕ)) (longer : ℕ × List (List ℕ))
     → Stands H old (map (hash_leaf H) D) → T ≡ take (head.tree_size - old.0) E → Stands H longer (map (hash_leaf H) D ++ map (hash_leaf H) T)
     → Stands H longer (map (hash_leaf H) (with_more D head E))
@@ -61,7 +61,7 @@ keeps_read_on H old w head E longer k s =
       all = subst (λ (X : List (List ℕ)). Stands H longer (map (hash_leaf H) X)) (append_assoc w.sure w.ahead T) s;
     }
 
--- what is left after entries, where they began in the right place
+-- the data after entries, if the entries began at the right index
 after_read : (H : List ℕ → List ℕ) (w : Watched) (head : Head) (E : List (List ℕ)) (v : Verdict) → WaitingSays H (read_on w head E) head v
     → after_verdict (read_on w head E) head v ≡ after_entries w (Some head) E v
 after_read H w head E Accepted s = refl
@@ -100,7 +100,8 @@ entries_keep H old new head E longer (Ok v) waits keeps says stands = λ w k.
     (subst (Keeps H new) (after_read H w head E v (says next (keeps w k))) (stands next (keeps w k)))
 entries_keep H old new head E longer (Err f) waits keeps says stands = says
 
--- entries that a head waits for, where that is accepted: its root is that of the leaves that the subtrees stand for and these
+-- entries for which a head waits, if it is accepted: its root is the root of the leaves that the subtrees represent, followed by these
+-- entries
 pub entries_compared : {F : Type 0} (H : List ℕ → List ℕ) (old : WatcherState) (head : Head) (E : List (List ℕ))
     (longer : ℕ × List (List ℕ)) (r : Result Verdict F)
     → old.waiting ≡ Some head

@@ -1,4 +1,4 @@
--- What an auditor's answers say: the verifiers' words over a tree head, and the words of the evidence.
+-- The meaning of an auditor's results: the verifiers' terms for a tree head, and the terms of the evidence.
 use Rattle.std.specs.Prelude.{Ok, Err, ⊤}
 use Rattle.std.specs.declared.result.Result.{Result}
 use Rattle.ct_verify.specs.declared.evidence.Evidence.{Evidence}
@@ -8,7 +8,7 @@ pub use Rattle.ct_verify.specs.Verdict.{AcceptsInclusion, RefusesInclusion, Acce
 pub use Rattle.ct_verify.specs.InclusionEvidence.{InclusionEvidence, InclusionFault}
 pub use Rattle.ct_verify.specs.Evidence.{IsAudited}
 
--- an explanation answers that the verifier refuses the proof
+-- the result of an explanation is that the verifier refuses the proof
 abbrev pub IsProofRefused : {A : Type 0} → Result (Evidence A) EvidenceFault → Type 0
 IsProofRefused (Ok evidence) = ⊥
 IsProofRefused (Err (ProofRefused fault)) = ⊤

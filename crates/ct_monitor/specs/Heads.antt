@@ -1,8 +1,8 @@
--- Tree heads and the leaves that they stand for.
+-- Tree heads and the leaves that they cover.
 use Rattle.std.specs.Prelude.{◌≡◌, ℕ, List, length}
 use Rattle.ct_tree.specs.Tree.{mth_of_leaves}
 use Rattle.ct_tree.specs.declared.head.Head.{Head}
 
--- the head is that of the leaves D: their number, and MTH of them
+-- the head is the head of the leaves D: it has their number, and their MTH as its root
 abbrev pub IsHeadOfAll : (List ℕ → List ℕ) → List (List ℕ) → Head → Type 0
 IsHeadOfAll H D head = (head.tree_size ≡ length D) × (head.root ≡ mth_of_leaves H D)

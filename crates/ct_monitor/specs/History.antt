@@ -1,4 +1,4 @@
--- What a watcher accepted over many answers, those of later runs that began with the saved state among them.
+-- The heads that a watcher accepted over many answers, including answers in later runs that began with the saved state.
 use Rattle.std.specs.Prelude.{◌≡◌, ◌⊎◌, ⊤, ℕ, List, [], ◌∷◌, take, Some, All}
 use Rattle.ct_tree.specs.declared.head.Head.{Head}
 use Rattle.ct_monitor.specs.Heads.{IsHeadOfAll}
@@ -12,7 +12,7 @@ abbrev pub SaysAccepted : Verdict → Type 0
 SaysAccepted Accepted = ⊤
 SaysAccepted v = ⊥
 
--- a head or entries, their verdict v, and what has been handed out then (a proof changes nothing)
+-- a head or entries, their verdict v, and the data that was handed out up to then (a proof changes nothing)
 abbrev pub IsStep : (List ℕ → List ℕ) → Watched → Verdict → Watched → Type 0
 IsStep H w v next = ((head : Head) × HeadSays H w head v × (next ≡ after_verdict w (waiting_or w.waiting head) v))
     ⊎ ((start : ℕ) × (E : List (List ℕ)) × EntriesSay H w w.waiting start E v × (next ≡ after_entries w w.waiting E v))
@@ -22,17 +22,17 @@ unfoldable pub AreSteps : (List ℕ → List ℕ) → Watched → List (Verdict 
 AreSteps H w [] = ⊤
 AreSteps H w (s ∷ steps) = IsStep H w s.0 s.1 × AreSteps H s.1 steps
 
--- what has been handed out after the last of these steps
+-- the data that was handed out up to the last of these steps
 abbrev pub after_steps : Watched → List (Verdict × Watched) → Watched
 after_steps w [] = w
 after_steps w (s ∷ steps) = after_steps s.1 steps
 
--- where a head was accepted by a step, it is that of the first leaves of D
+-- if a step accepted a head, it is the head of the first leaves of D
 abbrev pub IsOfBeginning : (List ℕ → List ℕ) → List (List ℕ) → Verdict × Watched → Type 0
 IsOfBeginning H D s = SaysAccepted s.0 → (head : Head) × (n : ℕ) × (s.1.accepted ≡ Some head) × IsHeadOfAll H (take n D) head
 
--- From the first answer on, each head that is accepted is that of a beginning of one list of leaves: those that were handed out and
--- are accepted after the last step.
+-- From the first answer on, each accepted head is the head of a prefix of one list of leaves: the leaves that the log has handed out and
+-- that are accepted after the last step.
 abbrev pub AcceptedHeadsAgree : Type 0
 AcceptedHeadsAgree = (H : List ℕ → List ℕ) (steps : List (Verdict × Watched)) → AreSteps H nothing_seen steps
     → All (IsOfBeginning H (after_steps nothing_seen steps).sure) steps

@@ -7,26 +7,26 @@ use Rattle.ct_monitor.specs.Followed.{Followed}
 use Rattle.ct_monitor.specs.declared.fault.MonitorFault.{MonitorFault}
 use Rattle.ct_monitor.specs.declared.fault.MonitorFault.TheVariants.{RootMismatch, Shrunk, Fork, TimeNotLater, CountMismatch, Memory}
 
--- the last head has this head's size and another root
+-- the last head has this head's size and a different root
 abbrev pub Forks : Option Head → Head → Type 0
 Forks None head = ⊥
 Forks (Some last) head = (last.tree_size ≡ head.tree_size) × (¬ (last.root ≡ head.root))
 
--- the head isn't later than the last one, and isn't that same head again
+-- the head is not later than the last one, and is not that same head again
 abbrev pub IsNotLater : Option Head → Head → Type 0
 IsNotLater None head = ⊥
 IsNotLater (Some last) head = (head.timestamp ≤ last.timestamp) × (¬ (last ≡ head))
 
--- the head has all kept leaves, is no fork, and is later or the same again
+-- the head covers at least as many leaves as are kept, is no fork, and is later or the same again
 abbrev pub IsInOrder : Followed → Head → Type 0
 IsInOrder old head = (length old.leaves ≤ head.tree_size) × (¬ Forks old.last_head head) × (¬ IsNotLater old.last_head head)
 
--- the kept leaves and the new ones E are as many as the head says
+-- the number of kept leaves and new leaves E is the size of the head
 abbrev pub IsCounted : Followed → Head → List (List ℕ) → Type 0
 IsCounted old head E = length old.leaves + length E ≡ head.tree_size
 
--- when each fault is answered to a head with the new leaves E. Each excludes those before it in the order Shrunk, Fork,
--- TimeNotLater, CountMismatch, Memory, RootMismatch; Memory can't be told from what is handed in
+-- when each fault is returned for a head with the new leaves E. Each fault excludes those before it in the order Shrunk, Fork,
+-- TimeNotLater, CountMismatch, Memory, RootMismatch. The arguments do not determine whether Memory is returned
 abbrev pub RefusesHead : (List ℕ → List ℕ) → Followed → Head → List (List ℕ) → MonitorFault → Type 0
 RefusesHead H old head E Shrunk = head.tree_size < length old.leaves
 RefusesHead H old head E Fork = (length old.leaves ≤ head.tree_size) × Forks old.last_head head

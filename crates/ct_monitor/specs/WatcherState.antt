@@ -1,4 +1,4 @@
--- What contracts see of a watcher, and what that stands for.
+-- The value of a watcher in contracts, and the data that it represents.
 use Rattle.std.specs.Prelude.{◌≡◌, ℕ, List, map}
 use Rattle.std.specs.declared.option.Option.{Option}
 use Rattle.ct_tree.specs.Stack.{Stands}
@@ -6,8 +6,8 @@ use Rattle.ct_tree.specs.Tree.{hash_leaf}
 use Rattle.ct_tree.specs.declared.head.Head.{Head}
 use Rattle.ct_monitor.specs.Watched.{Watched, leaves_read}
 
--- What contracts see of a watcher: the accepted head and the waiting one; and of the accepted leaves, and of all that were read, the number
--- and the roots of the perfect subtrees.
+-- The value of a watcher in contracts: the accepted head and the waiting one; and, both for the accepted leaves and for all leaves that
+-- were read, their number and the roots of their perfect subtrees.
 pub record WatcherState : Type 0 where
   pub accepted : Option Head
   pub waiting : Option Head

@@ -1,4 +1,4 @@
-//! An auditor, who checks proofs against tree heads.
+//! An auditor, which checks proofs against tree heads.
 ghost use Rattle.std.specs.Prelude.{◌≡◌, List, ℕ, map, MatchResult, Ok};
 ghost use Rattle.ct_tree.specs.Tree.{hash_leaf};
 ghost use Rattle.ct_tree.specs.declared.head.Head.{Head};
@@ -12,23 +12,24 @@ use ct_verify::{
 };
 use std::alloc::Allocator;
 
-/// Who checks a log's proofs against its tree heads, under one hash function.
+/// An auditor, which checks a log's proofs against its tree heads, with one hash function.
 #[derive(Drop)]
 pub struct Auditor<H: NodeHash + Drop> {
     h: H,
 }
 
 impl<H: NodeHash + Drop> Auditor<H> {
-    /// An auditor of trees under this hash function.
+    /// An auditor of trees with this hash function.
     pub fn new(h: H) -> Auditor<H> {
         Auditor { h }
     }
 
-    /// Checks that an audit path leads from a leaf at a leaf index to the head's root (RFC 9162, section 2.1.3.2), as
-    /// [`verify_inclusion`] does. The leaf is its bytes, not its hash. The first element of the path is nearest the leaf.
+    /// Checks that an audit path leads from a leaf at a leaf index to the head's root (RFC 9162, section 2.1.3.2), as [`verify_inclusion`]
+    /// does. The leaf is given as its bytes, not as its hash. The first element of the path is nearest the leaf.
     ///
     /// # Errors
-    /// Those of `verify_inclusion`, in its order.
+    ///
+    /// The errors of `verify_inclusion`, in its order.
     pub fn check(
         &self,
         head: &Head,
@@ -43,11 +44,11 @@ impl<H: NodeHash + Drop> Auditor<H> {
         verify_inclusion(&self.h, &hash, index, head.tree_size, path, &head.root)
     }
 
-    /// Checks that a consistency proof leads to the roots of both heads (RFC 9162, section 2.1.4.2), as
-    /// [`verify_consistency`] does.
+    /// Checks that a consistency proof leads to the roots of both heads (RFC 9162, section 2.1.4.2), as [`verify_consistency`] does.
     ///
     /// # Errors
-    /// Those of `verify_consistency`, in its order.
+    ///
+    /// The errors of `verify_consistency`, in its order.
     pub fn check_heads(
         &self,
         first: &Head,
@@ -67,15 +68,16 @@ impl<H: NodeHash + Drop> Auditor<H> {
         )
     }
 
-    /// Explains an audit path against the list of the leaves, as [`explain_inclusion`] does: the leaf stands at the index
-    /// and the path is its own (`Holds`), or here are two strings that differ and have one hash (`Collision`).
+    /// Explains an audit path for the list of the leaves, as [`explain_inclusion`] does: the leaf is at the index and the path is its own
+    /// (`Holds`), or two strings differ and have the same hash (`Collision`).
     ///
-    /// What [`check`](Auditor::check) accepted against a head that has the root and the number of these leaves isn't
-    /// refused here. So without the assumption that the hash function has no collisions, an accepted path says: the
-    /// leaf is there, or two such strings are handed out.
+    /// If [`check`](Auditor::check) accepted a path against a head that has the root and the number of these leaves, it is not refused
+    /// here. So without the assumption that the hash function has no collisions, an accepted path means that the leaf is present, or that
+    /// two such strings are returned.
     ///
     /// # Errors
-    /// Those of `explain_inclusion`: `ProofRefused`, and `Memory` in place of a `Collision` where a growth was refused.
+    ///
+    /// The errors of `explain_inclusion`: `ProofRefused`, and `Memory` in place of a `Collision` if memory runs out.
     pub fn explain<A: Allocator + Clone>(
         &self,
         alloc: A,

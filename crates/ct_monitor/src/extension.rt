@@ -1,4 +1,4 @@
-//! The new leaves of a head, behind those that some perfect subtrees stand for.
+//! The new leaves of a head, after those that some perfect subtrees represent.
 ghost use Rattle.std.specs.Prelude.{◌≡◌, ◌+◌, ◌<◌, ◌^◌, List, ℕ, ◌++◌, length, map, IfOk, IfErr};
 ghost use Rattle.ct_tree.specs.Stack.{Stands};
 ghost use Rattle.ct_tree.specs.Tree.{hash_leaf, mth_of_leaves};
@@ -9,7 +9,7 @@ use crate::peaks::Peaks;
 use ct_tree::{NodeHash, is_same_digest};
 use std::alloc::Allocator;
 
-// The perfect subtrees with new leaves behind those that they stand for, where the root is that of all of them.
+// The perfect subtrees with new leaves after those that they represent, if the root is the root of all of them.
 pub(crate) fn extended<A: Allocator + Clone, L: Allocator, H: NodeHash>(
     h: &H,
     peaks: &Peaks<A>,

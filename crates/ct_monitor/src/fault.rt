@@ -14,16 +14,16 @@ pub enum MonitorFault {
     /// The head has fewer leaves than are kept.
     #[error("the head has fewer leaves than are kept")]
     Shrunk,
-    /// The last head has this size and another root.
+    /// The last head has this size and a different root.
     #[error("the last head has this size and another root")]
     Fork,
     /// The head is not later than the last one, and not that same head again.
     #[error("the head is not later than the last one")]
     TimeNotLater,
-    /// The kept and the new leaves together are not as many as the head says.
+    /// The number of kept and new leaves together is not the size of the head.
     #[error("the kept and the new leaves are not as many as the head says")]
     CountMismatch,
-    /// A growth was refused.
+    /// Memory could not be allocated.
     #[error("there is no memory for the new leaves")]
     Memory,
 }

@@ -1,4 +1,4 @@
-//! Who keeps up with a log's tree heads: a follower, who keeps none of its leaves, and a monitor, who keeps all of them.
+//! Observers that keep up with a log's tree heads: a follower, which keeps none of its leaves, and a monitor, which keeps all of them.
 ghost use Rattle.std.specs.Prelude.{◌≡◌, ◌+◌, ◌<◌, ◌^◌, List, ℕ, [], ◌++◌, length, map, IfErr, IfOk, MatchResult, OnErr, OnOk, Some, None};
 ghost use Rattle.ct_tree.specs.Stack.{Stands};
 ghost use Rattle.ct_tree.specs.Tree.{hash_leaf, mth_of_leaves};
@@ -15,8 +15,8 @@ use ct_tree::{Head, NodeHash};
 use std::alloc::{Allocator, Global};
 use std::marker::Model;
 
-/// Who follows a log's tree heads and keeps the roots of the perfect subtrees in place of its leaves, under one hash
-/// function: at most 64 hashes and a head, whatever the size of the log. The state can be saved, and handed in again.
+/// A follower follows a log's tree heads and keeps the roots of the perfect subtrees in place of the leaves, with one hash function.
+/// It needs at most 64 hashes and a head, whatever the size of the log. The state can be saved, and passed in again.
 #[derive(Drop)]
 pub struct Follower<H: NodeHash + Drop, A: Allocator = Global> {
     h: H,
@@ -31,7 +31,7 @@ impl<H: NodeHash + Drop, A: Allocator> Model for Follower<H, A> {
 }
 
 impl<H: NodeHash + Drop, A: Allocator> Follower<H, A> {
-    /// A follower of no leaves, who took no head. Takes no memory.
+    /// A follower of no leaves that took no head. It takes no memory.
     pub fn new(alloc: A, h: H) -> Follower<H, A>
         ensures follows { Follows H.digest result [] }
         ensures last_head { result.last_head ≡ None }
@@ -43,7 +43,7 @@ impl<H: NodeHash + Drop, A: Allocator> Follower<H, A> {
         }
     }
 
-    /// A follower in the state that is handed in, whatever that is.
+    /// A follower in the state that is passed in, whatever that is.
     pub fn from_parts(h: H, peaks: Peaks<A>, last: Option<Head>) -> Follower<H, A>
         ensures peaks { result.peaks ≡ peaks }
         ensures last_head { result.last_head ≡ last }
@@ -92,7 +92,7 @@ impl<H: NodeHash + Drop, A: Allocator> Follower<H, A> {
         Ok(())
     }
 
-    // Goes on to these subtrees and this head.
+    // Replaces the subtrees and the last head by these.
     pub(crate) fn go_on(&mut self, longer: Peaks<A>, head: Head)
         ensures peaks { self.new.peaks ≡ longer }
         ensures last_head { self.new.last_head ≡ Some head }
@@ -103,7 +103,7 @@ impl<H: NodeHash + Drop, A: Allocator> Follower<H, A> {
 }
 
 impl<H: NodeHash + Drop, A: Allocator + Clone> Follower<H, A> {
-    // The subtrees of the leaves with the new ones, where nothing speaks against the head.
+    // The subtrees of the leaves with the new ones, if there is no fault in the head.
     pub(crate) fn longer<L: Allocator>(
         &self,
         head: &Head,
@@ -125,12 +125,13 @@ impl<H: NodeHash + Drop, A: Allocator + Clone> Follower<H, A> {
         extended(&self.h, &self.peaks, new_entries, &head.root)
     }
 
-    /// Takes in a tree head and the leaves that are new in it, in order. Hashes each new leaf and one node on average for
-    /// each, and at most 64 nodes for the root. The same head again, without new leaves, is taken. A head is taken only
-    /// with the root of the leaves that the subtrees stand for and the new ones, whatever the last head was.
+    /// Takes in a tree head and the leaves that are new in it, in order. It hashes each new leaf and one node on average for each, and at
+    /// most 64 nodes for the root. The same head again, without new leaves, is taken. A head is taken only if its root is the root of the
+    /// leaves that the subtrees represent and the new ones, whatever the last head was.
     ///
     /// # Errors
-    /// Those that [`Monitor::observe`](crate::Monitor::observe) answers where it keeps the leaves, in its order. An error
+    ///
+    /// The errors that [`Monitor::observe`](crate::Monitor::observe) of a monitor that keeps these leaves returns, in its order. An error
     /// changes nothing.
     pub fn observe<L: Allocator>(
         &mut self,
@@ -156,7 +157,7 @@ impl<H: NodeHash + Drop, A: Allocator + Clone> Follower<H, A> {
     }
 }
 
-/// Who follows a log's tree heads and keeps all its leaves, under one hash function.
+/// A monitor follows a log's tree heads and keeps all its leaves, with one hash function.
 #[derive(Drop)]
 pub struct Monitor<H: NodeHash + Drop, A: Allocator = Global> {
     follower: Follower<H, A>,
@@ -172,7 +173,7 @@ impl<H: NodeHash + Drop, A: Allocator> Model for Monitor<H, A> {
 }
 
 impl<H: NodeHash + Drop, A: Allocator + Copy> Monitor<H, A> {
-    /// A monitor that keeps no leaves and took no head. Takes no memory.
+    /// A monitor that keeps no leaves and took no head. It takes no memory.
     pub fn new(alloc: A, h: H) -> Monitor<H, A>
         ensures leaves { result.leaves ≡ [] }
         ensures last_head { result.last_head ≡ None }
@@ -192,7 +193,7 @@ impl<H: NodeHash + Drop, A: Allocator> Monitor<H, A> {
         &self.kept
     }
 
-    /// The last head that was taken: that of the kept leaves.
+    /// The last head that was taken: the head of the kept leaves.
     pub fn last_head(&self) -> Option<Head>
         ensures last { result ≡ self.now.last_head }
         ensures following { IsFollowing H.digest self.now.leaves result }
@@ -202,15 +203,21 @@ impl<H: NodeHash + Drop, A: Allocator> Monitor<H, A> {
 }
 
 impl<H: NodeHash + Drop, A: Allocator + Clone> Monitor<H, A> {
-    /// Takes in a tree head and the leaves that are new in it, in order. The leaves are kept without a copy of their
-    /// bytes. Hashes each new leaf and one node on average for each, and at most 64 nodes for the root; no kept leaf is
-    /// hashed again. The same head again, without new leaves, is taken.
+    /// Takes in a tree head and the leaves that are new in it, in order. The leaves are kept without a copy of their bytes. It hashes each
+    /// new leaf and one node on average for each, and at most 64 nodes for the root. It hashes no kept leaf again. The same head again,
+    /// without new leaves, is taken.
     ///
     /// # Errors
-    /// In this order: `Shrunk` where the head has fewer leaves than are kept; `Fork` where the last head has this size
-    /// and another root; `TimeNotLater` unless the head is later than the last one or that same head again;
-    /// `CountMismatch` unless the kept and the new leaves together are as many as it says; `Memory`; `RootMismatch`
-    /// where its root isn't that of the kept and the new leaves. An error changes nothing.
+    ///
+    /// In this order:
+    /// - `Shrunk` if the head has fewer leaves than are kept;
+    /// - `Fork` if the last head has this size and a different root;
+    /// - `TimeNotLater` unless the head is later than the last one or is that same head again;
+    /// - `CountMismatch` unless the number of the kept and the new leaves together is the head's size;
+    /// - `Memory`;
+    /// - `RootMismatch` if its root is not the root of the kept and the new leaves.
+    ///
+    /// An error changes nothing.
     pub fn observe(
         &mut self,
         head: Head,
@@ -227,11 +234,12 @@ impl<H: NodeHash + Drop, A: Allocator + Clone> Monitor<H, A> {
         self.observe_from(head, &mut entries)
     }
 
-    /// As [`observe`](Monitor::observe), with the new leaves in a list of the caller's. They are moved out of it where the
-    /// head is taken; an error leaves them there.
+    /// Does the same as [`observe`](Monitor::observe), with the new leaves in a list of the caller's. They are moved out of it if the head
+    /// is taken. After an error they are still there.
     ///
     /// # Errors
-    /// Those of `observe`.
+    ///
+    /// The errors of `observe`.
     pub fn observe_from(
         &mut self,
         head: Head,

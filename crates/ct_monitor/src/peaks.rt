@@ -1,4 +1,4 @@
-//! The perfect subtrees of a list of leaves, as a state that was saved names them.
+//! The perfect subtrees of a list of leaves, as a saved state contains them.
 ghost use Rattle.std.specs.Prelude.{◌≡◌, ◌+◌, ◌<◌, ◌^◌, ℕ, List, [], ◌∷◌, ◌++◌, length, map, OnOk, OnErr, IfOk};
 ghost use Rattle.ct_tree.specs.Tree.{hash_leaf, mth};
 ghost use Rattle.ct_tree.specs.Stack.{Stands};
@@ -7,9 +7,9 @@ use ct_tree::{NodeHash, leaf_hash, root_of_subtrees, with_leaf};
 use std::alloc::{AllocError, Allocator, Global};
 use std::marker::Model;
 
-/// A number of leaves, and the roots of their perfect subtrees, largest first: at most 64 hashes. Any number and any
-/// hashes can be handed in, so nothing is known of them by themselves: each contract speaks of every list of leaf hashes
-/// that they stand for. (`ct_tree`'s `Stack` stands for some list at any time, and so can't be made of what was saved.)
+/// A number of leaves, and the roots of their perfect subtrees, largest first: at most 64 hashes. A caller may pass in any number and any
+/// hashes, so nothing is known about them by themselves: each contract speaks of every list of leaf hashes that they represent.
+/// (`ct_tree`'s `Stack` always represents some list, and so cannot be made from a saved state.)
 #[derive(Drop)]
 pub struct Peaks<A: Allocator = Global> {
     size: u64,
@@ -23,7 +23,7 @@ impl<A: Allocator> Model for Peaks<A> {
 }
 
 impl<A: Allocator> Peaks<A> {
-    /// Those that are handed in. Later growths take memory as `subtrees` does.
+    /// The number and roots that are passed in. Later growth takes memory from the allocator of `subtrees`.
     pub fn from_parts(size: u64, subtrees: Vec<[u8; 32], A>) -> Peaks<A>
         ensures { result ≡ (size, subtrees.items) }
     {
@@ -44,8 +44,8 @@ impl<A: Allocator> Peaks<A> {
         &self.subtrees
     }
 
-    /// Appends a leaf hash. Hashes as many nodes as the number before it has trailing ones in binary, so less than one
-    /// a push on average. Where memory is refused nothing changes.
+    /// Appends a leaf hash. It hashes as many nodes as the number of leaves before the push has trailing ones in binary, so fewer than one
+    /// per push on average. If memory runs out, nothing changes.
     pub fn push<H: NodeHash>(&mut self, h: &H, leaf_hash: &[u8; 32]) -> Result<(), AllocError>
         ensures ok { OnOk result ((D : List (List ℕ)) → length D + 1 < 2 ^ 64 → Stands H.digest self.old D
             → Stands H.digest self.new (D ++ leaf_hash.now ∷ [])) }
@@ -62,7 +62,7 @@ impl<A: Allocator> Peaks<A> {
         Ok(())
     }
 
-    /// Appends the hashes of leaves, in order. Where memory is refused some of them may have been appended.
+    /// Appends the hashes of leaves, in order. If memory runs out, some of them may have been appended.
     pub fn push_leaves<H: NodeHash, L: Allocator>(
         &mut self,
         h: &H,
@@ -78,8 +78,7 @@ impl<A: Allocator> Peaks<A> {
         Ok(())
     }
 
-    /// The root of the leaves (MTH of RFC 6962, section 2.1). Takes no memory, and hashes one node less than there are
-    /// subtrees.
+    /// The root of the leaves (MTH of RFC 6962, section 2.1). It takes no memory, and hashes one node fewer than there are subtrees.
     pub fn root<H: NodeHash>(&self, h: &H) -> [u8; 32]
         ensures { (D : List (List ℕ)) → Stands H.digest self.now D → result ≡ mth H.digest D }
     {
@@ -88,7 +87,7 @@ impl<A: Allocator> Peaks<A> {
 }
 
 impl<A: Allocator + Clone> Peaks<A> {
-    /// The same again. Takes memory once.
+    /// An equal copy. It takes memory once.
     pub fn copied(&self) -> Result<Peaks<A>, AllocError>
         ensures { IfOk result (λ p. p ≡ self.now) }
     {

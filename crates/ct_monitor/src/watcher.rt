@@ -1,4 +1,4 @@
-//! Who watches one log.
+//! An observer of one log.
 ghost use Rattle.std.specs.Prelude.{◌≡◌, ◌⊎◌, ◌+◌, ◌-◌, ◌^◌, ◌<◌, ◌≤◌, ℕ, List, map, IfOk, MatchOption, OnErr, Some};
 ghost use Rattle.ct_tree.specs.Stack.{Stands};
 ghost use Rattle.ct_tree.specs.Tree.{hash_leaf};
@@ -16,7 +16,8 @@ use ct_verify::verify_consistency;
 use std::alloc::{AllocError, Global};
 use std::marker::Model;
 
-// What is said of a head beside a known one, unless it has more leaves and a later moment.
+// The immediate verdict on a head compared with a known one. There is none if there is no known head, or if the head has more leaves and a
+// later timestamp.
 fn beside(known: Option<Head>, head: &Head) -> Option<Verdict>
     ensures { MatchOption result (IsGrownLater known head.now) (λ v. IsSaid known head.now v) }
 {
@@ -44,7 +45,7 @@ fn beside(known: Option<Head>, head: &Head) -> Option<Verdict>
     }
 }
 
-// How many of the leaves that are there a tree of this size has behind those that were read.
+// How many of the available leaves a tree of this size has after the leaves that were read.
 fn room_for(tree_size: u64, read: u64, available: usize) -> usize
     ensures as_far { (result ≡ tree_size - read) ⊎ ((available ≤ tree_size - read) × (result ≡ available)) }
     ensures fits { result ≤ available }
@@ -57,8 +58,8 @@ fn room_for(tree_size: u64, read: u64, available: usize) -> usize
     if room < available { room } else { available }
 }
 
-/// Who watches a log by what it answers, under one hash function. It keeps heads and at most 128 hashes, and no leaf. Its
-/// state can be saved, and handed in again.
+/// A watcher observes a log by its answers, with one hash function. It keeps heads and at most 128 hashes, and no leaf. Its state can
+/// be saved, and passed in again.
 #[derive(Drop)]
 pub struct Watcher<H: NodeHash + Drop> {
     h: H,
@@ -75,7 +76,7 @@ impl<H: NodeHash + Drop> Model for Watcher<H> {
 }
 
 impl<H: NodeHash + Drop> Watcher<H> {
-    /// Who has seen nothing. Takes no memory.
+    /// A watcher that has seen nothing. It takes no memory.
     pub fn new(alloc: Global, h: H) -> Watcher<H>
         ensures { Keeps H.digest result nothing_seen }
     {
@@ -88,8 +89,8 @@ impl<H: NodeHash + Drop> Watcher<H> {
         }
     }
 
-    /// A watcher in the state that is handed in, whatever that is: the accepted and the waiting head, and the perfect
-    /// subtrees of the accepted leaves and of all that were read.
+    /// A watcher in the state that is passed in, whatever that is: the accepted and the waiting head, and the perfect subtrees of the
+    /// accepted leaves and of all that were read.
     pub fn from_parts(
         h: H,
         accepted: Option<Head>,
@@ -136,7 +137,7 @@ impl<H: NodeHash + Drop> Watcher<H> {
         &self.all
     }
 
-    // The subtrees of all leaves that were read and these, as far as the head goes.
+    // The subtrees of all leaves that were read and of these leaves, as far as the head goes.
     fn longer(&self, head: Head, leaves: &[Vec<u8>]) -> Result<Peaks, AllocError>
         ensures keeps { IfOk result (λ p. (w : Watched) → Keeps H.digest self.now w
             → Keeps H.digest (record self.now { all = p }) (read_on w head (map (λ l. l.items) leaves.now))) }
@@ -151,7 +152,7 @@ impl<H: NodeHash + Drop> Watcher<H> {
         Ok(longer)
     }
 
-    // Compares the waiting head with the leaves that are read now.
+    // Compares the waiting head with the leaves that were read so far.
     fn settle(&mut self, head: Head, all: Peaks) -> Result<Verdict, AllocError>
         ensures says { IfOk result (λ v. (w : Watched) → Keeps H.digest (record self.old { all = all }) w → WaitingSays H.digest w head v) }
         ensures stands { IfOk result (λ v. (w : Watched) → Keeps H.digest (record self.old { all = all }) w
@@ -178,10 +179,12 @@ impl<H: NodeHash + Drop> Watcher<H> {
         }
     }
 
-    /// Takes a tree head. One that is larger and later than the accepted and the waiting one waits from then on, where none did.
+    /// Takes a tree head. If it is larger and later than the accepted and the waiting head, and no head waited, it becomes the waiting
+    /// head. The verdict is then about the waiting head, which may be an earlier one.
     ///
     /// # Errors
-    /// A growth was refused, and nothing has changed.
+    ///
+    /// Returns an error if memory runs out. Nothing has changed then.
     pub fn take_head(&mut self, head: Head) -> Result<Verdict, AllocError>
         ensures says { IfOk result (λ v. (w : Watched) → Keeps H.digest self.old w → HeadSays H.digest w head v) }
         ensures stands { IfOk result (λ v. (w : Watched) → Keeps H.digest self.old w
@@ -204,11 +207,11 @@ impl<H: NodeHash + Drop> Watcher<H> {
         self.settle(waiting, all)
     }
 
-    /// Takes leaves from the index `start` on, as far as the waiting head goes. Hashes each of them, and one node on average
-    /// for each.
+    /// Takes leaves from the index `start` on, as far as the waiting head goes. It hashes each of them, and one node on average for each.
     ///
     /// # Errors
-    /// A growth was refused, and nothing has changed.
+    ///
+    /// Returns an error if memory runs out. Nothing has changed then.
     pub fn take_entries(&mut self, start: u64, leaves: &[Vec<u8>]) -> Result<Verdict, AllocError>
         ensures says { IfOk result (λ v. (w : Watched) → Keeps H.digest self.old w
             → EntriesSay H.digest w w.waiting start (map (λ l. l.items) leaves.now) v) }
@@ -229,7 +232,7 @@ impl<H: NodeHash + Drop> Watcher<H> {
         self.settle(head, all)
     }
 
-    /// Takes a consistency proof from the accepted head to the waiting one (RFC 6962, section 2.1.2). Changes nothing.
+    /// Takes a consistency proof from the accepted head to the waiting one (RFC 6962, section 2.1.2). It changes nothing.
     pub fn take_proof(&self, path: &[[u8; 32]]) -> Verdict
         ensures { ProofSays H.digest self.now.accepted self.now.waiting path.now result }
     {

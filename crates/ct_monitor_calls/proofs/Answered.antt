@@ -18,7 +18,7 @@ pub answered : (H : List ℕ → List ℕ) (state : List ℕ) (handed : Handed) 
     → StateJudges H s handed v t → a.verdict ≡ v → HasState H t a → IsMonitorAnswer H state handed a
 answered H state handed s t v a is says e has = (s, t, is, subst (λ (x : Verdict). StateJudges H s handed x t) (sym e) says, has)
 
--- the entries that are found among those that are read
+-- the entries that are found among the entries that are read
 pub finds : (s : WatcherState) (E : List (Vec ℕ Global)) (wanted read moment count : ℕ) (later : Option LaterEntry) (faulty : Option FaultyEntry)
     → wanted ≡ size_awaited s.waiting s.all.0 → read ≡ s.all.0 → moment ≡ moment_awaited s.waiting
     → (count ≡ wanted - read) ⊎ ((length E ≤ wanted - read) × (count ≡ length E))

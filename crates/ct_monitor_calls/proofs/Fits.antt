@@ -45,7 +45,7 @@ count_at H (suc d) D p =
 has_subtrees : (H : List ℕ → List ℕ) (p : ℕ × List (List ℕ)) (D : List (List ℕ)) → Stands H p D → HasSubtrees p
 has_subtrees H p D s = ap length s.subtrees ∙ count_at H (length D) D (omega arith) ∙ ap count_ones (sym s.size)
 
--- how many leaves a state has
+-- the number of leaves of a state
 pub size_of : (H : List ℕ → List ℕ) (p : ℕ × List (List ℕ)) (D : List (List ℕ)) → Stands H p (map (hash_leaf H) D) → p.0 ≡ length D
 size_of H p D s = s.size ∙ length-map D (hash_leaf H)
 

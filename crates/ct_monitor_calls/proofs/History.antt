@@ -20,7 +20,8 @@ use Rattle.ct_monitor_calls.specs.Laws.{MonitorCall, IsCallOver, AreCalls, last_
 use Rattle.ct_monitor_calls.proofs.Apart.{one_state}
 use Rattle.ct_monitor_calls.proofs.Fits.{states_fit}
 
--- These facts hold after an answer: a log can have handed out `next`, the accepted leaves stay, and an accepted head is that of the new ones.
+-- These facts hold after an answer: a log can have handed out `next`; the accepted leaves stay; and an accepted head is the head of the new
+-- accepted leaves.
 pub record Follows (H : List ℕ → List ℕ) (w : Watched) (v : Verdict) (next : Watched) : Type 0 where
   pub watched : IsHandedOut H next
   pub grows : (Y : List (List ℕ)) × (next.sure ≡ w.sure ++ Y)
@@ -34,7 +35,7 @@ is_accepted v = ⊥
 unchanged : (H : List ℕ → List ℕ) (w : Watched) (v : Verdict) → IsHandedOut H w → (v ≡ Accepted → ⊥) → Follows H w v w
 unchanged H w v i n = record { watched = i; grows = ([], sym (append-nil w.sure)); accepts = λ e. absurd (n e) }
 
--- a verdict by a known head
+-- a verdict from a known head
 said_not_accepted : (known : Option Head) (head : Head) (v : Verdict) → IsSaid known head v → v ≡ Accepted → ⊥
 said_not_accepted None head v s e = s
 said_not_accepted (Some known) head v s e = subst (λ (x : Verdict). IsSaid (Some known) head x) e s
@@ -44,7 +45,7 @@ said_follows : (H : List ℕ → List ℕ) (w : Watched) (waiting : Head) (known
 said_follows H w waiting known head v i s =
     subst (Follows H w v) (sym (said_changes_nothing w waiting known head v s)) (unchanged H w v i (said_not_accepted known head v s))
 
--- the waiting head is larger and later than the accepted one, and has as many leaves as were read, or more
+-- the waiting head is larger and later than the accepted one, and has at least as many leaves as were read
 pub record Waits (w : Watched) (head : Head) : Type 0 where
   pub grown : IsGrownLater w.accepted head
   pub room : length (leaves_read w) ≤ head.tree_size
@@ -81,7 +82,7 @@ settled_follows H w head (Inconsistent fault) f r s = absurd s
 
 -- ---- a head
 
--- if no head waits, all leaves are accepted, and a head that is larger than the accepted one has as many or more
+-- if no head waits, all leaves are accepted, and a head that is larger than the accepted one has at least as many leaves
 first_room : (H : List ℕ → List ℕ) (sure : List (List ℕ)) (accepted : Option Head) (head : Head) → IsFollowing H sure accepted → IsGrownLater accepted head
     → length sure ≤ head.tree_size
 first_room H sure None head f g = omega (arith, ap length f)
@@ -202,7 +203,7 @@ never_refused H h bytes w i s handed (inr (r, t, v, is, says, unfit)) =
     let follows = answer_follows H w handed v step.0 i step.2 in
     unfit (states_fit H t step.0 follows.watched step.1)
 
--- an accepted head is that of a beginning of any longer list
+-- an accepted head is the head of a prefix of any longer list
 of_first : (H : List ℕ → List ℕ) (w : Watched) (c : MonitorCall) (k : Called H w c) (D Y : List (List ℕ)) → Follows H w c.verdict k.next → D ≡ k.next.sure ++ Y
     → IsOfFirstLeaves H D c
 of_first H w c k D Y f d = λ e.
@@ -243,7 +244,7 @@ pub calls_agree_from : CallsAgreeFrom
 calls_agree_from H h before calls first i s a =
     let shown = show H h before calls first i s a in (shown.last, (shown.hands, shown.stands, shown.all, shown.read))
 
--- ---- from nothing on
+-- ---- starting from nothing
 
 nothing_kept : (H : List ℕ → List ℕ) → Keeps H nothing_state nothing_seen
 unfolding peaks peaks_within

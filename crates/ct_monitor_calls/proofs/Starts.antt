@@ -1,4 +1,4 @@
--- A start at a head that is trusted.
+-- A start at a trusted head.
 use Rattle.std.proofs.Common.{◌≡◌, ◌⊎◌, ◌∙◌, ◌*◌, ◌/◌, ◌≤◌, ◌++◌, ℕ, zero, suc, List, [], ◌∷◌, length, map, take, drop, count_ones, sym, refl, ap, subst, arith, inl, inr, ⊎_elim, append-nil}
 use Rattle.std.proofs.lemmas.List.{length-map, nil_from_length}
 use Rattle.std.proofs.lemmas.List.Elements.{All-nil, All-cons, All-head, All-tail, All-append, All-take, All-drop, All-weaker, All-contains_itself}
@@ -53,7 +53,8 @@ module _ (H : List ℕ → List ℕ) (long : (x : List ℕ) → length (H x) ≡
       (All-append Has32 (peaks H E) (drop even D) (peaks_32 d E (omega (arith, size, p)) (level_32 (take even D) (All-take Has32 even D a))) (All-drop Has32 even D a))
 
   module _ (S : List ℕ → Type 0) where
-    -- subtrees that lead to one root are the same, if there are as many; or two strings collide that are hashed when they are joined
+    -- subtrees that lead to the same root are the same, if there are equally many; or two strings collide that are hashed when the subtrees
+    -- are joined
     peaks_tell : (p q : List (List ℕ)) → length p ≡ length q → AreHashes p → AreHashes q → All S (joining_strings H p) → All S (joining_strings H q)
         → root_of_peaks H p ≡ root_of_peaks H q → (p ≡ q) ⊎ CollideAmong H S
     unfolding root_of_peaks joining_strings

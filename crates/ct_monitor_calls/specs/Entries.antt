@@ -1,4 +1,4 @@
--- The report on the entries that a log handed out: the first that is later than the waiting head, and the first that is no leaf.
+-- The report on the entries that a log handed out: the first that is later than the waiting head, and the first that is not a leaf.
 use Rattle.std.specs.Prelude.{◌≡◌, ◌≢◌, ◌⊎◌, ◌+◌, ◌-◌, ◌<◌, ◌≤◌, ℕ, List, All, get_or, length, take, Option, Some, None, []}
 use Rattle.ct_codec.specs.Leaf.{SignedEntry, LeafText}
 use Rattle.ct_codec.specs.Faults.{LeafFaulty}
@@ -17,15 +17,16 @@ HasTimestamp timestamp bytes = (e : SignedEntry) × (x : List ℕ) × LeafText t
 abbrev pub IsLeafInBytes : List ℕ → Type 0
 IsLeafInBytes bytes = (timestamp : ℕ) × HasTimestamp timestamp bytes
 
--- the bytes are no leaf, and this is their first fault
+-- the bytes are not a leaf, and this is their first fault
 abbrev pub IsFaulty : DecodeFault → List ℕ → Type 0
 IsFaulty fault bytes = LeafFaulty fault bytes × (fault ≢ Memory)
 
--- the bytes are a leaf with this timestamp, and later than a head with the timestamp `moment` (RFC 6962, section 3.5: a head is at least as recent as each entry of its tree)
+-- the bytes are a leaf with this timestamp, and later than a head with the timestamp `moment` (RFC 6962, section 3.5: a head is at least as
+-- recent as each entry of its tree)
 abbrev pub IsLaterThan : ℕ → ℕ → List ℕ → Type 0
 IsLaterThan moment timestamp bytes = HasTimestamp timestamp bytes × (moment < timestamp)
 
--- the bytes are a leaf that is not later than that head, or no leaf
+-- the bytes are a leaf that is not later than that head, or they are not a leaf
 abbrev pub IsNoLaterThan : ℕ → List ℕ → Type 0
 IsNoLaterThan moment bytes = ((timestamp : ℕ) × HasTimestamp timestamp bytes × (timestamp ≤ moment)) ⊎ ((fault : DecodeFault) × IsFaulty fault bytes)
 
@@ -36,13 +37,13 @@ IsFirstLater moment first leaves (Some e) =
     (place : ℕ) × (place < length leaves) × (e.index ≡ first + place) × All (IsNoLaterThan moment) (take place leaves)
     × IsLaterThan moment e.timestamp (get_or leaves place [])
 
--- of leaves from an index on, the first that is none, or none
+-- of leaves from an index on, the first that is not a leaf, or none
 abbrev pub IsFirstFaulty : ℕ → List (List ℕ) → Option FaultyEntry → Type 0
 IsFirstFaulty first leaves None = All IsLeafInBytes leaves
 IsFirstFaulty first leaves (Some e) =
     (place : ℕ) × (place < length leaves) × (e.index ≡ first + place) × All IsLeafInBytes (take place leaves) × IsFaulty e.fault (get_or leaves place [])
 
--- the timestamp of the waiting head; 0 if none waits, and then no entry is read
+-- the timestamp of the waiting head; 0 if none waits, in which case no entry is read
 abbrev pub moment_awaited : Option Head → ℕ
 moment_awaited None = 0
 moment_awaited (Some head) = head.timestamp

@@ -5,7 +5,7 @@ use Rattle.ct_monitor.specs.WatcherState.{WatcherState}
 use Rattle.ct_tree.specs.Peaks.{root_of_peaks}
 use Rattle.ct_tree.specs.declared.head.Head.{Head}
 
--- there are as many subtrees as a tree of this many leaves has: the ones of this number in binary
+-- there are as many subtrees as a tree with this number of leaves has: the number of ones of this number in binary
 abbrev pub HasSubtrees : ℕ × List (List ℕ) → Type 0
 HasSubtrees p = length p.1 ≡ count_ones p.0
 
@@ -14,11 +14,12 @@ abbrev pub AcceptedFits : (List ℕ → List ℕ) → Option Head → ℕ × Lis
 AcceptedFits H None sure = sure.0 ≡ 0
 AcceptedFits H (Some head) sure = (head.tree_size ≡ sure.0) × (head.root ≡ root_of_peaks H sure.1)
 
--- fewer leaves are accepted than were read; or as many, and then the subtrees are the same
+-- fewer leaves are accepted than were read; or equally many, and then the subtrees are the same
 abbrev pub AreAcceptedOf : ℕ × List (List ℕ) → ℕ × List (List ℕ) → Type 0
 AreAcceptedOf sure all = (sure.0 < all.0) ⊎ ((sure.0 ≡ all.0) × (sure.1 ≡ all.1))
 
--- the waiting head is larger and later than the accepted one, and has more leaves than were read; if no head waits, all leaves that were read are accepted
+-- the waiting head is larger and later than the accepted one, and has more leaves than were read; if no head waits, all leaves that were
+-- read are accepted
 abbrev pub WaitingFits : Option Head → Option Head → ℕ × List (List ℕ) → ℕ × List (List ℕ) → Type 0
 WaitingFits accepted None sure all = (sure.0 ≡ all.0) × (sure.1 ≡ all.1)
 WaitingFits accepted (Some head) sure all = IsGrownLater accepted head × (all.0 < head.tree_size) × AreAcceptedOf sure all

@@ -1,4 +1,4 @@
--- A monitor that begins at a head that it is told to trust. H is any hash function on byte lists. The library's is SHA-256.
+-- A monitor that begins at a trusted head. H is any hash function on byte lists. The library's is SHA-256.
 use Rattle.std.specs.Prelude.{◌≡◌, ◌⊎◌, ◌++◌, ⊤, ℕ, List, [], ◌∷◌, Contains, length, map, count_ones, Some, None}
 use Rattle.ct_tree.specs.Peaks.{peaks, root_of_peaks}
 use Rattle.ct_tree.specs.Tree.{hash_leaf}
@@ -16,14 +16,15 @@ use Rattle.ct_monitor_calls.specs.declared.starting.StartFault.TheVariants.{Othe
 abbrev pub start_state : Head → List (List ℕ) → WatcherState
 start_state head subtrees = record { accepted = Some head; waiting = None; sure = (head.tree_size, subtrees); all = (head.tree_size, subtrees) }
 
--- the bytes are this state; there are as many subtrees as a tree of the head's size has, and they lead to the head's root
+-- the bytes encode this state; there are as many subtrees as a tree of the head's size has, and they lead to the head's root
 pub record IsMonitorStart (H : List ℕ → List ℕ) (head : Head) (subtrees : List (List ℕ)) (bytes : List ℕ) : Type 0 where
   pub numbers : IsInBytes (start_state head subtrees)
   pub count : length subtrees ≡ count_ones head.tree_size
   pub root : head.root ≡ root_of_peaks H subtrees
   pub text : bytes ≡ monitor_state_text H (start_state head subtrees)
 
--- the reason why no state begins at this head with these subtrees: their number, or the root to which they lead; or a growth was refused
+-- the reason why no state begins at this head with these subtrees: their number, or the root to which they lead; or memory could not be
+-- allocated
 abbrev pub RefusesStart : (List ℕ → List ℕ) → StartFault → Head → List (List ℕ) → Type 0
 RefusesStart H OtherCount head subtrees = length subtrees ≡ count_ones head.tree_size → ⊥
 RefusesStart H OtherRoot head subtrees = (length subtrees ≡ count_ones head.tree_size) × (head.root ≡ root_of_peaks H subtrees → ⊥)
@@ -33,7 +34,7 @@ RefusesStart H Memory head subtrees = ⊤
 abbrev pub known_at_start : Head → List (List ℕ) → Watched
 known_at_start head D = record { accepted = Some head; sure = D; waiting = None; ahead = [] }
 
--- the bytes of a start are a state, so they are read again
+-- the bytes of a start are a state, so they can be read again
 abbrev pub StartsAreRead : Type 0
 StartsAreRead =
     (H : List ℕ → List ℕ) (head : Head) (subtrees : List (List ℕ)) (bytes : List ℕ) → IsMonitorStart H head subtrees bytes
@@ -45,14 +46,15 @@ joining_strings H [] = []
 joining_strings H (x ∷ []) = []
 joining_strings H (x ∷ y ∷ rest) = (1 ∷ x ++ root_of_peaks H (y ∷ rest)) ∷ joining_strings H (y ∷ rest)
 
--- the strings that are hashed when these subtrees are joined, and when those of the leaves D are
+-- the strings that are hashed when these subtrees are joined, and when the subtrees of the leaves D are joined
 abbrev pub IsHashedForStart : (List ℕ → List ℕ) → List (List ℕ) → List (List ℕ) → List ℕ → Type 0
 IsHashedForStart H subtrees D s =
     Contains (joining_strings H subtrees) s ⊎ Contains (joining_strings H (peaks H (map (hash_leaf H) D))) s
 
--- Take any calls, each over the state that the one before gave, the first over that of a start. Let the trusted head be that of the leaves D. Then each head that
--- was accepted is that of a beginning of one list, which begins with D: the leaves that are accepted after the last call. Or two of the strings collide that are
--- hashed when the start's subtrees are joined, and when those of D are. Nothing is said of a trusted head that is the head of no leaves.
+-- Take any calls, each over the state that the previous one returned, the first over the state of a start. Let the trusted head be the head
+-- of the leaves D. Then each accepted head is the head of a prefix of one list, which begins with D: the leaves that are accepted after the
+-- last call. Or two strings collide that are hashed when the start's subtrees are joined, or when those of D are. The law says nothing
+-- about a trusted head that is not the head of any leaves.
 abbrev pub CallsAgreeFromStart : Type 0
 CallsAgreeFromStart =
     (H : List ℕ → List ℕ) → ((x : List ℕ) → length (H x) ≡ 32) → (head : Head) (subtrees : List (List ℕ)) (first : List ℕ) (calls : List MonitorCall)

@@ -1,4 +1,5 @@
--- The bytes of a monitor's state, in the presentation language of RFC 5246 (section 4). H is any hash function on byte lists. The library's is SHA-256.
+-- The bytes of a monitor's state, in the presentation language of RFC 5246 (section 4). H is any hash function on byte lists. The library's
+-- is SHA-256.
 use Rattle.std.specs.Prelude.{◌≡◌, ◌<◌, ◌^◌, ◌++◌, ◌∷◌, [], ⊤, ℕ, List, length, Option, Some, None}
 use Rattle.ct_codec.specs.Bytes.{num, vec}
 use Rattle.ct_codec.specs.Parts.{joined}
@@ -34,12 +35,12 @@ pub record IsHeadInBytes (head : Head) : Type 0 where
   pub timestamp : head.timestamp < 2 ^ 64
   pub root : length head.root ≡ 32
 
--- such a head, or none
+-- such a head, or no head
 abbrev pub IsNoneOrInBytes : Option Head → Type 0
 IsNoneOrInBytes None = ⊤
 IsNoneOrInBytes (Some head) = IsHeadInBytes head
 
--- a number of leaves that has 64 bits, and roots of 32 bytes, of which there are as many as memory can have
+-- a number of leaves that fits in 64 bits, and roots of 32 bytes, no more of them than memory can hold
 pub record AreSubtreesInBytes (p : ℕ × List (List ℕ)) : Type 0 where
   pub leaves : p.0 < 2 ^ 64
   pub roots : AreHashes p.1
@@ -52,12 +53,12 @@ pub record IsInBytes (s : WatcherState) : Type 0 where
   pub sure : AreSubtreesInBytes s.sure
   pub all : AreSubtreesInBytes s.all
 
--- the bytes are the state s, whose parts fit
+-- the bytes encode the state s, whose parts fit
 pub record IsMonitorState (H : List ℕ → List ℕ) (s : WatcherState) (bytes : List ℕ) : Type 0 where
   pub numbers : IsInBytes s
   pub fits : FitsTogether H s
   pub text : bytes ≡ monitor_state_text H s
 
--- the bytes are no state
+-- the bytes are not a state
 abbrev pub IsNoState : (List ℕ → List ℕ) → List ℕ → Type 0
 IsNoState H bytes = (s : WatcherState) → IsMonitorState H s bytes → ⊥

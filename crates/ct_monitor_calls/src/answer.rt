@@ -8,11 +8,11 @@ use ct_monitor::Verdict;
 pub struct Answer {
     /// The verdict.
     pub verdict: Verdict,
-    /// How many leaves the accepted head has.
+    /// The number of leaves of the accepted head.
     pub leaves_accepted: u64,
-    /// How many leaves were read: the index of the next one that is wanted.
+    /// The number of leaves that were read: the index of the next one that is wanted.
     pub leaves_read: u64,
-    /// How many leaves the waiting head has. If no head waits, how many were read.
+    /// The number of leaves of the waiting head. If no head waits, the number of leaves that were read.
     pub leaves_wanted: u64,
     /// The bytes of the state.
     pub state: Vec<u8>,
@@ -25,6 +25,6 @@ pub struct EntriesAnswer {
     pub answer: Answer,
     /// The first entry that is later than the head that waited for it.
     pub later: Option<LaterEntry>,
-    /// The first entry that is no leaf.
+    /// The first entry that is not a leaf.
     pub faulty: Option<FaultyEntry>,
 }

@@ -27,14 +27,14 @@ fn size_awaited(watcher: &Watcher<Sha256Hash>) -> u64
     }
 }
 
-// How many leaves were read.
+// The number of leaves that were read.
 fn leaves_read(watcher: &Watcher<Sha256Hash>) -> u64
     ensures { result ≡ watcher.now.all.0 }
 {
     watcher.all().size()
 }
 
-// How many leaves are accepted.
+// The number of accepted leaves.
 fn leaves_accepted(watcher: &Watcher<Sha256Hash>) -> u64
     ensures { result ≡ watcher.now.sure.0 }
 {
@@ -72,7 +72,7 @@ fn answer_of(
     })
 }
 
-/// The state of a monitor that was handed nothing.
+/// The state of a monitor that was given nothing.
 pub fn begin(alloc: Global) -> Result<Vec<u8>, AllocError>
     ensures { IfOk result (λ bytes. IsMonitorBegin sha256 bytes.items) }
 {
@@ -111,10 +111,12 @@ fn judge_proof(watcher: &Watcher<Sha256Hash>, path: &[[u8; 32]]) -> Verdict
     watcher.take_proof(path)
 }
 
-/// The verdict on a tree head, over a state. `None` says that the bytes are no state, or one that no log can have led to.
+/// The verdict on a tree head, over a state. `None` means that the bytes are not a state, or that they are a state to which no log can have
+/// led.
 ///
 /// # Errors
-/// An allocation was refused.
+///
+/// Returns an error if memory runs out.
 pub fn take_head(alloc: Global, state: &[u8], head: Head) -> Result<Option<Answer>, AllocError>
     ensures { IfOk result (λ o. MatchOption o (RefusesState sha256 state.now (a_head head)) (λ a. IsMonitorAnswer sha256 state.now (a_head head) a)) }
 {
@@ -129,7 +131,7 @@ pub fn take_head(alloc: Global, state: &[u8], head: Head) -> Result<Option<Answe
     Ok(Some(answer))
 }
 
-// How many of the leaves that are there are read: as far as the waiting head goes.
+// How many of the available leaves are read: as far as the waiting head goes.
 fn room_for(wanted: u64, read: u64, available: usize) -> usize
     ensures as_far { (result ≡ wanted - read) ⊎ ((available ≤ wanted - read) × (result ≡ available)) }
     ensures fits { result ≤ available }
@@ -175,10 +177,12 @@ fn reported(verdict: Verdict, report: Report) -> Report
     }
 }
 
-/// The verdict on the leaves from the index `start` on, over a state. `None` says that the bytes are no state, or one that no log can have led to.
+/// The verdict on the leaves from the index `start` on, over a state. `None` means that the bytes are not a state, or that they are a state
+/// to which no log can have led.
 ///
 /// # Errors
-/// An allocation was refused.
+///
+/// Returns an error if memory runs out.
 pub fn take_entries(
     alloc: Global,
     state: &[u8],
@@ -205,11 +209,12 @@ pub fn take_entries(
     }))
 }
 
-/// The verdict on a consistency proof from the accepted head to the waiting one, over a state. `None` says that the bytes are no
-/// state, or one that no log can have led to.
+/// The verdict on a consistency proof from the accepted head to the waiting one, over a state. `None` means that the bytes are not a state,
+/// or that they are a state to which no log can have led.
 ///
 /// # Errors
-/// An allocation was refused.
+///
+/// Returns an error if memory runs out.
 pub fn take_proof(
     alloc: Global,
     state: &[u8],

@@ -1,4 +1,4 @@
-//! The report on entries: the first that is later than the waiting head, and the first that is no leaf.
+//! The report on entries: the first that is later than the waiting head, and the first that is not a leaf.
 
 ghost use Rattle.std.specs.Prelude.{◌+◌, ◌<◌, ◌^◌, [], get_or, length, map, MatchOption};
 ghost use Rattle.ct_monitor_calls.specs.Entries.{IsFaulty, IsFirstFaulty, IsFirstLater, IsLaterThan, IsLeafInBytes, IsNoLaterThan};
@@ -14,7 +14,7 @@ pub struct LaterEntry {
     pub timestamp: u64,
 }
 
-/// An entry that is no leaf (MerkleTreeLeaf, RFC 6962, section 3.4).
+/// An entry that is not a leaf (MerkleTreeLeaf, RFC 6962, section 3.4).
 #[derive(Clone, Copy, Debug)]
 pub struct FaultyEntry {
     /// Its index in the log.
@@ -39,7 +39,7 @@ fn later_timestamp(moment: u64, leaf: &[u8]) -> Option<u64>
     }
 }
 
-// The first fault of bytes that are no leaf.
+// The first fault of bytes that are not a leaf.
 fn fault_of(leaf: &[u8]) -> Option<DecodeFault>
     ensures { MatchOption result (IsLeafInBytes leaf.now) (λ fault. IsFaulty fault leaf.now) }
 {
@@ -49,7 +49,7 @@ fn fault_of(leaf: &[u8]) -> Option<DecodeFault>
     }
 }
 
-// The timestamp of the leaf at a place, if it is later than a head with the timestamp `moment`.
+// The timestamp of the leaf at an index of the list, if it is later than a head with the timestamp `moment`.
 fn later_at(moment: u64, leaves: &[Vec<u8>], place: usize) -> Option<u64>
     requires { place < length leaves.now }
     ensures { MatchOption result (IsNoLaterThan moment (get_or (map (λ l. l.items) leaves.now) place []))
@@ -58,7 +58,7 @@ fn later_at(moment: u64, leaves: &[Vec<u8>], place: usize) -> Option<u64>
     later_timestamp(moment, &leaves[place])
 }
 
-// The first fault of the bytes at a place, if they are no leaf.
+// The first fault of the bytes at an index of the list, if they are not a leaf.
 fn fault_at(leaves: &[Vec<u8>], place: usize) -> Option<DecodeFault>
     requires { place < length leaves.now }
     ensures { MatchOption result (IsLeafInBytes (get_or (map (λ l. l.items) leaves.now) place []))
@@ -83,7 +83,7 @@ pub(crate) fn first_later(moment: u64, first: u64, leaves: &[Vec<u8>]) -> Option
     None
 }
 
-/// The first of leaves from an index on that is none.
+/// The first of leaves from an index on that is not a leaf.
 pub(crate) fn first_faulty(first: u64, leaves: &[Vec<u8>]) -> Option<FaultyEntry>
     requires { first + length leaves.now < 2 ^ 64 }
     ensures { IsFirstFaulty first (map (λ l. l.items) leaves.now) result }

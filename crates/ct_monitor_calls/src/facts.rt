@@ -8,14 +8,14 @@ ghost use Rattle.ct_monitor_calls.specs.StateText.{AreSubtreesInBytes, IsInBytes
 use ct_monitor::{Peaks, Watcher};
 use ct_tree::{Head, Sha256Hash};
 
-// The bytes of a head.
+// The numbers of a head fit in 64 bits, and its root has 32 bytes.
 fn is_head(tree_size: u64, timestamp: u64, root: [u8; 32])
     ensures tree_size { tree_size < 2 ^ 64 }
     ensures timestamp { timestamp < 2 ^ 64 }
     ensures root { length root ≡ 32 }
 {}
 
-// The bytes of a head that may be missing.
+// The same for a head that may be missing.
 fn is_maybe_head(head: Option<Head>)
     ensures { IsNoneOrInBytes head }
 {
@@ -25,7 +25,7 @@ fn is_maybe_head(head: Option<Head>)
     }
 }
 
-// A number has 64 bits.
+// A number fits in 64 bits.
 fn is_number(number: u64)
     ensures { number < 2 ^ 64 }
 {}
@@ -35,7 +35,7 @@ pub(crate) fn are_hashes(hashes: &[[u8; 32]])
     ensures { AreHashes hashes.now }
 {}
 
-// The bytes of hashes are no more than memory can have.
+// The bytes of hashes are no more than memory can hold.
 fn have_size(hashes: &[[u8; 32]])
     ensures { length (joined hashes.now) < 2 ^ 64 }
 {
@@ -43,7 +43,7 @@ fn have_size(hashes: &[[u8; 32]])
     is_number(bytes.len() as u64);
 }
 
-// The bytes of subtrees.
+// The numbers and the roots of subtrees are in range.
 fn are_subtrees(peaks: &Peaks)
     ensures { AreSubtreesInBytes peaks.now }
 {
@@ -52,7 +52,7 @@ fn are_subtrees(peaks: &Peaks)
     have_size(peaks.subtrees());
 }
 
-// The bytes of a state.
+// The parts of a state are in range.
 pub(crate) fn is_in_bytes(watcher: &Watcher<Sha256Hash>)
     ensures { IsInBytes watcher.now }
 {

@@ -1,4 +1,4 @@
-//! Whether the parts of a state fit one another.
+//! Checks whether the parts of a state fit one another.
 
 ghost use Rattle.std.specs.Prelude.{◌≡◌, ◌<◌, [], None, length};
 ghost use Rattle.std.specs.Bool.{MatchBool};
@@ -10,7 +10,7 @@ ghost use Rattle.ct_monitor_calls.specs.Fitting.{AcceptedFits, AreAcceptedOf, Fi
 use ct_monitor::{Peaks, Watcher};
 use ct_tree::{Head, NodeHash, Sha256Hash, is_same_digest, node_hash};
 
-// Whether there are as many subtrees as a tree of this many leaves has.
+// Reports whether there are as many subtrees as a tree with this number of leaves has.
 fn has_subtrees(peaks: &Peaks) -> bool
     ensures { MatchBool result (HasSubtrees peaks.now) (HasSubtrees peaks.now → ⊥) }
 {
@@ -37,7 +37,8 @@ fn no_leaves<H: NodeHash>(h: &H) -> [u8; 32]
     h.hash(&[])
 }
 
-// The root of perfect subtrees, largest first, whatever they are. `ct_tree::root_of_subtrees` says it only of those that a list of leaves has.
+// The root of perfect subtrees, largest first, whatever they are. `ct_tree::root_of_subtrees` states it only for those that a list of
+// leaves has.
 pub(crate) fn root_of<H: NodeHash>(h: &H, subtrees: &[[u8; 32]]) -> [u8; 32]
     ensures { result ≡ root_of_peaks H.digest subtrees.now }
 {
@@ -48,7 +49,7 @@ pub(crate) fn root_of<H: NodeHash>(h: &H, subtrees: &[[u8; 32]]) -> [u8; 32]
     }
 }
 
-// Whether the accepted head has the number and the root of the accepted leaves.
+// Reports whether the accepted head has the number and the root of the accepted leaves.
 fn accepted_fits(accepted: Option<Head>, sure: &Peaks) -> bool
     ensures { MatchBool result (AcceptedFits sha256 accepted sure.now) (AcceptedFits sha256 accepted sure.now → ⊥) }
 {
@@ -61,14 +62,14 @@ fn accepted_fits(accepted: Option<Head>, sure: &Peaks) -> bool
     }
 }
 
-// Whether two lists of subtrees are the same.
+// Reports whether two lists of subtrees are the same.
 fn are_same(one: &[[u8; 32]], two: &[[u8; 32]]) -> bool
     ensures { MatchBool result (one.now ≡ two.now) (one.now ≡ two.now → ⊥) }
 {
     one == two
 }
 
-// Whether fewer leaves are accepted than were read, or as many, and the same.
+// Reports whether fewer leaves are accepted than were read, or equally many with the same subtrees.
 fn are_accepted_of(sure: &Peaks, all: &Peaks) -> bool
     ensures { MatchBool result (AreAcceptedOf sure.now all.now) (AreAcceptedOf sure.now all.now → ⊥) }
 {
@@ -76,14 +77,14 @@ fn are_accepted_of(sure: &Peaks, all: &Peaks) -> bool
         || (sure.size() == all.size() && are_same(sure.subtrees(), all.subtrees()))
 }
 
-// Whether all leaves that were read are accepted.
+// Reports whether all leaves that were read are accepted.
 fn are_all(sure: &Peaks, all: &Peaks) -> bool
     ensures { MatchBool result (WaitingFits None None sure.now all.now) (WaitingFits None None sure.now all.now → ⊥) }
 {
     sure.size() == all.size() && are_same(sure.subtrees(), all.subtrees())
 }
 
-// Whether a head is larger and later than the accepted one.
+// Reports whether a head is larger and later than the accepted one.
 fn is_grown_later(accepted: Option<Head>, head: &Head) -> bool
     ensures { MatchBool result (IsGrownLater accepted head.now) (IsGrownLater accepted head.now → ⊥) }
 {
@@ -93,7 +94,7 @@ fn is_grown_later(accepted: Option<Head>, head: &Head) -> bool
     }
 }
 
-// Whether the waiting head and the leaves that were read fit.
+// Reports whether the waiting head and the leaves that were read fit.
 fn waiting_fits(accepted: Option<Head>, waiting: Option<Head>, sure: &Peaks, all: &Peaks) -> bool
     ensures { MatchBool result (WaitingFits accepted waiting sure.now all.now) (WaitingFits accepted waiting sure.now all.now → ⊥) }
 {
@@ -107,7 +108,7 @@ fn waiting_fits(accepted: Option<Head>, waiting: Option<Head>, sure: &Peaks, all
     }
 }
 
-/// Whether the parts of a state fit one another.
+/// Reports whether the parts of a state fit one another.
 pub(crate) fn fits_together(watcher: &Watcher<Sha256Hash>) -> bool
     ensures { MatchBool result (FitsTogether sha256 watcher.now) (FitsTogether sha256 watcher.now → ⊥) }
 {

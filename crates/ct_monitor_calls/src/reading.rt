@@ -73,7 +73,7 @@ fn head_at(reader: &mut Reader<'_>) -> Option<Option<Head>>
     }
 }
 
-// Roots of subtrees that are these bytes.
+// The roots of subtrees that these bytes encode.
 #[tactic(auto, using(crate::proofs::NoTexts::whole_hashes, crate::proofs::NoTexts::hashes_back))]
 fn roots_of(alloc: Global, bytes: &[u8]) -> Result<Option<Vec<[u8; 32]>>, AllocError>
     ensures { IfOk result (λ o. MatchOption o ((p : List (List ℕ)) → AreHashes p → bytes.now ≡ joined p → ⊥)
@@ -160,7 +160,7 @@ fn both_at(alloc: Global, reader: &mut Reader<'_>) -> Result<Option<Both>, Alloc
     }
 }
 
-// The state of which the bytes are the parts, whether these fit or not.
+// The state whose parts the bytes encode, whether these parts fit or not.
 fn parts_in(alloc: Global, bytes: &[u8]) -> Result<Option<Watcher<Sha256Hash>>, AllocError>
     ensures { IfOk result (λ o. MatchOption o ((s : WatcherState) → IsInBytes s → bytes.now ≡ parts_text s → ⊥)
         (λ w. IsInBytes w × (bytes.now ≡ parts_text w))) }
@@ -182,7 +182,7 @@ fn parts_in(alloc: Global, bytes: &[u8]) -> Result<Option<Watcher<Sha256Hash>>, 
     }
 }
 
-// Whether two hashes are the same.
+// Reports whether two hashes are the same.
 fn are_same(one: &[u8; 32], two: &[u8; 32]) -> bool
     ensures { MatchBool result (one.now ≡ two.now) (one.now ≡ two.now → ⊥) }
 {
@@ -201,7 +201,7 @@ fn checked(bytes: &[u8]) -> Option<&[u8]>
     if same { Some(parts) } else { None }
 }
 
-/// The state that the bytes are, if they are one.
+/// The state that the bytes encode, if they encode one.
 pub(crate) fn read_state(
     alloc: Global,
     bytes: &[u8],

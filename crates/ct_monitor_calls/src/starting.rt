@@ -1,4 +1,4 @@
-//! The state of a monitor that begins at a head that it is told to trust.
+//! The state of a monitor that begins at a trusted head.
 
 ghost use Rattle.std.specs.Prelude.{◌≡◌, IfErr, IfOk, length, count_ones};
 ghost use Rattle.std.specs.Bool.{MatchBool};
@@ -19,9 +19,9 @@ use std::alloc::{AllocError, Global};
 pub enum StartFault {
     /// There are not as many subtrees as a tree of the head's size has.
     OtherCount,
-    /// The subtrees lead to another root than the head's.
+    /// The subtrees lead to a different root from the head's.
     OtherRoot,
-    /// A growth was refused.
+    /// Memory could not be allocated.
     Memory,
 }
 
@@ -33,14 +33,14 @@ impl From<AllocError> for StartFault {
     }
 }
 
-// Whether there are as many subtrees as a tree of this many leaves has.
+// Reports whether there are as many subtrees as a tree with this number of leaves has.
 fn is_count(tree_size: u64, subtrees: &[[u8; 32]]) -> bool
     ensures { MatchBool result (length subtrees.now ≡ count_ones tree_size) (length subtrees.now ≡ count_ones tree_size → ⊥) }
 {
     subtrees.len() == tree_size.count_ones() as usize
 }
 
-// Whether subtrees lead to this root.
+// Reports whether subtrees lead to this root.
 fn is_root(root: &[u8; 32], subtrees: &[[u8; 32]]) -> bool
     ensures { MatchBool result (root.now ≡ root_of_peaks sha256 subtrees.now) (root.now ≡ root_of_peaks sha256 subtrees.now → ⊥) }
 {
@@ -48,12 +48,12 @@ fn is_root(root: &[u8; 32], subtrees: &[[u8; 32]]) -> bool
     is_same_digest(root, &found)
 }
 
-/// Returns the state of a monitor that accepted this head, of which it is told, and goes on from the leaf after its last one. `subtrees` are the roots of the
-/// perfect subtrees of the head's leaves, largest first.
+/// Returns the state of a monitor that has accepted this trusted head and continues with the leaf after its last one. `subtrees` are the
+/// roots of the perfect subtrees of the head's leaves, largest first.
 ///
 /// # Errors
 ///
-/// `OtherCount` or `OtherRoot` if they are not those of this head. `Memory` if a growth is refused.
+/// `OtherCount` or `OtherRoot` if they are not the subtrees of this head. `Memory` if memory runs out.
 pub fn start(alloc: Global, head: Head, subtrees: &[[u8; 32]]) -> Result<Vec<u8>, StartFault>
     ensures written { IfOk result (λ bytes. IsMonitorStart sha256 head subtrees.now bytes.items) }
     ensures refused { IfErr result (λ f. RefusesStart sha256 f head subtrees.now) }

@@ -15,12 +15,12 @@ flat-push f (y ∷ xs) x = ap (λ (l : List ℕ). f y ++ l) (flat-push f xs x) �
 abbrev texts : List (List ℕ) → List ℕ
 texts names = flat_map (vec 8) names
 
--- no vector begins where its length isn't whole
+-- no vector begins if its length is not whole
 pub no_length : (w : ℕ) (b x r : List ℕ) → length b < w → b ≡ vec w x ++ r → ⊥
 no_length w b x r h e =
     absurd (omega (arith, h, ap length e, length-append (num w (length x) ++ x) r, length-append (num w (length x)) x, length-num w (length x)))
 
--- no vector begins where its length is whole and its bytes are not
+-- no vector begins if its length is whole and its bytes are not
 pub no_name : (w n : ℕ) (b s x r : List ℕ) → n < 256 ^ w → length x < 256 ^ w → length s < n → b ≡ num w n ++ s → b ≡ vec w x ++ r → ⊥
 no_name w n b s x r h k short e f =
     let parts = num_split w n (length x) s (x ++ r) h k (sym e ∙ f ∙ append_assoc (num w (length x)) x r) in
@@ -42,7 +42,7 @@ begun (c ∷ done) (d ∷ all) rest h k e =
     let behind = begun done all rest (All-tail IsShortName c done h) (All-tail IsShortName d all k) one.1 in
     (behind.0, ap (λ (x : List (List ℕ)). d ∷ x) behind.1 ∙ ap (λ (x : List ℕ). x ∷ (done ++ behind.0)) (sym one.0), behind.2)
 
--- the names that were read, and the bytes that are left
+-- the names that were read, and the remaining bytes
 pub record ReadSoFar (done : List (List ℕ)) (bytes rest : List ℕ) : Type 0 where
   pub fit : All IsShortName done
   pub text : bytes ≡ texts done ++ rest
@@ -56,7 +56,7 @@ read-more done all c bytes rest more r h e a =
           ∙ ap (λ (x : List ℕ). x ++ more) (sym (flat-push (vec 8) done c));
     })
 
--- if no name is next, the bytes are no list
+-- if no name comes next, the bytes are not a list
 pub read-stuck : (done : List (List ℕ)) (bytes rest : List ℕ) → ReadSoFar done bytes rest → (length rest ≡ 0 → ⊥)
     → ((x r : List ℕ) → length x < 2 ^ 64 → rest ≡ vec 8 x ++ r → ⊥) → (names : List (List ℕ)) → AreWatched names bytes → ⊥
 read-stuck done bytes rest r some none names b =

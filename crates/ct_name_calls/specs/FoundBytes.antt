@@ -1,4 +1,4 @@
--- The bytes of a list of watched names, and of those that are found, in the presentation language of RFC 5246 (section 4).
+-- The bytes of a list of watched names, and of the names that are found, in the presentation language of RFC 5246 (section 4).
 use Rattle.std.specs.Prelude.{◌≡◌, ◌<◌, ◌^◌, ◌+◌, ◌++◌, ℕ, List, [], ◌∷◌, All, length, Option, Some, None}
 use Rattle.std.specs.List.{flat_map}
 use Rattle.ct_codec.specs.Bytes.{num, vec}
@@ -13,41 +13,42 @@ use Rattle.ct_name_calls.specs.declared.fault.WatchedFault.{WatchedFault}
 use Rattle.ct_name_calls.specs.declared.fault.WatchedFault.TheVariants as fault
 use Rattle.ct_name_calls.specs.declared.names.EntryKind.{EntryKind}
 
--- the length of a watched name has 64 bits
+-- the length of a watched name fits in 64 bits
 abbrev pub IsShortName : List ℕ → Type 0
 IsShortName name = length name < 2 ^ 64
 
--- the bytes are these watched names, one after the other, each a vector whose length is in 8 bytes
+-- the bytes are these watched names, one after the other, each a vector with a length of 8 bytes
 pub record AreWatched (names : List (List ℕ)) (bytes : List ℕ) : Type 0 where
   pub fit : All IsShortName names
   pub text : bytes ≡ flat_map (vec 8) names
 
--- the bytes are these watched names, or they are no list of names
+-- the bytes are these watched names, or they are not a list of names
 abbrev pub IsListText : List ℕ → Option (List (List ℕ)) → Type 0
 IsListText bytes (Some names) = AreWatched names bytes
 IsListText bytes None = (names : List (List ℕ)) → AreWatched names bytes → ⊥
 
--- the number of the place in which a watched name is found; include/wagtenib.h has the same
+-- the number of the kind of names in which a watched name is found; include/wagtenib.h has the same
 abbrev pub found_number : FoundIn → ℕ
 found_number AltName = 1
 found_number CommonName = 2
 
--- the bytes of the watched name at this position, if it is found: the position in 8 bytes, and the number of the place in one byte
+-- the bytes of the watched name at this position, if it is found: the position in 8 bytes, and the number of the kind in one byte
 abbrev pub found_bytes : ℕ → Option FoundIn → List ℕ
 found_bytes position None = []
 found_bytes position (Some place) = num 8 position ++ found_number place ∷ []
 
--- the bytes of those that are found among a certificate's names, if the first of the watched names has this position
+-- the bytes of the watched names that are found among a certificate's names; the first of the watched names has this position
 unfoldable pub found_from : ℕ → List Named → List (List ℕ) → List ℕ
 found_from position ns [] = []
 found_from position ns (w ∷ ws) = found_bytes position (found_in ns w) ++ found_from (position + 1) ns ws
 
--- the text is the bytes of those watched names that are found in the certificate or TBSCertificate b
+-- the text is the bytes of the watched names that are found in the certificate or TBSCertificate b
 abbrev pub IsFoundText : EntryKind → List ℕ → List ℕ → List ℕ → Type 0
 IsFoundText e b watched text =
     (ws : List (List ℕ)) × (ns : List Named) × AreWatched ws watched × AreNames e ns b × (text ≡ found_from 0 ns ws)
 
--- The reason why no watched name is looked for. BadList: the bytes are no list of watched names. Unread: the names of b cannot be read, or a growth was refused.
+-- The reason why no watched name is looked for. BadList: the bytes are not a list of watched names. Unread: the names of b cannot be read,
+-- or memory could not be allocated.
 abbrev pub FailsWatched : WatchedFault → EntryKind → List ℕ → List ℕ → Type 0
 FailsWatched fault.BadList e b watched = (ws : List (List ℕ)) → AreWatched ws watched → ⊥
 FailsWatched (fault.Unread f) e b watched = Fails f (names_read e b)

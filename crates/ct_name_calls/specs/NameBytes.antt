@@ -29,7 +29,7 @@ name_bytes n = kind_number n.kind ∷ vec 8 n.bytes
 abbrev pub names_bytes : List Named → List ℕ
 names_bytes ns = flat_map name_bytes ns
 
--- the names that reading gives of an entry's certificate, or of its TBSCertificate in place of a precertificate (RFC 6962, section 3.1)
+-- the result of reading the names of an entry's certificate, or of its TBSCertificate in place of a precertificate (RFC 6962, section 3.1)
 abbrev pub names_read : EntryKind → List ℕ → Result (List Named) Unread
 names_read entry.X509 b = certificate_names b
 names_read entry.Precert b = bare_names b
@@ -43,10 +43,10 @@ AreNames entry.Precert ns b = BareNamesOf ns b
 abbrev pub IsNamesText : EntryKind → List ℕ → List ℕ → Type 0
 IsNamesText e b text = (ns : List Named) × AreNames e ns b × (text ≡ names_bytes ns)
 
--- the length of a name's bytes has 64 bits, as that of each name in memory does
+-- the length of a name's bytes fits in 64 bits, as it does for each name in memory
 abbrev pub HasLength : Named → Type 0
 HasLength n = length n.bytes < 2 ^ 64
 
--- The bytes of names are those of no other names.
+-- The bytes of names are the bytes of no other names.
 abbrev pub NamesTextsDiffer : Type 0
 NamesTextsDiffer = (ns ms : List Named) → All HasLength ns → All HasLength ms → names_bytes ns ≡ names_bytes ms → ns ≡ ms

@@ -11,10 +11,10 @@ use thiserror::Error;
 /// The reason why watched names cannot be looked for.
 #[derive(Clone, Copy, Debug, PartialEq, Eq, Error)]
 pub enum WatchedFault {
-    /// The bytes are no list of watched names.
+    /// The bytes are not a list of watched names.
     #[error("BadList")]
     BadList,
-    /// The names of the certificate cannot be read, or a growth was refused.
+    /// The names of the certificate cannot be read, or memory could not be allocated.
     #[error("{0}")]
     Unread(NamesFault),
 }

@@ -3,12 +3,12 @@
 ghost use Rattle.ct_name_calls.specs.NameBytes.{NamesTextsDiffer};
 ghost use Rattle.ct_name_calls.specs.FoundBytes.{FindingIsByLabels};
 
-/// The bytes of names are those of no other names.
+/// The bytes of names are the bytes of no other names.
 pub fn names_texts_differ()
     ensures { NamesTextsDiffer }
 {}
 
-/// A watched name is found exactly where the labels of a name say so (RFC 9525, section 6.3).
+/// A watched name is found if and only if it matches by the labels of a name (RFC 9525, section 6.3).
 pub fn finding_is_by_labels()
     ensures { FindingIsByLabels }
 {}

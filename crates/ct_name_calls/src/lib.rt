@@ -1,8 +1,9 @@
-//! The names of a certificate, and which watched names are found in it, as bytes in the presentation language of RFC 5246 (section 4).
+//! The names of a certificate, and the watched names that are found in it, as bytes in the presentation language of RFC 5246 (section 4).
 //!
 //! - [`names_text`] writes the names that `ct_names` reads.
 //! - [`found_text`] reads a list of watched names, and writes the position of each one that is found.
-//! - The functions of [`laws`] do nothing. Their contracts say that the bytes of names are those of no other names, and that finding is by labels.
+//! - The functions of [`laws`] do nothing. Their contracts state that the bytes of names are the bytes of no other names, and that finding
+//!   is by labels.
 //!
 //! `specs/NameBytes.antt` has the names' bytes, and `specs/FoundBytes.antt` has those of the watched names.
 #![tactic(auto)]

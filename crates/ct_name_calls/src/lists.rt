@@ -7,7 +7,7 @@ ghost use Rattle.ct_name_calls.specs.FoundBytes.{IsListText};
 use ct_codec::Reader;
 use std::alloc::{AllocError, Global};
 
-// Reads a name whose length is in 8 bytes.
+// Reads a name with a length of 8 bytes.
 #[tactic(auto, using(crate::proofs::Listing::no_length))]
 fn name_at<'a>(reader: &mut Reader<'a>) -> Option<&'a [u8]>
     ensures some { IfSome result (λ x. (length x.now < 2 ^ 64) × (reader.old ≡ vec 8 x.now ++ reader.new)) }

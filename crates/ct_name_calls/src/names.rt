@@ -69,12 +69,12 @@ pub(crate) fn read_names(
     }
 }
 
-/// Returns the bytes of the names of an entry's certificate or TBSCertificate: the common names of its subject, and after them the names of its
-/// subjectAltName, in order.
+/// Returns the bytes of the names of an entry's certificate or TBSCertificate: the common names of its subject, and after them the names of
+/// its subjectAltName, in order.
 ///
 /// # Errors
 ///
-/// `At` if the bytes have no names that can be read: the first fault that reading meets. `Memory` if a growth is refused.
+/// `At`, the first fault that reading finds, if the bytes have no names that can be read. `Memory` if memory runs out.
 pub fn names_text(alloc: Global, kind: EntryKind, bytes: &[u8]) -> Result<Vec<u8>, NamesFault>
     ensures written { IfOk result (λ t. IsNamesText kind bytes.now t.items) }
     ensures refused { IfErr result (λ f. Fails f (names_read kind bytes.now)) }

@@ -13,7 +13,7 @@ use ct_codec::numbers::number_bytes_8;
 use ct_names::{FoundIn, Name, find_watched};
 use std::alloc::{AllocError, Global};
 
-// Returns the number of the place in which a watched name is found.
+// Returns the number of the kind of names in which a watched name is found.
 fn number_of(place: FoundIn) -> u8
     ensures { result ≡ found_number place }
 {
@@ -23,7 +23,7 @@ fn number_of(place: FoundIn) -> u8
     }
 }
 
-// Appends the position and the place of a watched name.
+// Appends the position of a watched name, and the kind of names in which it is found.
 fn push_place(text: &mut Vec<u8>, position: u64, place: FoundIn) -> Result<(), AllocError>
     ensures { OnOk result (text.new.items ≡ text.old.items ++ (num 8 position ++ found_number place ∷ [])) }
 {
@@ -64,12 +64,12 @@ fn text_of(alloc: Global, names: &[Name<'_>], watched: &[&[u8]]) -> Result<Vec<u
     Ok(text)
 }
 
-/// Returns the bytes of the watched names that are found in an entry's certificate or TBSCertificate: the position of each one in the list, and
-/// its place, which is subjectAltName or only a common name.
+/// Returns the bytes of the watched names that are found in an entry's certificate or TBSCertificate. They are the position of each one in
+/// the list, and the kind of names in which it is found: subjectAltName, or only a common name.
 ///
 /// # Errors
 ///
-/// `BadList` if the watched names are no list. Otherwise the errors of [`names_text`](crate::names_text).
+/// `BadList` if the watched names are not a list. Otherwise the errors of [`names_text`](crate::names_text).
 pub fn found_text(
     alloc: Global,
     kind: EntryKind,

@@ -1,4 +1,4 @@
--- What is in the grammar is read.
+-- Anything in the grammar is read.
 use Rattle.std.proofs.Common.{◌≡◌, ◌<◌, ◌≤◌, ℕ, zero, suc, Bool, true, false, cond, List, [], ◌∷◌, ◌++◌, length, Option, Some, None, Result, Ok, Err, refl, sym, ap, subst, ◌∙◌, inl, inr, arith}
 use Rattle.std.proofs.lemmas.List.{append-nil, length-append}
 use Rattle.ct_der.specs.declared.fault.DerFault.TheVariants.{Truncated}
@@ -18,7 +18,7 @@ use Rattle.ct_names.proofs.Loops.{Item, next}
 element_end : (tag : ℕ) (c x : List ℕ) → IsTlv tag c x → element_at x ≡ Ok (tag, c, [])
 element_end tag c x is = ap element_at (sym (append-nil x)) ∙ elements_are_read tag c x [] is
 
--- what is there of an optional element, and what follows
+-- an optional element, if it is present, and the bytes after it
 abbrev Passed : ℕ → List ℕ → List ℕ → Type 0
 Passed tag b r = (o : Option (List ℕ)) × (optional_at tag b ≡ Ok (o, r))
 

@@ -1,4 +1,4 @@
--- What covering says, by labels.
+-- The meaning of covering, by labels.
 use Rattle.std.proofs.Common.{◌≡◌, ◌-◌, ℕ, Bool, true, false, cond, eqb, ltb, List, [], ◌∷◌, ◌++◌, length, take, drop, Option, Some, None, refl, sym, ap, ◌∙◌, ◌⊎◌, inl, inr, arith}
 use Rattle.std.specs.Prelude.{slice_index_or, ◌&&◌, ◌||◌}
 use Rattle.std.specs.Bool.{Decides}
@@ -78,7 +78,7 @@ below_tells n w =
 
 -- ---- wildcards
 
--- what a cut at the first dot says
+-- the meaning of a cut at the first dot
 abbrev CutAtDot : List ℕ → Option (List ℕ) → Type 0
 CutAtDot w None = IsLabel w
 CutAtDot w (Some r) = (l : List ℕ) × IsLabel l × (w ≡ l ++ (46 ∷ r))
@@ -99,7 +99,7 @@ pub behind_here : (l r : List ℕ) → IsLabel l → behind_first 46 (l ++ (46 �
 behind_here [] r is = refl
 behind_here (x ∷ l) r is = rw (ne_eqb x 46 is.0) (behind_here l r is.1)
 
--- what a star says
+-- the meaning of a star
 abbrev StarOf : List ℕ → Option (List ℕ) → Type 0
 StarOf n None = (t : List ℕ) → n ≡ 42 ∷ 46 ∷ t → ⊥
 StarOf n (Some t) = n ≡ 42 ∷ 46 ∷ t

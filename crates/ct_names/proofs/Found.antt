@@ -1,4 +1,4 @@
--- What is read is in the grammar.
+-- Anything that is read is in the grammar.
 use Rattle.std.proofs.Common.{◌≡◌, ◌<◌, ◌≤◌, ℕ, zero, suc, Bool, true, false, cond, eqb, List, [], ◌∷◌, ◌++◌, length, Option, Result, Ok, Err, refl, sym, ap, subst, ◌∙◌, inl, inr, arith}
 use Rattle.std.proofs.lemmas.Bool.{eqb-true}
 use Rattle.std.proofs.lemmas.List.{length-append}
@@ -132,7 +132,7 @@ rdn_found b v fits e =
 abbrev value_at : Bool → List ℕ → List ℕ → Result Names Unread
 value_at b value r = cond b (placed at.AltNames (only_at 48 value) >>= λ alts. all_of alt_at alts >>= λ names. Ok (names, r)) (Ok ([], r))
 
--- the names in the value of an extension, and what follows the extension
+-- the names in the value of an extension, and the bytes after the extension
 pub record ValueFound (b : Bool) (ns : List Named) (value r s : List ℕ) : Type 0 where
   pub is : IsValue b ns value
   pub same : r ≡ s
@@ -195,7 +195,7 @@ list_found (x ∷ b) list ns fits e f =
     let many = many_found extension_at IsExtension extension_found list ns inner.inner f in
     inr (list, a.0, many, inner.is, outer.is)
 
--- what stands before the subject
+-- the fields before the subject
 pub record Head (b r : List ℕ) : Type 0 where
   pub version : List ℕ
   pub serial : List ℕ
@@ -253,7 +253,7 @@ head_found b r fits e =
       rest = f4.rest;
     })
 
--- what stands behind the subject
+-- the fields after the subject
 pub record Tail (b list : List ℕ) : Type 0 where
   pub key : List ℕ
   pub issuer_id : List ℕ

@@ -14,7 +14,7 @@ Item = List ℕ → Result (List Named × List ℕ) Unread
 abbrev with_front : List Named → Result (List Named) Unread → Result (List Named) Unread
 with_front front read = read >>= λ ns. Ok (front ++ ns)
 
--- the names added so far, and those that the rest gives, are those of all the bytes
+-- the names added so far and the names in the rest are the names in all the bytes
 pub record Going (item : Item) (old new : List Named) (rest bytes : List ℕ) : Type 0 where
   pub more : List Named
   pub room : ℕ

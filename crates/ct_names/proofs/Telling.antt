@@ -1,4 +1,4 @@
--- What telling says, by labels.
+-- The meaning of a match, by labels.
 use Rattle.std.proofs.Common.{◌≡◌, ℕ, Bool, true, false, List, [], ◌∷◌, ◌++◌, Option, Some, None, Result, Ok, Err, refl, sym, ap, subst, ◌∙◌, ◌⊎◌, inl, inr}
 use Rattle.std.specs.Prelude.{◌&&◌, IfOk}
 use Rattle.std.specs.Bool.{Decides}
@@ -55,7 +55,7 @@ both_tell : {P : Type 0} (a b : Bool) → Decides b P → Decides (a && b) ((a �
 both_tell true b d = (λ t. (refl, d.0 t), λ e. d.1 e.1)
 both_tell false b d = (λ t. absurd (no_truth t), λ e. absurd (no_truth e.0))
 
--- the first of the names is told for the watched one, or one of the others
+-- the first of the names matches the watched one, or one of the others does
 abbrev HeadOrOther : Bool → Named → List Named → List ℕ → Type 0
 HeadOrOther alt n ns w = ((is_sought alt n.kind ≡ true) × KindToldFor n.kind n.bytes w) ⊎ SomeToldFor alt ns w
 

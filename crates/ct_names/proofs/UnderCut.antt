@@ -25,7 +25,7 @@ same_content : (t : ℕ) (c d x y : List ℕ) → IsTlv t c x → IsTlv t d y �
 same_content t c d x y p q e =
     let apart = elements_stand_apart t t c d x y [] [] p q (ap (λ (l : List ℕ). l ++ []) e) in apart.1
 
--- ---- items, one behind the other
+-- ---- items, one after the other
 
 abbrev IsSome : List ℕ → Type 0
 IsSome x = (c : List ℕ) × IsTlv 48 c x
@@ -53,7 +53,7 @@ text_append : (M N : List (List Named × List ℕ)) → text_of_all (M ++ N) ≡
 text_append [] N = refl
 text_append (p ∷ M) N = ap (λ (l : List ℕ). p.1 ++ l) (text_append M N) ∙ sym (append_assoc p.1 (text_of_all M) (text_of_all N))
 
--- the items of which these texts and what follows are made
+-- the items that these texts and the bytes after them consist of
 pub record CutAt (L : List (List Named × List ℕ)) (front behind : List ℕ) : Type 0 where
   pub before : List (List Named × List ℕ)
   pub after : List (List Named × List ℕ)
@@ -94,7 +94,7 @@ cut_behind identifier (f ∷ F) behind (p ∷ L) others each e =
       behind_is = rest.behind_is;
     }
 
--- an extension with another identifier than subjectAltName's has no names
+-- an extension with an identifier other than subjectAltName's has no names
 has_none : (b : Bool) (ns : List Named) (value : List ℕ) → b ≡ false → IsValue b ns value → ns ≡ []
 has_none true ns value e v = cc
 has_none false ns value e v = v
@@ -146,7 +146,7 @@ optional_field : (tag : ℕ) (place : Place) (x : List ℕ) → IsOptional tag x
 optional_field tag place x (inl e) = inl (refl, e)
 optional_field tag place x (inr t) = inr t
 
--- what a TBSCertificate has before its extensions
+-- the fields of a TBSCertificate before its extensions
 abbrev head_of : {ns : List Named} {b : List ℕ} → IsTbs ns b → List ℕ
 head_of t =
     t.version ++ (t.serial ++ (t.algorithm ++ (t.issuer ++ (t.validity ++ (t.subject ++ (t.key ++ (t.issuer_id ++ (t.subject_id ++ []))))))))

@@ -1,4 +1,4 @@
--- The grammar of certificates as far as their names go (RFC 5280, 4.1 and 4.2), in elements of DER (X.690).
+-- The grammar of certificates as far as their names need it (RFC 5280, 4.1 and 4.2), in elements of DER (X.690).
 use Rattle.std.specs.Prelude.{◌≡◌, ◌++◌, ◌⊎◌, ℕ, List, [], ◌∷◌, Bool, true, false}
 use Rattle.ct_der.specs.Element.{IsTlv}
 use Rattle.ct_names.specs.Names.{Named, is_alt, is_bad_alt, is_bad_common, alt_of, common_of}
@@ -10,7 +10,7 @@ abbrev pub names_in_all : List (List Named × List ℕ) → List Named
 names_in_all [] = []
 names_in_all (p ∷ L) = p.0 ++ names_in_all L
 
--- the texts of items, one behind the other
+-- the texts of items, one after the other
 abbrev pub text_of_all : List (List Named × List ℕ) → List ℕ
 text_of_all [] = []
 text_of_all (p ∷ L) = p.1 ++ text_of_all L
@@ -20,7 +20,7 @@ abbrev pub Each : (List Named → List ℕ → Type 0) → List (List Named × L
 Each Is [] = Unit {0}
 Each Is (p ∷ L) = Is p.0 p.1 × Each Is L
 
--- b is items one behind the other, to its end, and ns are their names
+-- b is items one after the other, to its end, and ns are their names
 abbrev pub Many : (List Named → List ℕ → Type 0) → List Named → List ℕ → Type 0
 Many Is ns b = (L : List (List Named × List ℕ)) × Each Is L × (ns ≡ names_in_all L) × (b ≡ text_of_all L)
 
@@ -32,8 +32,8 @@ IsOptional tag x = (x ≡ []) ⊎ ((c : List ℕ) × IsTlv tag c x)
 abbrev pub IsField : ℕ → List ℕ → Type 0
 IsField tag x = (c : List ℕ) × IsTlv tag c x
 
--- x is a GeneralName, and ns are its names: rfc822Name, dNSName, uniformResourceIdentifier and iPAddress have one each, the others none (RFC 5280,
--- section 4.2.1.6)
+-- x is a GeneralName, and ns are its names: rfc822Name, dNSName, uniformResourceIdentifier and iPAddress have one each, and the other kinds
+-- have none (RFC 5280, section 4.2.1.6)
 abbrev pub IsAltName : List Named → List ℕ → Type 0
 IsAltName ns x = (tag : ℕ) × (c : List ℕ) × IsTlv tag c x × (is_bad_alt tag ≡ false) × (ns ≡ alt_of tag c)
 
@@ -52,7 +52,8 @@ abbrev pub IsValue : Bool → List Named → List ℕ → Type 0
 IsValue true ns value = (c : List ℕ) × IsTlv 48 c value × Many IsAltName ns c
 IsValue false ns value = ns ≡ []
 
--- x is an Extension, an object identifier, perhaps a BOOLEAN and an OCTET STRING, and ns are its names (RFC 5280, section 4.2)
+-- x is an Extension, consisting of an object identifier, an optional BOOLEAN and an OCTET STRING, and ns are its names (RFC 5280, section
+-- 4.2)
 abbrev pub IsExtension : List Named → List ℕ → Type 0
 IsExtension ns x =
     (oid value o critical v : List ℕ) × IsTlv 6 oid o × IsOptional 1 critical × IsTlv 4 value v × IsTlv 48 (o ++ (critical ++ v)) x
@@ -62,9 +63,9 @@ IsExtension ns x =
 abbrev pub AreExtensions : List Named → List ℕ → Type 0
 AreExtensions ns x = ((x ≡ []) × (ns ≡ [])) ⊎ ((list c : List ℕ) × Many IsExtension ns list × IsTlv 48 list c × IsTlv 163 c x)
 
--- The content b of a TBSCertificate: perhaps a version, serial number, algorithm, issuer, validity, subject, key, perhaps the identifiers of
--- issuer and subject, and the extensions. The names are the common names of the subject, and behind them those of the extensions (RFC 5280,
--- section 4.1.2).
+-- The content b of a TBSCertificate: an optional version, serial number, algorithm, issuer, validity, subject, key, the optional
+-- identifiers of issuer and subject, and the extensions. The names are the common names of the subject, followed by those of the extensions
+-- (RFC 5280, section 4.1.2).
 pub record IsTbs (ns : List Named) (b : List ℕ) : Type 0 where
   pub common : List Named
   pub alts : List Named
@@ -100,6 +101,6 @@ NamesOf ns b =
     (content tbs algorithm signature : List ℕ) × IsTbs ns content × IsTlv 48 content tbs × IsField 48 algorithm × IsField 3 signature
     × IsTlv 48 (tbs ++ (algorithm ++ signature)) b
 
--- ns are the names of the TBSCertificate b, which the entry of a precertificate has (RFC 6962, section 3.2)
+-- ns are the names of the TBSCertificate b, as the entry of a precertificate has it (RFC 6962, section 3.2)
 abbrev pub BareNamesOf : List Named → List ℕ → Type 0
 BareNamesOf ns b = (content : List ℕ) × IsTbs ns content × IsTlv 48 content b

@@ -10,7 +10,7 @@ use Rattle.std.specs.Bool.{Decides}
 use Rattle.ct_names.specs.Covers.{covered, Covers}
 use Rattle.ct_names.specs.Certificate.{NamesOf, BareNamesOf}
 
--- The names of each certificate of the grammar are read.
+-- The names of each certificate in the grammar are read.
 abbrev pub CertificatesAreRead : Type 0
 CertificatesAreRead = (ns : List Named) (b : List ℕ) → NamesOf ns b → certificate_names b ≡ Ok ns
 
@@ -22,27 +22,27 @@ BareCertificatesAreRead = (ns : List Named) (b : List ℕ) → BareNamesOf ns b 
 abbrev pub CertificatesHaveOneReading : Type 0
 CertificatesHaveOneReading = (ns ms : List Named) (b : List ℕ) → NamesOf ns b → NamesOf ms b → ns ≡ ms
 
--- Each proper beginning of a certificate is refused, as truncated.
+-- Each proper prefix of a certificate is refused, as truncated.
 abbrev pub BeginningsAreRefused : Type 0
 BeginningsAreRefused =
     (ns : List Named) (b y s : List ℕ) → NamesOf ns b → 0 < length s → b ≡ y ++ s
     → certificate_names y ≡ Err (record { place = at.Certificate; fault = Truncated })
 
--- Each proper beginning of a TBSCertificate is refused, as truncated.
+-- Each proper prefix of a TBSCertificate is refused, as truncated.
 abbrev pub BareBeginningsAreRefused : Type 0
 BareBeginningsAreRefused =
     (ns : List Named) (b y s : List ℕ) → BareNamesOf ns b → 0 < length s → b ≡ y ++ s
     → bare_names y ≡ Err (record { place = at.Tbs; fault = Truncated })
 
--- A name covers a watched one exactly where it is that name or below it, or a wildcard over it, by labels.
+-- A name covers a watched one if and only if it is that name or below it, or a wildcard over it, by labels.
 abbrev pub CoveringIsByLabels : Type 0
 CoveringIsByLabels = (name watched : List ℕ) → Decides (covered name watched) (Covers name watched)
 
--- What is read as a certificate is one of the grammar, with these names.
+-- Bytes that are read as a certificate are one in the grammar, with these names.
 abbrev pub ReadCertificatesAreThere : Type 0
 ReadCertificatesAreThere = (ns : List Named) (b : List ℕ) → IsBytes b → certificate_names b ≡ Ok ns → NamesOf ns b
 
--- A TBSCertificate of which one extension is cut out that isn't subjectAltName has the names that it had.
+-- If an extension other than subjectAltName is cut out of a TBSCertificate, its names stay the same.
 abbrev pub NamesStayUnderTheCut : Type 0
 NamesStayUnderTheCut =
     (identifier : List ℕ) (p : Parts) (b c : List ℕ) (ns : List Named) → is_alt identifier ≡ false → IsParted identifier p b → IsWithout p c

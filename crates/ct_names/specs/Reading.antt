@@ -1,4 +1,4 @@
--- Names read from a certificate, with the first fault that reading meets (RFC 5280, section 4).
+-- Names read from a certificate, with the first fault that reading finds (RFC 5280, section 4).
 use Rattle.std.specs.Prelude.{◌≡◌, ◌++◌, ℕ, zero, suc, List, [], ◌∷◌, length, Result, Ok, Err, ◌==◌, if◌then◌else◌}
 use Rattle.ct_der.specs.Reading.{◌>>=◌, element_at, expected_at, only_at, optional_at}
 use Rattle.ct_der.specs.declared.fault.DerFault.{DerFault}
@@ -10,47 +10,47 @@ use Rattle.ct_names.specs.declared.fault.NamesFault.{NamesFault}
 use Rattle.ct_names.specs.declared.fault.NamesFault.TheVariants as faults
 use Rattle.ct_names.specs.Names.{Named, is_alt, is_bad_alt, is_bad_common, alt_of, common_of}
 
--- what an element's reading gives, its fault with the field
+-- the result of reading an element; a fault is returned with the field
 abbrev pub placed : {X : Type 0} → Place → Result X DerFault → Result X Unread
 placed p (Ok x) = Ok x
 placed p (Err f) = Err (record { place = p; fault = f })
 
--- what a function refused is what reading refuses, unless memory ran out
+-- the fault of a function is the fault of reading, unless memory ran out
 abbrev pub Fails : {Y : Type 0} → NamesFault → Result Y Unread → Type 0
 Fails faults.Memory read = Unit {0}
 Fails (faults.At u) read = read ≡ Err u
 
--- what a function answered, seen by view, is what reading gives, unless memory ran out
+-- the result of a function, seen through view, is the result of reading, unless memory ran out
 abbrev pub GivesNames : {X Y : Type 0} → (X → Y) → Result X NamesFault → Result Y Unread → Type 0
 GivesNames view (Ok x) read = read ≡ Ok (view x)
 GivesNames view (Err e) read = Fails e read
 
--- the names that the reading of an item gives stand behind the old ones, and what it leaves is the answer
+-- the names from the reading of an item are added after the old ones, and the remaining bytes are the result
 abbrev pub Adds : {X : Type 0} → (X → List ℕ) → List Named → List Named → Result X NamesFault → Result (List Named × List ℕ) Unread → Type 0
 Adds view old new (Ok x) read = (more : List Named) × (read ≡ Ok (more, view x)) × (new ≡ old ++ more)
 Adds view old new (Err e) read = Fails e read
 
--- the names that the reading of all items gives stand behind the old ones
+-- the names from the reading of all items are added after the old ones
 abbrev pub AddsAll : {X : Type 0} → List Named → List Named → Result X NamesFault → Result (List Named) Unread → Type 0
 AddsAll old new (Ok x) read = (more : List Named) × (read ≡ Ok more) × (new ≡ old ++ more)
 AddsAll old new (Err e) read = Fails e read
 
--- what one item after the other gives, at most so many, to the end of the bytes
+-- the names of items read one after the other, at most n of them, to the end of the bytes
 unfoldable pub each : (List ℕ → Result (List Named × List ℕ) Unread) → ℕ → List ℕ → Result (List Named) Unread
 each item zero b = Ok []
 each item (suc n) [] = Ok []
 each item (suc n) (x ∷ b) = item (x ∷ b) >>= λ r. each item n r.1 >>= λ ns. Ok (r.0 ++ ns)
 
--- .. of all items: each has some bytes, so there aren't more items than bytes
+-- .. of all items: each has some bytes, so there are not more items than bytes
 abbrev pub all_of : (List ℕ → Result (List Named × List ℕ) Unread) → List ℕ → Result (List Named) Unread
 all_of item b = each item (length b) b
 
--- the name of a general name, and what follows (RFC 5280, section 4.2.1.6)
+-- the name of a general name, and the bytes after it (RFC 5280, section 4.2.1.6)
 unfoldable pub alt_at : List ℕ → Result (List Named × List ℕ) Unread
 alt_at b = placed at.AltNames (element_at b) >>= λ e.
     if is_bad_alt e.0 then Err (record { place = at.AltNames; fault = OtherTag }) else Ok (alt_of e.0 e.1, e.2)
 
--- the names of an attribute, and what follows (RFC 5280, section 4.1.2.4)
+-- the names of an attribute, and the bytes after it (RFC 5280, section 4.1.2.4)
 unfoldable pub attribute_at : List ℕ → Result (List Named × List ℕ) Unread
 attribute_at b = do
   pair ← placed at.Subject (expected_at 48 b)
@@ -60,14 +60,14 @@ attribute_at b = do
       then (if is_bad_common oid.0 value.0 then Err (record { place = at.Subject; fault = OtherTag }) else Ok (common_of oid.0 value.0 value.1, pair.1))
       else Err (record { place = at.Subject; fault = Trailing })
 
--- the names of a relative distinguished name, and what follows (RFC 5280, section 4.1.2.4)
+-- the names of a relative distinguished name, and the bytes after it (RFC 5280, section 4.1.2.4)
 unfoldable pub rdn_at : List ℕ → Result (List Named × List ℕ) Unread
 rdn_at b = do
   set ← placed at.Subject (expected_at 49 b)
   names ← all_of attribute_at set.0
   Ok (names, set.1)
 
--- the names of an extension, and what follows (RFC 5280, section 4.2)
+-- the names of an extension, and the bytes after it (RFC 5280, section 4.2)
 unfoldable pub extension_at : List ℕ → Result (List Named × List ℕ) Unread
 extension_at b = do
   extension ← placed at.Extensions (expected_at 48 b)
@@ -81,7 +81,7 @@ unfoldable pub extensions_at : List ℕ → Result (List ℕ) Unread
 extensions_at [] = Ok []
 extensions_at (x ∷ b) = placed at.Extensions (only_at 163 (x ∷ b)) >>= λ e. placed at.Extensions (only_at 48 e)
 
--- what follows the validity (RFC 5280, section 4.1.2)
+-- the bytes after the validity (RFC 5280, section 4.1.2)
 unfoldable pub front_at : List ℕ → Result (List ℕ) Unread
 front_at b = do
   version ← placed at.Version (optional_at 160 b)

@@ -1,4 +1,4 @@
-//! Why a certificate's names can't be read.
+//! Why a certificate's names cannot be read.
 
 ghost use Rattle.std.specs.Prelude.{◌≡◌};
 ghost use Rattle.ct_names.specs.declared.fault.NamesFault.TheVariants.{Memory, At};
@@ -10,11 +10,12 @@ use thiserror::Error;
 /// Why there are no names.
 #[derive(Clone, Copy, Debug, PartialEq, Eq, Error)]
 pub enum NamesFault {
-    /// The bytes are no certificate, or TBSCertificate, of the grammar in `specs/Certificate.antt`: the first fault that reading meets, which goes
-    /// through the frame of the certificate, the frame of the TBSCertificate, the subject and then the extensions.
+    /// The bytes are not a certificate, or a TBSCertificate, in the grammar of `specs/Certificate.antt`. The value is the first fault that
+    /// reading finds. Reading goes through the frame of the certificate, the frame of the TBSCertificate, the subject and then the
+    /// extensions.
     #[error("{0}")]
     At(Unread),
-    /// A growth was refused. The bytes may have no fault.
+    /// Memory could not be allocated. The bytes may have no fault.
     #[error("Memory")]
     Memory,
 }

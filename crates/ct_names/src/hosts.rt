@@ -1,4 +1,4 @@
-//! The host in a mail address and in a URI, and the text of an address.
+//! The host in a mail address and in a URI, and the text of an IP address.
 
 ghost use Rattle.std.specs.Prelude.{◌≡◌, ◌≤◌, IfOk, length};
 ghost use Rattle.std.specs.Option.{option_map};
@@ -9,7 +9,7 @@ use crate::matching::bytes_behind;
 use std::alloc::{AllocError, Global};
 use std::net::{Ipv4Addr, Ipv6Addr};
 
-// The bytes behind the last byte of this value.
+// The bytes after the last byte with this value.
 #[tactic(auto, using(crate::proofs::Hosting::latest_again))]
 pub(crate) fn behind_last(byte: u8, bytes: &[u8]) -> Option<&[u8]>
     ensures { option_map (λ h. h.now) result ≡ behind_last byte bytes.now }
@@ -25,7 +25,7 @@ pub(crate) fn behind_last(byte: u8, bytes: &[u8]) -> Option<&[u8]>
     found
 }
 
-// How many bytes stand before the first of one of these values.
+// The number of bytes before the first byte with one of these values.
 fn size_before(one: u8, two: u8, three: u8, bytes: &[u8]) -> usize
     ensures size { result ≡ length (before_any one two three bytes.now) }
     ensures within { result ≤ length bytes.now }
@@ -40,7 +40,7 @@ fn size_before(one: u8, two: u8, three: u8, bytes: &[u8]) -> usize
     bytes.len()
 }
 
-// The bytes before the first of one of these values.
+// The bytes before the first byte with one of these values.
 #[tactic(auto, using(crate::proofs::Hosting::before_is_front))]
 fn bytes_before(one: u8, two: u8, three: u8, bytes: &[u8]) -> &[u8]
     ensures { result.now ≡ before_any one two three bytes.now }
@@ -76,7 +76,7 @@ pub(crate) fn host_of_uri(uri: &[u8]) -> Option<&[u8]>
     }
 }
 
-// The text of an address of four octets or of sixteen (RFC 5952).
+// The text of an IP address of four octets or of sixteen (RFC 5952).
 pub(crate) fn text_of_address(alloc: Global, bytes: &[u8]) -> Result<Option<Vec<u8>>, AllocError>
     ensures { IfOk result (λ t. option_map (λ v. v.items) t ≡ address_text bytes.now) }
 {
@@ -97,7 +97,7 @@ pub(crate) fn text_of_address(alloc: Global, bytes: &[u8]) -> Result<Option<Vec<
     }
 }
 
-// Whether an address has this text.
+// Reports whether an IP address has this text.
 pub(crate) fn is_address(alloc: Global, bytes: &[u8], watched: &[u8]) -> Result<bool, AllocError>
     ensures { IfOk result (λ told. told ≡ is_text (address_text bytes.now) watched.now) }
 {

@@ -1,15 +1,15 @@
-//! The names in a certificate or a TBSCertificate (RFC 5280, section 4), where they stand, and which watched names they cover.
+//! The names in a certificate or a TBSCertificate (RFC 5280, section 4), as views of the input, and the watched names that they cover.
 //!
-//! - [`names_of_certificate`] and [`names_of_tbs`] give the common names of the subject and the names of subjectAltName, or the first fault
-//!   that reading meets, with its field. They are exact: what is read is of the grammar in `specs/Certificate.antt`, with these names, and
-//!   what is of the grammar is read.
-//! - [`covers`] says whether a name is a watched one, is below it, or is a wildcard that stands for it, by labels.
-//! - [`find_watched`] says in which of a certificate's names a watched one is found, alone (`www.example.org`) or with what is below it
-//!   (`.example.org`).
-//! - [`laws`] shows that no bytes have two readings, that each proper beginning of a certificate is refused, and that names stay where another
-//!   extension than subjectAltName is cut out, as in an entry of a precertificate.
+//! - [`names_of_certificate`] and [`names_of_tbs`] return the common names of the subject and the names of subjectAltName, or the first
+//!   fault that reading finds, with its field. They are exact: anything that is read is in the grammar of `specs/Certificate.antt`, with
+//!   these names, and anything in the grammar is read.
+//! - [`covers`] reports whether a name is a watched one, is below it, or is a wildcard that matches it, by labels.
+//! - [`find_watched`] reports in which of a certificate's names a watched one is found, either by itself (`www.example.org`) or with
+//!   everything below it (`.example.org`).
+//! - [`laws`] shows that no bytes have two readings, that each proper prefix of a certificate is refused, and that the names stay the same
+//!   if an extension other than subjectAltName is cut out, as in an entry of a precertificate.
 //!
-//! Moments, keys, signatures, the order of a SET and the characters of strings aren't looked at: more is read than DER allows.
+//! Validity times, keys, signatures, the order of a SET and the characters of strings are not examined: more is read than DER allows.
 #![tactic(auto)]
 
 mod fault;

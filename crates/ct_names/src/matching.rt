@@ -1,4 +1,4 @@
-//! Which watched names a name covers, label by label (RFC 9525, section 6.3).
+//! The watched names that a name covers, label by label (RFC 9525, section 6.3).
 
 ghost use Rattle.std.specs.Prelude.{◌≡◌, IfOk, IfSome, IfNone};
 ghost use Rattle.std.specs.Str.{str_eq_ignore_ascii_case};
@@ -6,7 +6,7 @@ ghost use Rattle.ct_names.specs.Covers.{behind_first, ends_label, at_or_below, w
 
 use std::alloc::{AllocError, Global};
 
-// The bytes behind the first byte of this value.
+// The bytes after the first byte with this value.
 pub(crate) fn bytes_behind(byte: u8, bytes: &[u8]) -> Option<&[u8]>
     ensures some { IfSome result (λ r. behind_first byte bytes.now ≡ Some r.now) }
     ensures none { IfNone result (behind_first byte bytes.now ≡ None) }
@@ -21,7 +21,7 @@ pub(crate) fn bytes_behind(byte: u8, bytes: &[u8]) -> Option<&[u8]>
     None
 }
 
-// Whether a label ends where these bytes end: there are none, or the last is a dot.
+// Reports whether a label ends at the end of these bytes: there are none, or the last is a dot.
 fn is_label_end(front: &[u8]) -> bool
     ensures { result ≡ ends_label front.now }
 {
@@ -47,7 +47,7 @@ pub fn without_dot(name: &[u8]) -> &[u8]
     }
 }
 
-// Whether the name is the watched one or below it.
+// Reports whether the name is the watched one or below it.
 #[tactic(auto, unfolding(crate::specs::Covers::at_or_below))]
 fn is_at_or_below(name: &[u8], watched: &[u8]) -> bool
     ensures { result ≡ at_or_below name.now watched.now }
@@ -59,7 +59,7 @@ fn is_at_or_below(name: &[u8], watched: &[u8]) -> bool
     is_label_end(front) && back.eq_ignore_ascii_case(watched)
 }
 
-// What stands behind the `*.` that the name begins with.
+// The bytes after the `*.` with which the name begins.
 #[tactic(auto, unfolding(crate::specs::Covers::star_parent))]
 fn parent_of_star(name: &[u8]) -> Option<&[u8]>
     ensures some { IfSome result (λ r. star_parent name.now ≡ Some r.now) }
@@ -77,7 +77,7 @@ fn parent_of_star(name: &[u8]) -> Option<&[u8]>
     }
 }
 
-// Whether the name is a wildcard that stands for the watched name.
+// Reports whether the name is a wildcard that matches the watched name.
 #[tactic(auto, unfolding(crate::specs::Covers::wildcard_over))]
 pub(crate) fn is_wildcard_over(name: &[u8], watched: &[u8]) -> bool
     ensures { result ≡ wildcard_over name.now watched.now }
@@ -91,8 +91,9 @@ pub(crate) fn is_wildcard_over(name: &[u8], watched: &[u8]) -> bool
     }
 }
 
-/// Whether a name of a certificate is the watched one or below it, or is a wildcard that stands for it: `*` is its whole first label, and
-/// stands for one label (RFC 9525, section 6.3). The case of ASCII's letters makes no difference, and one dot at the name's end is left out.
+/// Reports whether a name of a certificate is the watched one or below it, or is a wildcard that matches it. In a wildcard, `*` is the
+/// whole first label, and matches one label (RFC 9525, section 6.3). The case of ASCII letters makes no difference, and one dot at the
+/// name's end is ignored.
 #[tactic(auto, unfolding(crate::specs::Covers::covered))]
 pub fn covers(name: &[u8], watched: &[u8]) -> bool
     ensures { result ≡ covered name.now watched.now }
@@ -101,11 +102,11 @@ pub fn covers(name: &[u8], watched: &[u8]) -> bool
     is_at_or_below(name, watched) || is_wildcard_over(name, watched)
 }
 
-/// The characters of a BMPString (X.690, section 8.23), a byte each: 255 for those that are above 255, which no host name has.
+/// The characters of a BMPString (X.690, section 8.23), one byte each, with 255 for characters above 255, which no host name has.
 ///
 /// # Errors
 ///
-/// Where a growth is refused.
+/// Returns an error if memory runs out.
 pub fn narrowed(alloc: Global, bytes: &[u8]) -> Result<Vec<u8>, AllocError>
     ensures { IfOk result (λ v. v.items ≡ narrow bytes.now) }
 {

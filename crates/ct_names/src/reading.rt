@@ -14,7 +14,7 @@ use ct_der::{DerFault, Element, expected, next_element, only, optional};
 use ct_promise::{Place, Unread};
 use std::alloc::{AllocError, Global};
 
-// The element that the bytes of a field begin with, and the bytes behind it.
+// The element that the bytes of a field begin with, and the bytes after it.
 fn element_in(place: Place, bytes: &[u8]) -> Result<(Element<'_>, &[u8]), Unread>
     ensures gives { Gives (λ x. (x.0.tag, x.0.content.now, x.1.now)) result (placed place (element_at bytes.now)) }
     ensures shorter { IfOk result (λ x. length x.1.now < length bytes.now) }
@@ -25,7 +25,7 @@ fn element_in(place: Place, bytes: &[u8]) -> Result<(Element<'_>, &[u8]), Unread
     }
 }
 
-// The content of the element with this tag that the bytes of a field begin with, and the bytes behind it.
+// The content of the element with this tag that the bytes of a field begin with, and the bytes after it.
 fn expected_in(place: Place, tag: u8, bytes: &[u8]) -> Result<(&[u8], &[u8]), Unread>
     ensures gives { Gives (λ x. (x.0.now, x.1.now)) result (placed place (expected_at tag bytes.now)) }
     ensures shorter { IfOk result (λ x. length x.1.now < length bytes.now) }
@@ -36,7 +36,7 @@ fn expected_in(place: Place, tag: u8, bytes: &[u8]) -> Result<(&[u8], &[u8]), Un
     }
 }
 
-// The content of the element with this tag that the bytes of a field are.
+// The content of the element with this tag that the bytes of a field consist of.
 fn only_in(place: Place, tag: u8, bytes: &[u8]) -> Result<&[u8], Unread>
     ensures { Gives (λ x. x.now) result (placed place (only_at tag bytes.now)) }
 {
@@ -46,7 +46,7 @@ fn only_in(place: Place, tag: u8, bytes: &[u8]) -> Result<&[u8], Unread>
     }
 }
 
-// The content of the element with this tag that the bytes of a field begin with, where they do, and the bytes behind it.
+// The content of the element with this tag, if the bytes of a field begin with one, and the bytes after it.
 fn optional_in(place: Place, tag: u8, bytes: &[u8]) -> Result<(Option<&[u8]>, &[u8]), Unread>
     ensures { Gives (λ x. (option_map (λ c. c.now) x.0, x.1.now)) result (placed place (optional_at tag bytes.now)) }
 {
@@ -56,7 +56,7 @@ fn optional_in(place: Place, tag: u8, bytes: &[u8]) -> Result<(Option<&[u8]>, &[
     }
 }
 
-// Whether these are the bytes of the object identifier of a common name, 2.5.4.3.
+// Reports whether these are the bytes of the object identifier of a common name, 2.5.4.3.
 fn is_common_name(oid: &[u8]) -> bool
     ensures { result ≡ is_common oid.now }
 {
@@ -66,7 +66,7 @@ fn is_common_name(oid: &[u8]) -> bool
     }
 }
 
-// Whether these are the bytes of the object identifier of subjectAltName, 2.5.29.17.
+// Reports whether these are the bytes of the object identifier of subjectAltName, 2.5.29.17.
 fn is_alt_names(oid: &[u8]) -> bool
     ensures { result ≡ is_alt oid.now }
 {
@@ -76,21 +76,21 @@ fn is_alt_names(oid: &[u8]) -> bool
     }
 }
 
-// Whether this is the tag of the constructed form of a name, which DER hasn't (X.690, section 10.2).
+// Reports whether this is the tag of the constructed form of a name, which DER does not have (X.690, section 10.2).
 fn is_constructed_name(tag: u8) -> bool
     ensures { result ≡ is_bad_alt tag }
 {
     tag == 161 || tag == 162 || tag == 166 || tag == 167
 }
 
-// Whether the attribute is a common name, and the tag is none of ASN.1's own strings in the primitive form.
+// Reports whether the attribute is a common name and the tag is not one of ASN.1's own strings in the primitive form.
 fn is_other_string(oid: &[u8], tag: u8) -> bool
     ensures { result ≡ is_bad_common oid.now tag }
 {
     is_common_name(oid) && tag > 31
 }
 
-// Adds the name that a general name with this tag is, where it is one of the four (RFC 5280, section 4.2.1.6).
+// Adds the name in a general name with this tag, if the tag is one of the four (RFC 5280, section 4.2.1.6).
 fn push_kind<'a>(names: &mut Vec<Name<'a>>, tag: u8, content: &'a [u8]) -> Result<(), AllocError>
     ensures { OnOk result (named_all names.new.items ≡ named_all names.old.items ++ alt_of tag content.now) }
 {
@@ -118,7 +118,7 @@ fn push_kind<'a>(names: &mut Vec<Name<'a>>, tag: u8, content: &'a [u8]) -> Resul
     Ok(())
 }
 
-// Adds the common name that an attribute is, where it is one (RFC 5280, section 4.1.2.6).
+// Adds the common name in an attribute, if it has one (RFC 5280, section 4.1.2.6).
 fn push_common<'a>(
     names: &mut Vec<Name<'a>>,
     oid: &[u8],
@@ -148,7 +148,7 @@ fn push_common<'a>(
     Ok(())
 }
 
-// Adds the name of the general name that the bytes begin with, and answers what follows (RFC 5280, section 4.2.1.6).
+// Adds the name of the general name that the bytes begin with, and returns the bytes after it (RFC 5280, section 4.2.1.6).
 #[tactic(auto, unfolding(crate::specs::Reading::alt_at))]
 fn push_alt<'a>(names: &mut Vec<Name<'a>>, bytes: &'a [u8]) -> Result<&'a [u8], NamesFault>
     ensures adds { Adds (λ r. r.now) (named_all names.old.items) (named_all names.new.items) result (alt_at bytes.now) }
@@ -165,7 +165,7 @@ fn push_alt<'a>(names: &mut Vec<Name<'a>>, bytes: &'a [u8]) -> Result<&'a [u8], 
     Ok(rest)
 }
 
-// Adds the names of the general names that the bytes are.
+// Adds the names of the general names that the bytes consist of.
 fn push_alts<'a>(names: &mut Vec<Name<'a>>, bytes: &'a [u8]) -> Result<(), NamesFault>
     ensures { AddsAll (named_all names.old.items) (named_all names.new.items) result (all_of alt_at bytes.now) }
 {
@@ -176,7 +176,7 @@ fn push_alts<'a>(names: &mut Vec<Name<'a>>, bytes: &'a [u8]) -> Result<(), Names
     Ok(())
 }
 
-// Adds the common name of the attribute that the bytes begin with, and answers what follows (RFC 5280, section 4.1.2.4).
+// Adds the common name of the attribute that the bytes begin with, and returns the bytes after it (RFC 5280, section 4.1.2.4).
 #[tactic(auto, unfolding(crate::specs::Reading::attribute_at))]
 fn push_attribute<'a>(names: &mut Vec<Name<'a>>, bytes: &'a [u8]) -> Result<&'a [u8], NamesFault>
     ensures adds { Adds (λ r. r.now) (named_all names.old.items) (named_all names.new.items) result (attribute_at bytes.now) }
@@ -201,7 +201,7 @@ fn push_attribute<'a>(names: &mut Vec<Name<'a>>, bytes: &'a [u8]) -> Result<&'a 
     Ok(rest)
 }
 
-// Adds the common names of the attributes that the bytes are.
+// Adds the common names of the attributes that the bytes consist of.
 fn push_attributes<'a>(names: &mut Vec<Name<'a>>, bytes: &'a [u8]) -> Result<(), NamesFault>
     ensures { AddsAll (named_all names.old.items) (named_all names.new.items) result (all_of attribute_at bytes.now) }
 {
@@ -212,7 +212,8 @@ fn push_attributes<'a>(names: &mut Vec<Name<'a>>, bytes: &'a [u8]) -> Result<(),
     Ok(())
 }
 
-// Adds the common names of the relative distinguished name that the bytes begin with, and answers what follows (RFC 5280, section 4.1.2.4).
+// Adds the common names of the relative distinguished name that the bytes begin with, and returns the bytes after it (RFC 5280, section
+// 4.1.2.4).
 #[tactic(auto, unfolding(crate::specs::Reading::rdn_at))]
 fn push_rdn<'a>(names: &mut Vec<Name<'a>>, bytes: &'a [u8]) -> Result<&'a [u8], NamesFault>
     ensures adds { Adds (λ r. r.now) (named_all names.old.items) (named_all names.new.items) result (rdn_at bytes.now) }
@@ -223,7 +224,7 @@ fn push_rdn<'a>(names: &mut Vec<Name<'a>>, bytes: &'a [u8]) -> Result<&'a [u8], 
     Ok(rest)
 }
 
-// Adds the common names of the relative distinguished names that the bytes are.
+// Adds the common names of the relative distinguished names that the bytes consist of.
 fn push_rdns<'a>(names: &mut Vec<Name<'a>>, bytes: &'a [u8]) -> Result<(), NamesFault>
     ensures { AddsAll (named_all names.old.items) (named_all names.new.items) result (all_of rdn_at bytes.now) }
 {
@@ -234,7 +235,7 @@ fn push_rdns<'a>(names: &mut Vec<Name<'a>>, bytes: &'a [u8]) -> Result<(), Names
     Ok(())
 }
 
-// Adds the names of the extension that the bytes begin with, and answers what follows (RFC 5280, section 4.2).
+// Adds the names of the extension that the bytes begin with, and returns the bytes after it (RFC 5280, section 4.2).
 #[tactic(auto, unfolding(crate::specs::Reading::extension_at))]
 fn push_extension<'a>(names: &mut Vec<Name<'a>>, bytes: &'a [u8]) -> Result<&'a [u8], NamesFault>
     ensures adds { Adds (λ r. r.now) (named_all names.old.items) (named_all names.new.items) result (extension_at bytes.now) }
@@ -251,7 +252,7 @@ fn push_extension<'a>(names: &mut Vec<Name<'a>>, bytes: &'a [u8]) -> Result<&'a 
     Ok(rest)
 }
 
-// Adds the names of the extensions that the bytes are.
+// Adds the names of the extensions that the bytes consist of.
 fn push_extensions<'a>(names: &mut Vec<Name<'a>>, bytes: &'a [u8]) -> Result<(), NamesFault>
     ensures { AddsAll (named_all names.old.items) (named_all names.new.items) result (all_of extension_at bytes.now) }
 {
@@ -262,7 +263,7 @@ fn push_extensions<'a>(names: &mut Vec<Name<'a>>, bytes: &'a [u8]) -> Result<(),
     Ok(())
 }
 
-// The content of the list of extensions, or no bytes where there is none.
+// The content of the list of extensions, or no bytes if there is no list.
 #[tactic(auto, unfolding(crate::specs::Reading::extensions_at))]
 fn extensions_of(bytes: &[u8]) -> Result<&[u8], Unread>
     ensures { Gives (λ x. x.now) result (extensions_at bytes.now) }
@@ -276,7 +277,7 @@ fn extensions_of(bytes: &[u8]) -> Result<&[u8], Unread>
     }
 }
 
-// What follows the validity of a TBSCertificate.
+// The bytes of a TBSCertificate after its validity.
 #[tactic(auto, unfolding(crate::specs::Reading::front_at))]
 fn behind_validity(tbs: &[u8]) -> Result<&[u8], Unread>
     ensures { Gives (λ x. x.now) result (front_at tbs.now) }
@@ -289,7 +290,7 @@ fn behind_validity(tbs: &[u8]) -> Result<&[u8], Unread>
     Ok(rest)
 }
 
-// What follows the key of a TBSCertificate, up to the extensions: their list.
+// The list of extensions of a TBSCertificate, read from the key on.
 #[tactic(auto, unfolding(crate::specs::Reading::behind_at))]
 fn behind_subject(bytes: &[u8]) -> Result<&[u8], Unread>
     ensures { Gives (λ x. x.now) result (behind_at bytes.now) }
@@ -335,7 +336,7 @@ fn names_in(alloc: Global, tbs: &[u8]) -> Result<Vec<Name<'_>>, NamesFault>
     Ok(names)
 }
 
-// The names of a certificate, in the words of reading.
+// The names of a certificate, in terms of reading.
 #[tactic(auto, unfolding(crate::specs::Reading::certificate_names))]
 fn read_certificate(alloc: Global, bytes: &[u8]) -> Result<Vec<Name<'_>>, NamesFault>
     ensures { GivesNames (λ v. named_all v.items) result (certificate_names bytes.now) }
@@ -344,24 +345,24 @@ fn read_certificate(alloc: Global, bytes: &[u8]) -> Result<Vec<Name<'_>>, NamesF
     names_in(alloc, tbs)
 }
 
-/// The names in a certificate (RFC 5280, section 4.1): the common names of its subject, and behind them the names of its subjectAltName, in
+/// The names in a certificate (RFC 5280, section 4.1): the common names of its subject, followed by the names of its subjectAltName, in
 /// order.
 ///
 /// # Errors
 ///
-/// `At` where the bytes are no certificate of the grammar: the first fault that reading meets. `Memory` where a growth is refused.
+/// `At`, the first fault that reading finds, if the bytes are not a certificate in the grammar. `Memory` if memory runs out.
 pub fn names_of_certificate(alloc: Global, bytes: &[u8]) -> Result<Vec<Name<'_>>, NamesFault>
-    // What is read is a certificate of the grammar, with these names.
+    // Names are returned only if the bytes are a certificate in the grammar with these names.
     ensures found { IfOk result (λ v. NamesOf (named_all v.items) bytes.now) }
-    // The names of each certificate of the grammar are read, unless memory is refused.
+    // The names of each certificate in the grammar are read, unless memory is refused.
     ensures every { (ns : List Named) → NamesOf ns bytes.now → GivesNames (λ v. named_all v.items) result (Ok ns) }
-    // Which fault it is.
+    // The fault is exactly that of reading.
     ensures exact { GivesNames (λ v. named_all v.items) result (certificate_names bytes.now) }
 {
     read_certificate(alloc, bytes)
 }
 
-// The names of a TBSCertificate, in the words of reading.
+// The names of a TBSCertificate, in terms of reading.
 #[tactic(auto, unfolding(crate::specs::Reading::bare_names))]
 fn read_tbs(alloc: Global, bytes: &[u8]) -> Result<Vec<Name<'_>>, NamesFault>
     ensures { GivesNames (λ v. named_all v.items) result (bare_names bytes.now) }
@@ -370,18 +371,18 @@ fn read_tbs(alloc: Global, bytes: &[u8]) -> Result<Vec<Name<'_>>, NamesFault>
     names_in(alloc, tbs)
 }
 
-/// The names in a TBSCertificate (RFC 5280, section 4.1.2), which the entry of a precertificate has (RFC 6962, section 3.2), as those of a
-/// certificate.
+/// The names in a TBSCertificate (RFC 5280, section 4.1.2), as the entry of a precertificate has it (RFC 6962, section 3.2), read like
+/// those of a certificate.
 ///
 /// # Errors
 ///
-/// `At` where the bytes are no TBSCertificate of the grammar: the first fault that reading meets. `Memory` where a growth is refused.
+/// `At`, the first fault that reading finds, if the bytes are not a TBSCertificate in the grammar. `Memory` if memory runs out.
 pub fn names_of_tbs(alloc: Global, bytes: &[u8]) -> Result<Vec<Name<'_>>, NamesFault>
-    // What is read is a TBSCertificate of the grammar, with these names.
+    // Names are returned only if the bytes are a TBSCertificate in the grammar with these names.
     ensures found { IfOk result (λ v. BareNamesOf (named_all v.items) bytes.now) }
-    // The names of each TBSCertificate of the grammar are read, unless memory is refused.
+    // The names of each TBSCertificate in the grammar are read, unless memory is refused.
     ensures every { (ns : List Named) → BareNamesOf ns bytes.now → GivesNames (λ v. named_all v.items) result (Ok ns) }
-    // Which fault it is.
+    // The fault is exactly that of reading.
     ensures exact { GivesNames (λ v. named_all v.items) result (bare_names bytes.now) }
 {
     read_tbs(alloc, bytes)

@@ -1,4 +1,4 @@
-//! Which watched names a certificate is told for.
+//! The watched names that a certificate matches.
 
 ghost use Rattle.std.specs.Prelude.{◌≡◌, IfOk};
 ghost use Rattle.std.specs.Option.{option_map};
@@ -11,7 +11,7 @@ use crate::matching::{covers, is_wildcard_over, narrowed, without_dot};
 use crate::name::{Name, NameKind};
 use std::alloc::{AllocError, Global};
 
-/// Which of a certificate's names a watched one is found in.
+/// The kind of a certificate's names in which a watched one is found.
 #[derive(Clone, Copy, Debug, PartialEq, Eq)]
 pub enum FoundIn {
     /// A name of subjectAltName.
@@ -20,7 +20,7 @@ pub enum FoundIn {
     CommonName,
 }
 
-// Whether a name is the watched one, or a wildcard that stands for it.
+// Reports whether a name is the watched one, or a wildcard that matches it.
 #[tactic(auto, unfolding(crate::specs::Watched::held))]
 fn holds_for(name: &[u8], watched: &[u8]) -> bool
     ensures { result ≡ held name.now watched.now }
@@ -29,9 +29,10 @@ fn holds_for(name: &[u8], watched: &[u8]) -> bool
     name.eq_ignore_ascii_case(watched) || is_wildcard_over(name, watched)
 }
 
-/// Whether a host's name of a certificate is told for a watched one (RFC 9525, section 6.3). A watched name that begins with a dot is watched
-/// with what is below it: what [`covers`] says of the name behind the dot. Any other is watched alone: the name is that very name, or a
-/// wildcard that stands for it. The case of ASCII's letters makes no difference, and one dot at the end of the certificate's name is left out.
+/// Reports whether a host name of a certificate matches a watched one (RFC 9525, section 6.3). If the watched name begins with a dot, all
+/// names below it are watched too: the name must cover the part after the dot, as [`covers`] defines it. Any other watched name is watched
+/// by itself: the name must be the same name, or a wildcard that matches it. The case of ASCII letters makes no difference, and one dot at
+/// the end of the certificate's name is ignored.
 #[tactic(auto, unfolding(crate::specs::Watched::told_for))]
 pub fn is_told_for(name: &[u8], watched: &[u8]) -> bool
     ensures { result ≡ told_for name.now watched.now }
@@ -47,7 +48,7 @@ pub fn is_told_for(name: &[u8], watched: &[u8]) -> bool
     }
 }
 
-// The characters of a UniversalString (X.690, section 8.23), a byte each: 255 for those that are above 255.
+// The characters of a UniversalString (X.690, section 8.23), one byte each, with 255 for characters above 255.
 pub(crate) fn narrowed_wide(alloc: Global, bytes: &[u8]) -> Result<Vec<u8>, AllocError>
     ensures { IfOk result (λ v. v.items ≡ narrow_wide bytes.now) }
 {
@@ -64,7 +65,7 @@ pub(crate) fn narrowed_wide(alloc: Global, bytes: &[u8]) -> Result<Vec<u8>, Allo
     Ok(out)
 }
 
-// Whether there is a host, and it is told for a watched name.
+// Reports whether there is a host, and it matches a watched name.
 fn is_host_told(host: Option<&[u8]>, watched: &[u8]) -> bool
     ensures { result ≡ host_told (option_map (λ h. h.now) host.entry) watched.now }
 {
@@ -74,7 +75,7 @@ fn is_host_told(host: Option<&[u8]>, watched: &[u8]) -> bool
     }
 }
 
-// Whether a name is told for a watched one.
+// Reports whether a name matches a watched one.
 #[tactic(auto, unfolding(crate::specs::Watched::kind_told))]
 fn is_kind_told(
     alloc: Global,
@@ -100,7 +101,7 @@ fn is_kind_told(
     }
 }
 
-// Whether a kind is one of subjectAltName.
+// Reports whether a kind is one of subjectAltName's.
 fn is_of_alt_names(kind: NameKind) -> bool
     ensures { result ≡ is_alt_kind kind }
 {
@@ -110,7 +111,7 @@ fn is_of_alt_names(kind: NameKind) -> bool
     }
 }
 
-// Whether a kind is one of subjectAltName, where that is asked, or else one of a common name.
+// Reports whether a kind is one of subjectAltName's, if `alt` is true, and otherwise whether it is a kind of common name.
 fn is_sought(alt: bool, kind: NameKind) -> bool
     ensures { result ≡ is_sought alt kind }
 {
@@ -121,7 +122,8 @@ fn is_sought(alt: bool, kind: NameKind) -> bool
     }
 }
 
-// Whether some name is told for the watched one: of those of subjectAltName, or of the common names.
+// Reports whether some name matches the watched one: among the names of subjectAltName if `alt` is true, and otherwise among the common
+// names.
 #[tactic(auto, unfolding(crate::specs::Watched::some_told))]
 fn is_some_told(
     alloc: Global,
@@ -144,7 +146,7 @@ fn is_some_told(
     Ok(false)
 }
 
-// In which of a certificate's names a watched one is found.
+// The kind of a certificate's names in which a watched one is found.
 #[tactic(auto, unfolding(crate::specs::Watched::found_in))]
 fn found_among(
     alloc: Global,
@@ -163,13 +165,14 @@ fn found_among(
     }
 }
 
-/// In which of a certificate's names a watched one is found: in one of subjectAltName, else in a common name, in whatever string that is, or in
-/// none. As [`is_told_for`] says, a dNSName and a common name by their characters, a mail address by what stands behind its last `@` and a URI by
-/// its host (RFC 3986, section 3.2.2). An address of 4 or 16 octets by its text (RFC 5952). One dot at the watched name's end is left out.
+/// Returns the kind of a certificate's names in which a watched one is found: a name of subjectAltName; otherwise a common name, whatever
+/// string type it has; or none. Names match as [`is_told_for`] defines it: a dNSName and a common name by their characters, a mail address
+/// by the part after its last `@`, and a URI by its host (RFC 3986, section 3.2.2). An IP address of 4 or 16 octets matches by its text
+/// (RFC 5952). One dot at the watched name's end is ignored.
 ///
 /// # Errors
 ///
-/// Where a growth is refused.
+/// Returns an error if memory runs out.
 pub fn find_watched(
     alloc: Global,
     names: &[Name<'_>],

@@ -1,4 +1,5 @@
--- Two paths from one index to one root: the leaf hashes are one, or two of the strings that were hashed collide. S says of which strings that is.
+-- Two paths from the same index to the same root: the leaf hashes are equal, or two of the hashed strings collide. S is a property that
+-- these strings have.
 use Rattle.std.proofs.Common.{◌≡◌, ℕ, ◌-◌, ◌<◌, ◌≤◌, refl, subst, sym, ◌∙◌, ap, arith, ◌⊎◌, inl, inr, ⊎_elim, true, false, List, [], ◌∷◌, ◌++◌, length, reverse, Some}
 use Rattle.std.specs.Prelude.{All}
 use Rattle.std.specs.Str.{bytes_eq}
@@ -19,7 +20,7 @@ all_reverse P (x ∷ xs) a =
     rw (reverse_first x xs)
     (All-append P (reverse xs) (x ∷ []) (all_reverse P xs (All-tail P x xs a)) (All-cons P x [] (All-head P x xs a) (All-nil P)))
 
--- a collision among some strings is one among more strings
+-- a collision among some strings is also a collision among more strings
 pub collide_more : (H : List ℕ → List ℕ) (S T : List ℕ → Type 0) → ((x : List ℕ) → S x → T x) → CollideAmong H S → CollideAmong H T
 collide_more H S T f c = (c.0, c.1, f c.0 c.2, f c.1 c.3, c.4)
 
@@ -31,7 +32,7 @@ same_or_not x y =
     (cases_Bool (bytes_eq x y))
 
 module _ (H : List ℕ → List ℕ) (S : List ℕ → Type 0) where
-  -- two strings with one hash
+  -- two strings with the same hash
   pub one_hash : (x y : List ℕ) → S x → S y → H x ≡ H y → (x ≡ y) ⊎ CollideAmong H S
   one_hash x y sx sy e =
       ⊎_elim
@@ -39,7 +40,7 @@ module _ (H : List ℕ → List ℕ) (S : List ℕ → Type 0) where
       (λ (other : ¬ (x ≡ y)). inr (x, y, sx, sy, (other, e)))
       (same_or_not x y)
 
-  -- two nodes with one hash, whose left or right parts are equally long
+  -- two nodes with the same hash, whose left or right parts are equally long
   pub left_nodes : (s y A B : List ℕ) → length s ≡ length A → S (1 ∷ s ++ y) → S (1 ∷ A ++ B) → hash_node H s y ≡ hash_node H A B → ((s ≡ A) × (y ≡ B)) ⊎ CollideAmong H S
   left_nodes s y A B l sx sy e =
       ⊎_elim

@@ -1,5 +1,5 @@
--- A path in an older tree and a consistency proof to a newer one give a path in the newer one, which hashes no other strings; or two of the strings that were
--- hashed collide. S says of which strings that is.
+-- A path in an older tree and a consistency proof to a newer one yield a path in the newer one, which hashes no other strings; or two of
+-- the hashed strings collide. S is a property that these strings have.
 use Rattle.std.proofs.Common.{◌≡◌, ℕ, ◌-◌, ◌<◌, ◌≤◌, refl, subst, sym, ◌∙◌, ap, arith, ◌⊎◌, inl, inr, ⊎_elim, cond, Bool, true, false, List, [], ◌∷◌, ◌++◌, length, Some, None}
 use Rattle.std.specs.Prelude.{All}
 use Rattle.std.specs.Option.{option_map}
@@ -23,7 +23,7 @@ abbrev Is32 : List ℕ → Type 0
 Is32 x = length x ≡ 32
 
 module _ (H : List ℕ → List ℕ) where
-  -- where both trees are one, both roots are the one that is known or given
+  -- if both trees are the same, both roots are the root that is known or given
   pub whole_end : (n : ℕ) (b : Bool) (r x y : List ℕ) → both_down H n n b r [] ≡ Some (x, y) → (x ≡ r) × (y ≡ r) × (b ≡ true)
   whole_end n true r x y e =
       let z = one_pair H r x y [] (sym (both-end_whole H n n true r (omega arith)) ∙ e) in
@@ -63,14 +63,14 @@ module _ (H : List ℕ → List ℕ) (hash_length : (x : List ℕ) → length (H
       (cases_lt m n)
 
 module _ (H : List ℕ → List ℕ) (hash_length : (x : List ℕ) → length (H x) ≡ 32) (S : List ℕ → Type 0) where
-  -- a path, read from the root down, from the leaf hash h at index i of n leaves to the root y, whose strings S has
+  -- a path, read from the root down, from the leaf hash h at index i of n leaves to the root y; S has its strings
   abbrev pub Leads : ℕ → ℕ → List ℕ → List ℕ → Type 0
   Leads i n h y = (q : List (List ℕ)) × AreHashes q × All S (path_strings_down H i n h q) × (rebuild_down H i n h q ≡ Some y)
 
   abbrev Extends : ℕ → ℕ → List ℕ → List ℕ → Type 0
   Extends i n h y = Leads i n h y ⊎ CollideAmong H S
 
-  -- one step up, where the path is in the left part and in the right part
+  -- one step up, if the path is in the left part or in the right part
   up_left : (i n : ℕ) (h y s : List ℕ) → 1 < n → i < split n → Is32 s → S (1 ∷ y ++ s) → Leads i (split n) h y → Leads i n h (hash_node H y s)
   up_left i n h y s more low l sy w =
       let below = ap (option_map (λ r. hash_node H r s)) w.3 in (
@@ -89,7 +89,7 @@ module _ (H : List ℕ → List ℕ) (hash_length : (x : List ℕ) → length (H
         rebuild_right H i n (split n) h s w.0 more refl high ∙ below,
       )
 
-  -- what is shown of a proof p, by recursion on it
+  -- the statement about a proof p, shown by recursion on it
   abbrev Extending : List (List ℕ) → Type 0
   Extending p =
       (q : List (List ℕ)) (m n i : ℕ) (b : Bool) (r x y h : List ℕ) → AreHashes p → AreHashes q → (b ≡ true → Is32 r) → Is32 h → i < m → m ≤ n

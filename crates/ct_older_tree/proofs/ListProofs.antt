@@ -1,4 +1,5 @@
--- Lists of leaves beside accepted proofs: they are as the proofs say, or two of the strings that were hashed collide. S says of which strings that is.
+-- Lists of leaves with accepted proofs: the proofs are true of them, or two of the hashed strings collide. S is a property that these
+-- strings have.
 use Rattle.std.proofs.Common.{refl, subst, ◌⊎◌, inl, inr, ⊎_elim, ◌≡◌, ℕ, ◌+◌, ◌-◌, ◌<◌, ◌≤◌, sym, ◌∙◌, ap, arith, true, List, [], ◌∷◌, ◌++◌, length, take, drop, map, get_or, reverse}
 use Rattle.std.proofs.Common.{Some, length-drop}
 use Rattle.std.specs.Prelude.{All, Contains}

@@ -1,5 +1,5 @@
--- An accepted consistency proof whose second root is that of a list: the first root is that of a beginning of it, or two of the strings that were hashed
--- collide. Nothing is asked of the first root. S says of which strings that is.
+-- An accepted consistency proof whose second root is that of a list: the first root is that of a prefix of the list, or two of the hashed
+-- strings collide. Nothing is required of the first root. S is a property that these strings have.
 use Rattle.std.proofs.Common.{refl, subst, ◌⊎◌, inl, inr, ⊎_elim, ◌≡◌, ℕ, ◌-◌, ◌<◌, ◌≤◌, sym, ◌∙◌, ap, arith, Bool, true, false, List, [], ◌∷◌, ◌++◌, length, take, drop, map, reverse}
 use Rattle.std.proofs.Common.{Some, length-drop}
 use Rattle.std.specs.Prelude.{All, Contains}
@@ -41,7 +41,7 @@ module _ (H : List ℕ → List ℕ) (hash_length : (x : List ℕ) → length (H
   abbrev pub HasTree : List (List ℕ) → Type 0
   HasTree D = (s : List ℕ) → IsHashedIn H D s → S s
 
-  -- S has the strings of the trees of all beginnings
+  -- S has the strings of the trees of all prefixes
   abbrev pub HasLog : List (List ℕ) → Type 0
   HasLog D = (n : ℕ) → n ≤ length D → (s : List ℕ) → IsHashedIn H (take n D) s → S s
 

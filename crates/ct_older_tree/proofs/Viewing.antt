@@ -1,4 +1,4 @@
--- What clients can be shown at one index: one leaf, or two of the strings that were hashed collide.
+-- The leaves that clients can be shown: at each index there is only one leaf, or two of the hashed strings collide.
 use Rattle.std.proofs.Common.{◌≡◌, ℕ, ◌+◌, ◌-◌, ◌*◌, ◌<◌, ◌≤◌, refl, subst, sym, ◌∙◌, ap, arith, ◌⊎◌, inl, inr, ⊎_elim, Bool, true, List, [], ◌∷◌, ◌++◌, length, reverse, Some}
 use Rattle.std.specs.Prelude.{All, Contains, flat_map}
 use Rattle.std.proofs.Math.Seq.{take-append_seam, drop-append_seam}
@@ -34,7 +34,7 @@ module _ (H : List ℕ → List ℕ) (hash_length : (x : List ℕ) → length (H
   unfolding rebuild path_strings
   leads x i n root p a s = (reverse p, all_reverse (λ v. length v ≡ 32) p a.0, All-tail S (0 ∷ x) (path_strings H i n (hash_leaf H x) p) s, a.1.1)
 
-  -- two leaves with one hash
+  -- two leaves with the same hash
   pub leaves : (x y : List ℕ) → S (0 ∷ x) → S (0 ∷ y) → hash_leaf H x ≡ hash_leaf H y → (x ≡ y) ⊎ CollideAmong H S
   leaves x y sx sy e =
       ⊎_elim
@@ -42,7 +42,7 @@ module _ (H : List ℕ → List ℕ) (hash_length : (x : List ℕ) → length (H
       (λ (pair : CollideAmong H S). inr pair)
       (one_hash H S (0 ∷ x) (0 ∷ y) sx sy e)
 
-  -- two paths to one root
+  -- two paths to the same root
   pub meet : (x y : List ℕ) (i n : ℕ) (root : List ℕ) → S (0 ∷ x) → S (0 ∷ y) → Leads H hash_length S i n (hash_leaf H x) root
       → Leads H hash_length S i n (hash_leaf H y) root → (x ≡ y) ⊎ CollideAmong H S
   meet x y i n root sx sy a b =
@@ -51,7 +51,7 @@ module _ (H : List ℕ → List ℕ) (hash_length : (x : List ℕ) → length (H
       (λ (pair : CollideAmong H S). inr pair)
       (agree H hash_length S a.0 b.0 i n (hash_leaf H x) (hash_leaf H y) root (hash_length (0 ∷ x)) (hash_length (0 ∷ y)) a.2 b.2 a.3 b.3)
 
-  -- a path goes on along a consistency proof
+  -- a path is continued along a consistency proof
   pub further : (m n i : ℕ) (a b : List ℕ) (x : List ℕ) (proof : List (List ℕ)) → AreHashes proof → length a ≡ 32 → AcceptsConsistency H m n a b proof → i < m
       → All S (proof_strings H m n true a proof) → Leads H hash_length S i m (hash_leaf H x) a → Leads H hash_length S i n (hash_leaf H x) b ⊎ CollideAmong H S
   unfolding both_roots proof_strings

@@ -1,32 +1,33 @@
--- The strings that are hashed when a path or a proof is checked, and a collision among strings. H is any function from byte lists to byte lists, k the
--- largest power of two smaller than n, s the last element of a path or proof, and q the elements before it.
+-- The strings that are hashed when a path or a proof is checked, and a collision among strings. H is any function from byte lists to byte
+-- lists, k the largest power of two smaller than n, s the last element of a path or proof, and q the elements before it.
 use Rattle.std.specs.Prelude.{◌≡◌, ℕ, ◌-◌, ◌<◌, ◌≤◌, Bool, false, nat_lt, if◌then◌else◌, List, [], ◌∷◌, ◌++◌, length, take, drop, reverse, Option, Some, None}
 use Rattle.ct_tree.specs.Tree.{split}
 use Rattle.ct_verify.specs.Clash.{root_string}
 use Rattle.ct_verify.specs.Evidence.{Collides}
 use Rattle.ct_verify.specs.Rebuild.{rebuild_down, both_down}
 
--- two strings that S has differ and have one hash
+-- two strings that S has differ and have the same hash
 abbrev pub CollideAmong : (List ℕ → List ℕ) → (List ℕ → Type 0) → Type 0
 CollideAmong H S = (a b : List ℕ) × S a × S b × Collides H a b
 
--- the strings that are hashed when the root of the leaves D is computed (RFC 6962, section 2.1): 00 || leaf, and 01 || left || right of each node
+-- the strings that are hashed when the root of the leaves D is computed (RFC 6962, section 2.1): 00 || leaf, and 01 || left || right of
+-- each node
 pub data IsHashedIn (H : List ℕ → List ℕ) : List (List ℕ) → List ℕ → Type 0 where
   leaf : (d : List ℕ) → IsHashedIn H (d ∷ []) (0 ∷ d)
   node : (D : List (List ℕ)) (k : ℕ) → 1 < length D → k ≡ split (length D) → IsHashedIn H D (root_string H k D)
   left : (D : List (List ℕ)) (k : ℕ) (s : List ℕ) → 1 < length D → k ≡ split (length D) → IsHashedIn H (take k D) s → IsHashedIn H D s
   right : (D : List (List ℕ)) (k : ℕ) (s : List ℕ) → 1 < length D → k ≡ split (length D) → IsHashedIn H (drop k D) s → IsHashedIn H D s
 
--- the strings that are hashed when the root of some beginning of the leaves D is computed, as a log does while it grows
+-- the strings that are hashed when the root of some prefix of the leaves D is computed, as a log does while it grows
 abbrev pub IsHashedInLog : (List ℕ → List ℕ) → List (List ℕ) → List ℕ → Type 0
 IsHashedInLog H D s = (n : ℕ) × (n ≤ length D) × IsHashedIn H (take n D) s
 
--- the string of a node over this hash, if there is one, and other strings after it
+-- the string of a node over this hash, if there is a hash, and other strings after it
 abbrev pub with_string : Option (List ℕ) → (List ℕ → List ℕ) → List (List ℕ) → List (List ℕ)
 with_string None string others = others
 with_string (Some r) string others = string r ∷ others
 
--- the strings of nodes over these two hashes, if they are there, and other strings after them
+-- the strings of nodes over these two hashes, if there are hashes, and other strings after them
 abbrev pub with_strings : Option (List ℕ × List ℕ) → (List ℕ → List ℕ → List (List ℕ)) → List (List ℕ) → List (List ℕ)
 with_strings None strings others = others
 with_strings (Some (x, y)) strings others = strings x y ++ others

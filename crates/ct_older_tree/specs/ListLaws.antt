@@ -1,4 +1,5 @@
--- What accepted proofs say of lists of leaves, or else which strings collide. H is any hash function on byte lists with hashes of 32 bytes.
+-- The meaning of accepted proofs for lists of leaves, or otherwise the strings that collide. H is any hash function on byte lists with
+-- hashes of 32 bytes.
 use Rattle.std.specs.Prelude.{◌≡◌, ◌⊎◌, ℕ, true, List, ◌∷◌, length, Contains}
 use Rattle.ct_tree.specs.Tree.{hash_leaf, mth_of_leaves}
 use Rattle.ct_verify.specs.ConsistencyEvidence.{IsAcceptedFor, IsBeginning}
@@ -7,30 +8,31 @@ use Rattle.ct_verify.specs.InclusionEvidence.{IsAccepted}
 use Rattle.ct_verify.specs.Laws.{AreHashes}
 use Rattle.ct_older_tree.specs.Hashed.{CollideAmong, IsHashedIn, IsHashedInLog, path_strings, proof_strings}
 
--- Two lists of one length with one root are one list; or two strings that are hashed in their trees collide.
+-- Two lists of equal length with the same root are the same list; or two strings that are hashed in their trees collide.
 abbrev pub OneRootIsOfOneList : Type 0
 OneRootIsOfOneList =
     (H : List ℕ → List ℕ) → ((x : List ℕ) → length (H x) ≡ 32) → (E D : List (List ℕ)) → length E ≡ length D
     → mth_of_leaves H E ≡ mth_of_leaves H D → (E ≡ D) ⊎ CollideAmong H (λ s. IsHashedIn H E s ⊎ IsHashedIn H D s)
 
--- The strings that are hashed where a client checks the audit path p of a leaf, and those in the tree of the leaves D.
+-- The strings that are hashed when a client checks the audit path p of a leaf, and those in the tree of the leaves D.
 abbrev pub IsHashedInAudit : (List ℕ → List ℕ) → List (List ℕ) → List ℕ → ℕ → List (List ℕ) → List ℕ → Type 0
 IsHashedInAudit H D leaf m p s =
     Contains ((0 ∷ leaf) ∷ path_strings H m (length D) (hash_leaf H leaf) p) s ⊎ IsHashedIn H D s
 
--- An audit path p that is accepted to the root of the list D shows that the leaf is the element of D at index m, and is its PATH; or
--- two strings that are hashed collide.
+-- If an audit path p is accepted to the root of the list D, the leaf is the element of D at index m, and p is its PATH; or two strings that
+-- are hashed collide.
 abbrev pub AcceptedPathIsPath : Type 0
 AcceptedPathIsPath =
     (H : List ℕ → List ℕ) → ((x : List ℕ) → length (H x) ≡ 32) → (D : List (List ℕ)) (leaf : List ℕ) (m : ℕ) (p : List (List ℕ))
     → IsAccepted H D leaf m p → IsAudited H D leaf m p ⊎ CollideAmong H (IsHashedInAudit H D leaf m p)
 
--- The strings that are hashed where the consistency proof p between the lists E and D is checked, and those in the trees of E and of the beginnings of D.
+-- The strings that are hashed when the consistency proof p between the lists E and D is checked, and those in the trees of E and of the
+-- prefixes of D.
 abbrev pub IsHashedBetween : (List ℕ → List ℕ) → List (List ℕ) → List (List ℕ) → List (List ℕ) → List ℕ → Type 0
 IsHashedBetween H E D p s =
     Contains (proof_strings H (length E) (length D) true (mth_of_leaves H E) p) s ⊎ (IsHashedIn H E s ⊎ IsHashedInLog H D s)
 
--- A consistency proof p (elements of 32 bytes) that is accepted between the roots of two lists shows that the old list E begins the new list D; or two
+-- If a consistency proof p (elements of 32 bytes) is accepted between the roots of two lists, the old list E begins the new list D; or two
 -- strings that are hashed collide.
 abbrev pub AcceptedProofIsOfBeginning : Type 0
 AcceptedProofIsOfBeginning =

@@ -1,12 +1,12 @@
--- What an accepted consistency proof says of the older tree. H is any hash function on byte lists with hashes of 32 bytes.
+-- The meaning of an accepted consistency proof for the older tree. H is any hash function on byte lists with hashes of 32 bytes.
 use Rattle.std.specs.Prelude.{◌≡◌, ◌⊎◌, ℕ, true, List, length, take, Contains}
 use Rattle.ct_tree.specs.Tree.{mth_of_leaves}
 use Rattle.ct_verify.specs.Laws.{AreHashes}
 use Rattle.ct_verify.specs.Verdict.{AcceptsConsistency}
 use Rattle.ct_older_tree.specs.Hashed.{CollideAmong, IsHashedIn, proof_strings}
 
--- where a consistency proof p of elements of 32 bytes leads from size m and root x to MTH of the leaves D, x is MTH of the first m of
--- them; or two strings collide that are hashed where the proof is checked or in the tree of D. Nothing is asked of x
+-- Let a consistency proof p of elements of 32 bytes lead from size m and root x to MTH of the leaves D. Then x is MTH of the first m of
+-- them, or two strings collide that are hashed when the proof is checked or in the tree of D. Nothing is required of x.
 abbrev pub ProofGoesBack : Type 0
 ProofGoesBack =
     (H : List ℕ → List ℕ) → ((x : List ℕ) → length (H x) ≡ 32) → (D p : List (List ℕ)) (m : ℕ) (x : List ℕ) → AreHashes p

@@ -1,5 +1,5 @@
--- What clients of a log see who hold heads, proofs between them, and audit paths. No list of leaves is asked for: a log that lies has none. H is any hash
--- function on byte lists with hashes of 32 bytes.
+-- The view of a log's clients that hold heads, proofs between them, and audit paths. The laws need no list of leaves, because a dishonest
+-- log has none. H is any hash function on byte lists with hashes of 32 bytes.
 use Rattle.std.specs.Prelude.{◌≡◌, ◌⊎◌, ℕ, true, List, ◌∷◌, ◌++◌, length, Contains}
 use Rattle.ct_tree.specs.Tree.{hash_leaf}
 use Rattle.ct_verify.specs.Laws.{AreHashes}
@@ -14,15 +14,15 @@ IsShown H x i n root p = AreHashes p × AcceptsInclusion H (hash_leaf H x) i n p
 abbrev pub shown_strings : (List ℕ → List ℕ) → List ℕ → ℕ → ℕ → List (List ℕ) → List (List ℕ)
 shown_strings H x i n p = (0 ∷ x) ∷ path_strings H i n (hash_leaf H x) p
 
--- Two leaves that are shown at one index under one head are one leaf; or two of the strings that were hashed collide.
+-- Two leaves that are shown at the same index under one head are the same leaf; or two of the hashed strings collide.
 abbrev pub OneHeadShowsOneLeaf : Type 0
 OneHeadShowsOneLeaf =
     (H : List ℕ → List ℕ) → ((x : List ℕ) → length (H x) ≡ 32) → (x y : List ℕ) (i n : ℕ) (root : List ℕ) (p q : List (List ℕ))
     → IsShown H x i n root p → IsShown H y i n root q
     → (x ≡ y) ⊎ CollideAmong H (Contains (shown_strings H x i n p ++ shown_strings H y i n q))
 
--- Where a consistency proof leads from one head to another, two leaves that are shown at one index under the two heads are one leaf; or two of the
--- strings that were hashed collide.
+-- If a consistency proof leads from one head to another, two leaves that are shown at the same index under the two heads are the same leaf;
+-- or two of the hashed strings collide.
 abbrev pub ConsistentHeadsShowOneLeaf : Type 0
 ConsistentHeadsShowOneLeaf =
     (H : List ℕ → List ℕ) → ((x : List ℕ) → length (H x) ≡ 32) → (m n : ℕ) (a b : List ℕ) (proof : List (List ℕ)) → AreHashes proof

@@ -1,4 +1,4 @@
--- What an answer says in the words of the grammar.
+-- The meaning of a result in terms of the grammar.
 use Rattle.std.proofs.Common.{ℕ, List, Result, Ok, Err, Bor}
 use Rattle.std.specs.Prelude.{IfOk}
 use Rattle.ct_der.specs.Laws.{IsBytes}

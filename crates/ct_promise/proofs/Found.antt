@@ -1,4 +1,4 @@
--- What is read is in the grammar.
+-- Anything that is read is in the grammar.
 use Rattle.std.proofs.Common.{◌≡◌, ◌<◌, ◌≤◌, ◌-◌, ℕ, zero, suc, Bool, true, false, cond, List, [], ◌∷◌, ◌++◌, length}
 use Rattle.std.proofs.Common.{take, Option, Result, Ok, Err, refl, sym, ap, subst, ◌∙◌, ◌⊎◌, inl, inr, append_assoc, arith}
 use Rattle.std.specs.Prelude.{bytes_eq}
@@ -24,7 +24,7 @@ put_ok : {X : Type 0} (p : Place) (r : Result X DerFault) (x : X) → put_at p r
 put_ok p (Ok y) x e = cc
 put_ok p (Err f) x e = absurd cc
 
--- what stands before the rest
+-- the bytes before the rest
 pub before_rest : (x r : List ℕ) → before (x ++ r) r ≡ x
 before_rest x r =
     let size = length-append x r in
@@ -36,14 +36,14 @@ before_text b x r e = ap (λ (y : List ℕ). before y r) e ∙ before_rest x r
 
 -- ---- fields
 
--- fields in front, and what follows them
+-- fields in front, and the bytes after them
 pub record FieldsFound (fs : List Field) (b r : List ℕ) : Type 0 where
   pub x : List ℕ
   pub are : AreFields fs x
   pub text : b ≡ x ++ r
   pub rest : IsBytes r
 
--- a field in front, and what follows it
+-- a field in front, and the bytes after it
 pub record FieldFound (f : Field) (b r : List ℕ) : Type 0 where
   pub x : List ℕ
   pub is : IsFieldOf f x
@@ -85,7 +85,7 @@ fields_found (f ∷ fs) b r fits e =
 
 -- ---- extensions
 
--- an extension in front, and what follows it
+-- an extension in front, and the bytes after it
 pub record ExtensionFound (identifier value b r : List ℕ) : Type 0 where
   pub x : List ℕ
   pub is : IsExtensionWith identifier value x
@@ -138,7 +138,7 @@ extension_found b v fits e =
       rest = extension.rest;
     })
 
--- ---- which one it is
+-- ---- which extension it is
 
 if_ok : {X : Type 0} (b : Bool) (p q : Result X CutFault) (y : X) → cond b p q ≡ Ok y → ((b ≡ true) × (p ≡ Ok y)) ⊎ ((b ≡ false) × (q ≡ Ok y))
 if_ok true p q y e = inl (refl, e)
@@ -171,7 +171,7 @@ others_found identifier (suc n) (x ∷ b) end room fits e =
           (f.x ∷ others.0, ((a.0.0, a.0.1, other_name a.0.0 identifier p.0, f.is), others.1), f.text ∙ ap (λ (l : List ℕ). f.x ++ l) others.2))
     ]
 
--- the one with the identifier: what stands before it, it, and what stands from it on
+-- the extension with the identifier: the extensions before it, the extension itself, its value, and the bytes after it
 pub record SoleFound (identifier b from value behind : List ℕ) : Type 0 where
   pub front : List ℕ
   pub cut : List ℕ
@@ -221,14 +221,14 @@ sole_found identifier (suc n) (x ∷ b) v room fits e =
 
 -- ---- TBSCertificates
 
--- the list of the extensions, which isn't empty, in its field
+-- the list of the extensions, which is not empty, in its field
 pub record ListFound (b list : List ℕ) : Type 0 where
   pub inner : List ℕ
   pub inner_is : IsTlv 48 list inner
   pub is : IsTlv 163 inner b
   pub fits : IsBytes list
 
--- a list of extensions stands in its field, where it has some bytes
+-- a list of extensions is in its field, if it has some bytes
 list_found : (b list : List ℕ) → IsBytes b → 0 < length list → list_at b ≡ Ok list → ListFound b list
 unfolding list_at
 list_found [] list fits some e =

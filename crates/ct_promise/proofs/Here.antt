@@ -1,4 +1,4 @@
--- What is in the grammar is read.
+-- Anything in the grammar is read.
 use Rattle.std.proofs.Common.{◌≡◌, ◌<◌, ◌≤◌, ℕ, zero, suc, Bool, true, false, cond, List, [], ◌∷◌, ◌++◌, length}
 use Rattle.std.proofs.Common.{Option, Some, None, Result, Ok, Err, refl, sym, ap, subst, ◌∙◌, inl, inr, append_assoc, arith}
 use Rattle.std.specs.Prelude.{bytes_eq}
@@ -20,7 +20,7 @@ use Rattle.ct_promise.proofs.Found.{before_rest}
 
 -- ---- fields
 
--- a field with another tag is in front, of those that may be left out and of the first that may not
+-- the tag differs from the tag of each of these fields
 abbrev Differs : ℕ → List Field → Type 0
 Differs tag [] = Unit {0}
 Differs tag (f ∷ fs) = (f.tag ≡ tag → ⊥) × Differs tag fs
@@ -34,7 +34,7 @@ not_first tag (f ∷ fs) h r (x, s, inr is, are, text) differs last =
     subst (λ (y : List ℕ). NotFirst tag y) (sym (ap (λ (y : List ℕ). y ++ r) text ∙ append_assoc x s r))
     (other_first tag f.tag is.0 x (s ++ r) is.1 differs.0)
 
--- no field that may be left out has the tag of one behind it, or of what follows all
+-- the tag of each optional field differs from the tags of all fields after it, and the bytes r do not begin with it
 abbrev Sorted : List Field → List ℕ → Type 0
 Sorted [] r = Unit {0}
 Sorted (f ∷ fs) r = (f.optional ≡ true → Differs f.tag fs × NotFirst f.tag r) × Sorted fs r
@@ -149,7 +149,7 @@ list_here list inner x is outer =
 other_tag : (tag : ℕ) (c x : List ℕ) → IsTlv 163 c x → (163 ≡ tag → ⊥) → NotFirst tag x
 other_tag tag c x is differs = subst (λ (y : List ℕ). NotFirst tag y) (append-nil x) (other_first tag 163 c x [] is differs)
 
--- the fields of a TBSCertificate, before what begins with none of their tags
+-- the fields of a TBSCertificate, before bytes that begin with none of these tags
 pub tbs_sorted : (r : List ℕ) → NotFirst 160 r → NotFirst 129 r → NotFirst 130 r → Sorted tbs_fields r
 tbs_sorted r v i s =
     let version : Differs 160 (must 2 at.Serial ∷ must 48 at.Algorithm ∷ must 48 at.Issuer ∷ must 48 at.Validity ∷ must 48 at.Subject ∷ from_key) =

@@ -9,7 +9,7 @@ use Rattle.ct_promise.specs.Reading.{extension_with_at, others_at, sole_at}
 abbrev pub Read : Type 0
 Read = List ℕ × List ℕ × List ℕ
 
--- what the rest gives is what all the bytes give
+-- the result for the rest is the result for all the bytes
 pub record Going {X : Type 0} (f : ℕ → List ℕ → Result X CutFault) (rest bytes : List ℕ) : Type 0 where
   pub room : ℕ
   pub enough : length rest ≤ room
@@ -18,7 +18,7 @@ pub record Going {X : Type 0} (f : ℕ → List ℕ → Result X CutFault) (rest
 pub starts : {X : Type 0} (f : ℕ → List ℕ → Result X CutFault) (bytes : List ℕ) → Going f bytes bytes
 starts f bytes = record { room = length bytes; enough = omega arith; total = refl }
 
--- ---- that no other has the identifier
+-- ---- no other extension has the identifier
 
 abbrev pub others_step : List ℕ → ℕ → Read → Result (List ℕ) CutFault
 others_step identifier n e = cond (bytes_eq e.0 identifier) (Err SecondExtension) (others_at identifier n e.2)
@@ -67,7 +67,7 @@ pub others_done : (identifier rest bytes : List ℕ) → Going (others_at identi
 others_done identifier rest bytes g none =
     sym g.total ∙ none_left identifier g.room rest none ∙ ap (λ (l : List ℕ). Ok l) (nothing rest none)
 
--- ---- the one that has it
+-- ---- the extension that has it
 
 abbrev pub sole_step : List ℕ → ℕ → List ℕ → Read → Result Read CutFault
 sole_step identifier n rest e =
@@ -89,7 +89,7 @@ sole_goes_on identifier rest bytes e g some shorter read other =
     ∙ ap (λ (b : Bool). cond b (others_at identifier (length e.2) e.2 >>= λ none. Ok (rest, e.1, e.2)) (sole_at identifier step.0 e.2)) other in
     record { room = step.0; enough = omega (arith, step.1, g.enough, shorter); total = sym one ∙ g.total }
 
--- what all give, where this is the one
+-- the result for all the bytes, if this extension is the one
 pub sole_here : (identifier rest bytes : List ℕ) (e : Read) → Going (sole_at identifier) rest bytes → 0 < length rest
     → extension_with_at rest ≡ Ok e → bytes_eq e.0 identifier ≡ true
     → sole_at identifier (length bytes) bytes ≡ (others_at identifier (length e.2) e.2 >>= λ none. Ok (rest, e.1, e.2))

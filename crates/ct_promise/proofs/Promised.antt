@@ -1,4 +1,4 @@
--- The entry and the leaf in the words of the grammar.
+-- The entry and the leaf in terms of the grammar.
 use Rattle.std.proofs.Common.{◌≡◌, ◌<◌, ◌^◌, ◌++◌, ℕ, Bool, true, false, cond, ltb, List, length, Result, Ok, Err, refl, sym, ap, subst, inl, inr, arith}
 use Rattle.std.specs.Prelude.{bytes_eq, IfOk}
 use Rattle.std.specs.Global.{Vec}
@@ -81,7 +81,7 @@ some_entry : (p : Parts) → 0 < length (without p)
 unfolding without
 some_entry p = omega arith
 
--- what is read of a certificate is bytes
+-- the TBSCertificate that is read from a certificate consists of bytes
 tbs_bytes : (t b : List ℕ) → IsBytes b → IsTbsOf t b → IsBytes t
 tbs_bytes t b fits is =
     let content = content_bytes 48 (t ++ (is.algorithm ++ is.signature)) b is.text fits in

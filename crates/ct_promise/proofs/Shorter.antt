@@ -1,4 +1,4 @@
--- Without an extension a TBSCertificate isn't longer.
+-- Removing an extension does not make a TBSCertificate longer.
 use Rattle.std.proofs.Common.{◌<◌, ◌≤◌, ◌+◌, ℕ, Bool, true, false, cond, eqb, List, [], ◌++◌, length, ap, ◌∙◌, arith}
 use Rattle.std.proofs.lemmas.List.{length-append}
 use Rattle.ct_der.specs.Element.{IsTlv}

@@ -1,4 +1,4 @@
--- The TBSCertificate without the extension: it is written, no bytes have two, and putting back gives the bytes.
+-- The TBSCertificate without the extension: it is written, no bytes have two such cuts, and putting the extension back gives the bytes.
 use Rattle.std.proofs.Common.{◌≡◌, ◌<◌, ℕ, Bool, true, false, cond, eqb, List, [], ◌++◌, length, take, drop, Result, Ok, refl, sym, ap, ◌∙◌, inl, inr, arith}
 use Rattle.std.proofs.lemmas.Bool.{eqb-true, eqb-false, ne_eqb}
 use Rattle.std.proofs.lemmas.List.{append-nil, length-append, nil_from_length}
@@ -66,14 +66,14 @@ after_both : (list h x : List ℕ) → AreFields tbs_fields h → IsExtensionsFi
 after_both list h x are (inl e) = ap (λ (y : List ℕ). after_fields tbs_fields (h ++ y)) e.1 ∙ head_alone h are ∙ ap (λ (y : List ℕ). Ok y) (sym e.1)
 after_both list h x are (inr (inner, some, is, outer)) = head_here h inner x are outer
 
--- what stands before the same
+-- the bytes before the same bytes
 same_front : (a b x : List ℕ) → a ++ x ≡ b ++ x → a ≡ b
 same_front a b x e =
     let size = sym (length-append a x) ∙ ap length e ∙ length-append b x in
     let n : length a ≡ length b = omega (arith, size) in
     sym (take-append_seam a x) ∙ ap (take (length a)) e ∙ ap (λ (k : ℕ). take k (b ++ x)) n ∙ take-append_seam b x
 
--- two lists of as many bytes in front of others
+-- two lists of equal length in front of others
 same_parts : (a b x y : List ℕ) → length a ≡ length b → a ++ x ≡ b ++ y → (a ≡ b) × (x ≡ y)
 same_parts a b x y n e = (
   sym (take-append_seam a x) ∙ ap (take (length a)) e ∙ ap (λ (k : ℕ). take k (b ++ y)) n ∙ take-append_seam b y,

@@ -1,9 +1,9 @@
--- The cut, as the code has it.
+-- The cut, as the code represents it.
 use Rattle.std.specs.Prelude.{ℕ, List}
 use Rattle.ct_promise.specs.declared.cutting.Cut.{Cut}
 use Rattle.ct_promise.specs.Tbs.{Parts, IsParted}
 
--- the parts that stand in their bytes
+-- the parts whose bytes the cut has
 abbrev pub parts_of : Cut → Parts
 parts_of c = record { head = c.head.now; front = c.front.now; cut = c.cut.now; value = c.value.now; behind = c.behind.now }
 

@@ -8,7 +8,7 @@ use Rattle.ct_promise.specs.Reading.{parts_cut_at, without}
 abbrev pub CutsAreRead : Type 0
 CutsAreRead = (identifier : List ℕ) (p : Parts) (b : List ℕ) → IsParted identifier p b → parts_cut_at identifier b ≡ Ok p
 
--- What is read is there.
+-- Anything that is read is present.
 abbrev pub ReadCutsAreThere : Type 0
 ReadCutsAreThere = (identifier : List ℕ) (p : Parts) (b : List ℕ) → IsBytes b → parts_cut_at identifier b ≡ Ok p → IsParted identifier p b
 
@@ -16,7 +16,7 @@ ReadCutsAreThere = (identifier : List ℕ) (p : Parts) (b : List ℕ) → IsByte
 abbrev pub WrittenCutsAreThere : Type 0
 WrittenCutsAreThere = (identifier : List ℕ) (p : Parts) (b : List ℕ) → IsParted identifier p b → IsWithout p (without p)
 
--- .. and there is no other
+-- .. and it is the only one
 abbrev pub CutsAreWritten : Type 0
 CutsAreWritten = (p : Parts) (c : List ℕ) → IsWithout p c → c ≡ without p
 
@@ -24,8 +24,9 @@ CutsAreWritten = (p : Parts) (c : List ℕ) → IsWithout p c → c ≡ without 
 abbrev pub OneCut : Type 0
 OneCut = (identifier b c d : List ℕ) → IsCutOut identifier b c → IsCutOut identifier b d → c ≡ d
 
--- What was cut out, put back where it stood, gives the bytes: two TBSCertificates that are the same without an extension, and of which it
--- has the same text behind as many bytes of other extensions, are the same. The identifiers may differ.
+-- Putting the removed extension back in its position gives the bytes again. If two TBSCertificates are the same without an extension, the
+-- extension has the same text in both, and as many bytes of other extensions precede it, then they are the same. The identifiers may
+-- differ.
 abbrev pub PuttingBack : Type 0
 PuttingBack = (i j : List ℕ) (p q : Parts) (b d c : List ℕ) → IsParted i p b → IsParted j q d → IsWithout p c → IsWithout q c
     → p.cut ≡ q.cut → length p.front ≡ length q.front → b ≡ d

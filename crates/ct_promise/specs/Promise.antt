@@ -1,4 +1,4 @@
--- The entry of a precertificate, and the leaf that a timestamp within a certificate stands for (RFC 6962, 3.1 to 3.4).
+-- The entry of a precertificate, and the leaf that a timestamp embedded in a certificate promises (RFC 6962, 3.1 to 3.4).
 use Rattle.std.specs.Prelude.{◌≡◌, ◌⊎◌, ℕ, List, [], ◌∷◌, length, Result, Ok, Err, nat_lt, bytes_eq, if◌then◌else◌}
 use Rattle.sha2.specs.Sha256.{sha256}
 use Rattle.ct_der.specs.Reading.{◌>>=◌}
@@ -33,12 +33,12 @@ poison_text =
 abbrev pub list_identifier : List ℕ
 list_identifier = 43 ∷ 6 ∷ 1 ∷ 4 ∷ 1 ∷ 214 ∷ 121 ∷ 2 ∷ 4 ∷ 2 ∷ []
 
--- what reading a document gives, its fault with the document
+-- the result of reading a document; a fault is returned with the document
 abbrev pub in_document : {X : Type 0} → Document → Result X CutFault → Result X Unfit
 in_document d (Ok x) = Ok x
 in_document d (Err f) = Err (Uncut d f)
 
--- the entry of a precertificate's TBSCertificate: it without the poison (RFC 6962, 3.2)
+-- the entry of a precertificate's TBSCertificate: the TBSCertificate without the poison (RFC 6962, 3.2)
 unfoldable pub promised_entry_at : List ℕ → Result (List ℕ) Unfit
 promised_entry_at tbs = in_document Certificate (parts_cut_at poison_identifier tbs) >>= λ p.
     if bytes_eq p.cut poison_text then Ok (without p) else Err BadPoison
@@ -48,7 +48,7 @@ abbrev pub promised_leaf_at : ℕ → List ℕ → List ℕ → List ℕ → Res
 promised_leaf_at t key entry x =
     if nat_lt (length entry) 16777216 then Ok (leaf_text t (precertificate (sha256 key) entry) x) else Err TooLong
 
--- the leaf that a timestamp within a certificate stands for, of a moment and with extensions (RFC 6962, 3.2 to 3.4)
+-- the leaf that a timestamp t embedded in a certificate promises, with extensions x (RFC 6962, 3.2 to 3.4)
 unfoldable pub promised_at : List ℕ → List ℕ → ℕ → List ℕ → Result (List ℕ) Unfit
 promised_at certificate issuer t x = do
   tbs ← in_document Certificate (whole_tbs_at certificate)
@@ -57,21 +57,22 @@ promised_at certificate issuer t x = do
   key ← in_document Issuer (key_at issuer_tbs)
   promised_leaf_at t key (without p) x
 
--- what a function refused is what reading refuses, unless memory ran out
+-- the fault of a function is the fault of reading, unless memory ran out
 abbrev pub FailsPromise : {Y : Type 0} → PromiseFault → Result Y Unfit → Type 0
 FailsPromise fault.Memory read = Unit {0}
 FailsPromise (fault.Unfit u) read = read ≡ Err u
 
--- what a function answered, seen by view, is what reading gives, unless memory ran out
+-- the result of a function, seen through view, is the result of reading, unless memory ran out
 abbrev pub GivesPromise : {X Y : Type 0} → (X → Y) → Result X PromiseFault → Result Y Unfit → Type 0
 GivesPromise view (Ok x) read = read ≡ Ok (view x)
 GivesPromise view (Err e) read = FailsPromise e read
 
--- c is the entry of the precertificate whose TBSCertificate is b: the same without the poison, which has its one form (RFC 6962, 3.1 and 3.2)
+-- c is the entry of the precertificate whose TBSCertificate is b: the same without the poison, which has its only form (RFC 6962, 3.1 and
+-- 3.2)
 abbrev pub IsEntryOf : List ℕ → List ℕ → Type 0
 IsEntryOf b c = (p : Parts) × IsParted poison_identifier p b × (p.cut ≡ poison_text) × IsWithout p c
 
--- The leaf is the one that a timestamp within a certificate stands for, of a moment t and with extensions x: of the certificate's
+-- The leaf is the one that a timestamp t embedded in a certificate promises, with extensions x. It consists of the certificate's
 -- TBSCertificate without the list of timestamps, and SHA-256 of the issuer's key (RFC 6962, 3.2 to 3.4).
 pub record IsPromised (certificate issuer : List ℕ) (t : ℕ) (x leaf : List ℕ) : Type 0 where
   pub tbs : List ℕ
@@ -84,41 +85,41 @@ pub record IsPromised (certificate issuer : List ℕ) (t : ℕ) (x leaf : List �
   pub key_is : IsKeyOf key issuer_tbs
   pub leaf_is : LeafText t (precertificate (sha256 key) entry) x leaf
 
--- by a hash function H the audit path leads from the leaf, which was promised, to the root
+-- under a hash function H, the audit path leads from the promised leaf to the root
 abbrev pub IsPromiseKeptBy : (List ℕ → List ℕ) → List ℕ → List ℕ → ℕ → List ℕ → ℕ → ℕ → List (List ℕ) → List ℕ → Type 0
 IsPromiseKeptBy H certificate issuer t x index size path root =
     (leaf : List ℕ) × IsPromised certificate issuer t x leaf × AcceptsInclusion H (hash_leaf H leaf) index size path root
 
--- the same by SHA-256
+-- the same for SHA-256
 abbrev pub IsPromiseKept : List ℕ → List ℕ → ℕ → List ℕ → ℕ → ℕ → List (List ℕ) → List ℕ → Type 0
 IsPromiseKept certificate issuer t x index size path root = IsPromiseKeptBy sha256 certificate issuer t x index size path root
 
--- why it doesn't, unless memory ran out
+-- why the path does not lead there, unless memory ran out
 abbrev pub IsUnkept : List ℕ → List ℕ → ℕ → List ℕ → ℕ → ℕ → List (List ℕ) → List ℕ → Unkept → Type 0
 IsUnkept certificate issuer t x index size path root (kept.NoLeaf u) = promised_at certificate issuer t x ≡ Err u
 IsUnkept certificate issuer t x index size path root (kept.NotThere f) =
     (leaf : List ℕ) × IsPromised certificate issuer t x leaf × RefusesInclusion sha256 (hash_leaf sha256 leaf) index size path root f
 IsUnkept certificate issuer t x index size path root kept.Memory = Unit {0}
 
--- the string is hashed when the audit path of the leaf that was promised is checked, or in the tree of the leaves D
+-- the string is hashed when the audit path of the promised leaf is checked, or in the tree of the leaves D
 abbrev pub IsHashedForPromise : (List ℕ → List ℕ) → List ℕ → List ℕ → ℕ → List ℕ → ℕ → List (List ℕ) → List (List ℕ) → List ℕ → Type 0
 IsHashedForPromise H certificate issuer t x index path D s =
     (leaf : List ℕ) × IsPromised certificate issuer t x leaf × IsHashedInAudit H D leaf index path s
 
--- By a hash function H: in each list of so many leaves whose MTH is the root, the leaf that was promised is at the index, and the path is
--- its PATH; or two of the strings that are hashed collide (RFC 6962, 2.1).
+-- Under a hash function H: in each list of that many leaves whose MTH is the root, the promised leaf is at the index, and the path is its
+-- PATH; or two of the hashed strings collide (RFC 6962, 2.1).
 abbrev pub StandsInAllBy : (List ℕ → List ℕ) → List ℕ → List ℕ → ℕ → List ℕ → ℕ → ℕ → List (List ℕ) → List ℕ → Type 0
 StandsInAllBy H certificate issuer t x index size path root =
     (D : List (List ℕ)) → length D ≡ size → mth_of_leaves H D ≡ root
     → ((leaf : List ℕ) × IsPromised certificate issuer t x leaf × IsAudited H D leaf index path)
     ⊎ CollideAmong H (IsHashedForPromise H certificate issuer t x index path D)
 
--- the same by SHA-256
+-- the same for SHA-256
 abbrev pub StandsInAll : List ℕ → List ℕ → ℕ → List ℕ → ℕ → ℕ → List (List ℕ) → List ℕ → Type 0
 StandsInAll certificate issuer t x index size path root = StandsInAllBy sha256 certificate issuer t x index size path root
 
--- By every hash function H with hashes of 32 bytes: if the audit path leads from the leaf that was promised to the root, that leaf is in each list
--- with this root, or two of the strings that are hashed collide.
+-- For every hash function H with hashes of 32 bytes: if the audit path leads from the promised leaf to the root, that leaf is in each list
+-- with this root, or two of the hashed strings collide.
 abbrev pub KeptPromisesStand : Type 0
 KeptPromisesStand = (H : List ℕ → List ℕ) → ((y : List ℕ) → length (H y) ≡ 32)
     → (certificate issuer : List ℕ) (t : ℕ) (x : List ℕ) (index size : ℕ) (path : List (List ℕ)) (root : List ℕ)

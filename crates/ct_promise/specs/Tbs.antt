@@ -1,4 +1,4 @@
--- Certificates and TBSCertificates as far as the cut of an extension goes (RFC 5280, 4.1 and 4.2), in elements of DER (X.690).
+-- Certificates and TBSCertificates as far as the cut of an extension needs them (RFC 5280, 4.1 and 4.2), in elements of DER (X.690).
 use Rattle.std.specs.Prelude.{◌≡◌, ◌<◌, ◌++◌, ◌⊎◌, ℕ, List, [], ◌∷◌, length, Bool, true, false}
 use Rattle.std.specs.List.{AllByRecursion}
 use Rattle.ct_der.specs.Element.{IsTlv}
@@ -7,25 +7,25 @@ use Rattle.ct_promise.specs.declared.field.Place.TheVariants as at
 
 -- ---- fields
 
--- a field: whether it may be left out, the tag of its element, and its name in a fault
+-- a field: whether it is optional, the tag of its element, and its name in a fault
 pub record Field : Type 0 where
   pub optional : Bool
   pub tag : ℕ
   pub place : Place
 
--- a field that has to be there
+-- a required field
 abbrev pub must : ℕ → Place → Field
 must tag place = record { optional = false; tag = tag; place = place }
 
--- a field that may be left out
+-- an optional field
 abbrev pub may : ℕ → Place → Field
 may tag place = record { optional = true; tag = tag; place = place }
 
--- x is the element of a field, whatever its content; or nothing, where it may be left out
+-- x is the element of a field, whatever its content; or nothing, if the field is optional
 abbrev pub IsFieldOf : Field → List ℕ → Type 0
 IsFieldOf f x = ((f.optional ≡ true) × (x ≡ [])) ⊎ ((c : List ℕ) × IsTlv f.tag c x)
 
--- b is these fields, one behind the other
+-- b is these fields, one after the other
 abbrev pub AreFields : List Field → List ℕ → Type 0
 AreFields [] b = b ≡ []
 AreFields (f ∷ fs) b = (x r : List ℕ) × IsFieldOf f x × AreFields fs r × (b ≡ x ++ r)
@@ -35,18 +35,18 @@ abbrev pub before_key : List Field
 before_key =
     may 160 at.Version ∷ must 2 at.Serial ∷ must 48 at.Algorithm ∷ must 48 at.Issuer ∷ must 48 at.Validity ∷ must 48 at.Subject ∷ []
 
--- those from the key on, but for the extensions
+-- the fields from the key on, except the extensions
 abbrev pub from_key : List Field
 from_key = must 48 at.Key ∷ may 129 at.IssuerId ∷ may 130 at.SubjectId ∷ []
 
--- all but the extensions
+-- all fields except the extensions
 abbrev pub tbs_fields : List Field
 tbs_fields =
     may 160 at.Version ∷ must 2 at.Serial ∷ must 48 at.Algorithm ∷ must 48 at.Issuer ∷ must 48 at.Validity ∷ must 48 at.Subject ∷ from_key
 
 -- ---- extensions
 
--- x is the Extension with this identifier and this value: an object identifier, perhaps a BOOLEAN and an OCTET STRING (RFC 5280, 4.2)
+-- x is the Extension with this identifier and this value: an object identifier, an optional BOOLEAN and an OCTET STRING (RFC 5280, 4.2)
 pub record IsExtensionWith (identifier value x : List ℕ) : Type 0 where
   pub name : List ℕ
   pub critical : List ℕ
@@ -60,24 +60,24 @@ pub record IsExtensionWith (identifier value x : List ℕ) : Type 0 where
 abbrev pub IsOther : List ℕ → List ℕ → Type 0
 IsOther identifier x = (other value : List ℕ) × (other ≡ identifier → ⊥) × IsExtensionWith other value x
 
--- texts, one behind the other
+-- texts, one after the other
 abbrev pub all_joined : List (List ℕ) → List ℕ
 all_joined [] = []
 all_joined (x ∷ L) = x ++ all_joined L
 
--- b is Extensions with other identifiers, one behind the other
+-- b is Extensions with other identifiers, one after the other
 abbrev pub AreOthers : List ℕ → List ℕ → Type 0
 AreOthers identifier b = (L : List (List ℕ)) × AllByRecursion (IsOther identifier) L × (b ≡ all_joined L)
 
--- x is the field of these extensions, or nothing where there are none (RFC 5280, 4.1.2.9)
+-- x is the field of these extensions, or nothing if there are none (RFC 5280, 4.1.2.9)
 abbrev pub IsExtensionsField : List ℕ → List ℕ → Type 0
 IsExtensionsField extensions x =
     ((extensions ≡ []) × (x ≡ [])) ⊎ ((list : List ℕ) × (0 < length extensions) × IsTlv 48 extensions list × IsTlv 163 list x)
 
 -- ---- the cut
 
--- The parts of a TBSCertificate: its fields before the extensions, the extensions before the one that is cut out, that one, its value, and
--- those behind it.
+-- The parts of a TBSCertificate: its fields before the extensions, the extensions before the one that is cut out, that extension, its
+-- value, and the extensions after it.
 pub record Parts : Type 0 where
   pub head : List ℕ
   pub front : List ℕ
@@ -97,11 +97,11 @@ pub record IsParted (identifier : List ℕ) (p : Parts) (b : List ℕ) : Type 0 
   pub field_is : IsTlv 163 list field
   pub text : IsTlv 48 (p.head ++ field) b
 
--- c is the TBSCertificate with these parts but for the one that is cut out (RFC 6962, 3.2)
+-- c is the TBSCertificate with these parts except the one that is cut out (RFC 6962, 3.2)
 abbrev pub IsWithout : Parts → List ℕ → Type 0
 IsWithout p c = (field : List ℕ) × IsExtensionsField (p.front ++ p.behind) field × IsTlv 48 (p.head ++ field) c
 
--- b is a TBSCertificate of which one extension has this identifier, and c is the same without it
+-- b is a TBSCertificate in which one extension has this identifier, and c is the same without that extension
 abbrev pub IsCutOut : List ℕ → List ℕ → List ℕ → Type 0
 IsCutOut identifier b c = (p : Parts) × IsParted identifier p b × IsWithout p c
 

@@ -13,22 +13,22 @@ use crate::reading::{after_subject_id, before, extensions_in, next_extension, on
 use ct_der::push_element;
 use std::alloc::{AllocError, Global};
 
-/// A TBSCertificate of which one extension is cut out, where it stands.
+/// A TBSCertificate with one extension cut out, as views of the input.
 #[derive(Clone, Copy)]
 pub struct Cut<'a> {
     /// The fields before the extensions (RFC 5280, section 4.1.2).
     pub head: &'a [u8],
     /// The extensions before the one that is cut out.
     pub front: &'a [u8],
-    /// The extension that is cut out, all its bytes.
+    /// All bytes of the extension that is cut out.
     pub cut: &'a [u8],
     /// Its value: the content of its OCTET STRING.
     pub value: &'a [u8],
-    /// The extensions behind it.
+    /// The extensions after it.
     pub behind: &'a [u8],
 }
 
-// What follows all extensions: nothing. None may have this identifier.
+// The bytes after all extensions, of which there are none. No extension may have this identifier.
 fn after_others<'a>(identifier: &[u8], extensions: &'a [u8]) -> Result<&'a [u8], CutFault>
     ensures { Gives (λ r. r.now) result (others_at identifier.now (length extensions.now) extensions.now) }
 {
@@ -43,7 +43,7 @@ fn after_others<'a>(identifier: &[u8], extensions: &'a [u8]) -> Result<&'a [u8],
     Ok(rest)
 }
 
-// The bytes from the one extension with this identifier on, its value, and what follows it.
+// The bytes from the one extension with this identifier on, its value, and the bytes after it.
 fn sole_extension<'a>(
     identifier: &[u8],
     extensions: &'a [u8],
@@ -62,7 +62,7 @@ fn sole_extension<'a>(
     Err(CutFault::NoExtension)
 }
 
-// The cut, in the words of reading.
+// The cut, in terms of reading.
 #[tactic(auto, unfolding(crate::specs::Reading::parts_cut_at))]
 fn read_cut<'a>(identifier: &[u8], tbs: &'a [u8]) -> Result<Cut<'a>, CutFault>
     ensures { Gives (λ c. parts_of c) result (parts_cut_at identifier.now tbs.now) }
@@ -80,24 +80,25 @@ fn read_cut<'a>(identifier: &[u8], tbs: &'a [u8]) -> Result<Cut<'a>, CutFault>
     })
 }
 
-/// The one extension of a TBSCertificate with this identifier, the content of its OBJECT IDENTIFIER, and what stands before and behind it.
+/// The one extension of a TBSCertificate with this identifier, which is the content of its OBJECT IDENTIFIER, and the parts before and
+/// after it.
 ///
 /// # Errors
 ///
-/// `At`, the first fault that reading meets, where the bytes are no TBSCertificate of the grammar. `NoExtension` and `SecondExtension` where
-/// no extension has the identifier, or more than one; what stands behind the second isn't looked at.
+/// `At`, the first fault that reading finds, if the bytes are not a TBSCertificate of the grammar. `NoExtension` and `SecondExtension` if
+/// no extension has the identifier, or more than one has it. The bytes after the second one are not examined.
 pub fn cut_extension<'a>(identifier: &[u8], tbs: &'a [u8]) -> Result<Cut<'a>, CutFault>
-    // What is read is of the grammar, with these parts.
+    // A cut is returned only if the bytes are in the grammar and have these parts.
     ensures found { IfOk result (λ c. IsParted identifier.now (parts_of c) tbs.now) }
-    // The parts of each TBSCertificate with one such extension are read.
+    // The parts of each TBSCertificate with one such extension are always read.
     ensures every { (p : Parts) → IsParted identifier.now p tbs.now → Gives (λ c. parts_of c) result (Ok p) }
-    // Which fault it is.
+    // The fault is exactly that of reading.
     ensures exact { Gives (λ c. parts_of c) result (parts_cut_at identifier.now tbs.now) }
 {
     read_cut(identifier, tbs)
 }
 
-// Writes the field of these extensions, or nothing where there are none.
+// Writes the field of these extensions, or nothing if there are none.
 fn push_extensions(alloc: Global, out: &mut Vec<u8>, list: &[u8]) -> Result<(), AllocError>
     requires list { length list.now < 4294967296 }
     requires field { length (element_text 48 list.now) < 4294967296 }
@@ -111,7 +112,7 @@ fn push_extensions(alloc: Global, out: &mut Vec<u8>, list: &[u8]) -> Result<(), 
     push_element(out, 163, &inner)
 }
 
-// Writes the TBSCertificate without the extension, in the words of writing.
+// Writes the TBSCertificate without the extension, in terms of writing.
 #[tactic(auto, unfolding(crate::specs::Reading::without))]
 fn write_without(alloc: Global, out: &mut Vec<u8>, cut: &Cut<'_>) -> Result<(), AllocError>
     requires { IsCutOf cut.now }
@@ -124,16 +125,16 @@ fn write_without(alloc: Global, out: &mut Vec<u8>, cut: &Cut<'_>) -> Result<(), 
     push_element(out, 48, &fields)
 }
 
-/// Writes the TBSCertificate of a cut without the extension that is cut out behind what stands in `out` (RFC 6962, section 3.2): all other
-/// bytes stay as they are, but for the lengths around them. Where no extension is left, it has none.
+/// Appends to `out` the TBSCertificate of a cut, without the extension that is cut out (RFC 6962, section 3.2). All other bytes stay as
+/// they are, except the lengths around them. If no extension is left, the result has no extensions field.
 ///
 /// # Errors
 ///
-/// Where a growth is refused. Some of it may stand in `out` then.
+/// Returns an error if memory runs out. Some of the bytes may have been written to `out` then.
 pub fn push_without(alloc: Global, out: &mut Vec<u8>, cut: &Cut<'_>) -> Result<(), AllocError>
     requires { IsCutOf cut.now }
     ensures written { OnOk result (out.new.items ≡ out.old.items ++ without (parts_of cut.now)) }
-    // This is the cut of what the parts are of.
+    // The written bytes are the cut of each TBSCertificate that has these parts.
     ensures cut { (identifier b : List ℕ) → IsParted identifier (parts_of cut.now) b → IsCutOut identifier b (without (parts_of cut.now)) }
 {
     write_without(alloc, out, cut)

@@ -33,7 +33,7 @@ pub(crate) fn cut_in<'a>(
     }
 }
 
-// The TBSCertificate without what is cut out.
+// The TBSCertificate without the part that is cut out.
 pub(crate) fn without_cut(alloc: Global, cut: &Cut<'_>) -> Result<Vec<u8>, PromiseFault>
     requires { IsCutOf cut.now }
     ensures { GivesPromise (λ v. v.items) result (Ok (without (parts_of cut.now))) }
@@ -43,7 +43,7 @@ pub(crate) fn without_cut(alloc: Global, cut: &Cut<'_>) -> Result<Vec<u8>, Promi
     Ok(out)
 }
 
-// The entry, in the words of reading.
+// The entry, in terms of reading.
 #[tactic(auto, unfolding(crate::specs::Promise::promised_entry_at))]
 fn read_entry(alloc: Global, tbs: &[u8]) -> Result<Vec<u8>, PromiseFault>
     ensures { GivesPromise (λ v. v.items) result (promised_entry_at tbs.now) }
@@ -59,18 +59,19 @@ fn read_entry(alloc: Global, tbs: &[u8]) -> Result<Vec<u8>, PromiseFault>
     }
 }
 
-/// The entry of the precertificate with this TBSCertificate: the same without the poison (RFC 6962, section 3.2). Who issues the final
-/// certificate is taken to be who issued this one: a precertificate signing certificate's name and key identifier are for the caller to replace.
+/// The entry of the precertificate with this TBSCertificate: the same without the poison (RFC 6962, section 3.2). It assumes that the
+/// issuer of the final certificate is the issuer of this one. For a precertificate signing certificate, the caller must replace the name
+/// and the key identifier.
 ///
 /// # Errors
 ///
-/// `Unfit`, the first fault that reading meets, or `BadPoison`; `Memory` where a growth is refused.
+/// `Unfit`, the first fault that reading finds, or `BadPoison`; `Memory` if memory runs out.
 pub fn entry_of_precertificate(alloc: Global, tbs: &[u8]) -> Result<Vec<u8>, PromiseFault>
-    // What is given is the entry.
+    // The returned bytes are always the entry.
     ensures found { IfOk result (λ v. IsEntryOf tbs.now v.items) }
-    // Each precertificate's entry is given, unless memory is refused.
+    // Each precertificate's entry is returned, unless memory is refused.
     ensures every { (c : List ℕ) → IsEntryOf tbs.now c → GivesPromise (λ v. v.items) result (Ok c) }
-    // Which fault it is.
+    // The fault is exactly that of reading.
     ensures exact { GivesPromise (λ v. v.items) result (promised_entry_at tbs.now) }
 {
     read_entry(alloc, tbs)

@@ -12,7 +12,7 @@ use thiserror::Error;
 /// Why there is no cut.
 #[derive(Clone, Copy, Debug, PartialEq, Eq, Error)]
 pub enum CutFault {
-    /// The bytes aren't of the grammar in `specs/Tbs.antt`, as far as they were read.
+    /// The bytes are not in the grammar of `specs/Tbs.antt`, as far as they were read.
     #[error("{0}")]
     At(Unread),
     /// No extension has this identifier.
@@ -23,7 +23,7 @@ pub enum CutFault {
     SecondExtension,
 }
 
-/// Which document a fault is in. Its text is its name.
+/// The document that has a fault. Its text is its name.
 #[derive(Clone, Copy, Debug, PartialEq, Eq, Error)]
 pub enum Document {
     /// The certificate or precertificate.
@@ -34,13 +34,13 @@ pub enum Document {
     Issuer,
 }
 
-/// Why a document gives no entry.
+/// Why a document has no entry.
 #[derive(Clone, Copy, Debug, PartialEq, Eq, Error)]
 pub enum Unfit {
-    /// It can't be read, or has the extension not once: the first fault that reading meets.
+    /// It cannot be read, or it does not have the extension exactly once: the first fault that reading finds.
     #[error("{1} in the {0}")]
     Uncut(Document, CutFault),
-    /// The poison isn't critical, or its value isn't NULL (RFC 6962, section 3.1).
+    /// The poison is not critical, or its value is not NULL (RFC 6962, section 3.1).
     #[error("bad-poison")]
     BadPoison,
     /// The TBSCertificate has 2^24 bytes or more (RFC 6962, section 3.2).
@@ -51,10 +51,10 @@ pub enum Unfit {
 /// Why there is no entry and no leaf.
 #[derive(Clone, Copy, Debug, PartialEq, Eq, Error)]
 pub enum PromiseFault {
-    /// The documents give none.
+    /// The documents have none.
     #[error("{0}")]
     Unfit(Unfit),
-    /// A growth was refused.
+    /// Memory could not be allocated.
     #[error("Memory")]
     Memory,
 }
@@ -83,16 +83,16 @@ impl<T: Drop> From<AllocFailed<T>> for PromiseFault {
     }
 }
 
-/// Why a promise isn't seen to be kept.
+/// Why it is not shown that a promise was kept.
 #[derive(Clone, Copy, Debug, PartialEq, Eq, Error)]
 pub enum Unkept {
     /// There is no leaf.
     #[error("{0}")]
     NoLeaf(Unfit),
-    /// The audit path doesn't lead from the leaf to the root.
+    /// The audit path does not lead from the leaf to the root.
     #[error("{0}")]
     NotThere(ProofFault),
-    /// A growth was refused.
+    /// Memory could not be allocated.
     #[error("Memory")]
     Memory,
 }

@@ -1,4 +1,4 @@
-//! The fields of a certificate, and the first fault that reading meets in one.
+//! The fields of a certificate, and the first fault that reading finds in one.
 
 ghost use Rattle.std.specs.Prelude.{◌≡◌};
 ghost use Rattle.ct_promise.specs.FieldName.{field_name};
@@ -6,7 +6,7 @@ ghost use Rattle.ct_promise.specs.FieldName.{field_name};
 use ct_der::DerFault;
 use thiserror::Error;
 
-/// The field of a certificate (RFC 5280, section 4.1) in which a fault is. A place's text is its name.
+/// The field of a certificate (RFC 5280, section 4.1) that has a fault. A place's text is its name.
 #[derive(Clone, Copy, Debug, PartialEq, Eq, Error)]
 pub enum Place {
     /// The certificate as a whole.
@@ -15,7 +15,7 @@ pub enum Place {
     /// The TBSCertificate as a whole.
     #[error("tbs")]
     Tbs,
-    /// The algorithm beside the signature.
+    /// The algorithm next to the signature.
     #[error("outer-algorithm")]
     OuterAlgorithm,
     /// The signature.
@@ -48,7 +48,7 @@ pub enum Place {
     /// The subject's unique identifier.
     #[error("subject-id")]
     SubjectId,
-    /// The list of extensions, and each of them.
+    /// The list of extensions, and each extension.
     #[error("extensions")]
     Extensions,
     /// The value of a subjectAltName.
@@ -57,7 +57,7 @@ pub enum Place {
 }
 
 impl Place {
-    /// Its name.
+    /// The field's name.
     pub fn name(self) -> &'static str
         ensures { result.now ≡ field_name self }
     {
@@ -81,12 +81,12 @@ impl Place {
     }
 }
 
-/// The first fault that reading meets, and its field. The text is the fault's and the field's, as `indefinite-length in extensions`.
+/// The first fault that reading finds, and its field. The text names the fault and the field, as in `indefinite-length in extensions`.
 #[derive(Clone, Copy, Debug, PartialEq, Eq, Error)]
 #[error("{fault} in {place}")]
 pub struct Unread {
     /// The field.
     pub place: Place,
-    /// What is wrong there.
+    /// The fault of the field.
     pub fault: DerFault,
 }

@@ -1,4 +1,4 @@
-//! The leaf that a timestamp within a certificate stands for (RFC 6962, sections 3.2 to 3.4).
+//! The leaf that a timestamp embedded in a certificate promises (RFC 6962, sections 3.2 to 3.4).
 
 ghost use Rattle.std.specs.Prelude.{◌≡◌, ◌<◌, ◌^◌, ◌++◌, ℕ, List, length, Ok, IfOk};
 ghost use Rattle.sha2.specs.Sha256.{sha256};
@@ -69,7 +69,7 @@ fn written_leaf(
     Ok(out)
 }
 
-// The leaf of an entry, where that is in range.
+// The leaf of an entry, if the entry is in range.
 fn leaf_of(
     alloc: Global,
     timestamp: u64,
@@ -87,7 +87,7 @@ fn leaf_of(
     written_leaf(alloc, timestamp, &hash, entry, extensions)
 }
 
-// What the leaf is made of: the key, and the certificate's parts.
+// The parts of the leaf: the key, and the certificate's parts.
 #[tactic(auto, unfolding(crate::specs::Promise::promised_at))]
 fn read_promised(
     alloc: Global,
@@ -107,13 +107,13 @@ fn read_promised(
     leaf_of(alloc, timestamp, key, &entry, extensions)
 }
 
-/// The leaf that a timestamp within a certificate stands for, at this moment, in milliseconds, and with these extensions, at most 65,535 bytes:
-/// of the certificate without the list of timestamps, and of SHA-256 of its issuer's key (RFC 6962, sections 3.2 to 3.4). Both are given in
-/// DER. These bytes are also what the log signed.
+/// The leaf that a timestamp embedded in a certificate promises, with this timestamp, in milliseconds, and these extensions, at most 65,535
+/// bytes. It consists of the certificate without the list of timestamps, and of SHA-256 of its issuer's key (RFC 6962, sections 3.2 to
+/// 3.4). Both documents are given in DER. These bytes are also the bytes that the log signed.
 ///
 /// # Errors
 ///
-/// `Unfit`, the first fault that reading meets; `Memory` where a growth is refused.
+/// `Unfit`, the first fault that reading finds; `Memory` if memory runs out.
 pub fn promised_leaf(
     alloc: Global,
     certificate: &[u8],
@@ -122,12 +122,12 @@ pub fn promised_leaf(
     extensions: &[u8],
 ) -> Result<Vec<u8>, PromiseFault>
     requires { length extensions.now < 2 ^ 16 }
-    // What is given is that leaf.
+    // The returned bytes are always that leaf.
     ensures found { IfOk result (λ v. IsPromised certificate.now issuer.now timestamp extensions.now v.items) }
-    // Each leaf that was promised is given, unless memory is refused.
+    // Each promised leaf is returned, unless memory is refused.
     ensures every { (leaf : List ℕ) → IsPromised certificate.now issuer.now timestamp extensions.now leaf
         → GivesPromise (λ v. v.items) result (Ok leaf) }
-    // Which fault it is.
+    // The fault is exactly that of reading.
     ensures exact { GivesPromise (λ v. v.items) result (promised_at certificate.now issuer.now timestamp extensions.now) }
 {
     read_promised(alloc, certificate, issuer, timestamp, extensions)

@@ -1,20 +1,22 @@
-//! What a log promised of a certificate: the entry of a precertificate, and the leaf that a timestamp within the final certificate stands for
-//! (RFC 6962, sections 3.1 to 3.4), each by one extension cut out of a TBSCertificate (RFC 5280, sections 4.1 and 4.2).
+//! The promises that a log made about a certificate: the entry of a precertificate, and the leaf that a timestamp embedded in the final
+//! certificate promises (RFC 6962, sections 3.1 to 3.4). Each is computed by cutting one extension out of a TBSCertificate (RFC 5280,
+//! sections 4.1 and 4.2).
 //!
-//! - [`cut_extension`] finds the one extension with an identifier: what stands before it, it, and what stands behind it, as slices.
-//!   [`push_without`] writes the TBSCertificate without it: all other bytes as they stand, but for the lengths around them. An empty list of
+//! - [`cut_extension`] finds the one extension with an identifier: the part before it, the extension, and the part after it, as slices.
+//!   [`push_without`] writes the TBSCertificate without it: all other bytes are unchanged, except the lengths around them. An empty list of
 //!   extensions is left out.
-//! - [`tbs_of`] and [`key_of`] give a certificate's TBSCertificate, and its SubjectPublicKeyInfo, each as all its bytes.
+//! - [`tbs_of`] and [`key_of`] return a certificate's TBSCertificate, and its SubjectPublicKeyInfo, each as all its bytes.
 //! - [`entry_of_precertificate`] is the TBSCertificate that goes into the log, without the poison.
-//! - [`promised_leaf`] is the leaf of a timestamp within a certificate: of the certificate without the list of timestamps, and the hash of its
-//!   issuer's key. These bytes are also what the log signed (section 3.2).
-//! - [`check_promise`] says whether that very leaf stands in a tree, by an audit path: its theorem begins at the certificate's own bytes.
-//! - All are exact: what is read is of the grammar in `specs/Tbs.antt`, and what is of the grammar is read. A [`CutFault`] is the first that
-//!   reading meets, with its field.
-//! - [`laws`] shows that no bytes have two cuts, that a cut that is put back gives the bytes, and what a promise that was kept tells.
+//! - [`promised_leaf`] is the leaf of a timestamp embedded in a certificate. It consists of the certificate without the list of timestamps,
+//!   and the hash of its issuer's key. These bytes are also the bytes that the log signed (section 3.2).
+//! - [`check_promise`] reports whether that very leaf is in a tree, by an audit path: its theorem begins at the certificate's own bytes.
+//! - All are exact: anything that is read is in the grammar of `specs/Tbs.antt`, and anything in the grammar is read. A [`CutFault`] is the
+//!   first fault that reading finds, with its field.
+//! - [`laws`] shows that no bytes have two cuts, that putting a cut back gives the bytes again, and what follows from a promise that was
+//!   kept.
 //!
-//! Which timestamps a certificate has, and whether the log's key signed them, is for the caller to see. Names, moments, keys, signatures and
-//! the values of extensions aren't looked at: more is read than DER allows.
+//! The caller must check which timestamps a certificate has, and whether the log's key signed them. Names, validity times, keys, signatures
+//! and the values of extensions are not examined: more is read than DER allows.
 #![tactic(auto)]
 
 mod checking;

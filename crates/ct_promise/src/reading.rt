@@ -10,7 +10,7 @@ use crate::fault::CutFault;
 use crate::field::{Place, Unread};
 use ct_der::{expected, only, optional};
 
-// The content of the element with this tag that the bytes of a field begin with, and the bytes behind it.
+// The content of the element with this tag that the bytes of a field begin with, and the bytes after it.
 fn expected_in(place: Place, tag: u8, bytes: &[u8]) -> Result<(&[u8], &[u8]), CutFault>
     ensures gives { Gives (λ x. (x.0.now, x.1.now)) result (put_at place (expected_at tag bytes.now)) }
     ensures shorter { IfOk result (λ x. length x.1.now < length bytes.now) }
@@ -21,7 +21,7 @@ fn expected_in(place: Place, tag: u8, bytes: &[u8]) -> Result<(&[u8], &[u8]), Cu
     }
 }
 
-// The content of the element with this tag that the bytes of a field are.
+// The content of the element with this tag that the bytes of a field consist of.
 pub(crate) fn only_in(place: Place, tag: u8, bytes: &[u8]) -> Result<&[u8], CutFault>
     ensures { Gives (λ x. x.now) result (put_at place (only_at tag bytes.now)) }
 {
@@ -31,7 +31,7 @@ pub(crate) fn only_in(place: Place, tag: u8, bytes: &[u8]) -> Result<&[u8], CutF
     }
 }
 
-// The content of the element with this tag that the bytes of a field begin with, where they do, and the bytes behind it.
+// The content of the element with this tag, if the bytes of a field begin with one, and the bytes after it.
 fn optional_in(place: Place, tag: u8, bytes: &[u8]) -> Result<(Option<&[u8]>, &[u8]), CutFault>
     ensures { Gives (λ x. (option_map (λ c. c.now) x.0, x.1.now)) result (put_at place (optional_at tag bytes.now)) }
 {
@@ -41,7 +41,7 @@ fn optional_in(place: Place, tag: u8, bytes: &[u8]) -> Result<(Option<&[u8]>, &[
     }
 }
 
-// What stands before the rest of some bytes.
+// The bytes before the rest of some bytes.
 pub(crate) fn before<'a>(whole: &'a [u8], rest: &[u8]) -> &'a [u8]
     ensures { result.now ≡ before whole.now rest.now }
 {
@@ -49,7 +49,7 @@ pub(crate) fn before<'a>(whole: &'a [u8], rest: &[u8]) -> &'a [u8]
     front
 }
 
-// What follows a field that has to be there.
+// The bytes after a required field.
 #[tactic(auto, unfolding(crate::specs::Reading::field_after))]
 fn after_must(tag: u8, place: Place, bytes: &[u8]) -> Result<&[u8], CutFault>
     ensures { Gives (λ r. r.now) result (field_after (must tag place) bytes.now) }
@@ -58,7 +58,7 @@ fn after_must(tag: u8, place: Place, bytes: &[u8]) -> Result<&[u8], CutFault>
     Ok(rest)
 }
 
-// What follows a field that may be left out.
+// The bytes after an optional field.
 #[tactic(auto, unfolding(crate::specs::Reading::field_after))]
 fn after_may(tag: u8, place: Place, bytes: &[u8]) -> Result<&[u8], CutFault>
     ensures { Gives (λ r. r.now) result (field_after (may tag place) bytes.now) }
@@ -67,7 +67,7 @@ fn after_may(tag: u8, place: Place, bytes: &[u8]) -> Result<&[u8], CutFault>
     Ok(rest)
 }
 
-// What follows the fields before the key.
+// The bytes after the fields before the key.
 fn after_subject(fields: &[u8]) -> Result<&[u8], CutFault>
     ensures { Gives (λ r. r.now) result (after_fields before_key fields.now) }
 {
@@ -79,7 +79,7 @@ fn after_subject(fields: &[u8]) -> Result<&[u8], CutFault>
     after_must(48, Place::Subject, rest)
 }
 
-// What follows all fields but the extensions.
+// The bytes after all fields except the extensions.
 pub(crate) fn after_subject_id(fields: &[u8]) -> Result<&[u8], CutFault>
     ensures { Gives (λ r. r.now) result (after_fields tbs_fields fields.now) }
 {
@@ -89,14 +89,14 @@ pub(crate) fn after_subject_id(fields: &[u8]) -> Result<&[u8], CutFault>
     after_may(130, Place::SubjectId, rest)
 }
 
-// An extension where it stands: its identifier and its value.
+// An extension as a view of the input: its identifier and its value.
 #[derive(Clone, Copy)]
 pub(crate) struct Extension<'a> {
     pub(crate) identifier: &'a [u8],
     pub(crate) value: &'a [u8],
 }
 
-// The extension that the bytes begin with, and the bytes behind it.
+// The extension that the bytes begin with, and the bytes after it.
 #[tactic(auto, unfolding(crate::specs::Reading::extension_with_at))]
 pub(crate) fn next_extension(bytes: &[u8]) -> Result<(Extension<'_>, &[u8]), CutFault>
     ensures gives { Gives (λ x. (x.0.identifier.now, x.0.value.now, x.1.now)) result (extension_with_at bytes.now) }
@@ -109,7 +109,7 @@ pub(crate) fn next_extension(bytes: &[u8]) -> Result<(Extension<'_>, &[u8]), Cut
     Ok((Extension { identifier, value }, rest))
 }
 
-// The extensions in their field, or none where it isn't there.
+// The extensions in their field, or none if the field is missing.
 #[tactic(auto, unfolding(crate::specs::Reading::list_at))]
 pub(crate) fn extensions_in(bytes: &[u8]) -> Result<&[u8], CutFault>
     ensures { Gives (λ x. x.now) result (list_at bytes.now) }
@@ -123,7 +123,7 @@ pub(crate) fn extensions_in(bytes: &[u8]) -> Result<&[u8], CutFault>
     }
 }
 
-// The TBSCertificate of a certificate, in the words of reading.
+// The TBSCertificate of a certificate, in terms of reading.
 #[tactic(auto, unfolding(crate::specs::Reading::whole_tbs_at))]
 fn read_tbs(certificate: &[u8]) -> Result<&[u8], CutFault>
     ensures { Gives (λ x. x.now) result (whole_tbs_at certificate.now) }
@@ -139,19 +139,19 @@ fn read_tbs(certificate: &[u8]) -> Result<&[u8], CutFault>
 ///
 /// # Errors
 ///
-/// `At`, the first fault that reading meets, where the bytes are no certificate of the grammar.
+/// `At`, the first fault that reading finds, if the bytes are not a certificate of the grammar.
 pub fn tbs_of(certificate: &[u8]) -> Result<&[u8], CutFault>
-    // What is read is of the grammar.
+    // A TBSCertificate is returned only if the bytes are in the grammar.
     ensures found { IfOk result (λ x. IsTbsOf x.now certificate.now) }
-    // What is of the grammar is read.
+    // Each certificate in the grammar is read.
     ensures every { (t : List ℕ) → IsTbsOf t certificate.now → Gives (λ x. x.now) result (Ok t) }
-    // Which fault it is.
+    // The fault is exactly that of reading.
     ensures exact { Gives (λ x. x.now) result (whole_tbs_at certificate.now) }
 {
     read_tbs(certificate)
 }
 
-// The key of a TBSCertificate, in the words of reading.
+// The key of a TBSCertificate, in terms of reading.
 #[tactic(auto, unfolding(crate::specs::Reading::key_at))]
 fn read_key(tbs: &[u8]) -> Result<&[u8], CutFault>
     ensures { Gives (λ x. x.now) result (key_at tbs.now) }
@@ -162,17 +162,17 @@ fn read_key(tbs: &[u8]) -> Result<&[u8], CutFault>
     Ok(before(rest, behind))
 }
 
-/// The key of a TBSCertificate: its SubjectPublicKeyInfo (RFC 5280, section 4.1.2.7), all its bytes. What stands behind it isn't looked at.
+/// The key of a TBSCertificate: its SubjectPublicKeyInfo (RFC 5280, section 4.1.2.7), all its bytes. The bytes after it are not examined.
 ///
 /// # Errors
 ///
-/// `At`, the first fault that reading meets, where the bytes aren't of the grammar up to the key.
+/// `At`, the first fault that reading finds, if the bytes are not in the grammar up to the key.
 pub fn key_of(tbs: &[u8]) -> Result<&[u8], CutFault>
-    // What is read is of the grammar.
+    // A key is returned only if the bytes are in the grammar.
     ensures found { IfOk result (λ x. IsKeyOf x.now tbs.now) }
-    // What is of the grammar is read.
+    // Each TBSCertificate in the grammar is read.
     ensures every { (k : List ℕ) → IsKeyOf k tbs.now → Gives (λ x. x.now) result (Ok k) }
-    // Which fault it is.
+    // The fault is exactly that of reading.
     ensures exact { Gives (λ x. x.now) result (key_at tbs.now) }
 {
     read_key(tbs)

@@ -44,7 +44,7 @@ mth-split H D h =
     (omega (arith, length-drop (split (length D)) D)) (omega arith) in
     rw (l, r) refl))
 
--- the same at a split that is known by an equation
+-- the same for a split that is given by an equation
 pub mth-split_at : (H : List ℕ → List ℕ) (D : List (List ℕ)) (k : ℕ) → 1 < length D → split (length D) ≡ k
     → mth H D ≡ hash_node H (mth H (take k D)) (mth H (drop k D))
 mth-split_at H D k h e = rw (← e) (mth-split H D h)
@@ -96,7 +96,7 @@ level_two H (x ∷ y ∷ []) e =
     mth-split_at H (x ∷ y ∷ []) 1 (omega arith) split_two
     ∙ rw (mth-one H x, mth-one H y) (sym (mth-one H (hash_node H x y)))
 
--- MTH is that of the list one level up: D of more than two leaves
+-- MTH of the list equals MTH of the list one level up, for a list D of more than two leaves
 level_more : (H : List ℕ → List ℕ) (D : List (List ℕ)) → 2 < length D
     → mth H (take (split (length D)) D) ≡ mth H (level H (take (split (length D)) D))
     → mth H (drop (split (length D)) D) ≡ mth H (level H (drop (split (length D)) D))
@@ -126,7 +126,7 @@ mth-level_at H =
 pub mth-level : (H : List ℕ → List ℕ) (D : List (List ℕ)) → 1 < length D → mth H D ≡ mth H (level H D)
 mth-level H D h = mth-level_at H (length D) D refl h
 
--- a root that is made of the roots of the two parts
+-- a root computed from the roots of the two parts
 pub root_joined : (H : List ℕ → List ℕ) (D : List (List ℕ)) (k : ℕ) (l r v : List ℕ) → 1 < length D → k ≡ split (length D)
     → l ≡ mth H (take k D) → r ≡ mth H (take (length D - k) (drop k D)) → v ≡ hash_node H l r → v ≡ mth H D
 root_joined H D k l r v h e f g i =

@@ -106,7 +106,7 @@ root-with_none : (H : List ℕ → List ℕ) (D : List (List ℕ)) (r : List ℕ
 unfolding root_of_peaks
 root-with_none H D r e = let f : D ≡ [] = nil_from_length D e in rw (f, peaks-nil H) (sym (mth-one H r))
 
--- the roots of the perfect subtrees of D, and one more node r, give the root of D and the leaf r
+-- the roots of the perfect subtrees of D and one more node r yield the root of D followed by the leaf r
 root-with : (H : List ℕ → List ℕ) (n : ℕ) (D : List (List ℕ)) (r : List ℕ) → length D ≡ n → root_of_peaks H (peaks H D ++ r ∷ []) ≡ mth H (D ++ r ∷ [])
 root-with H =
     bin_ind (λ n. (D : List (List ℕ)) (r : List ℕ) → length D ≡ n → root_of_peaks H (peaks H D ++ r ∷ []) ≡ mth H (D ++ r ∷ []))
@@ -183,7 +183,7 @@ root_of_peaks-last H (x ∷ y ∷ q) d h =
     let e : length (x ∷ y ∷ q) - 1 ≡ suc (length (y ∷ q) - 1) = omega arith in
     rw e (root_of_peaks-last H (y ∷ q) d (omega arith))
 
--- ---- the subtrees of an odd number of leaves: the last of them is the last leaf
+-- ---- the subtrees of an odd number of leaves: the last one is the last leaf
 pub record OddParts (H : List ℕ → List ℕ) (size : ℕ) (q D : List (List ℕ)) : Type 0 where
   pub front : List (List ℕ)
   pub last : List ℕ
@@ -213,7 +213,7 @@ odd_parts H size q D e f o = by_parity (parity D)
           half = omega (arith, ap length g, length_push E y, length_level H E);
         }
 
--- no subtrees: no leaves
+-- no subtrees mean no leaves
 pub peaks-some : (H : List ℕ → List ℕ) (D : List (List ℕ)) → length (peaks H D) ≡ 0 → D ≡ []
 peaks-some H D = some_at (length D) D refl
   where

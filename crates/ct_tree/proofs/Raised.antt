@@ -1,4 +1,4 @@
--- The levels of a tree: their nodes are the roots of perfect subtrees, but for the last one.
+-- The levels of a tree. Except for the last one, the nodes of a level are the roots of perfect subtrees.
 use Rattle.std.proofs.Common.{◌≡◌, ℕ, zero, suc, ◌+◌, ◌-◌, ◌*◌, ◌/◌, ◌%◌, ◌^◌, ◌<◌, ◌≤◌, ltb, refl, subst, sym, ◌∙◌, ap, arith, add-one, List, [], ◌∷◌, ◌++◌}
 use Rattle.std.proofs.Common.{length, take, get_or, ⊎_elim}
 use Rattle.std.proofs.lemmas.Bool.{cases_lt, lt-ltb, le-ltb, cond-true, cond-false}
@@ -49,7 +49,7 @@ module _ (H : List ℕ → List ℕ) where
   mth-single (x ∷ []) d e = mth-one H x
   mth-single (x ∷ y ∷ D) d e = absurd (omega arith)
 
-  -- ---- each node but the last one is the root of a perfect subtree
+  -- ---- each node except the last one is the root of a perfect subtree
   pub get-raised : (j l n i : ℕ) (D : List (List ℕ)) → length (raised H j (take n D)) ≡ l + 1 → i < l → get_or (raised H j (take n D)) i [] ≡ subtree H j i D
   unfolding raised subtree
   get-raised zero l n i D e h = get_or-take n D i [] (omega (arith, length-take n D))
@@ -81,7 +81,7 @@ module _ (H : List ℕ → List ℕ) where
       let a : 2 * (l / 2) ≡ l = omega arith in
       rw (raised-suc j (take n D)) (get-level_last (raised H j (take n D)) (l / 2) [] (omega arith) ∙ rw a f)
 
-  -- the last node of the next level, however it comes about
+  -- the last node of the next level, however it is computed
   pub edge_up : (j l n : ℕ) (D : List (List ℕ)) (edge next : List ℕ) → length (raised H j (take n D)) ≡ l + 1
       → get_or (raised H j (take n D)) l [] ≡ edge → (l % 2 ≡ 1 → next ≡ hash_node H (subtree H j (l - 1) D) edge) → (l % 2 ≡ 0 → next ≡ edge)
       → get_or (raised H (j + 1) (take n D)) (l / 2) [] ≡ next

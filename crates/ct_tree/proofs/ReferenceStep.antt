@@ -1,10 +1,10 @@
--- A step of the reference program: what was found for one part, and the other part's root.
+-- A step of the reference program: the result for one part, and the other part's root.
 use Rattle.std.proofs.Common.{◌≡◌, ℕ, ◌-◌, ◌<◌, ◌≤◌, Bool, false, List, [], ◌∷◌, ◌++◌, length, take, drop, sym}
 use Rattle.ct_tree.specs.Tree.{split, mth, path, subproof}
 use Rattle.ct_tree.proofs.Path.{path-left, path-right}
 use Rattle.ct_tree.proofs.Subproof.{subproof-left, subproof-right}
 
--- the list D is cut at k into L and R; S is what was found for the one part, r the root of the other
+-- the list D is cut at k into L and R; S is the result for one part, and r is the root of the other
 module _ (H : List ℕ → List ℕ) (m k : ℕ) (D L R S : List (List ℕ)) (r : List ℕ) (e : k ≡ split (length D)) (left : L ≡ take k D) (right : R ≡ drop k D) where
   pub path_from_left : 1 < length D → m < k → S ≡ path H m L → r ≡ mth H R → S ++ r ∷ [] ≡ path H m D
   path_from_left h low s t = rw (s, t, left, right) (sym (path-left H m k D h (sym e) low))

@@ -1,4 +1,4 @@
--- The levels of a growing tree, and those of one leaf more.
+-- The levels of a growing tree, and the levels after one more leaf.
 use Rattle.std.proofs.Common.{◌≡◌, ℕ, zero, suc, ◌+◌, ◌-◌, ◌*◌, ◌/◌, ◌%◌, ◌^◌, ◌<◌, ◌≤◌, refl, subst, sym, ◌∙◌, ap, arith, List, [], ◌∷◌, ◌++◌, length, get_or}
 use Rattle.std.proofs.Common.{⊎_elim}
 use Rattle.std.proofs.lemmas.Bool.{cases_lt}
@@ -103,7 +103,7 @@ module _ (H : List ℕ → List ℕ) where
         earlier = λ l. omega (arith, n, w l);
       }
 
-  -- ---- what is read
+  -- ---- the nodes that are read
   stored_is : (above : List (List (List ℕ))) (D : List (List ℕ)) (j i : ℕ) (v : List ℕ) → Stores H above D → (i + 1) * 2 ^ j < length D
       → (j ≡ 0 → v ≡ get_or D i []) → (0 < j → v ≡ get_or (get_or above (j - 1) []) i []) → v ≡ subtree H j i D
   unfolding subtree
@@ -195,7 +195,7 @@ module _ (H : List ℕ → List ℕ) where
           (cases_lt j l))
           (cases_lt l j)
 
-  -- the walk ends where the last node of a level has none beside it
+  -- the walk ends at a level whose last node has no sibling
   pub whole_end : (above : List (List (List ℕ))) (D : List (List ℕ)) (j k : ℕ) → Stores H above D
       → ((l : ℕ) → l < j → length D < (length (get_or above l []) + 1) * 2 ^ (l + 1)) → (k + 1) * 2 ^ j ≡ length D → k % 2 ≡ 0 → IsWhole above D
   whole_end above D j k s w e o l = ⊎_elim (λ (b : l < j). w l b) (λ (b : j ≤ l). further b) (cases_lt l j)

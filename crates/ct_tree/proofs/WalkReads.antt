@@ -1,4 +1,4 @@
--- What a walk from the leaves to the root reads.
+-- The nodes that a walk from the leaves to the root reads.
 use Rattle.std.proofs.Common.{◌≡◌, ℕ, ◌+◌, ◌-◌, ◌*◌, ◌/◌, ◌%◌, ◌^◌, ◌<◌, subst, sym, ◌∙◌, ap, arith, List, [], take, get_or, inl, inr, refl}
 use Rattle.std.proofs.lemmas.List.{get_or-take}
 use Rattle.std.proofs.Math.Nat.{div-div-eq-div-mul, mul-div_cancel}
@@ -7,7 +7,7 @@ use Rattle.std.proofs.lemmas.Nat.{pow_pos}
 use Rattle.ct_tree.specs.Levels.{beside, raised, subtree}
 use Rattle.ct_tree.specs.Walk.{IsEdgeNode, IsPathNode, IsProofNode}
 
--- ---- the node over a leaf
+-- ---- the node above a leaf
 pub over_zero : (m : ℕ) → m ≡ m / 2 ^ 0
 over_zero m = omega arith
 
@@ -19,7 +19,7 @@ over_up m level =
 pub up_at : (node m level : ℕ) → node ≡ m / 2 ^ level → node / 2 ≡ m / 2 ^ (level + 1)
 up_at node m level e = ap (λ (u : ℕ). u / 2) e ∙ sym (over_up m level)
 
--- m is a multiple: the nodes over leaf m and over the leaf before it are one from the level above on
+-- m is a multiple: from the level above on, the nodes above leaf m and above the leaf before it are the same
 pub known_above : (m node level : ℕ) → m ≡ (node + 1) * 2 ^ level → node % 2 ≡ 0 → node ≡ (m - 1) / 2 ^ level
     → m / 2 ^ (level + 1) ≡ (m - 1) / 2 ^ (level + 1)
 known_above m node level e even o =
@@ -30,7 +30,7 @@ known_above m node level e even o =
 pub known_up : (m level : ℕ) → m / 2 ^ (level + 1) ≡ (m - 1) / 2 ^ (level + 1) → m / 2 ^ (level + 1 + 1) ≡ (m - 1) / 2 ^ (level + 1 + 1)
 known_up m level e = over_up m (level + 1) ∙ ap (λ (u : ℕ). u / 2) e ∙ sym (over_up (m - 1) (level + 1))
 
--- ---- what is read
+-- ---- the nodes that are read
 pub last_read : (n : ℕ) → 0 < n → IsEdgeNode n 0 (n - 1)
 last_read n p = inl (refl, omega arith)
 

@@ -8,7 +8,7 @@ use Rattle.ct_tree.specs.Lengths.{path_length, subproof_length}
 abbrev pub IsLargestPowerBelow : ℕ → ℕ → Type 0
 IsLargestPowerBelow n k = ((exponent : ℕ) × (k ≡ 2 ^ exponent)) × (k < n) × (n ≤ 2 * k)
 
--- for n > 1 `split n` is the one power of two k with k < n <= 2k
+-- for n > 1 `split n` is the only power of two k with k < n <= 2k
 abbrev pub SplitIsLargestPowerBelow : Type 0
 SplitIsLargestPowerBelow = (n k : ℕ) → 1 < n → (k ≡ split n) ↔ IsLargestPowerBelow n k
 

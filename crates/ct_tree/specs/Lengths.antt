@@ -1,4 +1,4 @@
--- How many hashes an audit path and a consistency proof have, by the recursions of RFC 6962, sections 2.1.1 and 2.1.2.
+-- The number of hashes in an audit path and in a consistency proof, by the recursions of RFC 6962, sections 2.1.1 and 2.1.2.
 use Rattle.std.specs.Prelude.{ℕ, zero, suc, ◌-◌, Bool, false, nat_lt, if◌then◌else◌}
 use Rattle.ct_tree.specs.Tree.{split}
 

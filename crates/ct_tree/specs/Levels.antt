@@ -2,7 +2,7 @@
 use Rattle.std.specs.Prelude.{ℕ, zero, suc, ◌+◌, ◌-◌, ◌*◌, ◌%◌, nat_lt, if◌then◌else◌, List, [], ◌∷◌, get_or}
 use Rattle.ct_tree.specs.Tree.{hash_node}
 
--- one level up: the hashes of neighbors joined in pairs, a lone last one kept
+-- one level up: the hashes of neighbors joined in pairs; a last node without a sibling is kept
 unfoldable pub level : (List ℕ → List ℕ) → List (List ℕ) → List (List ℕ)
 level H [] = []
 level H (x ∷ []) = x ∷ []
@@ -18,10 +18,10 @@ unfoldable pub subtree : (List ℕ → List ℕ) → ℕ → ℕ → List (List 
 subtree H zero i D = get_or D i []
 subtree H (suc j) i D = hash_node H (subtree H j (2 * i) D) (subtree H j (2 * i + 1) D)
 
--- the index of the node beside the node at index i: the other one of its pair
+-- the index of the sibling of the node at index i: the other node of its pair
 abbrev pub beside : ℕ → ℕ
 beside i = i + 1 - 2 * (i % 2)
 
--- the node at index i of level j, whose last node, at index `last`, is `edge`
+-- the node at index i of level j; the level's last node, at index `last`, is `edge`
 abbrev pub node_or_edge : (List ℕ → List ℕ) → ℕ → ℕ → ℕ → List ℕ → List (List ℕ) → List ℕ
 node_or_edge H j i last edge D = if nat_lt i last then subtree H j i D else edge

@@ -10,7 +10,7 @@ peaks_within H (suc depth) D =
     let even = 2 * (length D / 2) in
     peaks_within H depth (level H (take even D)) ++ drop even D
 
--- the roots of the perfect subtrees of which the tree of D is made, largest first: where the number of leaves is odd the last leaf is the
+-- the roots of the perfect subtrees of which the tree of D consists, largest first. If the number of leaves is odd, the last leaf is the
 -- smallest subtree, and the subtrees of the other leaves are those of the next level
 unfoldable pub peaks : (List ℕ → List ℕ) → List (List ℕ) → List (List ℕ)
 peaks H D = peaks_within H (length D) D

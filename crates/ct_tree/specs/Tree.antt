@@ -1,7 +1,7 @@
--- The Merkle tree of RFC 6962, section 2.1, over any hash function H on byte lists. The letters are the RFC's:
--- D is the list of leaves, here of their hashes, n its length, k the largest power of two smaller than n. D[0:k] is
--- `take k D`, D[k:n] is `drop k D`, and `x : y` is `x ++ y ∷ []`. A definition that calls itself on the two parts of D
--- counts down a `depth` that begins at n; the crate's module `laws` shows the RFC's equations without it.
+-- The Merkle tree of RFC 6962, section 2.1, over any hash function H on byte lists. The letters are the RFC's: D is the list of leaves,
+-- here of their hashes, n its length, and k the largest power of two smaller than n. D[0:k] is `take k D`, D[k:n] is `drop k D`, and `x :
+-- y` is `x ++ y ∷ []`. A definition that calls itself on the two parts of D counts down a `depth` that begins at n. The crate's module
+-- `laws` shows the RFC's equations without it.
 use Rattle.std.specs.Prelude.{ℕ, zero, suc, ◌-◌, ◌*◌, Bool, true, false, nat_lt, if◌then◌else◌, List, [], ◌∷◌, ◌++◌, length, take, drop, map}
 
 -- k doubled for as long as it stays below n

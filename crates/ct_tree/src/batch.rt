@@ -1,4 +1,4 @@
-//! The leaf hashes of many leaves, by threads that are joined.
+//! The leaf hashes of many leaves, computed by threads that are joined.
 ghost use Rattle.std.specs.Prelude.{◌≡◌, ◌+◌, ◌<◌, ◌≤◌, ℕ, List, length, map, slice_index_or, IfOk};
 ghost use Rattle.std.specs.List.{flat_map};
 ghost use Rattle.ct_tree.specs.Tree.{hash_leaf};
@@ -31,7 +31,7 @@ impl<'a> LeafBytes for [&'a [u8]; 5] {
     }
 }
 
-// Each worker takes one part. The part for which no thread can be started is hashed in the caller's.
+// Each worker hashes one part. If no thread can be started for a part, the caller's thread hashes it.
 fn hash_each<H: NodeHash + Sync, L: LeafBytes + Sync, R: Threads + Sync>(
     rt: &R,
     h: &H,
@@ -65,9 +65,9 @@ fn hash_all<A: Allocator, H: NodeHash + Sync, L: LeafBytes + Sync, R: Threads + 
     Ok(hashes)
 }
 
-/// The leaf hashes of `leaves` in order (RFC 6962, section 2.1), by 1 to 64 workers. Each worker hashes one contiguous
-/// part, and no part has more leaves than the first, which has their number over that of the workers, rounded up. Where no
-/// thread can be started for a worker, its part is hashed all the same.
+/// The leaf hashes of `leaves` in order (RFC 6962, section 2.1), by 1 to 64 workers. Each worker hashes one contiguous part. No part has
+/// more leaves than the first, which has the number of leaves divided by the number of workers, rounded up. If no thread can be started for
+/// a worker, its part is hashed all the same.
 pub fn hash_batch<A: Allocator, H: NodeHash + Sync, R: Threads + Sync>(
     rt: &R,
     alloc: A,
@@ -82,7 +82,7 @@ pub fn hash_batch<A: Allocator, H: NodeHash + Sync, R: Threads + Sync>(
     hash_all(rt, alloc, h, leaves, workers)
 }
 
-/// What `hash_batch` answers, for leaves whose bytes lie in five parts that follow one another.
+/// The same result as `hash_batch`, for leaves whose bytes are in five parts that follow one another.
 pub fn hash_batch_parts<A: Allocator, H: NodeHash + Sync, R: Threads + Sync>(
     rt: &R,
     alloc: A,

@@ -7,7 +7,7 @@ ghost use Rattle.ct_tree.specs.Tree.{hash_leaf, hash_node};
 
 use sha2::{Digest, Sha256};
 
-/// A hash function on byte strings, with digests of 32 bytes. The value of a call is a function of the joined bytes alone.
+/// A hash function on byte strings, with digests of 32 bytes. The value of a call depends only on the joined bytes.
 pub trait NodeHash {
     // The digest of a message. Every value of the type computes this one function.
     ghost digest: { List ℕ → List ℕ };
@@ -38,21 +38,21 @@ impl NodeHash for Sha256Hash {
     ghost length_digest = { length-sha256 };
 }
 
-/// The hash of a leaf: H(00 || leaf) (RFC 6962, section 2.1). Takes no memory.
+/// The hash of a leaf: H(00 || leaf) (RFC 6962, section 2.1). It takes no memory.
 pub fn leaf_hash<H: NodeHash>(h: &H, leaf: &[u8]) -> [u8; 32]
     ensures { result ≡ hash_leaf H.digest leaf.now }
 {
     h.hash(&[&[0], leaf])
 }
 
-/// The hash of an inner node: H(01 || left || right) (RFC 6962, section 2.1). Takes no memory.
+/// The hash of an inner node: H(01 || left || right) (RFC 6962, section 2.1). It takes no memory.
 pub fn node_hash<H: NodeHash>(h: &H, left: &[u8; 32], right: &[u8; 32]) -> [u8; 32]
     ensures { result ≡ hash_node H.digest left.now right.now }
 {
     h.hash(&[&[1], left, right])
 }
 
-/// Whether two digests are equal.
+/// Reports whether two digests are equal.
 pub fn is_same_digest(a: &[u8; 32], b: &[u8; 32]) -> bool
     ensures { IsTrue result ↔ (a.now ≡ b.now) }
 {
@@ -66,7 +66,7 @@ pub fn empty_root<H: NodeHash>(h: &H) -> [u8; 32]
     h.hash(&[])
 }
 
-/// The hash of the leaf whose bytes are the five parts joined. Takes no memory.
+/// The hash of the leaf whose bytes are the five parts joined. It takes no memory.
 pub fn leaf_hash_parts<H: NodeHash>(h: &H, parts: [&[u8]; 5]) -> [u8; 32]
     ensures { result ≡ hash_leaf H.digest (flat_map (λ part. part.now) parts.entry) }
 {

@@ -1,5 +1,5 @@
-//! The equations of RFC 6962, section 2.1, each a clause of a function that does nothing. A reader who believes these
-//! need not read how the definitions of `specs/Tree.antt` count down their recursion.
+//! The equations of RFC 6962, section 2.1, each a clause of a function that does nothing. A reader who trusts these equations need not read
+//! how the definitions of `specs/Tree.antt` count down their recursion.
 
 ghost use Rattle.ct_tree.specs.Laws.{SplitIsLargestPowerBelow, MthOfNone, MthOfOne, MthOfMore, MthOfNoLeaves, MthOfOneLeaf, MthOfMoreLeaves, PathOfOne, PathInLeft, PathInRight, ProofIsSubproof, SubproofOfKnown, SubproofOfUnknown, SubproofInLeft, SubproofInRight, PathHasLength, SubproofHasLength};
 

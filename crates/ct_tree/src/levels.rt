@@ -25,7 +25,7 @@ pub(crate) fn stored(
     }
 }
 
-// Adds an empty list, where this is the level of the first one that is missing.
+// Adds an empty list, if this level is the first one without a list.
 fn reach(
     alloc: Global,
     above: &mut Vec<SharedList<[u8; 32]>>,
@@ -41,7 +41,7 @@ fn reach(
     Ok(())
 }
 
-// Adds a node at the end of a list, where the index is the list's length. The list may be the first one that is missing.
+// Adds a node at the end of a level's list, if the index is the list's length. The list may be the first one that is missing.
 fn put(
     alloc: Global,
     above: &mut Vec<SharedList<[u8; 32]>>,
@@ -63,8 +63,8 @@ fn put(
     Ok(())
 }
 
-// Stores the roots of the perfect subtrees that end with the last leaf, where they aren't stored yet. Where memory is
-// refused some of them may have been.
+// Stores the roots of the perfect subtrees that end with the last leaf, if they are not stored yet. If memory runs out, some of them may
+// have been stored.
 pub(crate) fn complete<H: NodeHash>(
     h: &H,
     alloc: Global,

@@ -1,8 +1,8 @@
-//! Where a tree is split (RFC 6962, section 2.1).
+//! The size at which a tree is split (RFC 6962, section 2.1).
 ghost use Rattle.std.specs.Prelude.{◌≡◌, ◌-◌, ◌<◌};
 ghost use Rattle.ct_tree.specs.Tree.{split};
 
-/// The largest power of two smaller than `n`: a tree of `n` leaves has so many in its left part (RFC 6962, section 2.1).
+/// The largest power of two smaller than `n`: a tree of `n` leaves has that many in its left part (RFC 6962, section 2.1).
 pub fn largest_power_below(n: usize) -> usize
     requires { 1 < n }
     ensures split { result ≡ split n }

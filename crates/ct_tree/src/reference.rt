@@ -1,5 +1,5 @@
-//! The reference program: MTH, PATH and PROOF of a list of leaf hashes, by the recursions of RFC 6962, section 2.1, as
-//! they are written there. It is slow, and `tree_tests` compares what `Stack` and `Nodes` answer with it.
+//! The reference program: MTH, PATH and PROOF of a list of leaf hashes, by the recursions of RFC 6962, section 2.1, as the RFC writes them.
+//! It is slow. `tree_tests` compares the results of `Stack` and `Nodes` with it.
 ghost use Rattle.std.specs.Prelude.{◌≡◌, ◌-◌, ◌<◌, ◌≤◌, Bool, List, length, IfOk};
 ghost use Rattle.ct_tree.specs.Tree.{mth, path as path_of, subproof as subproof_of, proof as proof_of};
 
@@ -23,7 +23,7 @@ pub fn root<H: NodeHash>(h: &H, leaves: &[[u8; 32]]) -> [u8; 32]
     }
 }
 
-/// PATH of the leaf at index `m` (RFC 6962, section 2.1.1): the hash nearest the root comes last.
+/// PATH of the leaf at index `m` (RFC 6962, section 2.1.1). The hash nearest the root is the last one.
 pub fn path<A: Allocator, H: NodeHash>(
     alloc: A,
     h: &H,
@@ -49,7 +49,7 @@ pub fn path<A: Allocator, H: NodeHash>(
     }
 }
 
-// SUBPROOF (RFC 6962, section 2.1.2), where `is_known` says that the verifier has the root of the first `m` leaves.
+// SUBPROOF (RFC 6962, section 2.1.2); `is_known` says whether the verifier has the root of the first `m` leaves.
 fn subproof<A: Allocator, H: NodeHash>(
     alloc: A,
     h: &H,
@@ -80,7 +80,7 @@ fn subproof<A: Allocator, H: NodeHash>(
     }
 }
 
-/// PROOF from the first `m` leaves to all of them (RFC 6962, section 2.1.2): the hash nearest the root comes last.
+/// PROOF from the first `m` leaves to all of them (RFC 6962, section 2.1.2). The hash nearest the root is the last one.
 pub fn proof<A: Allocator, H: NodeHash>(
     alloc: A,
     h: &H,

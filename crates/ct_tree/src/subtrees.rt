@@ -1,13 +1,13 @@
-//! The roots of the perfect subtrees of a list of leaves, largest first, wherever they are kept. Any number and any hashes
-//! can be handed in: the contracts speak of each list that they stand for.
+//! The roots of the perfect subtrees of a list of leaves, largest first, wherever they are kept. A caller may pass any number and any
+//! hashes: the contracts speak of each list that they represent.
 ghost use Rattle.std.specs.Prelude.{◌≡◌, ◌+◌, ◌<◌, ◌≤◌, ℕ, List, [], ◌∷◌, ◌++◌, length, take, drop};
 ghost use Rattle.ct_tree.specs.Tree.{mth};
 ghost use Rattle.ct_tree.specs.Peaks.{peaks, root_of_peaks};
 
 use crate::hash::{NodeHash, empty_root, node_hash};
 
-/// Takes in a leaf hash after `size` others: how many of the subtrees stay, and the root of the one that ends with the
-/// leaf and takes the place behind them. Hashes as many nodes as `size` has trailing ones in binary.
+/// Takes in a leaf hash after `size` others. It returns how many of the subtrees stay, and the root of the subtree that ends with the leaf
+/// and follows them. It hashes as many nodes as `size` has trailing ones in binary.
 pub fn with_leaf<H: NodeHash>(
     h: &H,
     subtrees: &[[u8; 32]],
@@ -43,8 +43,8 @@ fn joined<H: NodeHash>(h: &H, subtrees: &[[u8; 32]]) -> [u8; 32]
     root
 }
 
-/// The root of the leaves whose perfect subtrees these are (MTH of RFC 6962, section 2.1). Takes no memory, and hashes
-/// one node less than there are subtrees.
+/// The root of the leaves whose perfect subtrees these are (MTH of RFC 6962, section 2.1). It takes no memory, and hashes one node fewer
+/// than there are subtrees.
 pub fn root_of_subtrees<H: NodeHash>(h: &H, subtrees: &[[u8; 32]]) -> [u8; 32]
     ensures { (D : List (List ℕ)) → subtrees.now ≡ peaks H.digest D → result ≡ mth H.digest D }
 {

@@ -8,13 +8,12 @@ ghost use Rattle.ct_tree.specs.Walk.{IsEdgeNode, IsPathNode, IsProofNode, AreNod
 use crate::hash::{NodeHash, empty_root, node_hash};
 use std::alloc::{AllocError, Allocator};
 
-/// Where the nodes of a tree are kept. Nothing is required of them: each contract speaks of every list of leaves whose
-/// nodes are given.
+/// A store of a tree's nodes. Nothing is required of the nodes: each contract speaks of every list of leaves whose nodes the store returns.
 pub trait NodeSource<H: NodeHash> {
-    // The largest number of leaves of a tree that it is asked for.
+    // The largest number of leaves of a tree for which it is asked.
     ghost covers: { Self → ℕ };
 
-    // What is given for an index of a level is that node of the tree of the leaves with the hashes D.
+    // The value returned for an index of a level is that node of the tree of the leaves with the hashes D.
     ghost gives: { Self → List (List ℕ) → ℕ → ℕ → Type 0 };
 
     /// The hash of the leaf at an index.
@@ -22,7 +21,7 @@ pub trait NodeSource<H: NodeHash> {
         requires { index < covers self.now }
         ensures { (D : List (List ℕ)) → gives self.now D 0 index → result ≡ subtree H.digest 0 index D };
 
-    /// The root of the perfect subtree of 2^level leaves at an index of its level, of one that ends before the last leaf.
+    /// The root of the perfect subtree of 2^level leaves at an index of its level. The subtree ends before the last leaf.
     fn node_at(&self, h: &H, level: u64, index: u64) -> [u8; 32]
         requires { (index + 1) * 2 ^ level < covers self.now }
         ensures { (D : List (List ℕ)) → gives self.now D level index → result ≡ subtree H.digest level index D };
@@ -45,7 +44,7 @@ fn path_length(mut node: u64, mut last: u64) -> usize
     length
 }
 
-// The last node of the level above, where `edge` is the last node of a level.
+// The last node of the level above, if `edge` is the last node of a level.
 fn edge_above<H: NodeHash, S: NodeSource<H>>(
     h: &H,
     source: &S,
@@ -65,7 +64,7 @@ fn edge_above<H: NodeHash, S: NodeSource<H>>(
     node_hash(h, &left, edge)
 }
 
-// The node beside a node, in a level whose last node is `edge`, and none beside a lone last node.
+// The sibling of a node, in a level whose last node is `edge`. A last node without a pair has no sibling.
 fn sibling<H: NodeHash, S: NodeSource<H>>(
     h: &H,
     source: &S,
@@ -92,8 +91,8 @@ fn sibling<H: NodeHash, S: NodeSource<H>>(
     }
 }
 
-/// The root of the first `n` leaves (MTH of RFC 6962, section 2.1). Takes no memory, and asks for one node a level at
-/// most, which it hashes.
+/// The root of the first `n` leaves (MTH of RFC 6962, section 2.1). It takes no memory, and asks for at most one node per level, which it
+/// hashes.
 pub fn root_at<H: NodeHash, S: NodeSource<H>>(h: &H, source: &S, n: u64) -> [u8; 32]
     requires { n ≤ S.covers source.now }
     ensures { (D : List (List ℕ)) → AreNodesGiven (IsEdgeNode n) (S.gives source.now D) → n ≤ length D
@@ -113,8 +112,8 @@ pub fn root_at<H: NodeHash, S: NodeSource<H>>(h: &H, source: &S, n: u64) -> [u8;
     edge
 }
 
-/// The audit path of the leaf at index `m` in the tree of the first `n` leaves (PATH of RFC 6962, section 2.1.1): the
-/// hash nearest the root comes last. Asks for two nodes a level at most, and takes memory once, for the answer.
+/// The audit path of the leaf at index `m` in the tree of the first `n` leaves (PATH of RFC 6962, section 2.1.1). The hash nearest the root
+/// is the last one. The call asks for at most two nodes per level, and takes memory once, for the result.
 pub fn path<A: Allocator, H: NodeHash, S: NodeSource<H>>(
     alloc: A,
     h: &H,
@@ -146,9 +145,8 @@ pub fn path<A: Allocator, H: NodeHash, S: NodeSource<H>>(
     Ok(path)
 }
 
-/// The consistency proof from the tree of the first `m` leaves to that of the first `n` (PROOF of RFC 6962, section
-/// 2.1.2): the hash nearest the root comes last. Asks for two nodes a level at most, and takes memory once, for the
-/// answer.
+/// The consistency proof from the tree of the first `m` leaves to that of the first `n` (PROOF of RFC 6962, section 2.1.2). The hash
+/// nearest the root is the last one. The call asks for at most two nodes per level, and takes memory once, for the result.
 pub fn proof<A: Allocator, H: NodeHash, S: NodeSource<H>>(
     alloc: A,
     h: &H,

@@ -36,7 +36,7 @@ module _ (H : List ℕ → List ℕ) where
   unfolding both_down
   both-whole m n b r s q l = rw (le-ltb m n l) refl
 
-  -- ---- where m is even, one level up
+  -- ---- if m is even: one level up
   both-up : (r : List ℕ) (q : List (List ℕ)) (m n : ℕ) (b : Bool) → m % 2 ≡ 0 → 0 < m → Arrives m n
       → both_down H m n b r q ≡ both_down H (m / 2) (up n) b r q
   both-up r [] m n b e z (inside l) = both-end m n b r l ∙ sym (both-end (m / 2) (up n) b r (omega arith))
@@ -59,7 +59,7 @@ module _ (H : List ℕ → List ℕ) where
       ∙ sym (both-left (m / 2) (up n) (split (up n)) b r s q (omega arith) refl (omega (arith, split_up n more))))
       (cases_lt (split n) m)
 
-  -- ---- where m is 1 and r is known: r is the first value
+  -- ---- if m is 1 and r is known: r is the first value
   both-first : (r : List ℕ) (q : List (List ℕ)) (n : ℕ) → both_down H 1 n true r q ≡ along (pair_left H) (pair_right H) 0 n (r, r) q
   unfolding both_down along
   both-first r [] n = refl
@@ -72,7 +72,7 @@ module _ (H : List ℕ → List ℕ) where
       (λ (h : n ≤ 1). rw (le-ltb 1 n h) refl)
       (cases_lt 1 n)
 
-  -- ---- where m is odd: the first element is the first value
+  -- ---- if m is odd: the first element is the first value
   same_pair-past : (s c : List ℕ) (q : List (List ℕ)) → same_pair s (q ++ c ∷ []) ≡ None
   same_pair-past s c [] = refl
   same_pair-past s c (t ∷ q) = refl

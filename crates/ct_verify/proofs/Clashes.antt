@@ -1,5 +1,5 @@
--- The first clash of two lists and of a proof between them: where there is none the old list begins the new one, and
--- where there is one it is a collision.
+-- The first clash of two lists and of a proof between them: if there is none, the old list begins the new one; if there is one, it is a
+-- collision.
 use Rattle.std.proofs.Common.{refl, subst, ◌⊎◌, inl, inr, ⊎_elim, ◌≡◌, ℕ, ◌-◌, ◌<◌, ◌≤◌, sym, ◌∙◌, ap, ap₂, arith, Bool, true, false, cond, List, [], ◌∷◌, ◌++◌}
 use Rattle.std.proofs.Common.{reverse, length, take, drop, map, get_or, Option, Some, None, length-drop}
 use Rattle.std.specs.Option.{option_or}
@@ -53,7 +53,7 @@ or_some None v z e = inr e
 or_some (Some x) v z e = inl e
 
 module _ (H : List ℕ → List ℕ) where
-  -- strings of one hash that don't clash are equal
+  -- strings with the same hash that do not clash are equal
   clash_none : (a b : List ℕ) → clash H a b ≡ None → H a ≡ H b → a ≡ b
   clash_none a b e h =
       ⊎_elim
@@ -78,7 +78,7 @@ module _ (H : List ℕ → List ℕ) where
       (cases_Bool (bytes_eq (H a) (H b))))
       (cases_Bool (bytes_eq a b))
 
-  -- ---- what is found is a collision
+  -- ---- the pair that is found is a collision
   pub lists_collide : (E D : List (List ℕ)) (found : Option (List ℕ × List ℕ)) (z : List ℕ × List ℕ) → ClashOfLists H E D found
       → found ≡ Some z → Collides H z.0 z.1
   lists_collide E D found z (leaf e d ee ed w) f = clash_some (0 ∷ e) (0 ∷ d) z (sym w ∙ f)
@@ -104,7 +104,7 @@ module _ (H : List ℕ → List ℕ) where
       (λ j. ⊎_elim (λ h. clash_some (1 ∷ s ++ x) (root_string H k E) z h) (λ h. clash_some (1 ∷ s ++ y) (root_string H k D) z h) (or_some old new z j))
       (or_some (option_or u v) (option_or old new) z (sym w ∙ f))
 
--- ---- where nothing is found
+-- ---- if nothing is found
 module _ (H : List ℕ → List ℕ) (hash_length : (x : List ℕ) → length (H x) ≡ 32) where
   pub lists_same : (E D : List (List ℕ)) (found : Option (List ℕ × List ℕ)) → ClashOfLists H E D found → found ≡ None → SameRoot H E D
   lists_same E D found (leaf e d ee ed w) f =
@@ -124,7 +124,7 @@ module _ (H : List ℕ → List ℕ) (hash_length : (x : List ℕ) → length (H
       (lists_same (take k E) (take k D) u a y.0)
       (lists_same (drop k E) (drop k D) v b y.1)
 
-  -- the two roots are one where the lists are equally long
+  -- the two roots are equal if the lists are equally long
   one_root_down : (q : List (List ℕ)) (n : ℕ) (b : Bool) (r x y : List ℕ) → both_down H n n b r q ≡ Some (x, y) → x ≡ y
   one_root_down [] n true r x y e = let z = one_pair H r x y [] (sym (both-end_whole H n n true r (omega arith)) ∙ e) in z.0 ∙ sym z.1
   one_root_down [] n false r x y e = absurd (none_some (x, y) (sym (both-end_whole H n n false r (omega arith)) ∙ e))
@@ -135,7 +135,7 @@ module _ (H : List ℕ → List ℕ) (hash_length : (x : List ℕ) → length (H
   unfolding both_roots
   one_root n b r p x y e = one_root_down (reverse p) n b r x y e
 
-  -- an element s of the proof beside the roots of the two parts
+  -- an element s of the proof next to the roots of the two parts
   left_apart : (y s A B : List ℕ) → length s ≡ 32 → length B ≡ 32 → clash H (1 ∷ y ++ s) (1 ∷ A ++ B) ≡ None → NodesApart H y s A B
   left_apart y s A B l m e g =
       parts_right y A s B (l ∙ sym m) (tail_same 1 1 (y ++ s) (A ++ B) (clash_none H (1 ∷ y ++ s) (1 ∷ A ++ B) e g))

@@ -1,4 +1,4 @@
--- What the comparison of a path with a list of leaves finds, one level up.
+-- The result of comparing a path with a list of leaves, one level up.
 use Rattle.std.proofs.Common.{refl, ◌≡◌, ℕ, ◌+◌, ◌-◌, ◌<◌, ◌≤◌, sym, ◌∙◌, ap, arith, List, reverse, [], ◌∷◌, ◌++◌, length, take, drop, get_or, map, Option}
 use Rattle.std.proofs.Common.{Some, None, length-drop}
 use Rattle.std.proofs.lemmas.List.{length-map, take-map, drop-map, take_rest, get_or-take, get_or-drop, length-take-le}
@@ -127,7 +127,7 @@ module _ (H : List ℕ → List ℕ) {V : Type 0} (f : V → List ℕ) where
       ∙ rw (ih_x t root, ey, ez, tr, under) (sym j)
       ∙ ap (evid H (map f xs) leaf m) (sym (w (nonempty H m (length xs) (hash_leaf H leaf) p r more a)))
 
-  -- the root that the path gives
+  -- the root that the path yields
   pub left_rebuilt : (xs : List V) (h : List ℕ) (m k : ℕ) (p rest : List (List ℕ)) (s x v : List ℕ)
       → 1 < length xs → k ≡ split (length xs) → m < k → (0 < length p → p ≡ rest ++ s ∷ [])
       → ((t : List ℕ) → rebuild H m (length (take k xs)) h rest ≡ Some t → x ≡ t)

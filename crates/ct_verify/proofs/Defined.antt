@@ -1,4 +1,4 @@
--- Roots are rebuilt exactly from a path of the length of PATH or SUBPROOF. So no accepted proof is refused.
+-- Roots are rebuilt exactly from a path whose length is that of PATH or SUBPROOF. So no accepted proof is refused.
 use Rattle.std.proofs.Common.{refl, ◌≡◌, ℕ, ◌-◌, ◌<◌, ◌≤◌, sym, ◌∙◌, ap, arith, Bool, true, false, cond, List, [], ◌∷◌, length, reverse, Some, is_some, ⊎_elim}
 use Rattle.std.proofs.lemmas.Bool.{cases_lt}
 use Rattle.std.proofs.lemmas.List.{length-reverse}

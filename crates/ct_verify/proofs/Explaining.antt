@@ -17,7 +17,7 @@ use Rattle.ct_verify.specs.declared.evidence.EvidenceFault.{EvidenceFault}
 use Rattle.ct_verify.specs.declared.evidence.EvidenceFault.TheVariants.{ProofRefused, Memory}
 
 module _ (H : List ℕ → List ℕ) (hash_length : (x : List ℕ) → length (H x) ≡ 32) where
-  -- the verifier's word carried over to the list
+  -- the verifier's verdict carried over to the list
   pub accepted : {V : Type 0} (f : V → List ℕ) (xs : List V) (leaf h root : List ℕ) (m : ℕ) (p : List (List ℕ)) → h ≡ hash_leaf H leaf
       → root ≡ mth_of_leaves H (map f xs)
       → AcceptsInclusion H h m (length xs) p root → IsAccepted H (map f xs) leaf m p
@@ -38,7 +38,7 @@ module _ (H : List ℕ → List ℕ) (hash_length : (x : List ℕ) → length (H
       let c : Collides H z.0 z.1 = subst (Shows H (IsAudited H D leaf m p)) f (evid_shows H hash_length D leaf m p a.0 a.1) in
       (a, rw (i.0, i.1) f, rw (i.0, i.1) c)
 
-  -- a leaf with its PATH is answered by Holds alone
+  -- a leaf with its PATH always has the result Holds
   pub holds : {A : Type 0} → (D : List (List ℕ)) (leaf : List ℕ) (m : ℕ) (p : List (List ℕ)) (result : Result (Evidence A) EvidenceFault)
       → MatchResult result (InclusionEvidence H D leaf m p) (InclusionFault H D leaf m p) → IsAudited H D leaf m p → result ≡ Ok Holds
   holds D leaf m p (Ok Holds) e a = refl

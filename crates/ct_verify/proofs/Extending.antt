@@ -20,12 +20,12 @@ use Rattle.ct_verify.specs.declared.evidence.Evidence.TheVariants.{Holds, Collis
 use Rattle.ct_verify.specs.declared.evidence.EvidenceFault.{EvidenceFault}
 use Rattle.ct_verify.specs.declared.evidence.EvidenceFault.TheVariants.{ProofRefused, Memory}
 
--- an error that `?` hands on
+-- an error that `?` passes on
 pub answered : {T F : Type 0} (r : Result T F) (P : T → Type 0) (Q : F → Type 0) (e : F) → IsErr r → IsErrAnd r (λ x. x ≡ e) → Q e → MatchResult r P Q
 answered (Ok x) P Q e i j q = absurd (both_ways false refl i)
 answered (Err x) P Q e i j q = subst Q (sym j) q
 
--- a list of lists of bytes compared with the beginning of another
+-- a list of byte lists compared with the beginning of another
 pub begins_decides : {V : Type 0} (f : V → List ℕ) (xs ys : List V)
     → Decides (pointwise (λ x y. pointwise eqb (f x) (f y)) xs (take (length xs) ys)) (IsBeginning (map f xs) (map f ys))
 begins_decides f xs ys =
@@ -37,7 +37,7 @@ begins_decides f xs ys =
     (λ t. d.0 (p ∙ t) ∙ s, λ b. sym p ∙ d.1 (b ∙ sym s))
 
 module _ (H : List ℕ → List ℕ) {V : Type 0} (f : V → List ℕ) where
-  -- the verifier's word carried over to the lists
+  -- the verifier's verdict carried over to the lists
   pub accepted_for : (xs ys : List V) (x y : List ℕ) (p : List (List ℕ)) → x ≡ mth_of_leaves H (map f xs) → y ≡ mth_of_leaves H (map f ys)
       → AcceptsConsistency H (length xs) (length ys) x y p → IsAcceptedFor H (map f xs) (map f ys) p
   accepted_for xs ys x y p ex ey a = rw (length-map xs f, length-map ys f, sym ex, sym ey) a
@@ -47,7 +47,7 @@ module _ (H : List ℕ → List ℕ) {V : Type 0} (f : V → List ℕ) where
   refused_for xs ys x y p v ex ey r = rw (length-map xs f, length-map ys f, sym ex, sym ey) r
 
 module _ (H : List ℕ → List ℕ) where
-  -- where the old list begins the new one, an accepted proof is answered by Holds alone
+  -- if the old list begins the new one, an accepted proof always has the result Holds
   pub extension_holds : {A : Type 0} → (E D p : List (List ℕ)) (result : Result (Evidence A) EvidenceFault)
       → MatchResult result (ConsistencyEvidence H E D p) (ConsistencyFault H E D p) → IsAcceptedFor H E D p → IsBeginning E D → result ≡ Ok Holds
   extension_holds E D p (Ok Holds) e a b = refl

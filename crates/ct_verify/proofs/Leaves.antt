@@ -21,7 +21,7 @@ module _ (H : List ℕ → List ℕ) {V : Type 0} (f : V → List ℕ) where
       mth-split_at H (map (hash_leaf H) (map f xs)) k (omega arith) (ap split n ∙ e)
       ∙ rw (take-map (hash_leaf H) k (map f xs), drop-map (hash_leaf H) k (map f xs), take-map f k xs, drop-map f k xs) refl
 
-  -- a root that is made of the roots of the two parts
+  -- a root computed from the roots of the two parts
   pub leaves_joined : (xs : List V) (k : ℕ) (l r v : List ℕ) → 1 < length xs → k ≡ split (length xs)
       → l ≡ mth_of_leaves H (map f (take k xs)) → r ≡ mth_of_leaves H (map f (take (length xs - k) (drop k xs))) → v ≡ hash_node H l r
       → v ≡ mth_of_leaves H (map f xs)

@@ -1,4 +1,4 @@
--- No path and no proof is refused in two ways.
+-- No path and no proof has two different refusals.
 use Rattle.std.proofs.Common.{refl, ◌≡◌, ℕ, sym, ◌∙◌, ap, arith, List, length, true}
 use Rattle.ct_verify.proofs.Defined.{both_defined_length, not_empty}
 use Rattle.ct_verify.proofs.Options.{same_some}
@@ -33,7 +33,7 @@ module _ (H : List ℕ → List ℕ) where
   one_path_refusal h m n p root f FirstMismatch r s = absurd s
   one_path_refusal h m n p root f SizesOutOfRange r s = absurd s
 
-  -- both roots of a proof are those of one pair
+  -- both roots of a proof belong to one pair
   not_first : (m n : ℕ) (x y : List ℕ) (p : List (List ℕ)) → RefusesConsistency H m n x y p FirstMismatch
       → RefusesConsistency H m n x y p RootMismatch → ⊥
   not_first m n x y p r s =

@@ -20,7 +20,7 @@ pub mapped : {X Y : Type 0} (f : X → Y) (o : Option X) (y : Y) → option_map 
 mapped f None y e = absurd (none_some y e)
 mapped f (Some x) y e = (x, refl, same_some (f x) y e)
 
--- what is there
+-- the value that is present
 pub held : {X : Type 0} (o : Option X) → is_some o ≡ true → (x : X) × (o ≡ Some x)
 held None e = absurd (both_ways false refl e)
 held (Some x) e = (x, refl)

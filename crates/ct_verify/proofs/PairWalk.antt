@@ -71,7 +71,7 @@ halved_length d a b n l (higher n' l' w o) h =
     ∙ subproof_length-up (l' + 1) (n' + 1) d (omega arith) (omega arith) (inside (omega arith))
     ∙ rw (m, up_last l') refl
 
--- what the walk from the first value refuses is refused
+-- if the walk from the first value refuses, the proof is refused
 pub refused : (H : List ℕ → List ℕ) (m n : ℕ) (x y : List ℕ) (p : List (List ℕ)) (a l : ℕ) (v : List ℕ) (q : List (List ℕ))
     → 0 < m → m < n → 0 < length p
     → both_roots H m n true x p ≡ pair_up H a (l + 1) (v, v) q
@@ -85,7 +85,7 @@ refused H m n x y p a l v q z i s e f SizesOutOfRange w = absurd w
 refused H m n x y p a l v q z i s e f EmptyPath w = absurd w
 refused H m n x y p a l v q z i s e f IndexOutOfRange w = absurd w
 
--- what holds of each answer is carried over
+-- facts about each result are carried over
 pub answer_carried : {T : Type 0} (r : Result T ProofFault) {P P' : Type 0} {Q Q' : ProofFault → Type 0} → (P → P')
     → ((fault : ProofFault) → Q fault → Q' fault)
     → MatchResult r (λ _. P) Q → MatchResult r (λ _. P') Q'

@@ -1,5 +1,5 @@
--- What a consistency proof shows of two lists: the old one begins the new one, where no two strings
--- that are compared on the way have one hash and differ. Each law is one step from the parts to the whole.
+-- The conclusion from a consistency proof for two lists: the old one begins the new one, if no two strings that are compared on the way
+-- differ and have the same hash. Each law is one step from the parts to the whole.
 use Rattle.std.proofs.Common.{refl, ◌≡◌, ℕ, ◌+◌, ◌-◌, ◌<◌, ◌≤◌, sym, ◌∙◌, ap, arith, Bool, false, List, [], ◌∷◌, ◌++◌, length, take, drop, Some}
 use Rattle.std.proofs.Common.{length-drop}
 use Rattle.std.specs.Option.{option_map}
@@ -39,7 +39,7 @@ module _ (H : List ℕ → List ℕ) where
   begun_whole b r p E D n one same e =
       same (one (mth_of_leaves H E) (mth_of_leaves H D) e) ∙ sym (take_all (length E) D (omega arith))
 
-  -- the old list lies in the left part: x, y are the roots that the proof gives there
+  -- the old list is in the left part: x, y are the roots that the proof yields there
   pub begun_left : (b : Bool) (r s x y : List ℕ) (p q E D : List (List ℕ)) (k : ℕ) → length E < length D → 1 < length D → split (length D) ≡ k → length E ≤ k
       → p ≡ q ++ s ∷ [] → both_roots H (length E) k b r q ≡ Some (x, y)
       → NodesApart H y s (mth_of_leaves H (take k D)) (mth_of_leaves H (drop k D))
@@ -54,7 +54,7 @@ module _ (H : List ℕ → List ℕ) where
       under (ap (λ u. both_roots H (length E) u b r q) c ∙ two ∙ rw (v.0, a.0) refl)
       ∙ take-take (length E) k D low
 
-  -- it goes into the right part
+  -- the old list extends into the right part
   pub begun_right : (b : Bool) (r t s x y : List ℕ) (p q E D : List (List ℕ)) (k : ℕ) → length E < length D → 1 < length E → split (length D) ≡ k
       → split (length E) ≡ k → k < length E
       → p ≡ q ++ s ∷ [] → both_roots H (length E - k) (length D - k) false t q ≡ Some (x, y)

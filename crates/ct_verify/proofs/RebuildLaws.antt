@@ -1,4 +1,4 @@
--- A PATH rebuilds MTH, and a PROOF both.
+-- A PATH rebuilds MTH, and a PROOF rebuilds both.
 use Rattle.std.proofs.Common.{◌≡◌, ℕ, zero, suc, ◌+◌, ◌-◌, ◌<◌, ◌≤◌, cond, Bool, true, false, refl, subst, sym, ◌∙◌, ap, arith, List, [], ◌∷◌, ◌++◌, reverse}
 use Rattle.std.proofs.Common.{length, take, drop, get_or, Some, length-drop, ⊎_elim}
 use Rattle.std.specs.Option.{option_map}

@@ -1,4 +1,4 @@
--- What going down an accepted path shows, and that nothing is found where the path is PATH.
+-- The conclusion from walking down an accepted path, and that nothing is found if the path is PATH.
 use Rattle.std.proofs.Common.{◌≡◌, ℕ, ◌+◌, ◌-◌, ◌<◌, ◌≤◌, refl, subst, sym, ◌∙◌, ap, arith, List, [], ◌∷◌, ◌++◌, reverse, length, take, drop, get_or, map}
 use Rattle.std.proofs.Common.{Option, Some, None, true, false, length-drop, ◌⊎◌, inl, inr, ⊎_elim}
 use Rattle.std.specs.Str.{bytes_eq}
@@ -23,12 +23,12 @@ head_same x y xs ys e = cc
 pub tail_same : {X : Type 0} (x y : X) (xs ys : List X) → x ∷ xs ≡ y ∷ ys → xs ≡ ys
 tail_same x y xs ys e = cc
 
--- what a comparison shows: P where no pair is found, and else a collision
+-- the conclusion from a comparison: P if no pair is found, and otherwise a collision
 abbrev pub Shows : (List ℕ → List ℕ) → Type 0 → Option (List ℕ × List ℕ) → Type 0
 Shows H P None = P
 Shows H P (Some z) = Collides H z.0 z.1
 
--- two lists of two parts, the left ones equally long
+-- two lists that consist of two parts each, the left parts equally long
 pub parts : {X : Type 0} (a b c d : List X) → length a ≡ length b → a ++ c ≡ b ++ d → (a ≡ b) × (c ≡ d)
 parts [] [] c d l e = (refl, e)
 parts [] (y ∷ b) c d l e = absurd (omega arith)
@@ -39,7 +39,7 @@ parts (x ∷ a) (y ∷ b) c d l e =
     let z = parts a b c d (omega arith) t in
     (rw (h, z.0) refl, z.1)
 
--- the right ones equally long
+-- the right parts equally long
 pub parts_right : {X : Type 0} (a b c d : List X) → length c ≡ length d → a ++ c ≡ b ++ d → (a ≡ b) × (c ≡ d)
 parts_right a b c d l e =
     let n : length (a ++ c) ≡ length (b ++ d) = ap length e in
@@ -61,7 +61,7 @@ module _ (H : List ℕ → List ℕ) where
   shows_map P Q None f s = f s
   shows_map P Q (Some z) f s = s
 
-  -- two strings of one hash compared
+  -- two strings with the same hash, compared
   pub compared_shows : (P : Type 0) (x y : List ℕ) (below : Option (List ℕ × List ℕ)) → H x ≡ H y → ((x ≡ y) → Shows H P below) → Shows H P (compared x y below)
   compared_shows P x y below e under =
       ⊎_elim
@@ -119,7 +119,7 @@ module _ (H : List ℕ → List ℕ) where
       ap reverse (path-right H m k (map (hash_leaf H) D) (omega arith) (ap split n ∙ e) high)
       ∙ rw (take-map (hash_leaf H) k D, drop-map (hash_leaf H) k D) (reverse_last (path H (m - k) (map (hash_leaf H) (drop k D))) (mth_of_leaves H (take k D)))
 
-  -- ---- where nothing differs
+  -- ---- if nothing differs
   low_leaf : (D : List (List ℕ)) (m k : ℕ) → m < k → get_or (take k D) m [] ≡ get_or D m []
   low_leaf D m k low = get_or-take k D m [] low
 
@@ -173,7 +173,7 @@ module _ (H : List ℕ → List ℕ) where
       ∙ right (drop (split n) D) (m - split n) leaf c (omega arith) t))
       (cases_lt m (split n)))
 
--- ---- going down an accepted path
+-- ---- down an accepted path
 module _ (H : List ℕ → List ℕ) (hash_length : (x : List ℕ) → length (H x) ≡ 32) where
   pub leaves_length : (D : List (List ℕ)) → 0 < length D → length (mth_of_leaves H D) ≡ 32
   leaves_length [] l = absurd (omega arith)

@@ -53,7 +53,7 @@ walk_left_length a b n l w o i =
     ∙ path_length-up (l + 1) n (omega arith)
     ∙ ap (λ u. 1 + path_length (n / 2) u) (up_last l)
 
--- it joins at the right
+-- the element c joins at the right, and the walk goes up
 pub walk_right : (H : List ℕ → List ℕ) (x c : List ℕ) (p : List (List ℕ)) (n l : ℕ) → n % 2 ≡ 0 → n < l
     → rebuild H n (l + 1) x (c ∷ p) ≡ rebuild H (n / 2) (l / 2 + 1) (hash_node H x c) p
 walk_right H x c p n l o i =

@@ -29,7 +29,7 @@ module _ (H : List ℕ → List ℕ) where
       let f : both_roots H m n b r p ≡ both_roots H m n b r (q ++ s ∷ []) = ap (both_roots H m n b r) (w (short m n b r p z l a)) in
       mapped (λ z. pair_right H z s) (both_roots H (m - k) (n - k) false t q) z (sym (f ∙ both_right H m n k b r t s q l e high) ∙ a)
 
-  -- both roots are one value where the lists are equally long
+  -- both roots are one value if the lists are equally long
   pub one_pair : (c x y : List ℕ) (q : List (List ℕ)) → same_pair c q ≡ Some (x, y) → (x ≡ c) × (y ≡ c)
   one_pair c x y [] e =
       let z : (c, c) ≡ (x, y) = same_some (c, c) (x, y) e in
@@ -50,14 +50,14 @@ module _ (H : List ℕ → List ℕ) where
       whole_end true f = absurd (none_some (x, y) (sym (both-whole H n n true r s (reverse q) (omega arith)) ∙ f))
       whole_end false f = one_pair s x y (reverse q) (sym (both-whole H n n false r s (reverse q) (omega arith)) ∙ f)
 
--- k splits each longer list as well, up to n leaves
+-- k is also the split of each number of leaves that is greater than k and at most n
 pub split_within : (m n k : ℕ) → m < n → k ≡ split n → 0 < k → k < m → split m ≡ k
 split_within m n k l e z high =
     let w = split_is n (omega arith) in
     let s : IsSplit m k = record { power = subst IsPower (sym e) w.power; below = high; half = omega (arith, w.half, e) } in
     split_unique m (split m) k (split_is m (omega arith)) s
 
--- ---- the roots that the proof gives
+-- ---- the roots that the proof yields
 module _ (H : List ℕ → List ℕ) where
   pub left_roots : (b : Bool) (m n k j : ℕ) (r s v w : List ℕ) (p q : List (List ℕ)) → m < n → k ≡ split n → m ≤ k → j ≡ k → (0 < length p → p ≡ q ++ s ∷ [])
       → ((x y : List ℕ) → both_roots H m j b r q ≡ Some (x, y) → (v ≡ x) × (w ≡ y))

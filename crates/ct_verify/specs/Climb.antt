@@ -1,4 +1,4 @@
--- What the walk from a leaf to the root carries, as the contracts of the helper functions cite it.
+-- The values that the walk from a leaf to the root carries, as the contracts of the helper functions cite it.
 use Rattle.std.specs.Prelude.{ℕ, ◌-◌, nat_lt, if◌then◌else◌, List, [], ◌∷◌, reverse, Option, Some, None}
 use Rattle.std.specs.Option.{option_map}
 use Rattle.ct_tree.specs.Tree.{split, hash_node}
@@ -13,7 +13,7 @@ along left right m n x (s ∷ q) =
     else option_map (λ y. right y s) (along left right (m - split n) (n - split n) x q))
     else None
 
--- the roots of the first m + 1 leaves and of all n: an element at the right belongs to the second alone
+-- the roots of the first m + 1 leaves and of all n: an element at the right belongs only to the second
 abbrev pub pair_left : (List ℕ → List ℕ) → List ℕ × List ℕ → List ℕ → List ℕ × List ℕ
 pair_left H z s = (z.0, hash_node H z.1 s)
 
@@ -21,6 +21,6 @@ pair_left H z s = (z.0, hash_node H z.1 s)
 abbrev pub pair_right : (List ℕ → List ℕ) → List ℕ × List ℕ → List ℕ → List ℕ × List ℕ
 pair_right H z s = (hash_node H s z.0, hash_node H s z.1)
 
--- the two roots that the path p gives to the two values z at index m of n
+-- the two roots that the path p yields for the two values z at index m of n
 unfoldable pub pair_up : (List ℕ → List ℕ) → ℕ → ℕ → List ℕ × List ℕ → List (List ℕ) → Option (List ℕ × List ℕ)
 pair_up H m n z p = along (pair_left H) (pair_right H) m n z (reverse p)

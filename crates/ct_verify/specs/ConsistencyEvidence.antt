@@ -1,4 +1,4 @@
--- What the evidence for a consistency proof says, against the old leaves E and the new ones D.
+-- The meaning of the evidence for a consistency proof, about the old leaves E and the new ones D.
 use Rattle.std.specs.Prelude.{◌≡◌, ℕ, true, List, length, take, Some}
 use Rattle.ct_tree.specs.Tree.{mth_of_leaves}
 use Rattle.ct_verify.specs.Evidence.{Collides}
@@ -17,15 +17,15 @@ IsAcceptedFor H E D p = AcceptsConsistency H (length E) (length D) (mth_of_leave
 abbrev pub IsBeginning : List (List ℕ) → List (List ℕ) → Type 0
 IsBeginning E D = E ≡ take (length E) D
 
--- Holds: accepted, and the old list begins the new one. Collision: accepted, it doesn't, and here are two strings that
--- differ and have one hash, the first clash along the proof
+-- Holds: accepted, and the old list begins the new one. Collision: accepted, the old list does not begin the new one, and these are two
+-- strings that differ and have the same hash, the first clash along the proof
 abbrev pub ConsistencyEvidence : {A : Type 0} → (List ℕ → List ℕ) → List (List ℕ) → List (List ℕ) → List (List ℕ) → Evidence A → Type 0
 ConsistencyEvidence H E D p Holds = IsAcceptedFor H E D p × IsBeginning E D
 ConsistencyEvidence H E D p (Collision a b) =
     IsAcceptedFor H E D p × (¬ IsBeginning E D) × Collides H a.items b.items
     × ClashAlong H true (mth_of_leaves H E) E D p (Some (a.items, b.items))
 
--- ProofRefused: the verifier's own refusal. Memory: accepted, and the old list doesn't begin the new one
+-- ProofRefused: the verifier's own refusal. Memory: accepted, and the old list does not begin the new one
 abbrev pub ConsistencyFault : (List ℕ → List ℕ) → List (List ℕ) → List (List ℕ) → List (List ℕ) → EvidenceFault → Type 0
 ConsistencyFault H E D p (ProofRefused v) = RefusesConsistency H (length E) (length D) (mth_of_leaves H E) (mth_of_leaves H D) p v
 ConsistencyFault H E D p Memory = IsAcceptedFor H E D p × (¬ IsBeginning E D)

@@ -5,22 +5,21 @@ use Rattle.std.specs.Str.{bytes_eq}
 use Rattle.ct_tree.specs.Tree.{split, hash_leaf, mth_of_leaves, path}
 use Rattle.ct_verify.specs.Rebuild.{rebuild_down}
 
--- a and b differ and have one hash
+-- a and b differ and have the same hash
 abbrev pub Collides : (List ℕ → List ℕ) → List ℕ → List ℕ → Type 0
 Collides H a b = (¬ (a ≡ b)) × (H a ≡ H b)
 
--- the two strings where they differ, and what is below where they are equal
+-- the two strings if they differ, and otherwise the result from below
 abbrev pub compared : List ℕ → List ℕ → Option (List ℕ × List ℕ) → Option (List ℕ × List ℕ)
 compared proved listed below = if bytes_eq proved listed then below else Some (proved, listed)
 
--- the same, where the proof's string is made from the root r that it gives one step down
+-- the same for a proof whose string is made from the root r that the proof yields one step down
 abbrev pub compared_with : Option (List ℕ) → (List ℕ → List ℕ) → List ℕ → Option (List ℕ × List ℕ) → Option (List ℕ × List ℕ)
 compared_with None string listed below = None
 compared_with (Some r) string listed below = compared (string r) listed below
 
--- going down from the root by the path q, from its last element to its first: at n > 1 the proof's string
--- 01 || left || right against the list's 01 || MTH(D[0:k]) || MTH(D[k:n]), at n = 1 the proof's 00 || leaf against the
--- list's 00 || d0
+-- going down from the root by the path q, from its last element to its first. At n > 1 the proof's string 01 || left || right is compared
+-- with the list's 01 || MTH(D[0:k]) || MTH(D[k:n]); at n = 1 the proof's 00 || leaf with the list's 00 || d0
 unfoldable pub evid_down : (List ℕ → List ℕ) → List (List ℕ) → List ℕ → ℕ → List (List ℕ) → Option (List ℕ × List ℕ)
 evid_down H D leaf m [] = compared (0 ∷ leaf) (0 ∷ get_or D 0 []) None
 evid_down H D leaf m (s ∷ q) =
@@ -32,7 +31,7 @@ evid_down H D leaf m (s ∷ q) =
     else compared_with (rebuild_down H (m - k) (n - k) (hash_leaf H leaf) q) (λ r. 1 ∷ s ++ r) listed (evid_down H (drop k D) leaf (m - k) q)
 
 -- going down from the root, the first pair of strings in which an audit path p, as long as PATH(m, D[n]), differs from the list: the string
--- that is hashed on the proof's side, then the list's. None where none differs
+-- that is hashed on the proof's side, then the list's. None if no pair differs
 unfoldable pub evid : (List ℕ → List ℕ) → List (List ℕ) → List ℕ → ℕ → List (List ℕ) → Option (List ℕ × List ℕ)
 evid H D leaf m p = evid_down H D leaf m (reverse p)
 

@@ -1,4 +1,4 @@
--- What the evidence for an audit path says, against the leaves D.
+-- The meaning of the evidence for an audit path, about the leaves D.
 use Rattle.std.specs.Prelude.{◌≡◌, ℕ, List, length, Some, None}
 use Rattle.ct_tree.specs.Tree.{hash_leaf, mth_of_leaves}
 use Rattle.ct_verify.specs.Evidence.{Collides, evid, IsAudited}
@@ -12,8 +12,8 @@ use Rattle.ct_verify.specs.declared.evidence.EvidenceFault.TheVariants.{ProofRef
 abbrev pub IsAccepted : (List ℕ → List ℕ) → List (List ℕ) → List ℕ → ℕ → List (List ℕ) → Type 0
 IsAccepted H D leaf m p = AcceptsInclusion H (hash_leaf H leaf) m (length D) p (mth_of_leaves H D)
 
--- Holds: accepted against MTH of the list, and no string differs, so the leaf and the path are the list's. Collision: accepted, and here
--- are the first strings that differ, which have one hash
+-- Holds: accepted against MTH of the list, and no string differs, so the leaf and the path are the list's. Collision: accepted, and these
+-- are the first strings that differ, and they have the same hash
 abbrev pub InclusionEvidence : {A : Type 0} → (List ℕ → List ℕ) → List (List ℕ) → List ℕ → ℕ → List (List ℕ) → Evidence A → Type 0
 InclusionEvidence H D leaf m p Holds = IsAccepted H D leaf m p × (evid H D leaf m p ≡ None) × IsAudited H D leaf m p
 InclusionEvidence H D leaf m p (Collision a b) =

@@ -1,6 +1,9 @@
--- The laws of the verifiers' definitions: the equations of `rebuild` and `both_roots`, where they are defined, that every
--- proof of RFC 6962 is accepted, and that no accepted proof is refused, and none in two ways. H is any hash function on byte
--- lists, k the largest power of two smaller than n, and q : s is the path q ++ s ∷ [].
+-- The laws of the verifiers' definitions. H is any hash function on byte lists, k the largest power of two smaller than n, and q : s is the
+-- path q ++ s ∷ []. The laws state
+-- - the equations of `rebuild` and `both_roots`, and when these two are defined,
+-- - that every proof of RFC 6962 is accepted,
+-- - that no accepted proof is refused,
+-- - and that no proof is refused in two ways.
 use Rattle.std.specs.Prelude.{◌≡◌, ℕ, ◌-◌, ◌<◌, ◌≤◌, ◌↔◌, Bool, true, false, List, [], ◌∷◌, ◌++◌, length, take, get_or, Some, None, IsSome, All, ◌⊎◌}
 use Rattle.std.specs.Option.{option_map}
 use Rattle.ct_tree.specs.Tree.{split, hash_leaf, hash_node, mth, mth_of_leaves, path, proof}
@@ -41,14 +44,13 @@ BothOfKnown = (H : List ℕ → List ℕ) (n : ℕ) (r : List ℕ) → both_root
 abbrev pub BothOfUnknown : Type 0
 BothOfUnknown = (H : List ℕ → List ℕ) (n : ℕ) (r c : List ℕ) → both_roots H n n false r (c ∷ []) ≡ Some (c, c)
 
--- for m < n and m <= k both_roots(m, n, b, r, q : s) = (x, H(01 || y || s)), where (x, y) = both_roots(m, k, b, r, q)
+-- for m < n and m <= k both_roots(m, n, b, r, q : s) = (x, H(01 || y || s)) with (x, y) = both_roots(m, k, b, r, q)
 abbrev pub BothInLeft : Type 0
 BothInLeft =
     (H : List ℕ → List ℕ) (m n k : ℕ) (b : Bool) (r s : List ℕ) (q : List (List ℕ)) → m < n → k ≡ split n → m ≤ k
     → both_roots H m n b r (q ++ s ∷ []) ≡ option_map (λ (x, y). (x, hash_node H y s)) (both_roots H m k b r q)
 
--- for k < m < n both_roots(m, n, b, r, q : s) = (H(01 || s || x), H(01 || s || y)), where
--- (x, y) = both_roots(m - k, n - k, false, r, q)
+-- for k < m < n both_roots(m, n, b, r, q : s) = (H(01 || s || x), H(01 || s || y)) with (x, y) = both_roots(m - k, n - k, false, r, q)
 abbrev pub BothInRight : Type 0
 BothInRight =
     (H : List ℕ → List ℕ) (m n k : ℕ) (b : Bool) (r s : List ℕ) (q : List (List ℕ)) → m < n → k ≡ split n → k < m
@@ -60,7 +62,7 @@ BothDefined =
     (H : List ℕ → List ℕ) (m n : ℕ) (b : Bool) (r : List ℕ) (p : List (List ℕ)) → 0 < m → m ≤ n
     → IsSome (both_roots H m n b r p) ↔ (length p ≡ subproof_length m n b)
 
--- a PATH leads from its leaf to MTH
+-- a PATH rebuilds MTH from its leaf
 abbrev pub PathRebuilds : Type 0
 PathRebuilds =
     (H : List ℕ → List ℕ) (m : ℕ) (D : List (List ℕ)) → m < length D → rebuild H m (length D) (get_or D m []) (path H m D) ≡ Some (mth H D)
@@ -71,7 +73,7 @@ PathAccepted =
     (H : List ℕ → List ℕ) (m : ℕ) (D : List (List ℕ)) → m < length D
     → AcceptsInclusion H (get_or D m []) m (length D) (path H m D) (mth H D)
 
--- an accepted path isn't refused
+-- an accepted path is not refused
 abbrev pub PathNotRefused : Type 0
 PathNotRefused =
     (H : List ℕ → List ℕ) (h : List ℕ) (m n : ℕ) (p : List (List ℕ)) (root : List ℕ) (fault : ProofFault)
@@ -93,7 +95,7 @@ PathHolds =
 abbrev pub AreHashes : List (List ℕ) → Type 0
 AreHashes p = All (λ s. length s ≡ 32) p
 
--- a PROOF leads to MTH of the first m leaves and of all
+-- a PROOF rebuilds MTH of the first m leaves and of all leaves
 abbrev pub ProofRebuilds : Type 0
 ProofRebuilds =
     (H : List ℕ → List ℕ) (m : ℕ) (D : List (List ℕ)) → 0 < m → m < length D
@@ -105,7 +107,7 @@ ProofAccepted =
     (H : List ℕ → List ℕ) (m : ℕ) (D : List (List ℕ)) → 0 < m → m < length D
     → AcceptsConsistency H m (length D) (mth H (take m D)) (mth H D) (proof H m D)
 
--- an accepted proof isn't refused
+-- an accepted proof is not refused
 abbrev pub ProofNotRefused : Type 0
 ProofNotRefused =
     (H : List ℕ → List ℕ) (m n : ℕ) (x y : List ℕ) (p : List (List ℕ)) (fault : ProofFault)

@@ -1,4 +1,4 @@
--- What the search for a collision between two lists finds, as the contracts of its helper functions cite it.
+-- The results of the search for a collision between two lists, as the contracts of its helper functions cite it.
 use Rattle.std.specs.Prelude.{◌≡◌, ℕ, Bool, List, ◌∷◌, length, take, Option, Some}
 use Rattle.std.specs.Option.{option_map}
 use Rattle.ct_tree.specs.Tree.{mth_of_leaves, hash_node}
@@ -16,14 +16,14 @@ clash_strings (Nodes a b) = (children_string a, children_string b)
 abbrev pub found_strings : Option Clash → Option (List ℕ × List ℕ)
 found_strings o = option_map clash_strings o
 
--- the hashes of two nodes, where they are equal, are made from equal parts
+-- if the hashes of two nodes are equal, their parts are equal
 abbrev pub NodesApart : (List ℕ → List ℕ) → List ℕ → List ℕ → List ℕ → List ℕ → Type 0
 NodesApart H a b c d = hash_node H a b ≡ hash_node H c d → (a ≡ c) × (b ≡ d)
 
--- two lists of one length: their roots are equal only where they are
+-- two lists of equal length: if their roots are equal, the lists are equal
 abbrev pub SameRoot : (List ℕ → List ℕ) → List (List ℕ) → List (List ℕ) → Type 0
 SameRoot H E D = mth_of_leaves H E ≡ mth_of_leaves H D → E ≡ D
 
--- the proof's roots are those of the lists only where the old list begins the new one
+-- if the proof's roots are those of the lists, the old list begins the new one
 abbrev pub Begun : (List ℕ → List ℕ) → Bool → List ℕ → List (List ℕ) → List (List ℕ) → List (List ℕ) → Type 0
 Begun H b r p E D = both_roots H (length E) (length D) b r p ≡ Some (mth_of_leaves H E, mth_of_leaves H D) → E ≡ take (length E) D

@@ -1,4 +1,4 @@
--- What the verifiers' answers say.
+-- The meaning of the verifiers' results.
 use Rattle.std.specs.Prelude.{◌≡◌, ℕ, ◌<◌, ◌≤◌, List, [], length, Some, true}
 use Rattle.ct_tree.specs.Lengths.{path_length, subproof_length}
 use Rattle.ct_verify.specs.Rebuild.{rebuild, both_roots}
@@ -10,8 +10,8 @@ use Rattle.ct_verify.specs.declared.fault.ProofFault.TheVariants.{SizesOutOfRang
 abbrev pub AcceptsInclusion : (List ℕ → List ℕ) → List ℕ → ℕ → ℕ → List (List ℕ) → List ℕ → Type 0
 AcceptsInclusion H h m n p root = (m < n) × (rebuild H m n h p ≡ Some root)
 
--- when each refusal of an audit path comes: the index outside the tree; the path longer or shorter than PATH; another root (RFC 9162,
--- section 2.1.3.2)
+-- when each refusal of an audit path occurs: the index is outside the tree; the path is longer or shorter than PATH; it leads to another
+-- root (RFC 9162, section 2.1.3.2)
 abbrev pub RefusesInclusion : (List ℕ → List ℕ) → List ℕ → ℕ → ℕ → List (List ℕ) → List ℕ → ProofFault → Type 0
 RefusesInclusion H h m n p root IndexOutOfRange = n ≤ m
 RefusesInclusion H h m n p root PathTooLong = (m < n) × (path_length m n < length p)
@@ -21,12 +21,12 @@ RefusesInclusion H h m n p root EmptyPath = ⊥
 RefusesInclusion H h m n p root FirstMismatch = ⊥
 RefusesInclusion H h m n p root SizesOutOfRange = ⊥
 
--- 0 < m < n, and the proof p gives the root x of the first m leaves and the root y of all n (RFC 9162, section 2.1.4.2)
+-- 0 < m < n, and the proof p yields the root x of the first m leaves and the root y of all n (RFC 9162, section 2.1.4.2)
 abbrev pub AcceptsConsistency : (List ℕ → List ℕ) → ℕ → ℕ → List ℕ → List ℕ → List (List ℕ) → Type 0
 AcceptsConsistency H m n x y p = (0 < m) × (m < n) × (both_roots H m n true x p ≡ Some (x, y))
 
--- when each refusal of a consistency proof comes: the sizes; no hashes; too many or too few; another first or second root (RFC 9162,
--- section 2.1.4.2)
+-- when each refusal of a consistency proof occurs: for the sizes; for no hashes; for too many or too few; for another first or second root
+-- (RFC 9162, section 2.1.4.2)
 abbrev pub RefusesConsistency : (List ℕ → List ℕ) → ℕ → ℕ → List ℕ → List ℕ → List (List ℕ) → ProofFault → Type 0
 RefusesConsistency H m n x y p SizesOutOfRange = ¬ ((0 < m) × (m < n))
 RefusesConsistency H m n x y p EmptyPath = (0 < m) × (m < n) × (p ≡ [])

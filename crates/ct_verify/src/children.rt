@@ -1,10 +1,10 @@
-//! What is hashed for an inner node.
+//! The hashed string of an inner node.
 ghost use Rattle.std.specs.Prelude.{◌≡◌, ◌↔◌, ℕ, List, length, IsTrue};
 ghost use Rattle.ct_verify.specs.Strings.{children_string};
 
 use ct_tree::is_same_digest;
 
-// The two hashes that are joined under an inner node.
+// The two child hashes that are joined in an inner node.
 #[derive(Clone, Copy)]
 pub(crate) struct Children {
     pub(crate) left: [u8; 32],
@@ -18,7 +18,7 @@ pub(crate) fn under_node(left: [u8; 32], right: [u8; 32]) -> Children
     Children { left, right }
 }
 
-// Whether two digests are equal.
+// Reports whether two digests are equal.
 pub(crate) fn is_same(a: &[u8; 32], b: &[u8; 32]) -> bool
     ensures same { IsTrue result ↔ (a.now ≡ b.now) }
     ensures first { length a.now ≡ 32 }
@@ -27,7 +27,7 @@ pub(crate) fn is_same(a: &[u8; 32], b: &[u8; 32]) -> bool
     is_same_digest(a, b)
 }
 
-// Whether two nodes hash one string.
+// Reports whether two nodes hash one string.
 pub(crate) fn is_same_string(a: &Children, b: &Children) -> bool
     ensures strings { IsTrue result ↔ (children_string a.now ≡ children_string b.now) }
     ensures parts { IsTrue result → (a.now.left ≡ b.now.left) × (a.now.right ≡ b.now.right) }

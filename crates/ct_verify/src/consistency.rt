@@ -16,7 +16,7 @@ struct Roots {
     second: [u8; 32],
 }
 
-// Takes in one element of a proof: it joins both roots at their left, or the second alone at its right.
+// Takes in one element of a proof: it joins both roots at their left, or only the second one at its right.
 fn climb<H: NodeHash>(h: &H, place: Place, roots: &Roots, sibling: &[u8; 32]) -> (Place, Roots)
     requires below { 0 < place.last }
     requires inside { place.node ≤ place.last }
@@ -41,7 +41,7 @@ fn climb<H: NodeHash>(h: &H, place: Place, roots: &Roots, sibling: &[u8; 32]) ->
     }
 }
 
-// Checks the rest of a proof, from the value on with which both roots begin.
+// Checks the rest of a proof, starting from the value with which both roots begin.
 fn check_from<H: NodeHash>(
     h: &H,
     start: Place,
@@ -79,13 +79,17 @@ fn check_from<H: NodeHash>(
     }
 }
 
-/// Checks a consistency proof between the trees of the first `first` and of all `second` leaves of one list
-/// (RFC 9162, section 2.1.4.2): that the path leads to the roots of both.
+/// Checks a consistency proof between the trees of the first `first` and of all `second` leaves of one list (RFC 9162, section 2.1.4.2):
+/// the path must lead to the roots of both.
 ///
 /// # Errors
-/// In this order: `SizesOutOfRange` unless `0 < first < second`; `EmptyPath`; `PathTooLong` and `PathTooShort` where the
-/// path has not the length of the proof between these sizes; `FirstMismatch` where it leads to another first root;
-/// `RootMismatch` where it leads to another second root.
+///
+/// In this order:
+/// - `SizesOutOfRange` unless `0 < first < second`;
+/// - `EmptyPath`;
+/// - `PathTooLong` and `PathTooShort` if the length of the path is not that of the proof between these sizes;
+/// - `FirstMismatch` if it leads to another first root;
+/// - `RootMismatch` if it leads to another second root.
 pub fn verify_consistency<H: NodeHash>(
     h: &H,
     first: u64,

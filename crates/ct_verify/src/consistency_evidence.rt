@@ -1,4 +1,4 @@
-//! Evidence for an accepted consistency proof: the old list begins the new one, or two strings have one hash.
+//! Evidence for an accepted consistency proof: the old list begins the new one, or two strings have the same hash.
 ghost use Rattle.std.specs.Prelude.{◌≡◌, ◌<◌, ◌≤◌, ◌↔◌, ℕ, List, ◌∷◌, ◌++◌, length, map, IfOk, IsTrue, MatchResult, Some, Ok, cond};
 ghost use Rattle.std.specs.Option.{option_or};
 ghost use Rattle.ct_tree.specs.Tree.{hash_leaf, hash_node, mth_of_leaves};
@@ -16,14 +16,14 @@ use crate::halves::{last_and_rest, root_of_leaves};
 use ct_tree::{NodeHash, largest_power_below, leaf_hash, node_hash};
 use std::alloc::{AllocError, Allocator};
 
-// Two strings that differ and have one hash, by what is hashed: two leaves, or what stands under two nodes.
+// Two strings that differ and have the same hash, given by what is hashed: two leaves, or the children of two nodes.
 #[derive(Clone, Copy)]
 enum Clash<'a> {
     Leaves(&'a [u8], &'a [u8]),
     Nodes(Children, Children),
 }
 
-// Two nodes beside each other: their hashes, and the clash of their strings.
+// Two compared nodes: their hashes, and the clash of their strings.
 #[derive(Clone, Copy)]
 struct Met<'a> {
     first: [u8; 32],
@@ -31,7 +31,7 @@ struct Met<'a> {
     found: Option<Clash<'a>>,
 }
 
-// Two lists of one length: their roots, and the first clash in them.
+// Two lists of equal length: their roots, and the first clash in them.
 #[derive(Clone, Copy)]
 struct Sides<'a> {
     old_root: [u8; 32],
@@ -39,7 +39,7 @@ struct Sides<'a> {
     found: Option<Clash<'a>>,
 }
 
-// Two lists and the roots that a proof gives for them, and the first clash along the proof.
+// Two lists and the roots that a proof yields for them, and the first clash along the proof.
 #[derive(Clone, Copy)]
 struct Walked<'a> {
     first: [u8; 32],
@@ -49,7 +49,7 @@ struct Walked<'a> {
     found: Option<Clash<'a>>,
 }
 
-// Two nodes beside each other.
+// Compares two nodes.
 fn beside_nodes<'a, H: NodeHash>(h: &H, a: Children, b: Children) -> Met<'a>
     ensures first { result.first ≡ H.digest (children_string a) }
     ensures second { result.second ≡ H.digest (children_string b) }
@@ -69,7 +69,7 @@ fn beside_nodes<'a, H: NodeHash>(h: &H, a: Children, b: Children) -> Met<'a>
     }
 }
 
-// Two leaves beside each other.
+// Compares two leaves.
 fn beside_leaves<'a, H: NodeHash>(h: &H, old: &'a [u8], new: &'a [u8]) -> Sides<'a>
     ensures old { result.old_root ≡ hash_leaf H.digest old.now }
     ensures new { result.new_root ≡ hash_leaf H.digest new.now }
@@ -89,7 +89,7 @@ fn beside_leaves<'a, H: NodeHash>(h: &H, old: &'a [u8], new: &'a [u8]) -> Sides<
     }
 }
 
-// The first clash that was found.
+// The first clash of the two that were found, if any.
 fn first_found<'a>(a: Option<Clash<'a>>, b: Option<Clash<'a>>) -> Option<Clash<'a>>
     ensures { found_strings result ≡ option_or (found_strings a.entry) (found_strings b.entry) }
 {
@@ -117,7 +117,7 @@ fn over_parts<'a, H: NodeHash>(h: &H, left: Sides<'a>, right: Sides<'a>) -> Side
     }
 }
 
-// The roots of two lists of one length, and what is found in them. Each leaf is hashed once.
+// The roots of two lists of equal length, and the first clash in them. Each leaf is hashed once.
 fn diverge<'a, H: NodeHash>(h: &H, old: &'a [Vec<u8>], new: &'a [Vec<u8>]) -> Sides<'a>
     requires some { 0 < length old.now }
     requires same { length old.now ≡ length new.now }
@@ -141,8 +141,8 @@ fn chosen(known: bool, a: &[u8; 32], b: &[u8; 32]) -> [u8; 32]
     if known { *a } else { *b }
 }
 
-// The node over the part with the old list, at the left, and a part of the new list alone: the proof has `sibling` for
-// it, and `other` is its root.
+// The node over the part with the old list, at the left, and a part that only the new list has: the proof has `sibling` for it, and `other`
+// is its root.
 fn over_left<'a, H: NodeHash>(
     h: &H,
     part: Walked<'a>,
@@ -200,7 +200,7 @@ fn over_right<'a, H: NodeHash>(
     }
 }
 
-// Goes along a consistency proof through both lists. Each leaf is hashed once.
+// Walks along a consistency proof through both lists. Each leaf is hashed once.
 fn walk<'a, H: NodeHash>(
     h: &H,
     old: &'a [Vec<u8>],
@@ -242,7 +242,7 @@ fn walk<'a, H: NodeHash>(
     over_right(h, sides, part, &sibling)
 }
 
-// Whether the old list is the beginning of the new one.
+// Reports whether the old list is the beginning of the new one.
 fn begins(old: &[Vec<u8>], new: &[Vec<u8>]) -> bool
     requires { length old.now ≤ length new.now }
     ensures { IsTrue result ↔ IsBeginning (map (λ l. l.items) old.now) (map (λ l. l.items) new.now) }
@@ -251,7 +251,7 @@ fn begins(old: &[Vec<u8>], new: &[Vec<u8>]) -> bool
     old == beginning
 }
 
-// The two strings of one hash.
+// The two strings with the same hash.
 fn collision<A: Allocator + Clone>(alloc: A, clash: Clash<'_>) -> Result<Evidence<A>, AllocError>
     ensures { IfOk result (IsCollision (clash_strings clash.entry)) }
 {
@@ -261,7 +261,7 @@ fn collision<A: Allocator + Clone>(alloc: A, clash: Clash<'_>) -> Result<Evidenc
     }
 }
 
-// The evidence that the comparison and the search give.
+// The evidence that follows from the comparison and the search.
 fn evidence_for<A: Allocator + Clone, H: NodeHash>(
     alloc: A,
     h: &H,
@@ -282,24 +282,25 @@ fn evidence_for<A: Allocator + Clone, H: NodeHash>(
     }
     match walk(h, old, new, true, &old_root, path).found {
         Some(clash) => Ok(collision(alloc, clash)?),
-        // Where nothing is found, the old list begins the new one. So this doesn't come.
+        // If nothing is found, the old list begins the new one. So this case does not occur.
         None => Ok(Evidence::Holds),
     }
 }
 
-/// Explains a consistency proof against both lists of leaves: their roots and their numbers stand for the tree heads.
+/// Explains a consistency proof for both lists of leaves: their roots and their numbers take the place of the tree heads.
 ///
-/// `Holds` says that the old list is the beginning of the new one. `Collision` says that it isn't, and gives two strings
-/// that differ and have one hash: the first such pair, from the leaves up and from the left, of what the proof, the old
-/// list and the new list hash at one place (`00` and the leaf for a leaf, `01` and two hashes for a node). The proof's
-/// string comes before a list's, and the old list's before the new one's. This holds for every hash function.
+/// `Holds` means that the old list is the beginning of the new one. `Collision` means that it is not, and contains two strings that differ
+/// and have the same hash. They are the first such pair, from the leaves up and from the left, that the proof, the old list and the new
+/// list hash at one position (`00` and the leaf for a leaf, `01` and two hashes for a node). The proof's string comes before a list's, and
+/// the old list's before the new one's. This holds for every hash function.
 ///
-/// Each leaf is hashed once, and once more where the proof is accepted and the old list doesn't begin the new one.
-/// Memory is taken for such strings alone.
+/// Each leaf is hashed once, and once more if the proof is accepted and the old list does not begin the new one. Memory is taken only for
+/// such strings.
 ///
 /// # Errors
-/// `ProofRefused` with the fault of [`verify_consistency`](crate::verify_consistency) where that refuses the proof, and
-/// `Memory` in place of a `Collision` where a growth was refused.
+///
+/// `ProofRefused` with the fault of [`verify_consistency`](crate::verify_consistency) if that function refuses the proof, and `Memory` in
+/// place of a `Collision` if memory runs out.
 pub fn explain_consistency<A: Allocator + Clone, H: NodeHash>(
     alloc: A,
     h: &H,

@@ -8,7 +8,7 @@ pub enum ProofFault {
     /// The leaf index is not below the tree size.
     #[error("the leaf index is not below the tree size")]
     IndexOutOfRange,
-    /// The path has more elements than the proof of that leaf, or of those two sizes, has.
+    /// The path has more elements than the proof of that leaf, or between those two sizes, has.
     #[error("the path has more elements than a proof at this place has")]
     PathTooLong,
     /// The path has fewer elements than that.

@@ -8,7 +8,7 @@ use crate::fault::ProofFault;
 use crate::place::Place;
 use ct_tree::{NodeHash, node_hash};
 
-// Takes in one element of a path: the value at a place and the element beside it give the value of the place above.
+// Takes in one element of a path: the value of a node and the element beside it yield the value of the node above.
 fn climb<H: NodeHash>(
     h: &H,
     place: Place,
@@ -30,12 +30,15 @@ fn climb<H: NodeHash>(
     }
 }
 
-/// Checks that an audit path leads from a leaf hash at a leaf index to the root of a tree of `size` leaves
-/// (RFC 9162, section 2.1.3.2). The first element of the path is nearest the leaf.
+/// Checks that an audit path leads from a leaf hash at a leaf index to the root of a tree of `size` leaves (RFC 9162, section 2.1.3.2). The
+/// first element of the path is nearest the leaf.
 ///
 /// # Errors
-/// In this order: `IndexOutOfRange` unless the index is below the size; `PathTooLong` and `PathTooShort` where the path
-/// has not the length of that leaf's audit path; `RootMismatch` where it leads to another root.
+///
+/// In this order:
+/// - `IndexOutOfRange` unless the index is below the size;
+/// - `PathTooLong` and `PathTooShort` if the length of the path is not that of the leaf's audit path;
+/// - `RootMismatch` if it leads to another root.
 pub fn verify_inclusion<H: NodeHash>(
     h: &H,
     leaf_hash: &[u8; 32],

@@ -1,4 +1,4 @@
-//! Evidence for an accepted audit path: it is the list's own, or two strings have one hash.
+//! Evidence for an accepted audit path: it is the list's own, or two strings have the same hash.
 ghost use Rattle.std.specs.Prelude.{◌≡◌, ◌+◌, ◌-◌, ◌<◌, ◌≤◌, ℕ, List, length, map, get_or, IsTrue, ◌↔◌, [], ◌∷◌, ◌++◌, IfOk, OnOk, MatchResult, Some, None, Ok};
 ghost use Rattle.std.specs.Option.{option_map};
 ghost use Rattle.ct_tree.specs.Tree.{hash_leaf, mth_of_leaves};
@@ -17,15 +17,14 @@ use crate::inclusion::verify_inclusion;
 use ct_tree::{NodeHash, largest_power_below, leaf_hash, node_hash};
 use std::alloc::{AllocError, Allocator};
 
-// Where the strings of a path and those of a list differ.
+// The position at which the strings of a path and those of a list differ.
 #[derive(Clone, Copy)]
 enum Difference {
     AtLeaf,
     AtNode(Children, Children),
 }
 
-// A path beside a list of leaves: the root that the path gives, the root of the list, and the topmost
-// difference.
+// A path compared with a list of leaves: the root that the path yields, the root of the list, and the topmost difference.
 #[derive(Clone, Copy)]
 struct Compared {
     rebuilt: [u8; 32],
@@ -33,7 +32,7 @@ struct Compared {
     difference: Option<Difference>,
 }
 
-// The difference at this node, or else the one below.
+// The difference at this node, or otherwise the one below.
 fn topmost(proved: Children, listed: Children, below: Option<Difference>) -> Option<Difference>
     ensures { (leaf other : List ℕ) → option_map (strings leaf other) result
         ≡ compared (children_string proved) (children_string listed) (option_map (strings leaf other) below) }
@@ -66,7 +65,7 @@ fn join<H: NodeHash>(
     }
 }
 
-// A leaf beside the only leaf of a list.
+// Compares a leaf with the only leaf of a list.
 fn compare_leaves<H: NodeHash>(h: &H, leaf: &[u8], listed: &[u8]) -> Compared
     ensures rebuilt { result.rebuilt ≡ hash_leaf H.digest leaf.now }
     ensures listed { result.listed ≡ hash_leaf H.digest listed.now }
@@ -86,8 +85,8 @@ fn compare_leaves<H: NodeHash>(h: &H, leaf: &[u8], listed: &[u8]) -> Compared
     }
 }
 
-// A path beside a list of leaves, each leaf hashed once. Where the path has not the length of the
-// leaf's path, only the list's root is told.
+// Compares a path with a list of leaves; each leaf is hashed once. If the length of the path is not that of the leaf's path, only the
+// list's root is meaningful.
 fn compare<H: NodeHash>(
     h: &H,
     leaves: &[Vec<u8>],
@@ -130,7 +129,7 @@ fn compare<H: NodeHash>(
     }
 }
 
-// The two strings of one hash.
+// The two strings with the same hash.
 fn collision<A: Allocator + Clone>(
     alloc: A,
     difference: Difference,
@@ -145,7 +144,7 @@ fn collision<A: Allocator + Clone>(
     }
 }
 
-// The evidence that the comparison gives.
+// The evidence that follows from the comparison.
 fn evidence_for<A: Allocator + Clone, H: NodeHash>(
     alloc: A,
     h: &H,
@@ -170,16 +169,17 @@ fn evidence_for<A: Allocator + Clone, H: NodeHash>(
     }
 }
 
-/// Explains an audit path against the list of the leaves: their root and their number stand for the tree head.
+/// Explains an audit path for the list of the leaves: their root and their number take the place of the tree head.
 ///
-/// `Holds` says that the leaf is the list's element at the index and the path its audit path. `Collision` gives two
-/// strings that differ and have one hash: the string that the proof hashes and the one that the list hashes, at the place
-/// nearest the root where they differ (`01` and two hashes for a node, `00` and the leaf for a leaf). This holds for
-/// every hash function. Each leaf is hashed once, and memory is taken for the strings alone.
+/// `Holds` means that the leaf is the list's element at the index and that the path is its audit path. `Collision` contains two strings
+/// that differ and have the same hash: the string that the proof hashes and the one that the list hashes, at the position nearest the root
+/// where they differ (`01` and two hashes for a node, `00` and the leaf for a leaf). This holds for every hash function. Each leaf is
+/// hashed once, and memory is taken only for the strings.
 ///
 /// # Errors
-/// `ProofRefused` with the fault of [`verify_inclusion`](crate::verify_inclusion) where that refuses the path, and
-/// `Memory` in place of a `Collision` where a growth was refused.
+///
+/// `ProofRefused` with the fault of [`verify_inclusion`](crate::verify_inclusion) if that function refuses the path, and `Memory` in place
+/// of a `Collision` if memory runs out.
 pub fn explain_inclusion<A: Allocator + Clone, H: NodeHash>(
     alloc: A,
     h: &H,

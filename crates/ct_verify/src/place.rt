@@ -10,7 +10,7 @@ pub(crate) struct Place {
 }
 
 impl Place {
-    // Whether the next element joins at the left.
+    // Reports whether the next element joins at the left.
     pub(crate) fn is_right(self) -> bool
         ensures { IsTrue result ↔ ((self.node % 2 ≡ 1) ⊎ (self.node ≡ self.last)) }
     {
@@ -28,7 +28,7 @@ impl Place {
         }
     }
 
-    // Up past the levels in which this node is the last one and alone.
+    // Moves up past the levels in which this node is the last one and has no sibling.
     pub(crate) fn skip_lone(self) -> Place
         requires right { (self.node % 2 ≡ 1) ⊎ (self.node ≡ self.last) }
         requires inside { 0 < self.last }
@@ -42,7 +42,7 @@ impl Place {
         place
     }
 
-    // Up past the levels in which this node is a right child.
+    // Moves up past the levels in which this node is a right child.
     pub(crate) fn skip_right(self) -> Place
         ensures halved { Halved self.node self.last result.node result.last }
         ensures even { result.node % 2 ≡ 0 }

@@ -1,4 +1,4 @@
--- What follows where so many of several witnesses cosigned a tree: any three groups that are large enough have a witness in common.
+-- Consequences when enough of several witnesses cosigned a tree: any three groups that are large enough have a witness in common.
 use Rattle.std.proofs.Common.{refl, zero, suc, subst, inl, inr, ⊎_elim, ◌≡◌, ℕ, ◌+◌, ◌-◌, ◌*◌, ◌<◌, ◌≤◌, sym, arith, cond, Bool, true, false, List, [], ◌∷◌, ◌++◌, length}
 use Rattle.std.proofs.Common.{replicate}
 use Rattle.std.specs.Prelude.{All, Contains, count_by, flat_map}
@@ -51,7 +51,7 @@ module _ (P : List Granted → Type 0) where
   unfolding AtLeast
   of_none = refl
 
--- ---- what is marked
+-- ---- the marks
 pub marks_count : MarksCount
 unfolding AtLeast AreMarked
 marks_count t [] [] k m l = omega (arith, l)
@@ -80,7 +80,7 @@ module _ (H : List ℕ → List ℕ) where
   weaker_at P Q f k (w ∷ ws) (inl a) = inl (f w a.0, weaker_at P Q f (k - 1) ws a.1)
   weaker_at P Q f k (w ∷ ws) (inr a) = inr (weaker_at P Q f k ws a)
 
-  -- so many have the property, and their strings are among those of all
+  -- that many witnesses have the property, and their strings are among those of all
   pub with_strings_of : (P : List Granted → Type 0) (k : ℕ) (ws : List (List Granted)) → AtLeast P k ws → AtLeast (λ w. P w × Has ws w) k ws
   unfolding AtLeast
   with_strings_of P k [] a = a
@@ -92,7 +92,7 @@ module _ (H : List ℕ → List ℕ) where
   with_strings_of P k (w ∷ ws) (inr a) =
       inr (weaker_at (λ v. P v × Has ws v) (λ v. P v × Has (w ∷ ws) v) (λ v b. (b.0, later w v ws b.1)) k ws (with_strings_of P k ws a))
 
--- ---- what they agree on
+-- ---- the tree on which they agree
 pub quorums_agree : QuorumsAgree
 quorums_agree H hash_length ws f j k honest l a b c d less D t =
     let S = IsHashedByAny H ws D in
@@ -123,7 +123,7 @@ starts_behind_none H hash_length ws f j k honest l h a c d D t =
     (λ (pair : CollideAmong H S). inr pair)
     (all_back H hash_length S w.0 D w.3 strings (λ n i s z. inr (n, i, z)) u)
 
--- ---- where the bound isn't kept: some cosigned a alone, some b alone, and the faulty ones both
+-- ---- if the bound is not kept: some cosigned only a, some only b, and the faulty ones both
 module _ (H : List ℕ → List ℕ) where
   one : Tree → Granted
   one t = record { old = 0; tree = t; proof = [] }

@@ -1,4 +1,4 @@
--- What follows over all trees that a witness cosigned.
+-- Consequences for all trees that a witness cosigned.
 use Rattle.std.proofs.Common.{true, refl, subst, ◌⊎◌, inl, inr, ⊎_elim, ◌≡◌, ℕ, ◌≤◌, sym, ◌∙◌, ap, arith, List, [], ◌∷◌, length, take}
 use Rattle.std.specs.Prelude.{All, Contains}
 use Rattle.std.proofs.lemmas.List.{length-take-le, take-take, take_all}
@@ -15,7 +15,7 @@ use Rattle.ct_witness.specs.Witnessed.{TreeGoesOn}
 use Rattle.ct_witness.specs.Runs.{Granted, no_tree, AreGranted, newest_tree, IsCosigned, IsTreeOf, IsTreeOfFirst, granted_strings, IsHashedOver, CosignedGoBack, CosignedAgree}
 
 module _ (H : List ℕ → List ℕ) where
-  -- a tree without leaves has the root of none
+  -- a tree without leaves has the root of no leaves
   abbrev IsSound : Tree → Type 0
   IsSound t = t.size ≡ 0 → t.root ≡ H []
 
@@ -48,7 +48,7 @@ module _ (H : List ℕ → List ℕ) where
       let i : t.size ≤ n = omega (arith, a.0) in
       (omega arith, a.1 ∙ ap (mth_of_leaves H) (take-take t.size n D i))
 
-  -- ---- the sizes of a run rise
+  -- ---- the sizes of a run increase
   pub reach_up : (last : Tree) (steps : List Granted) (a : Tree) → AreGranted H last steps → IsCosigned a steps → last.size ≤ a.size
   unfolding AreGranted IsCosigned
   reach_up last [] a g c = absurd c
@@ -87,7 +87,7 @@ module _ (H : List ℕ → List ℕ) (hash_length : (x : List ℕ) → length (H
       (goes_back H hash_length S p last.size last.root D a c.0 l c.2 own
       (whole_log H hash_length S D log))
 
-  -- the same, where the tree that it led to is that of a beginning
+  -- the same if the tree that it led to is the tree of a prefix
   goes_further : (last : Tree) (s : Granted) (D : List (List ℕ)) → IsSound H last → AreHashes s.proof
       → All S (proof_strings H last.size s.tree.size true last.root s.proof) → HasLog H hash_length S D → TreeGoesOn H last s.tree s.proof
       → IsTreeOfFirst H D s.tree → IsTreeOfFirst H D last ⊎ CollideAmong H S
@@ -157,7 +157,7 @@ module _ (H : List ℕ → List ℕ) (hash_length : (x : List ℕ) → length (H
   two last (s ∷ steps) a b D sound g strings log (inr c) (inr d) l t =
       two s.tree steps a b D (goes_sound H last s.tree s.proof sound g.0.1) g.2 (later_strings last s steps strings) log c d l t
 
-  -- what one witness cosigned, where S has what it hashed
+  -- the trees that one witness cosigned, if S has the strings that it hashed
   pub all_back : (steps : List Granted) (D : List (List ℕ)) → AreGranted H (no_tree H) steps → All S (granted_strings H (no_tree H) steps) → HasLog H hash_length S D
       → IsTreeOf H D (newest_tree (no_tree H) steps) → All (λ s. IsTreeOfFirst H D s.tree) steps ⊎ CollideAmong H S
   all_back steps D w strings log t =

@@ -1,4 +1,5 @@
--- What clients can be shown under trees that witnesses cosigned: one leaf at one index, or two of the strings that were hashed collide.
+-- The leaves that clients can be shown under trees that witnesses cosigned: only one leaf at each index, or two of the hashed strings
+-- collide.
 use Rattle.std.proofs.Common.{◌≡◌, ℕ, ◌+◌, ◌-◌, ◌*◌, ◌<◌, ◌≤◌, subst, sym, ◌∙◌, ap, arith, ◌⊎◌, inl, inr, ⊎_elim, true, List, [], ◌∷◌, ◌++◌, length}
 use Rattle.std.specs.Prelude.{All, Contains, flat_map}
 use Rattle.std.proofs.lemmas.List.Elements.{All-head, All-weaker, Contains-append_left, Contains-append_right}
@@ -33,7 +34,7 @@ module _ (H : List ℕ → List ℕ) (hash_length : (x : List ℕ) → length (H
   grows last tree p (inr (inl grown)) = omega (arith, grown.0)
   grows last tree p (inr (inr accepted)) = omega (arith, accepted.1)
 
-  -- from a tree on to one that was cosigned after it
+  -- from a tree to a tree that was cosigned after it
   run_on : (last : Tree) (steps : List Granted) (b : Tree) (x : List ℕ) (i : ℕ) → AreGranted H last steps → IsCosigned b steps → i < last.size
       → All S (granted_strings H last steps) → Leads H hash_length S i last.size (hash_leaf H x) last.root
       → Leads H hash_length S i b.size (hash_leaf H x) b.root ⊎ CollideAmong H S
@@ -51,7 +52,7 @@ module _ (H : List ℕ → List ℕ) (hash_length : (x : List ℕ) → length (H
       (λ (pair : CollideAmong H S). inr pair)
       (one_on last s x i g.1 g.0.1 inside own w)
 
-  -- from one tree that was cosigned to another one that is not smaller
+  -- from one cosigned tree to another one that is not smaller
   between : (last : Tree) (steps : List Granted) (a b : Tree) (x : List ℕ) (i : ℕ) → AreGranted H last steps → IsCosigned a steps → IsCosigned b steps
       → a.size ≤ b.size → i < a.size → All S (granted_strings H last steps) → Leads H hash_length S i a.size (hash_leaf H x) a.root
       → Leads H hash_length S i b.size (hash_leaf H x) b.root ⊎ CollideAmong H S
@@ -73,7 +74,7 @@ module _ (H : List ℕ → List ℕ) (hash_length : (x : List ℕ) → length (H
       let others = second_of S (proof_strings H last.size s.tree.size true last.root s.proof) (granted_strings H s.tree steps) strings in
       between s.tree steps a b x i g.2 c d less inside others w
 
-  -- what two clients are shown under two trees that one witness cosigned
+  -- the leaves that two clients are shown under two trees that one witness cosigned
   witnessed : (steps : List Granted) → IsWitness H steps → (a b : Tree) → IsCosigned a steps → IsCosigned b steps → a.size ≤ b.size → (x y : List ℕ) (i : ℕ)
       (p q : List (List ℕ)) → IsShown H x i a.size a.root p → IsShown H y i b.size b.root q → All S (granted_strings H (no_tree H) steps)
       → All S (shown_strings H x i a.size p) → All S (shown_strings H y i b.size q) → (x ≡ y) ⊎ CollideAmong H S

@@ -1,15 +1,15 @@
-//! How many cosignatures are enough.
+//! The number of cosignatures that are enough.
 ghost use Rattle.std.specs.Prelude.{◌↔◌, ◌+◌, ◌<◌, ◌≤◌, IsTrue, count_by};
 
-/// Whether so many of the witnesses cosigned a tree, of each of which it is said whether it did.
+/// Reports whether at least `least` of the witnesses cosigned a tree. `cosigned` says for each witness whether it did.
 pub fn has_quorum(cosigned: &[bool], least: usize) -> bool
     ensures { IsTrue result ↔ (least ≤ count_by (λ mark. mark) cosigned.now) }
 {
     least <= cosigned.iter().filter(|mark| **mark).count()
 }
 
-/// Whether, of so many witnesses with so many faulty ones among them, every `first` have an honest one in common with every `second`
-/// ([`crate::laws::quorums`], [`crate::laws::bound`]).
+/// Reports whether, among this many witnesses of which this many may be faulty, every `first` of them share an honest witness with every
+/// `second` of them ([`crate::laws::quorums`], [`crate::laws::bound`]).
 pub fn is_safe(witnesses: u32, faulty: u32, first: u32, second: u32) -> bool
     ensures { IsTrue result ↔ (witnesses + faulty < first + second) }
 {

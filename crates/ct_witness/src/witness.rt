@@ -1,4 +1,4 @@
-//! What is cosigned.
+//! The witness's decision whether to cosign a tree.
 ghost use Rattle.std.specs.Prelude.{◌≡◌, ◌≤◌, MatchResult, OnOk, OnErr};
 ghost use Rattle.ct_witness.specs.Witnessed.{TreeGoesOn, StopsGoingOn, PassesTree, StopsTree};
 ghost use Rattle.ct_witness.specs.Runs.{no_tree};
@@ -8,13 +8,13 @@ use crate::tree::Tree;
 use ct_tree::{NodeHash, is_same_digest};
 use ct_verify::verify_consistency;
 
-/// The tree of one log that was cosigned last. One that was saved is handed in as it is.
+/// The tree of one log that was cosigned last. A saved tree is passed in as it is.
 #[derive(Clone, Copy, Debug, PartialEq, Eq)]
 pub struct Witness {
     pub last: Tree,
 }
 
-// A tree with as many leaves or more.
+// The decision for a tree that is not smaller than the last one.
 fn goes_on<H: NodeHash>(
     h: &H,
     last: &Tree,
@@ -60,14 +60,15 @@ impl Witness {
         }
     }
 
-    /// Lets a tree through, or refuses it (C2SP tlog-witness, add-checkpoint). The proof is a consistency proof (RFC 6962, section
-    /// 2.1.2) from the last tree, whose size in leaves `old` says, to this one; where the two have one size, or the last has no leaves,
-    /// it is empty. The last tree once more is let through.
+    /// Passes a tree, or refuses it (C2SP tlog-witness, add-checkpoint). The proof is a consistency proof (RFC 6962, section 2.1.2) from
+    /// the last tree to this one; `old` is the claimed number of leaves of the last tree. If the two have the same size, or the last has no
+    /// leaves, the proof is empty. The last tree is passed again.
     ///
-    /// What may be signed then is the cosignature's message for this tree's checkpoint (C2SP tlog-cosignature).
+    /// After that, the caller may sign the cosignature's message for this tree's checkpoint (C2SP tlog-cosignature).
     ///
     /// # Errors
-    /// In this order: `OldAbove`, `NotLast`, `Fork`, `ProofNotEmpty`, `Inconsistent`. The witness is then as it was.
+    ///
+    /// In this order: `OldAbove`, `NotLast`, `Fork`, `ProofNotEmpty`, `Inconsistent`. The witness is unchanged then.
     pub fn pass<H: NodeHash>(
         &mut self,
         h: &H,

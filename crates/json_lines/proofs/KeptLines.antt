@@ -1,4 +1,4 @@
--- What is kept of a line, piece by piece.
+-- The part of a line that is kept, piece by piece.
 use Rattle.std.proofs.Common.{◌≡◌, ◌⊎◌, inl, inr, ◌≢◌, ◌<◌, ◌≤◌, ◌+◌, ◌-◌, ℕ, zero, suc, Bool, true, false, cond, List, [], ◌∷◌, ◌++◌, All, length, take, get_or, min, eqb, ◌&&◌}
 use Rattle.std.proofs.Common.{Option, Some, None, Result, Ok, Err, IfSome, refl, sym, ap, subst, ◌∙◌, arith, append_assoc, append-nil, le_refl, length-append}
 use Rattle.std.proofs.Common.{length-take-le, ne_eqb, take_all}
@@ -14,7 +14,7 @@ use Rattle.std.specs.Io.KnownBytes.{Consumes, Keeps}
 use Rattle.std.specs.Io.BufRead.{drop_through, ends_with_byte, first_piece, strip_last, take_through, DropsThrough}
 use Rattle.json_lines.specs.Lines.{kept_line, IsKeptOf, IsFirstLine, TakesNext, TakesPiece, TakesFirstLine}
 
--- the first of so many, and the first of these
+-- the first `room` bytes of the first `end` bytes
 take_within : (xs : List ℕ) (room end n : ℕ) → n ≡ min end room → take n xs ≡ take room (take end xs)
 take_within xs zero end n is =
     let none : n ≡ 0 = omega arith in
@@ -29,7 +29,7 @@ take_within (x ∷ xs) (suc room) (suc end) n is =
     let next : n ≡ suc (min end room) = omega arith in
     ap (λ k. take k (x ∷ xs)) next ∙ ap (λ l. x ∷ l) (take_within xs room end (min end room) refl)
 
--- what is behind the first of so many doesn't count where more is set behind it
+-- if more bytes are appended, it does not matter that only the first n bytes were kept before
 take_again : (n : ℕ) (xs ys : List ℕ) → take n (take n xs ++ ys) ≡ take n (xs ++ ys)
 take_again zero xs ys = refl
 take_again (suc n) [] ys = refl
@@ -43,7 +43,7 @@ kept_more most n end line shown small is =
     ap (λ l. line ++ l) (take_within shown room end n is) ∙ sym (take-append-add line (take end shown) room)
     ∙ ap (λ k. take k (line ++ take end shown)) whole
 
--- of an error
+-- a fact that holds in the case of an error
 pub of_error : {T E P : Type 0} (r : Result T E) → P → OnErr r P
 of_error (Ok v) p = tt
 of_error (Err e) p = p
@@ -64,7 +64,7 @@ no_piece most a b line line_then r small same kept more = record {
   at_end = λ e. absurd (more e);
 }
 
--- some bytes were taken, none of which is 0A, and their beginning is kept
+-- some bytes, none of which is 0A, were taken, and their beginning is kept
 pub record TakenSoFar (most : ℕ) (left left_then : Option (List ℕ)) (line : List ℕ) : Type 0 where
   pub bytes : List ℕ
   pub taken : Consumes left left_then bytes
@@ -123,7 +123,7 @@ pub cut_to_content : (l shown content cut : List ℕ) → shown ≡ l → conten
 cut_to_content l shown content cut same is at =
     at ∙ ap (λ k. take (length k) l) (is ∙ ap (strip_last 10) same) ∙ stripped l
 
--- where some of the line was kept, it is the first one
+-- if a part of the line was kept, it is the first line
 pub first_line : (most : ℕ) (a b : Option (List ℕ)) (line content : List ℕ) → TakesFirstLine most a b line → 0 < length line
     → content ≡ strip_last 10 line → IsFirstLine most a b content
 first_line most None b line content t some is = tt
@@ -131,7 +131,7 @@ first_line most (Some xs) b line content t some is =
     let long = ap length t.0 ∙ length-take most (take_through 10 xs) in
     (take_through_nonempty 10 xs (omega (arith, long, some)), is ∙ ap (strip_last 10) t.0, t.1)
 
--- nothing was left where nothing was kept
+-- if nothing was kept, nothing was left
 pub none_left : (most : ℕ) (a b : Option (List ℕ)) (line content : List ℕ) → 0 < most → TakesFirstLine most a b line → length line ≡ 0
     → TakesNext most a b content false
 none_left most None b line content room t none = tt
@@ -149,7 +149,7 @@ strip_one l = at (ends_with_byte 10 l)
         omega (arith, long)
     at false = omega arith
 
--- What is kept of a line is the line, or both are longer than this many bytes, which are two less than are kept.
+-- Either the kept part of a line is the whole line, or both have more than `longest` bytes. At most `longest` + 2 bytes are kept.
 pub whole_or_long : (longest : ℕ) (xs : List ℕ)
     → (kept_line (longest + 2) xs ≡ first_piece 10 xs) ⊎ ((longest < length (kept_line (longest + 2) xs)) × (longest < length (first_piece 10 xs)))
 whole_or_long longest xs =
@@ -166,11 +166,11 @@ kept_fits most kept xs is =
     let long = ap length is ∙ length-take most xs in
     omega (arith, long)
 
--- more is kept behind what is kept
+-- more is kept after the part that is already kept
 pub kept_on : (most : ℕ) (kept after xs ys : List ℕ) → kept ≡ take most xs → after ≡ take most (kept ++ ys) → after ≡ take most (xs ++ ys)
 kept_on most kept after xs ys is more = more ∙ ap (λ l. take most (l ++ ys)) is ∙ take_again most xs ys
 
--- bytes of which the last one is at k
+-- bytes whose last one is at index k
 strip_at : (xs : List ℕ) (k : ℕ) → length xs ≡ k + 1 → strip_last 10 xs ≡ cond (eqb (get_or xs k 0) 10) (take k xs) xs
 strip_at xs k e = ap (λ (t : Bool). stripped t (length xs - 1)) (lt-ltb 0 (length xs) (omega (arith, e))) ∙ ap (λ (n : ℕ). stripped true n) (omega (arith, e))
   where
@@ -197,18 +197,18 @@ strip_kept most xs other = elim (cases_lt (length xs) most) [
   | inr more ↦ ap (strip_last 10) (take-append-le most xs (10 ∷ []) more) ∙ strip_other (take most xs) (All-take (λ x. x ≢ 10) most xs other)
 ]
 
--- what is kept of a line that the input ends
+-- the kept part of a line that ends with the input
 pub ends_here : (most : ℕ) (kept line : List ℕ) → kept ≡ take most line → All (λ x. x ≢ 10) line → strip_last 10 kept ≡ take most line
 ends_here most kept line is other = ap (strip_last 10) is ∙ strip_other (take most line) (All-take (λ x. x ≢ 10) most line other)
 
--- what is kept of a line with its end
+-- the kept part of a line with its end
 pub ends_on : (most : ℕ) (kept held line bs : List ℕ) → kept ≡ take most line
     → held ≡ take most (kept ++ (bs ++ 10 ∷ [])) → All (λ x. x ≢ 10) (line ++ bs) → strip_last 10 held ≡ take most (line ++ bs)
 ends_on most kept held line bs is end other =
     ap (strip_last 10) (kept_on most kept held line (bs ++ 10 ∷ []) is end ∙ ap (take most) (sym (append_assoc line bs (10 ∷ []))))
     ∙ strip_kept most (line ++ bs) other
 
--- of bytes that have the byte 0A at their end or nowhere, and begin with these, which have none
+-- bytes that have the byte 0A at their end or nowhere, after bytes that do not have it
 pub strip_stopped : (most : ℕ) (xs ys : List ℕ) → All (λ x. x ≢ 10) xs → StopsAt ys 10 → IsEmptyOrEndsWith ys 10
     → All (λ x. x ≢ 10) (strip_last 10 (take most (xs ++ ys)))
 strip_stopped most xs [] other stops ends =

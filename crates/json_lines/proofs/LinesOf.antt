@@ -6,14 +6,14 @@ use Rattle.std.specs.Prelude.{◌&&◌, if◌then◌else◌}
 use Rattle.std.specs.Io.BufRead.{drop_through, first_piece, strip_last, take_through}
 use Rattle.json_lines.specs.Lines.{lines_behind, lines_of}
 
--- bytes of which there are k before the last
+-- bytes with k others before the last one
 strip_is : (xs : List ℕ) (k : ℕ) → length xs ≡ suc k → strip_last 10 xs ≡ (if slice_index xs k == 10 then take k xs else xs)
 strip_is xs k e = ap (λ (t : Bool). stripped t (length xs - 1)) (lt-ltb 0 (length xs) (omega (arith, e))) ∙ ap (λ (n : ℕ). stripped true n) (omega (arith, e))
   where
     stripped : Bool → ℕ → List ℕ
     stripped t n = if t && (slice_index xs n == 10) then take n xs else xs
 
--- a byte that isn't the end of a line stays
+-- a byte that is not the end of a line stays
 strip_more : (b : ℕ) (bs : List ℕ) → (b == 10) ≡ false → strip_last 10 (b ∷ bs) ≡ b ∷ strip_last 10 bs
 strip_more b [] other = strip_is (b ∷ []) 0 refl ∙ ap (λ (t : Bool). if t then [] else b ∷ []) other
 strip_more b (c ∷ bs) other =
@@ -24,7 +24,7 @@ strip_more b (c ∷ bs) other =
     go true = refl
     go false = refl
 
--- of an input of whose first line `line` is read already: the rest of that line, and the lines behind its end
+-- an input whose first line begins with `line`, which was already read: the rest of that line, and the lines after its end
 cut_behind : (line bs : List ℕ) → 0 < length line + length bs → lines_behind line bs ≡ (line ++ first_piece 10 bs) ∷ lines_of (drop_through 10 bs)
 cut_behind [] [] some = absurd (omega arith)
 cut_behind (a ∷ line) [] some = ap (λ (l : List ℕ). l ∷ []) (sym (append-nil (a ∷ line)))
@@ -48,6 +48,6 @@ cut_behind line (b ∷ bs) some = go (cut_behind (line ++ b ∷ []) bs (omega (a
         ∙ ap (λ (l : List ℕ). (line ++ l) ∷ lines_of (drop_through 10 bs)) (sym piece)
         ∙ ap (λ (l : List ℕ). (line ++ first_piece 10 (b ∷ bs)) ∷ lines_of l) (sym dropped)
 
--- the first line, and those behind its end
+-- the first line, and the lines after its end
 pub first_line_cut : (bs : List ℕ) → 0 < length bs → lines_of bs ≡ first_piece 10 bs ∷ lines_of (drop_through 10 bs)
 first_line_cut bs some = cut_behind [] bs (omega (arith, some))

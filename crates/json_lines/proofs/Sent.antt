@@ -1,4 +1,4 @@
--- What was sent of some bytes, step by step.
+-- The part of some bytes that was sent, step by step.
 use Rattle.std.proofs.Common.{◌≡◌, ◌<◌, ◌+◌, ℕ, List, [], ◌++◌, length, take, drop, Option, Bool, true, false, refl, sym, ap, ◌∙◌, arith, append-nil}
 use Rattle.std.proofs.Common.{append_assoc, length-append, take-append-drop}
 use Rattle.std.proofs.lemmas.List.{take_at}
@@ -6,7 +6,7 @@ use Rattle.std.specs.Io.KnownBytes.{Appends, Keeps}
 use Rattle.std.proofs.KnownBytes.{Appends-trans, Appends-kept}
 use Rattle.json_lines.specs.Sends.{SendsSome}
 
--- some of the bytes are sent, and the rest is left
+-- some of the bytes are sent, and `rest` is left
 abbrev pub IsSending : Option (List ℕ) → Option (List ℕ) → List ℕ → List ℕ → Type 0
 IsSending old new bytes rest = (sent : List ℕ) × (bytes ≡ sent ++ rest) × Appends old new sent
 
@@ -31,7 +31,7 @@ sending_kept a b c bytes rest s k = (s.0, s.1, Appends-kept a b c s.0 s.2 k)
 sends_all : (old new : Option (List ℕ)) (bytes : List ℕ) → Appends old new bytes → SendsSome old new bytes
 sends_all old new bytes a = (bytes, ([], sym (append-nil bytes)), a)
 
--- what was sent where all was, or else some
+-- the bytes that were sent: all of them if `whole` is true, and otherwise some
 pub sent_some : (whole : Bool) (old new : Option (List ℕ)) (bytes : List ℕ) → (whole ≡ true → Appends old new bytes)
     → (whole ≡ false → (n : ℕ) × (n < length bytes) × Appends old new (take n bytes)) → SendsSome old new bytes
 sent_some true old new bytes all some = sends_all old new bytes (all refl)

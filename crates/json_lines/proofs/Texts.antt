@@ -1,4 +1,4 @@
--- The text of a value is read as the value.
+-- The text of a value is read as that value.
 use Rattle.std.proofs.Common.{◌≡◌, ◌∙◌, ◌≤◌, List, [], ◌++◌, Option, Some, sym, ap, append-nil}
 use Rattle.std.specs.Prelude.{option_and_then}
 use Rattle.json.specs.Json as json
@@ -15,7 +15,7 @@ use Rattle.serde_json.proofs.Texts.{print-outline}
 abbrev whole : Option (json.Json × List Token) → Option Data
 whole o = option_and_then of_json (option_and_then (λ p. json.if_last p.0 p.1) o)
 
--- where the value has no float and isn't too deep
+-- if the value has no float and is not too deep
 pub text_read : (d : Data) → HasNumbers (outline d) → depth (outline d) ≤ max_depth → of_json (outline d) ≡ Some d → read (compact_text d) ≡ Some d
 text_read d numbers shallow back =
     let ts = json_tokens (outline d) in

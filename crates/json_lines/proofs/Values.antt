@@ -1,4 +1,4 @@
--- The JSON value that a line is.
+-- The JSON value of a line.
 use Rattle.std.proofs.Common.{◌≡◌, ◌<◌, ◌≤◌, ◌∙◌, ℕ, List, length, Option, Some, None, Result, Ok, Err, Bool, true, false, ◌&&◌, nat_le, cond, refl, sym, ap, arith}
 use Rattle.std.specs.Prelude.{option_map, IfOk, MatchResult}
 use Rattle.std.specs.Str.{is_utf8, IsUtf8}
@@ -33,7 +33,7 @@ unread : (longest : ℕ) (line : List ℕ) → (IsUtf8 line → read line ≡ No
 unfolding value_of_line
 unread longest line none = unless (nat_le (length line) longest) (is_utf8 line) (read line) (λ e. none (IsUtf8-from_is_utf8 line e))
 
--- of a line that isn't read, unless a growth was refused
+-- a line from which no value is read, unless memory was refused
 pub value_unread : (longest : ℕ) (line : List ℕ) (r : Result (Option Value) AllocError) (P : Type 0) → MatchResult r (λ o. (o ≡ None) × (P → ⊥)) (λ _. P)
     → ((P → ⊥) → IsUtf8 line → read line ≡ None)
     → IfOk r (λ o. option_map view o ≡ value_of_line longest line)
@@ -45,14 +45,14 @@ both_true true true x d e = (refl, refl, e)
 both_true true false x d e = absurd (none-some d e)
 both_true false u x d e = absurd (none-some d e)
 
--- what a line has that is a value
+-- facts about a line that is a value
 pub value_is : (longest : ℕ) (line : List ℕ) (d : Data) → value_of_line longest line ≡ Some d → (length line ≤ longest) × IsUtf8 line × (read line ≡ Some d)
 unfolding value_of_line
 value_is longest line d e =
     let b = both_true (nat_le (length line) longest) (is_utf8 line) (read line) d e in
     (grind (arith, nat_tests, b.0), IsUtf8-from_is_utf8 line b.1, b.2)
 
--- no value is read of a line that is none
+-- no value is read from a line that is not a value
 pub value_none : (longest : ℕ) (line : List ℕ) → value_of_line longest line ≡ None → length line ≤ longest → IsUtf8 line → read line ≡ None
 value_none longest line none few text = go (read line) refl
   where

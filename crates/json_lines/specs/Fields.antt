@@ -1,4 +1,4 @@
--- What stands under a key of a JSON object, by its type.
+-- The value under a key of a JSON object, by its type.
 use Rattle.std.specs.Prelude.{ℕ, List, [], ◌∷◌, length, Option, Some, None, option_map, option_and_then, ◌==◌, if◌then◌else◌}
 use Rattle.std.specs.Result.{result_ok}
 use Rattle.serde_json.specs.Data.{Data, Items, no_items, item}
@@ -14,11 +14,11 @@ text_at key d = option_and_then as_str (get key d)
 abbrev pub number_at : List ℕ → Data → Option ℕ
 number_at key d = option_and_then as_u64 (option_and_then as_number (get key d))
 
--- the bytes whose base64 with padding a text is, read strictly (RFC 4648, section 4)
+-- the bytes whose base64 with padding is this text, read strictly (RFC 4648, section 4)
 unfoldable pub bytes_of : List ℕ → Option (List ℕ)
 bytes_of text = result_ok (decode_of standard text)
 
--- the bytes that a value stands for: a string of base64
+-- the bytes that a value represents: a string of base64
 abbrev pub bytes_in : Data → Option (List ℕ)
 bytes_in d = option_and_then bytes_of (as_str d)
 
@@ -30,7 +30,7 @@ bytes_at key d = option_and_then bytes_in (get key d)
 abbrev pub hash_of : List ℕ → Option (List ℕ)
 hash_of bytes = if length bytes == 32 then Some bytes else None
 
--- the hash that a value stands for
+-- the hash that a value represents
 abbrev pub hash_in : Data → Option (List ℕ)
 hash_in d = option_and_then hash_of (bytes_in d)
 
@@ -38,16 +38,16 @@ hash_in d = option_and_then hash_of (bytes_in d)
 abbrev pub hash_at : List ℕ → Data → Option (List ℕ)
 hash_at key d = option_and_then hash_in (get key d)
 
--- what f gives for each item of an array, where it gives something for each
+-- the results of f for the items of an array, if each item has a result
 abbrev pub each_item : (Data → Option (List ℕ)) → Items → Option (List (List ℕ))
 each_item f no_items = Some []
 each_item f (item d ds) = option_and_then (λ b. option_map (λ bs. b ∷ bs) (each_item f ds)) (f d)
 
--- the bytes that the items of an array stand for
+-- the bytes that the items of an array represent
 abbrev pub bytes_of_items : Items → Option (List (List ℕ))
 bytes_of_items ds = each_item bytes_in ds
 
--- the hashes that the items of an array stand for
+-- the hashes that the items of an array represent
 abbrev pub hashes_of_items : Items → Option (List (List ℕ))
 hashes_of_items ds = each_item hash_in ds
 

@@ -1,4 +1,4 @@
--- The JSON value that a line is, and bytes as JSON values.
+-- The JSON value of a line, and bytes as JSON values.
 use Rattle.std.specs.Prelude.{ℕ, List, length, map, Option, None, nat_le, ◌&&◌, if◌then◌else◌}
 use Rattle.std.specs.Str.{is_utf8}
 use Rattle.serde_json.specs.Data.{Data, number, unsigned, string, array}
@@ -7,7 +7,7 @@ use Rattle.serde_json.specs.View.{items_of}
 use Rattle.base64.specs.Engines.{standard}
 use Rattle.base64.specs.GeneralPurpose.{encode_of}
 
--- The JSON value that a line is, as `serde_json` reads it, where it has at most so many bytes and is UTF-8 (RFC 8259; docs/LINES.md).
+-- The JSON value of a line, as `serde_json` reads it, if the line has at most `longest` bytes and is UTF-8 (RFC 8259; docs/LINES.md).
 unfoldable pub value_of_line : ℕ → List ℕ → Option Data
 value_of_line longest line = if nat_le (length line) longest && is_utf8 line then read line else None
 

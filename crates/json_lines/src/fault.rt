@@ -1,4 +1,4 @@
-//! What ends a run of a program over lines, and that bytes weren't written.
+//! The faults that end a run of a program over lines, and the error that bytes were not written.
 
 ghost use Rattle.std.specs.Prelude.{◌≡◌};
 ghost use Rattle.std.specs.IoError.{error_kind};
@@ -9,21 +9,21 @@ use std::alloc::AllocError;
 use std::io;
 use thiserror::Error;
 
-/// The output couldn't be written.
+/// The output could not be written.
 #[derive(Clone, Copy, Debug, PartialEq, Eq, Error)]
 #[error("the output couldn't be written")]
 pub struct Unwritten;
 
-/// What ends a run of a program over lines: its exit status is 1 then.
+/// The fault that ends a run of a program over lines. Its exit status is 1 then.
 #[derive(Clone, Copy, Debug, PartialEq, Eq, Error)]
 pub enum RunFault {
-    /// A growth was refused.
+    /// Memory could not be allocated.
     #[error("memory was refused")]
     Memory,
-    /// The input couldn't be read.
+    /// The input could not be read.
     #[error("the input couldn't be read")]
     Read,
-    /// The output couldn't be written.
+    /// The output could not be written.
     #[error("the output couldn't be written")]
     Write,
 }

@@ -1,4 +1,4 @@
-//! What stands under a key of a JSON object, by its type.
+//! The value under a key of a JSON object, by its type.
 
 ghost use Rattle.std.specs.Prelude.{◌≡◌, ◌++◌, IfOk, option_map, map};
 ghost use Rattle.serde_json.specs.View.{view, items_view};
@@ -29,7 +29,7 @@ pub fn number(value: &Value, key: &str) -> Option<u64>
     }
 }
 
-// The bytes whose base64 the text is.
+// The bytes whose base64 is this text.
 #[tactic(auto, unfolding(crate::specs::Fields::bytes_of))]
 fn decode(alloc: Global, text: &str) -> Result<Option<Vec<u8>>, AllocError>
     ensures { IfOk result (λ o. option_map (λ b. b.items) o ≡ bytes_of text.now) }
@@ -40,7 +40,7 @@ fn decode(alloc: Global, text: &str) -> Result<Option<Vec<u8>>, AllocError>
     }
 }
 
-// The bytes that a value stands for.
+// The bytes that a value represents.
 fn bytes_of_value(alloc: Global, value: &Value) -> Result<Option<Vec<u8>>, AllocError>
     ensures { IfOk result (λ o. option_map (λ b. b.items) o ≡ bytes_in (view value.now)) }
 {
@@ -60,7 +60,7 @@ pub fn bytes(alloc: Global, value: &Value, key: &str) -> Result<Option<Vec<u8>>,
     }
 }
 
-// The bytes that each of the values stands for.
+// The bytes that each of the values represents.
 fn bytes_of_values(alloc: Global, values: &[Value]) -> Result<Option<Vec<Vec<u8>>>, AllocError>
     ensures { IfOk result (λ o. option_map (λ v. map (λ c. c.items) v.items) o ≡ bytes_of_items (items_view values.now)) }
 {
@@ -91,7 +91,7 @@ pub fn bytes_list(
     }
 }
 
-// The hash that a value stands for.
+// The hash that a value represents.
 fn hash_value(alloc: Global, value: &Value) -> Result<Option<[u8; 32]>, AllocError>
     ensures { IfOk result (λ o. o ≡ hash_in (view value.now)) }
 {
@@ -114,7 +114,7 @@ pub fn hash(alloc: Global, value: &Value, key: &str) -> Result<Option<[u8; 32]>,
     }
 }
 
-// The hash that each of the values stands for.
+// The hash that each of the values represents.
 fn hash_values(alloc: Global, values: &[Value]) -> Result<Option<Vec<[u8; 32]>>, AllocError>
     ensures { IfOk result (λ o. option_map (λ v. v.items) o ≡ hashes_of_items (items_view values.now)) }
 {

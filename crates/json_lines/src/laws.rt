@@ -2,7 +2,7 @@
 
 ghost use Rattle.json_lines.specs.Laws.{BytesReadBack};
 
-/// A text is read as some bytes exactly where it is the base64 that is written for them.
+/// A text is read as some bytes if and only if it is the base64 that is written for them.
 #[tactic(auto, using(crate::proofs::OneText::bytes_read_back))]
 pub fn bytes_read_back()
     ensures { BytesReadBack }

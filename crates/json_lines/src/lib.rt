@@ -1,13 +1,13 @@
-//! Lines of JSON (RFC 8259) in and out, bytes as base64 (RFC 4648, section 4): what a program over lines reads and writes.
+//! Lines of JSON (RFC 8259) in and out, bytes as base64 (RFC 4648, section 4): the input and output of a program over lines.
 //!
 //! - `next_line` reads an input line by line, and holds no more of a line than is asked for.
-//! - `line_value` answers the JSON value that a line is, and `fields` reads what stands under a key of a JSON object;
-//!   `bytes_value` and `hashes_value` are bytes and hashes as JSON.
-//! - `write_whole` writes bytes, `send` hands them on as well, and `tell` doesn't say whether it could: for the programs,
-//!   whose runs a `RunFault` ends.
+//! - `line_value` returns the JSON value of a line, and `fields` reads the value under a key of a JSON object. `bytes_value` and
+//!   `hashes_value` are bytes and hashes as JSON.
+//! - `write_whole` writes bytes and reports whether it could. `send` also flushes the output. `tell` does not report
+//!   whether it could. These are for the programs, whose runs end with a `RunFault`.
 //!
-//! `Lines` says what the next line of an input is, `Values` what value a line is, over `serde_json`'s own words for the value of
-//! a text, and how bytes stand in it, over `base64`'s strict encoding; `Fields` says what stands under a key.
+//! `Lines` defines the next line of an input. `Values` defines the value of a line, by `serde_json`'s own definition of the value of a
+//! text, and how bytes are represented in it, by `base64`'s strict encoding. `Fields` defines the value under a key.
 #![tactic(auto)]
 
 mod fault;

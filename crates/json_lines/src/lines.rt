@@ -1,4 +1,4 @@
-//! An input cut into lines, as it comes, of each of which no more is held than is asked for.
+//! An input cut into lines, as it arrives. No more of each line is held than is asked for.
 
 ghost use Rattle.std.specs.Prelude.{◌≡◌, ◌≢◌, ◌<◌, ◌≤◌, ◌-◌, ◌++◌, [], All, take, length, IfOk, OnOk, OnErr};
 ghost use Rattle.std.specs.Io.BufRead.{strip_last};
@@ -8,13 +8,13 @@ use std::alloc::AllocError;
 use std::io;
 use std::io::{BufRead, ErrorKind};
 
-/// How many lines of an input are read at most, and how many pieces: so they can be counted, and each loop over them ends.
+/// The maximum number of lines of an input, and of pieces of a line, that are read. So they can be counted, and each loop over them ends.
 pub const READS: u64 = 1 << 50;
 
-/// How many bytes of a request line are kept, its end among them: two more than the longest request has.
+/// The maximum number of bytes of a request line that are kept, including its end: two more than the longest request has.
 pub const REQUEST_KEPT: usize = 1_048_578;
 
-/// The line without its end, the byte 0A.
+/// The line without the byte 0A at its end.
 pub fn content(line: &[u8]) -> &[u8]
     ensures { result.now ≡ strip_last 10 line.now }
 {
@@ -40,12 +40,12 @@ fn through(bytes: &[u8]) -> usize
     i
 }
 
-/// Cuts some bytes behind the first 0A, or at their end, and keeps of what is before the cut what there is room for, `most` bytes
-/// of a line in all. It answers where the cut is, and whether the line ended there.
+/// Cuts some bytes after the first 0A, or at their end. It keeps as much of the bytes before the cut as there is room for, `most` bytes of
+/// a line in all. It returns where the cut is, and whether the line ended there.
 ///
 /// # Errors
 ///
-/// Where a growth is refused.
+/// Returns an error if memory runs out.
 pub fn cut_piece(bytes: &[u8], most: usize, line: &mut Vec<u8>) -> Result<(usize, bool), AllocError>
     requires { length line.old.items ≤ most }
     ensures piece { IfOk result (λ p. IsPiece bytes.now p.0 p.1) }
@@ -59,8 +59,8 @@ pub fn cut_piece(bytes: &[u8], most: usize, line: &mut Vec<u8>) -> Result<(usize
     Ok((end, is_ended))
 }
 
-// Takes what stands in the reader's buffer, up to and including the first byte 0A, and keeps of it what there is room for. It
-// answers whether the line ended, at that byte or at the end of the input.
+// Takes the bytes in the reader's buffer, up to and including the first byte 0A, and keeps as many as there is room for. It reports whether
+// the line ended, at that byte or at the end of the input.
 fn take_piece<R: BufRead>(input: &mut R, most: usize, line: &mut Vec<u8>) -> io::Result<bool>
     requires { length line.old.items ≤ most }
     ensures { TakesPiece most (R.remaining input.old) (R.remaining input.new) line.old.items line.new.items result }
@@ -80,7 +80,7 @@ fn take_piece<R: BufRead>(input: &mut R, most: usize, line: &mut Vec<u8>) -> io:
     Ok(end == 0 || is_ended)
 }
 
-// Takes the next line with its end, and keeps of it what there is room for in an empty vector.
+// Takes the next line with its end, and keeps as much of it in an empty vector as there is room for.
 fn take_line<R: BufRead>(input: &mut R, most: usize, line: &mut Vec<u8>) -> io::Result<()>
     requires { line.old.items ≡ [] }
     ensures line { OnOk result (TakesFirstLine most (R.remaining input.old) (R.remaining input.new) line.new.items) }
@@ -95,15 +95,15 @@ fn take_line<R: BufRead>(input: &mut R, most: usize, line: &mut Vec<u8>) -> io::
     Err(io::Error::from(ErrorKind::Other))
 }
 
-/// Reads the next line into `line`, without its end, the byte 0A, and in place of what stood there. It answers whether there was
-/// one, or the input had ended. An empty line is one, and so is a last line that the input ends. A byte 0D is part of its line,
-/// and a byte 0A of none.
-/// Of a line that has more than `most` bytes with its end the first `most` are kept, so that no line takes more memory.
+/// Reads the next line into `line`, without the byte 0A at its end, and replaces the contents of `line`. It reports whether there was a
+/// line; if not, the input had ended. An empty line counts as a line. A last line that ends with the input counts too. A byte 0D is part of
+/// its line, and a byte 0A is part of no line. If a line has more than `most` bytes with its end, the first `most` are kept, so that no
+/// line takes more memory.
 ///
 /// # Errors
 ///
-/// The reader's, where it fails; `OutOfMemory` where a growth is refused; and another one where there are more than 2^50 pieces of
-/// a line. `line` has what was read of the line, as far as it is kept; its end was not read.
+/// The reader's error if the reader fails; `OutOfMemory` if memory runs out; and another error if there are more than 2^50 pieces of a
+/// line. After an error, `line` contains what was read of the line, as far as it is kept; the line's end was not read.
 pub fn next_line<R: BufRead>(input: &mut R, most: usize, line: &mut Vec<u8>) -> io::Result<bool>
     requires { 0 < most }
     ensures line { IfOk result (λ is_line. TakesNext most (R.remaining input.old) (R.remaining input.new) line.new.items is_line) }

@@ -8,11 +8,11 @@ use crate::fault::Unwritten;
 use std::io;
 use std::io::{ErrorKind, Write};
 
-/// Writes all of the bytes. The writer isn't flushed.
+/// Writes all of the bytes. The writer is not flushed.
 ///
 /// # Errors
 ///
-/// The writer's, or `WriteZero` where the writer took no bytes. Some of the bytes may be written then, but not all.
+/// The writer's error, or `WriteZero` if the writer took no bytes. Some of the bytes may be written then, but not all.
 pub fn write_bytes<W: Write>(writer: &mut W, bytes: &[u8]) -> io::Result<()>
     ensures all { OnOk result (Appends (W.contents writer.old) (W.contents writer.new) bytes.now) }
     ensures some { OnErr result ((n : ℕ) × (n < length bytes.now) × Appends (W.contents writer.old) (W.contents writer.new) (take n bytes.now)) }
@@ -31,11 +31,11 @@ pub fn write_bytes<W: Write>(writer: &mut W, bytes: &[u8]) -> io::Result<()>
     Ok(())
 }
 
-/// Writes all of the bytes, and answers whether it did.
+/// Writes all of the bytes, and reports whether it did.
 ///
-/// It answers false only where the writer failed or took no bytes, and then some of the bytes may be written, but not
-/// all. That it doesn't give up before is no clause (what a writer tells of its bytes is the same before and after a
-/// failed call), and shown by tests. The writer isn't flushed.
+/// It returns false only if the writer failed or took no bytes. Then some of the bytes may be written, but not all. No clause states that
+/// it does not give up earlier, because the specification of a writer's contents is the same before and after a failed call; tests show it.
+/// The writer is not flushed.
 pub fn write_whole<W: Write>(writer: &mut W, bytes: &[u8]) -> bool
     ensures all { result ≡ true → Appends (W.contents writer.old) (W.contents writer.new) bytes.now }
     ensures some { result ≡ false → (n : ℕ) × (n < length bytes.now) × Appends (W.contents writer.old) (W.contents writer.new) (take n bytes.now) }
@@ -43,11 +43,11 @@ pub fn write_whole<W: Write>(writer: &mut W, bytes: &[u8]) -> bool
     write_bytes(writer, bytes).is_ok()
 }
 
-/// Writes the bytes whole, and hands them on.
+/// Writes all of the bytes, and flushes the output.
 ///
 /// # Errors
 ///
-/// `Unwritten`, where the writer failed: a beginning of the bytes was written.
+/// `Unwritten` if the writer failed: a prefix of the bytes, perhaps all of them, was written.
 pub fn send<W: Write>(output: &mut W, bytes: &[u8]) -> Result<(), Unwritten>
     ensures all { OnOk result (Appends (W.contents output.old) (W.contents output.new) bytes.now) }
     ensures some { OnErr result (SendsSome (W.contents output.old) (W.contents output.new) bytes.now) }
@@ -61,7 +61,7 @@ pub fn send<W: Write>(output: &mut W, bytes: &[u8]) -> Result<(), Unwritten>
     }
 }
 
-/// Writes the bytes as far as they can be written, and doesn't say how far.
+/// Writes as many of the bytes as can be written, and does not report how many.
 pub fn tell<W: Write>(output: &mut W, bytes: &[u8])
     ensures { SendsSome (W.contents output.old) (W.contents output.new) bytes.now }
 {

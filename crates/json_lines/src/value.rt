@@ -9,15 +9,15 @@ use base64::engine::general_purpose::STANDARD;
 use serde_json::Value;
 use std::alloc::{AllocError, Global};
 
-/// How many bytes the longest request has, without the end of its line.
+/// The number of bytes of the longest request, without the end of its line.
 pub const LONGEST_REQUEST: usize = 1_048_576;
 
-/// The JSON value that a line is (RFC 8259), without the byte that ends it: none where it isn't UTF-8 or isn't JSON, or has more than
-/// `longest` bytes, when it takes no memory.
+/// The JSON value of a line (RFC 8259), without the byte that ends it. There is none if the line is not UTF-8 or not JSON, or if it has
+/// more than `longest` bytes; in the last case it takes no memory.
 ///
 /// # Errors
 ///
-/// Where a growth is refused.
+/// Returns an error if memory runs out.
 pub fn line_value(alloc: Global, longest: usize, line: &[u8]) -> Result<Option<Value>, AllocError>
     ensures value { IfOk result (λ o. option_map view o ≡ value_of_line longest line.now) }
     ensures fits { IfErr result (λ _. length line.now ≤ longest) }

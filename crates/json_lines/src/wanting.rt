@@ -1,4 +1,5 @@
-//! Want of memory: what an error of a crate below says of it, where it is no error of a text. Elsewhere it is passed on by `?`.
+//! Running out of memory, as an error of a crate below reports it, as opposed to an error in a text. Elsewhere such an error is passed on
+//! by `?`.
 
 ghost use Rattle.std.specs.Prelude.{◌≡◌, ◌≢◌, None, MatchResult};
 ghost use Rattle.base64.specs.declared.decode.DecodeAllocError.TheVariants.{OutOfMemory};
@@ -8,7 +9,7 @@ use base64::DecodeAllocError;
 use serde_json::{Error, Value};
 use std::alloc::AllocError;
 
-// Of a text that wasn't decoded: it stands for no bytes, unless a growth was refused.
+// The result for a text that was not decoded: it represents no bytes, unless memory was refused.
 #[derive(Drop)]
 pub(crate) struct Undecoded {
     pub(crate) bytes: Result<Option<Vec<u8>>, AllocError>,
@@ -26,7 +27,7 @@ impl From<DecodeAllocError> for Undecoded {
     }
 }
 
-// Of a text that isn't read as JSON: it is no value, unless a growth was refused.
+// The result for a text that was not read as JSON: it is no value, unless memory was refused.
 #[derive(Drop)]
 pub(crate) struct Unread {
     pub(crate) value: Result<Option<Value>, AllocError>,

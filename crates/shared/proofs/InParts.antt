@@ -1,9 +1,9 @@
--- Lists in parts of one size, when values come to them.
+-- Lists in parts of one size, when values are added to them.
 use Rattle.std.proofs.Common.{◌≡◌, ℕ, ◌+◌, ◌<◌, ◌≤◌, List, [], ◌∷◌, ◌++◌, length, ap, sym, ◌∙◌, subst, arith, append_assoc}
 use Rattle.std.proofs.lemmas.List.{length_push}
 use Rattle.shared.specs.Flat.{concatenated, AllOf, IsInParts}
 
--- the rest has become a part, or has not
+-- the parts and the rest changed (for example, the rest became a part), but their values did not
 pub moved : {X : Type 0} (size n : ℕ) (parts now : List (List X)) (rest later : List X) → IsInParts size parts rest n
     → concatenated now ++ later ≡ concatenated parts ++ rest → AllOf size now → length later ≤ size → IsInParts size now later n
 moved size n parts now rest later is same each short = record { each = each; short = short; all = ap length same ∙ is.all }
@@ -13,7 +13,7 @@ pub stayed : {X : Type 0} (size n : ℕ) (parts : List (List X)) (rest later : L
     → IsInParts size parts later n
 stayed size n parts rest later is e = subst (λ (r : List _). IsInParts size parts r n) (sym e) is
 
--- a value more comes to the rest
+-- one more value is added to the rest
 pub grown : {X : Type 0} (parts : List (List X)) (rest later : List X) (x : X) → later ≡ rest ++ x ∷ []
     → concatenated parts ++ later ≡ (concatenated parts ++ rest) ++ x ∷ []
 grown parts rest later x e = ap (λ (r : List _). concatenated parts ++ r) e ∙ sym (append_assoc (concatenated parts) rest (x ∷ []))

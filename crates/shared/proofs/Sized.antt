@@ -1,9 +1,9 @@
--- Where the elements of a list in parts of one size stand.
+-- How the elements of a list in parts of one size are found.
 use Rattle.std.proofs.Common.{◌≡◌, ℕ, zero, suc, ◌+◌, ◌-◌, ◌*◌, ◌/◌, ◌%◌, ◌<◌, ◌≤◌, List, [], ◌∷◌, ◌++◌, length, get_or, refl, ap, sym, ◌∙◌, arith, length-append}
 use Rattle.std.proofs.lemmas.List.{get_or_append_left, get_or-append_right}
 use Rattle.shared.specs.Flat.{concatenated, AllOf}
 
--- what is so of a number of elements, as of each number but none, and is shown for the two that lists here have in a part
+-- facts about a part size n; they hold for each positive number and are shown for the two sizes that lists have here
 pub record IsSize (n : ℕ) : Type 0 where
   pub none : n * zero ≡ zero
   pub more : (k : ℕ) → n * suc k ≡ n + n * k
@@ -42,7 +42,7 @@ module _ {X : Type 0} {n : ℕ} (size : IsSize n) where
   length-concatenated (c ∷ cs) all =
       length-append c (concatenated cs) ∙ ap (λ (m : ℕ). m + length (concatenated cs)) all.0 ∙ ap (λ (m : ℕ). n + m) (length-concatenated cs all.1) ∙ sym (size.more (length cs))
 
-  -- the part at a place is full
+  -- the part at an index below the number of parts is full
   pub full_at : (cs : List (List X)) (k : ℕ) (d : List X) → AllOf n cs → k < length cs → length (get_or cs k d) ≡ n
   full_at [] k d all below = absurd (omega arith)
   full_at (c ∷ cs) zero d all below = all.0
@@ -65,7 +65,7 @@ module _ {X : Type 0} {n : ℕ} (size : IsSize n) where
       ∙ ap (λ (i : ℕ). get_or (concatenated cs) i d) rest
       ∙ get_or-concatenated cs k j e d all.1 (omega arith) inside
 
-  -- an element of a whole list: within the parts, and in the rest
+  -- an element of the whole list, in the parts and in the rest
   pub in_parts : (cs : List (List X)) (rest : List X) (i : ℕ) (e : List X) (d : X) → AllOf n cs → i / n < length cs
       → get_or (concatenated cs ++ rest) i d ≡ get_or (get_or cs (i / n) e) (i % n) d
   in_parts cs rest i e d all below =

@@ -29,7 +29,7 @@ impl<T> Model for Chunked<T> {
     ghost invariant = { λ r. IsInParts 128 r.full r.last.items r.len };
 }
 
-// Makes room in the rest: where it is full, it becomes a chunk.
+// Makes room in the rest: if it is full, it becomes a chunk.
 fn make_room<T: Share>(
     alloc: Global,
     full: &mut Parts<T>,
@@ -106,7 +106,7 @@ impl<T: Share> Chunked<T> {
         })
     }
 
-    // Adds equal values at the end of another list.
+    // Adds values equal to those of this list at the end of another list.
     pub(crate) fn share_into(&self, into: &mut Vec<T>) -> Result<(), AllocError>
         ensures { OnOk result (into.new.items ≡ into.old.items ++ self.now) }
     {
@@ -118,7 +118,7 @@ impl<T: Share> Chunked<T> {
 }
 
 impl<T: Drop> Chunked<T> {
-    // Lets all values go.
+    // Removes all values.
     pub(crate) fn clear(&mut self)
         ensures { self.new ≡ [] }
     {

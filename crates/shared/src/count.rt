@@ -4,7 +4,7 @@ ghost use Rattle.std.specs.Prelude.{◌≡◌, ◌+◌, IfOk};
 
 use std::alloc::{AllocError, Global};
 
-// The number behind this one. Behind the last number there is none: who has as many values is refused the memory for as many bytes.
+// The next number. The largest `usize` has none. A list with that many values is refused, because memory for as many bytes is refused.
 pub(crate) fn one_more(alloc: Global, len: usize) -> Result<usize, AllocError>
     ensures { IfOk result (λ n. n ≡ len + 1) }
 {

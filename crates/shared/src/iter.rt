@@ -1,4 +1,4 @@
-//! Going over a list.
+//! Iteration over a list.
 
 ghost use Rattle.std.specs.Prelude.{◌≡◌, drop};
 ghost use Rattle.std.specs.Iterator.{YieldsFirstRef, item_count};
@@ -24,7 +24,7 @@ impl<'a, T> Model for Iter<'a, T> {
 }
 
 impl<'a, T> Iter<'a, T> {
-    // The values of the list from this place on, or none past its end.
+    // The values of the list from this index on. There are none if the index is past its end.
     pub(crate) fn from(list: &'a SharedList<T>, place: usize) -> Iter<'a, T>
         ensures { result ≡ drop place list.now }
     {

@@ -1,4 +1,4 @@
-//! The list: blocks, and a row of what is behind them.
+//! The list: blocks, and a row with the values after them.
 
 ghost use Rattle.std.specs.Prelude.{◌≡◌, ◌<◌, ◌≤◌, [], ◌∷◌, ◌++◌, length, take, drop, ◌-◌, ℕ, slice_index_or, slice_get, OnOk, OnErr, IfOk};
 ghost use Rattle.std.specs.Option.{option_copied};
@@ -18,8 +18,8 @@ const BLOCK: usize = 16384;
 
 /// A list that only grows, and whose copies share what they have in common with it. Contracts see the plain list.
 ///
-/// Values lie in blocks of 16,384, then in chunks of 128, and at most 128 in a rest. A copy takes a share of the row of blocks, of
-/// the row of chunks, and of each value of the rest.
+/// Values are in blocks of 16,384, then in chunks of 128, and at most 128 are in a rest. A copy shares the row of blocks, the row of
+/// chunks, and each value of the rest.
 #[derive(Drop)]
 pub struct SharedList<T> {
     blocks: Parts<T>,
@@ -48,7 +48,7 @@ fn block_of<T: Share>(alloc: Global, row: &Chunked<T>) -> Result<Chunk<T>, Alloc
     Ok(block)
 }
 
-// Makes room in the row: where it is full, it becomes a block.
+// Makes room in the row: if it is full, it becomes a block.
 fn make_room<T: Share>(
     alloc: Global,
     blocks: &mut Parts<T>,
@@ -71,7 +71,7 @@ fn make_room<T: Share>(
 }
 
 impl<T> SharedList<T> {
-    /// An empty list. Takes no memory until the first push.
+    /// An empty list. It takes no memory until the first push.
     pub fn new(alloc: Global) -> SharedList<T>
         ensures { result ≡ [] }
     {
@@ -114,7 +114,7 @@ impl<T> SharedList<T> {
         }
     }
 
-    /// The last value, or `None` where there is none.
+    /// The last value, or `None` if the list is empty.
     pub fn last(&self) -> Option<&T>
         ensures { option_copied result ≡ slice_get self.now (length self.now - 1) }
     {
@@ -132,7 +132,7 @@ impl<T> SharedList<T> {
         self.iter_from(0)
     }
 
-    /// The values from an index on, in order: none where the index is past the end.
+    /// The values from an index on, in order. There are none if the index is past the end.
     pub fn iter_from(&self, index: usize) -> Iter<'_, T>
         ensures { result ≡ drop index self.now }
     {
@@ -153,7 +153,7 @@ impl<'a, T> IntoIterator for &'a SharedList<T> {
 }
 
 impl<T: Share> SharedList<T> {
-    /// Adds a value at the end. Where memory is refused nothing changes.
+    /// Adds a value at the end. If memory runs out, nothing changes.
     pub fn push(&mut self, alloc: Global, value: T) -> Result<(), AllocError>
         ensures ok { OnOk result (self.new ≡ self.old ++ value ∷ []) }
         ensures err { OnErr result (self.new ≡ self.old) }
@@ -165,7 +165,7 @@ impl<T: Share> SharedList<T> {
         Ok(())
     }
 
-    /// Adds values equal to these at the end, in order. Where memory is refused a beginning of them has been added.
+    /// Adds values equal to these at the end, in order. If memory runs out, the first values of them may have been added.
     pub fn extend_from_slice(&mut self, alloc: Global, values: &[T]) -> Result<(), AllocError>
         ensures ok { OnOk result (self.new ≡ self.old ++ values.now) }
         ensures err { OnErr result ((n : ℕ) × (self.new ≡ self.old ++ take n values.now)) }

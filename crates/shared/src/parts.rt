@@ -9,7 +9,7 @@ use std::alloc::{AllocError, Global};
 use std::marker::Model;
 use std::sync::Arc;
 
-/// Parts in order. All lists that have just these share them; none take no memory.
+/// Parts in order. All lists that have exactly these parts share them. An empty list of parts takes no memory.
 #[derive(Drop)]
 pub struct Parts<T> {
     chunks: Option<Arc<Vec<Chunk<T>>>>,
@@ -39,7 +39,7 @@ fn one_more_part<T: Drop>(
     Ok(all)
 }
 
-// Adds a part: in place where no other list has these parts, and in new memory where one has.
+// Adds a part: in place if no other list shares these parts, and otherwise in new memory.
 fn push_part<T: Drop>(
     alloc: Global,
     parts: &mut Arc<Vec<Chunk<T>>>,
@@ -90,7 +90,7 @@ impl<T: Drop> Parts<T> {
         }
     }
 
-    // Lets all parts go.
+    // Removes all parts.
     pub(crate) fn clear(&mut self)
         ensures { self.new ≡ [] }
     {

@@ -4,7 +4,7 @@ ghost use Rattle.std.specs.Prelude.{◌≡◌, ◌++◌, OnOk, IfOk};
 
 use std::alloc::{AllocError, Global};
 
-/// A value of which there can be a second one, equal to it, at little cost.
+/// A value that can be duplicated at little cost: the duplicate is equal to it.
 pub trait Share: Drop {
     /// An equal value.
     fn share(&self) -> Result<Self, AllocError>
@@ -17,7 +17,7 @@ impl<T: Copy> Share for T {
     }
 }
 
-// Values equal to these, with room for so many.
+// Values equal to these, with room for `capacity` values.
 pub(crate) fn shared_values<T: Share>(
     alloc: Global,
     list: &[T],
@@ -30,7 +30,7 @@ pub(crate) fn shared_values<T: Share>(
     Ok(values)
 }
 
-// Adds equal values at the end of a list.
+// Adds values equal to those of `list` at the end of `into`.
 pub(crate) fn share_all<T: Share>(list: &[T], into: &mut Vec<T>) -> Result<(), AllocError>
     ensures { OnOk result (into.new.items ≡ into.old.items ++ list.now) }
 {

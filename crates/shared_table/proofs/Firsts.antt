@@ -1,4 +1,4 @@
--- The first place that passes, by its steps.
+-- The first place that passes, step by step along the slots.
 use Rattle.std.proofs.Common.{◌≡◌, ℕ, ◌+◌, ◌<◌, List, [], ◌∷◌, ◌++◌, length, get_or, take, drop, Bool, true, false, refl, ap, sym, ◌∙◌, Some, None}
 use Rattle.std.specs.Prelude.{◌&&◌, ◌==◌, if◌then◌else◌}
 use Rattle.std.proofs.lemmas.List.{take_more, take-append-drop, drop_more}
@@ -30,7 +30,7 @@ pub first_where-keep : (q : ℕ → Bool) (p : ℕ) (xs ys : List ℕ) → first
 first_where-keep q p [] ys some = let h : None ≡ Some p = some in cc
 first_where-keep q p (k ∷ xs) ys some = keep_by q k p xs ys (q k) refl some (first_where-keep q p xs ys)
 
--- a slot that isn't it, and one that is
+-- a slot that does not have that address or does not pass, and one that does both
 pub miss : (q : ℕ → Bool) (s : Slot) (r : ℕ) → ((s.address == r) && q s.place) ≡ false → first_where q (if_at s.address s.place r) ≡ None
 miss q s r not_it = by (s.address == r) refl
   where

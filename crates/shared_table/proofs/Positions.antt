@@ -1,4 +1,4 @@
--- The first of a list's elements that passes, by the places of its address.
+-- The index of the first element that passes, found through the places of its address.
 use Rattle.std.proofs.Common.{◌≡◌, ℕ, suc, ◌+◌, ◌<◌, List, [], ◌∷◌, ◌++◌, length, get_or, map, Bool, true, false, refl, ap, sym, ◌∙◌, arith, append_assoc}
 use Rattle.std.proofs.Common.{Option, Some, None, inl, inr}
 use Rattle.std.specs.Prelude.{position, not, ◌==◌, nat_lt, if◌then◌else◌, cond}
@@ -17,7 +17,7 @@ places_from-push k (x ∷ xs) y a =
     ∙ sym (append_assoc (if_at x k a) (places_from (k + 1) xs a) (if_at y (k + 1 + length xs) a))
     ∙ ap (λ (n : ℕ). (if_at x k a ++ places_from (k + 1) xs a) ++ if_at y n a) (let e : k + 1 + length xs ≡ k + length (x ∷ xs) = omega arith in e)
 
--- the places of one list behind another
+-- the places of two lists, one after the other
 pub places_from-append : (k : ℕ) (xs ys : List ℕ) (a : ℕ) → places_from k (xs ++ ys) a ≡ places_from k xs a ++ places_from (k + length xs) ys a
 places_from-append k [] ys a = ap (λ (n : ℕ). places_from n ys a) (let e : k ≡ k + 0 = omega arith in e)
 places_from-append k (x ∷ xs) ys a =
@@ -25,7 +25,7 @@ places_from-append k (x ∷ xs) ys a =
     ∙ sym (append_assoc (if_at x k a) (places_from (k + 1) xs a) (places_from (k + 1 + length xs) ys a))
     ∙ ap (λ (n : ℕ). (if_at x k a ++ places_from (k + 1) xs a) ++ places_from n ys a) (let e : k + 1 + length xs ≡ k + length (x ∷ xs) = omega arith in e)
 
--- the search for the first that passes, from a place on
+-- the search from a place on for the first element that passes
 abbrev pub seek : {X : Type 0} → (X → Bool) → ℕ → List X → Option ℕ
 seek p k [] = None
 seek p k (x ∷ xs) = if p x then Some k else seek p (k + 1) xs
@@ -87,7 +87,7 @@ step_at q k y a more rest true false e f so onward = ap (λ (v : Bool). first_wh
 step_at q k y a more rest false true e f so onward = let h : false ≡ true = so refl in cc
 step_at q k y a more rest false false e f so onward = ap (λ (v : Bool). first_where q ((if v then k ∷ [] else []) ++ more)) e ∙ onward
 
--- the first passing place among those of an address that each passing element has
+-- the first passing element is found among the places of one address, if each passing element has that address
 pub first_place : {X : Type 0} (at : X → ℕ) (p : X → Bool) (q : ℕ → Bool) (d : X) (a k : ℕ) (xs : List X) → ((x : X) → p x ≡ true → (at x == a) ≡ true)
     → ((j : ℕ) → j < length xs → q (k + j) ≡ p (get_or xs j d))
     → first_where q (places_from k (map at xs) a) ≡ seek p k xs
@@ -99,7 +99,7 @@ first_place at p q d a k (x ∷ xs) address each =
     step_at q k (at x) a (places_from (k + 1) (map at xs) a) (seek p (k + 1) xs) (at x == a) (p x) refl here (address x)
     (first_place at p q d a (k + 1) xs address later)
 
--- an element more
+-- one more element, with its place
 pub noted : {X : Type 0} (at : X → ℕ) (look more : ℕ → List ℕ) (xs now : List X) (y : X) (x k : ℕ) → ((a : ℕ) → look a ≡ places_from 0 (map at xs) a)
     → ((a : ℕ) → more a ≡ look a ++ if_at x k a)
     → x ≡ at y → k ≡ length xs → now ≡ xs ++ y ∷ [] → (a : ℕ) → more a ≡ places_from 0 (map at now) a
@@ -111,7 +111,7 @@ noted at look more xs now y x k is grown here place new a =
     ∙ sym (places_from-push 0 (map at xs) (at y) a)
     ∙ ap (λ (ys : List ℕ). places_from 0 ys a) (sym (map_push at xs y) ∙ ap (map at) (sym new))
 
--- a slot more
+-- one more slot, with its element
 pub placed-push : {X : Type 0} (at : X → ℕ) (slots : List Slot) (s : Slot) (k n : ℕ) (xs : List X) (x : X) → s.address ≡ at x → s.place ≡ n
     → n ≡ k + length xs → ArePlaced at slots k xs
     → ArePlaced at (slots ++ s ∷ []) k (xs ++ x ∷ [])
@@ -124,7 +124,7 @@ placed-push at slots s k n xs x here place count are a =
     ∙ sym (places_from-push k (map at xs) (at x) a)
     ∙ ap (λ (ys : List ℕ). places_from k ys a) (sym (map_push at xs x))
 
--- the places of all elements, where those of the later ones were added
+-- the places of all elements, after those of the later elements were added
 pub placed-append : {X : Type 0} (at : X → ℕ) (look more : ℕ → List ℕ) (slots : List Slot) (old later now : List X)
     → ((a : ℕ) → look a ≡ places_from 0 (map at old) a) → ((a : ℕ) → more a ≡ look a ++ places_in slots a)
     → ArePlaced at slots (length old) later → now ≡ old ++ later → (a : ℕ) → more a ≡ places_from 0 (map at now) a

@@ -25,7 +25,7 @@ if_at-same a b p i same = grind (arith, common_steps)
 if_at-other : (a b p i : ℕ) → i < 64 → a % 64 ≢ i → if_at a p (b * 64 + i) ≡ []
 if_at-other a b p i small other = grind (arith, common_steps)
 
--- what stands in a list with one more
+-- the elements of a list after one was added
 get_left : {A : Type 0} (xs : List A) (y : A) (i : ℕ) → i < length xs → slice_get (xs ++ y ∷ []) i ≡ slice_get xs i
 get_left [] y i h = absurd (omega arith)
 get_left (x ∷ xs) y zero h = refl
@@ -50,20 +50,20 @@ part_more now old look slots part n x size are this is k small b = elim (cases_l
       ∙ ap (λ (m : ℕ). at_index old look m b ++ places_in slots (b * 64 + m)) (sym e)
 ]
 
--- all parts are those before with the places of the slots, so what is below is
+-- all parts are the earlier ones with the places of the slots, and the same holds for the lookup across all parts
 pub all_parts : {A : Type 0} (now old : List A) (look : A → ℕ → List ℕ) (slots : List Slot) → AreMore now old look slots 64 → (a : ℕ)
     → below now look a ≡ below old look a ++ places_in slots a
 all_parts now old look slots are a =
     let e : a / 64 * 64 + a % 64 ≡ a = omega arith in
     are (a % 64) (omega arith) (a / 64) ∙ ap (λ (n : ℕ). below old look a ++ places_in slots n) e
 
--- what is found in the part at an index
+-- the places found in the part at an index
 found_at : {A : Type 0} (xs : List A) (look : A → ℕ → List ℕ) (x : A) (i b : ℕ) → i < length xs → x ≡ get_or xs i x → at_index xs look i b ≡ look x b
 found_at [] look x i b h e = absurd (omega arith)
 found_at (y ∷ xs) look x zero b h e = ap (λ (z : _). look z b) (sym e)
 found_at (y ∷ xs) look x (suc i) b h e = found_at xs look x i b (omega arith) e
 
--- a part where there was none
+-- a part that does not exist yet
 nothing_at : {A : Type 0} (xs : List A) (look : A → ℕ → List ℕ) (i b : ℕ) → length xs ≤ i → at_index xs look i b ≡ []
 nothing_at [] look i b past = refl
 nothing_at (x ∷ xs) look zero b past = absurd (omega arith)
@@ -74,11 +74,11 @@ pub part_begins : {A : Type 0} (xs : List A) (look : A → ℕ → List ℕ) (y 
     → (b : ℕ) → look y b ≡ at_index xs look i b ++ places_in part b
 part_begins xs look y i part past new b = new b ∙ ap (λ (r : List ℕ). r ++ places_in part b) (sym (nothing_at xs look i b past))
 
--- a slot as it stands below
+-- a slot as a part stores it: its address lacks the lowest six bits
 abbrev pub lowered : Slot → Slot
 lowered s = record { address = s.address / 64; place = s.place }
 
--- what stands in a list where one element is another
+-- the elements of a list after one was replaced
 get_set-same : {A : Type 0} (xs : List A) (y : A) (i : ℕ) → i < length xs → slice_get (slice_set xs i y) i ≡ Some y
 get_set-same [] y i h = absurd (omega arith)
 get_set-same (x ∷ xs) y zero h = refl
@@ -91,7 +91,7 @@ get_set-other (x ∷ xs) y zero (suc k) other = refl
 get_set-other (x ∷ xs) y (suc i) zero other = refl
 get_set-other (x ∷ xs) y (suc i) (suc k) other = get_set-other xs y i k (λ e. other (ap suc e))
 
--- parts in which nothing is found, and one more
+-- parts in which nothing is found, and one more of them
 pub empty_push : {A : Type 0} (xs : List A) (look : A → ℕ → List ℕ) (y : A) → ((b : ℕ) → look y b ≡ []) → ((k b : ℕ) → at_index xs look k b ≡ [])
     → (k b : ℕ) → at_index (xs ++ y ∷ []) look k b ≡ []
 empty_push [] look y none are zero b = none b
@@ -99,7 +99,7 @@ empty_push [] look y none are (suc k) b = refl
 empty_push (x ∷ xs) look y none are zero b = are zero b
 empty_push (x ∷ xs) look y none are (suc k) b = empty_push xs look y none (λ j c. are (suc j) c) k b
 
--- the same, with the slots of the part at that index
+-- one more part, with the slots of the part at that index
 pub slots_more : {A : Type 0} (now old : List A) (look : A → ℕ → List ℕ) (parts : List (Vec Slot Global)) (part : Vec Slot Global) (taken : List Slot)
     (n : ℕ) (x : A) → length now ≡ n → n < 64 → length parts ≡ 64 → part ≡ get_or parts n part → taken ≡ part.items
     → ((b : ℕ) → look x b ≡ at_index old look n b ++ places_in taken b)
@@ -112,7 +112,7 @@ slots_more now old look parts part taken n x size small count at is this are slo
     ∙ sym (found_at parts (λ p c. places_in p.items c) part n b inside at)
     ∙ of_parts.1 n small b)
 
--- a slot comes to the part of its address's lowest bits
+-- a slot is added to the part that the lowest six bits of its address select
 pub part_put : (parts : List (Vec Slot Global)) (slots : List Slot) (s : Slot) (old new : Vec Slot Global) → old ≡ get_or parts (s.address % 64) old
     → ((b : ℕ) → places_in new.items b ≡ places_in old.items b ++ if_at (s.address / 64) s.place b)
     → AreParts parts slots → AreParts (slice_set parts (s.address % 64) new) (slots ++ s ∷ [])
@@ -141,7 +141,7 @@ part_put parts slots s old new is more are =
       ],
     )
 
--- a part stays where none comes to it
+-- a part is unchanged if no slot is added to it
 pub part_stays : {A : Type 0} (xs : List A) (look : A → ℕ → List ℕ) (x y : A) (i : ℕ) (part : List Slot) → i < length xs → x ≡ get_or xs i x → part ≡ []
     → ((b : ℕ) → look y b ≡ look x b)
     → (b : ℕ) → look y b ≡ at_index xs look i b ++ places_in part b
@@ -149,13 +149,13 @@ part_stays xs look x y i part h e none same b =
     same b ∙ sym (found_at xs look x i b h e) ∙ sym (append-nil (at_index xs look i b))
     ∙ ap (λ (ps : List Slot). at_index xs look i b ++ places_in ps b) (sym none)
 
--- or has those that come to it behind its own
+-- or it has the added slots after its own
 pub part_grows : {A : Type 0} (xs : List A) (look : A → ℕ → List ℕ) (x y : A) (i : ℕ) (part : List Slot) → i < length xs → x ≡ get_or xs i x
     → ((b : ℕ) → look y b ≡ look x b ++ places_in part b)
     → (b : ℕ) → look y b ≡ at_index xs look i b ++ places_in part b
 part_grows xs look x y i part h e more b = more b ∙ ap (λ (r : List ℕ). r ++ places_in part b) (sym (found_at xs look x i b h e))
 
--- places that wait behind others that wait
+-- waiting slots that are added after other waiting slots
 pub waits : (base : List ℕ) (fresh slots more : List Slot) (b : ℕ) → more ≡ fresh ++ slots
     → base ++ places_in more b ≡ (base ++ places_in fresh b) ++ places_in slots b
 waits base fresh slots more b joined =

@@ -1,4 +1,4 @@
-//! Lists that copies share.
+//! Lists that are shared with their copies.
 
 ghost use Rattle.std.specs.Prelude.{◌≡◌, [], IfOk};
 
@@ -6,7 +6,7 @@ use std::alloc::{AllocError, Global};
 use std::marker::Model;
 use std::sync::Arc;
 
-/// A list that its copies share. No items take no memory. Contracts see the plain list.
+/// A list that is shared with its copies. An empty list takes no memory. Contracts see the plain list.
 #[derive(Drop)]
 pub struct Shared<A> {
     items: Option<Arc<Vec<A>>>,

@@ -14,12 +14,12 @@ pub trait Test {
 
     ghost passes: { Self → ℕ → Bool };
 
-    /// Whether that place passes.
+    /// Reports whether that place passes.
     fn is_passed(&self, place: u64) -> bool
         ensures { result ≡ passes self.now place };
 }
 
-// Whether a slot has that rest of an address, and its place passes.
+// Reports whether a slot has that rest of an address and its place passes.
 fn is_it<T: Test>(slot: Slot, rest: u64, test: &T) -> bool
     ensures { result ≡ ((slot.address == rest) && T.passes test.now slot.place) }
 {
@@ -29,7 +29,7 @@ fn is_it<T: Test>(slot: Slot, rest: u64, test: &T) -> bool
     test.is_passed(slot.place)
 }
 
-// The first place with that rest of an address that passes.
+// The first place that has that rest of an address and passes.
 fn first_of<T: Test>(slots: &[Slot], rest: u64, test: &T) -> Option<u64>
     ensures { result ≡ first_where (T.passes test.now) (places_in slots.now rest) }
 {
@@ -41,7 +41,7 @@ fn first_of<T: Test>(slots: &[Slot], rest: u64, test: &T) -> Option<u64>
     None
 }
 
-// The first place that passes, where that among the places before these slots is known.
+// The first place that passes: `earlier`, if a place before these slots passed, and otherwise the first in these slots.
 fn first_or_later<T: Test>(earlier: Option<u64>, slots: &[Slot], rest: u64, test: &T) -> Option<u64>
     ensures { (ks : List ℕ) → earlier ≡ first_where (T.passes test.now) ks → result ≡ first_where (T.passes test.now) (ks ++ places_in slots.now rest) }
 {
@@ -51,7 +51,7 @@ fn first_or_later<T: Test>(earlier: Option<u64>, slots: &[Slot], rest: u64, test
     }
 }
 
-// The first place with that rest of an address that passes, in the bucket with that index, if there is one.
+// The first place that has that rest of an address and passes, in the bucket with that index, if there is one.
 fn first_in_bucket<T: Test>(
     buckets: &[Arc<Vec<Slot>>],
     index: usize,
@@ -67,7 +67,7 @@ fn first_in_bucket<T: Test>(
     first_of(bucket, rest, test)
 }
 
-// The first place with that rest of an address that passes, in a row.
+// The first place in a row that has that rest of an address and passes.
 fn first_in_row<T: Test>(row: &Row, rest: u64, test: &T) -> Option<u64>
     ensures { result ≡ first_where (T.passes test.now) (looked_row row.now rest) }
 {
@@ -76,7 +76,7 @@ fn first_in_row<T: Test>(row: &Row, rest: u64, test: &T) -> Option<u64>
     first_or_later(earlier, &row.fresh, rest, test)
 }
 
-// The first place with that rest of an address that passes, in the row with that index, if there is one.
+// The first place that has that rest of an address and passes, in the row with that index, if there is one.
 fn first_at_row<T: Test>(rows: &[Arc<Row>], index: usize, rest: u64, test: &T) -> Option<u64>
     ensures { result ≡ first_where (T.passes test.now) (at_index rows.now (λ p c. looked_row (arc_value p) c) index rest) }
 {
@@ -87,7 +87,7 @@ fn first_at_row<T: Test>(rows: &[Arc<Row>], index: usize, rest: u64, test: &T) -
     first_in_row(row, rest, test)
 }
 
-/// The first place of an address that passes, in the order in which the places were added, or `None` where none passes.
+/// The first place of an address that passes, in the order in which the places were added, or `None` if none passes.
 pub fn first_place<T: Test>(table: &Table, address: u64, test: &T) -> Option<u64>
     ensures { result ≡ first_where (T.passes test.now) (looked table.now address) }
 {

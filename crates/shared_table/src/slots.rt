@@ -6,16 +6,16 @@ ghost use Rattle.shared_table.specs.declared.slots.Slot.{Slot};
 
 use std::alloc::{AllocError, Global};
 
-/// A place, and what is left of its address below the lists that lead to it.
+/// A place, with the bits of its address that the lists above it do not determine.
 #[derive(Clone, Copy)]
 pub struct Slot {
-    /// What is left of the address.
+    /// The remaining bits of the address.
     pub address: u64,
     /// The place.
     pub place: u64,
 }
 
-// One list behind another.
+// Two lists, one after the other.
 pub(crate) fn joined(
     alloc: Global,
     first: &[Slot],
@@ -29,7 +29,7 @@ pub(crate) fn joined(
     Ok(both)
 }
 
-// 64 parts with nothing in them.
+// 64 empty parts.
 fn empty_parts(alloc: Global) -> Result<Vec<Vec<Slot>>, AllocError>
     ensures { IfOk result (λ v. AreParts v.items []) }
 {
@@ -40,7 +40,7 @@ fn empty_parts(alloc: Global) -> Result<Vec<Vec<Slot>>, AllocError>
     Ok(parts)
 }
 
-// Puts a slot into the part of its address's lowest bits, with what is above them.
+// Puts a slot into the part that the lowest bits of its address select, with the higher bits as its address.
 fn put(parts: &mut Vec<Vec<Slot>>, slot: Slot) -> Result<(), AllocError>
     requires { length parts.old.items ≡ 64 }
     ensures { OnOk result ((slots : List Slot) → AreParts parts.old.items slots → AreParts parts.new.items (slots ++ slot ∷ [])) }
@@ -53,7 +53,7 @@ fn put(parts: &mut Vec<Vec<Slot>>, slot: Slot) -> Result<(), AllocError>
     Ok(())
 }
 
-// The slots by the lowest bits of their addresses, with what is above them.
+// The slots, distributed by the lowest bits of their addresses, with the higher bits as their addresses.
 pub(crate) fn parts_of(alloc: Global, slots: &[Slot]) -> Result<Vec<Vec<Slot>>, AllocError>
     ensures { IfOk result (λ v. AreParts v.items slots.now) }
 {

@@ -10,31 +10,31 @@ use crate::slots::{Slot, joined, parts_of};
 use std::alloc::{AllocError, Global};
 use std::sync::Arc;
 
-// The number of slots that may wait in a row.
+// The maximum number of slots that wait in a row.
 const IN_ROW: usize = 1024;
 
-// The number of slots that may wait in a table.
+// The maximum number of slots that wait in a table.
 const IN_TABLE: usize = 512;
 
-/// The places whose addresses agree in the lowest bits. Tables share it.
+/// The places whose addresses have the same lowest bits. Tables share it.
 #[derive(Drop)]
 pub struct Row {
-    // The places by the next bits of their addresses, in 64 buckets, or in none.
+    // The places by the next bits of their addresses, in 64 buckets, or no buckets.
     pub(crate) buckets: Shared<Arc<Vec<Slot>>>,
-    // Those that were added last.
+    // The slots that were added last.
     pub(crate) fresh: Vec<Slot>,
 }
 
 /// Places by their addresses.
 #[derive(Drop)]
 pub struct Table {
-    // The places by the lowest bits of their addresses, in 64 rows, or in none.
+    // The places by the lowest bits of their addresses, in 64 rows, or no rows.
     pub(crate) rows: Shared<Arc<Row>>,
-    // Those that were added last.
+    // The slots that were added last.
     pub(crate) fresh: Vec<Slot>,
 }
 
-// Slots behind others, to be shared.
+// Two lists of slots, one after the other, to be shared.
 fn shared_slots(
     alloc: Global,
     first: &[Slot],
@@ -47,7 +47,7 @@ fn shared_slots(
     Ok(all)
 }
 
-// A bucket with places more.
+// A bucket with more places.
 fn bucket_with(
     alloc: Global,
     buckets: &[Arc<Vec<Slot>>],
@@ -70,7 +70,7 @@ fn bucket_with(
     Ok(bucket)
 }
 
-// Each of 64 buckets, with the places of its part more.
+// Each of 64 buckets, with the places of its part added.
 fn each_bucket_with(
     alloc: Global,
     buckets: &[Arc<Vec<Slot>>],
@@ -88,7 +88,7 @@ fn each_bucket_with(
     Ok(all)
 }
 
-// The buckets with places more.
+// The buckets with more places.
 fn buckets_with(
     alloc: Global,
     buckets: &[Arc<Vec<Slot>>],
@@ -103,7 +103,7 @@ fn buckets_with(
     Ok(all)
 }
 
-// A row with places more: they wait, or all that wait go down together.
+// A row with more places: they wait, or all waiting places move to the buckets together.
 fn row_of(
     alloc: Global,
     buckets: &Shared<Arc<Vec<Slot>>>,
@@ -120,7 +120,7 @@ fn row_of(
     Ok(Row { buckets, fresh })
 }
 
-// A row of these buckets, and of slots behind others, to be shared.
+// A row with these buckets and two lists of slots, one after the other, to be shared.
 fn shared_row(
     alloc: Global,
     buckets: &Shared<Arc<Vec<Slot>>>,
@@ -136,7 +136,7 @@ fn shared_row(
     Ok(shared)
 }
 
-// A row with places more, of the rows of a table.
+// The row at an index, with more places.
 fn row_with(
     alloc: Global,
     rows: &[Arc<Row>],
@@ -159,7 +159,7 @@ fn row_with(
     Ok(row)
 }
 
-// Each of 64 rows, with the places of its part more.
+// Each of 64 rows, with the places of its part added.
 fn each_row_with(
     alloc: Global,
     rows: &[Arc<Row>],
@@ -177,7 +177,7 @@ fn each_row_with(
     Ok(all)
 }
 
-// The rows with places more.
+// The rows with more places.
 fn rows_with(
     alloc: Global,
     rows: &[Arc<Row>],
@@ -192,7 +192,7 @@ fn rows_with(
     Ok(all)
 }
 
-// A table of these rows, and of places that wait, or go down together.
+// A table with these rows, and with places that wait, or that move to the rows together.
 fn table_of(alloc: Global, rows: &Shared<Arc<Row>>, fresh: Vec<Slot>) -> Result<Table, AllocError>
     ensures { IfOk result (λ t. (a : ℕ) → looked t a ≡ below rows.now (λ p c. looked_row (arc_value p) c) a ++ places_in fresh.items a) }
 {
@@ -217,9 +217,9 @@ impl Table {
     }
 }
 
-/// The table with places more. It shares what it can with this one.
+/// The table with more places. It shares what it can with this one.
 ///
-/// Refused where memory is.
+/// Returns an error if memory runs out.
 pub fn with_all(alloc: Global, table: &Table, slots: &[Slot]) -> Result<Table, AllocError>
     ensures { IfOk result (λ t. (b : ℕ) → looked t b ≡ looked table.now b ++ places_in slots.now b) }
 {
@@ -228,9 +228,9 @@ pub fn with_all(alloc: Global, table: &Table, slots: &[Slot]) -> Result<Table, A
     Ok(more)
 }
 
-/// The table with one place more. It shares what it can with this one.
+/// The table with one more place. It shares what it can with this one.
 ///
-/// Refused where memory is.
+/// Returns an error if memory runs out.
 pub fn with(alloc: Global, table: &Table, address: u64, place: u64) -> Result<Table, AllocError>
     ensures { IfOk result (λ t. (b : ℕ) → looked t b ≡ looked table.now b ++ if_at address place b) }
 {
@@ -240,7 +240,7 @@ pub fn with(alloc: Global, table: &Table, address: u64, place: u64) -> Result<Ta
 
 /// A table with the same places, which shares the rows. It copies at most 512 slots.
 ///
-/// Refused where memory is.
+/// Returns an error if memory runs out.
 pub fn copy(alloc: Global, table: &Table) -> Result<Table, AllocError>
     ensures { IfOk result (λ t. (b : ℕ) → looked t b ≡ looked table.now b) }
 {

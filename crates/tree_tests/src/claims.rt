@@ -1,4 +1,4 @@
-// What audit paths and consistency proofs show, as one thing, so that both are swept by the same functions.
+// The statements that audit paths and consistency proofs prove, as one type, so that the same functions test both kinds.
 ghost use Rattle.std.specs.Prelude.{◌<◌, length};
 
 use ct_tree::Sha256Hash;
@@ -11,7 +11,8 @@ pub(crate) enum Kind {
     Proof,
 }
 
-// That the leaf `m` of `n` has the hash `first`, or that the first `m` of `n` leaves have the root `first`; and all have the root `root`.
+// The claim that the leaf `m` of `n` has the hash `first`, or that the first `m` of `n` leaves have the root `first`; and that all leaves
+// have the root `root`.
 #[derive(Clone, Copy)]
 pub(crate) struct Claim {
     pub(crate) kind: Kind,
@@ -22,7 +23,7 @@ pub(crate) struct Claim {
 }
 
 impl Claim {
-    // What the verifier of the kind answers.
+    // The result of the verifier of this kind.
     pub(crate) fn answer(&self, proof: &[[u8; 32]]) -> Result<(), ProofFault> {
         let (m, n) = (self.m as u64, self.n as u64);
         match self.kind {

@@ -1,4 +1,4 @@
-// Evidence under hash functions that fail.
+// Evidence under hash functions that have collisions.
 use crate::rows::{Row, Shown, right_rows};
 use crate::weak_hashes::{WeakHash, ZeroHash};
 use ct_tree::{NodeHash, Sha256Hash, leaf_hash, reference};
@@ -7,7 +7,7 @@ use ct_verify::{
 };
 use std::alloc::{AllocError, Global};
 
-// A leaf of one byte for each byte.
+// A leaf of one byte for each of the bytes.
 pub(crate) fn one_byte_leaves(alloc: Global, bytes: &[u8]) -> Result<Vec<Vec<u8>>, AllocError> {
     let mut leaves = Vec::new(alloc);
     for byte in bytes {
@@ -28,7 +28,7 @@ fn hashes_of<H: NodeHash>(
     Ok(hashes)
 }
 
-// Whether the answer is two different strings with one hash.
+// Reports whether the result is two different strings with the same hash.
 fn is_true_collision<H: NodeHash>(h: &H, answer: &Result<Evidence, EvidenceFault>) -> bool {
     match answer {
         Ok(Evidence::Collision(a, b)) => {
@@ -40,7 +40,7 @@ fn is_true_collision<H: NodeHash>(h: &H, answer: &Result<Evidence, EvidenceFault
     }
 }
 
-// Whether the answer is that the proof is refused by this fault.
+// Reports whether the result is that the proof is refused with this fault.
 fn is_refused(answer: &Result<Evidence, EvidenceFault>, wanted: ProofFault) -> bool {
     match answer {
         Err(EvidenceFault::ProofRefused(fault)) => *fault == wanted,
@@ -48,7 +48,7 @@ fn is_refused(answer: &Result<Evidence, EvidenceFault>, wanted: ProofFault) -> b
     }
 }
 
-// Whether the answer is these two strings.
+// Reports whether the result is these two strings.
 fn is_collision(answer: &Result<Evidence, EvidenceFault>, first: &[u8], second: &[u8]) -> bool {
     match answer {
         Ok(Evidence::Collision(a, b)) => a.as_slice() == first && b.as_slice() == second,
@@ -56,7 +56,7 @@ fn is_collision(answer: &Result<Evidence, EvidenceFault>, first: &[u8], second: 
     }
 }
 
-// A row of all leaves, a leaf, its index and its path.
+// Checks a row of all leaves, a leaf, its index and its path.
 fn is_path_explained<H: NodeHash>(alloc: Global, h: &H, mut row: Row<'_>) -> bool {
     let leaves = row.leaves(alloc);
     let leaf = row.text();
@@ -68,7 +68,7 @@ fn is_path_explained<H: NodeHash>(alloc: Global, h: &H, mut row: Row<'_>) -> boo
     )
 }
 
-// A row of the old leaves, the new ones and a proof.
+// Checks a row of the old leaves, the new ones and a proof.
 fn is_proof_explained<H: NodeHash>(alloc: Global, h: &H, mut row: Row<'_>) -> bool {
     let old = row.leaves(alloc);
     let new = row.leaves(alloc);
@@ -76,7 +76,7 @@ fn is_proof_explained<H: NodeHash>(alloc: Global, h: &H, mut row: Row<'_>) -> bo
     row.ends_in(alloc, &explain_consistency(alloc, h, &old, &new, &proof))
 }
 
-// What explains paths and proofs.
+// Explains paths and proofs.
 #[derive(Clone, Copy)]
 struct Explained;
 
@@ -92,7 +92,7 @@ impl Shown for Explained {
     }
 }
 
-// Rows of what is explained, and how many there are.
+// Rows of paths and proofs that are explained, and how many there are.
 const EXPLAINED: [(u32, &str); 2] = [
     // Paths under the hash of zeros.
     (
@@ -127,7 +127,7 @@ fn paths_and_proofs_under_the_hash_of_zeros(rt: HostRuntime) {
     }
 }
 
-// Whether the string is that of the node over these.
+// Reports whether the string is that of the node over these hashes.
 fn is_node(string: &[u8], left: &[u8; 32], right: &[u8; 32]) -> bool {
     match string.split_first() {
         Some((mark, hashes)) => {
@@ -137,7 +137,7 @@ fn is_node(string: &[u8], left: &[u8; 32], right: &[u8; 32]) -> bool {
     }
 }
 
-// Whether the strings are of two nodes that differ in one hash: the first has bytes 01 there, the second bytes 00.
+// Reports whether the strings are of two nodes that differ in one hash: the first has bytes 01 there, and the second has bytes 00.
 fn differ_in_one_hash(answer: &Result<Evidence, EvidenceFault>) -> bool {
     match answer {
         Ok(Evidence::Collision(a, b)) => {
@@ -148,7 +148,7 @@ fn differ_in_one_hash(answer: &Result<Evidence, EvidenceFault>) -> bool {
     }
 }
 
-// A list under the hash of zeros, whose leaves have one hash.
+// A list of leaves that all have the same hash, under the hash of zeros.
 #[derive(Drop)]
 struct Listed {
     leaves: Vec<Vec<u8>>,
@@ -168,7 +168,7 @@ impl Listed {
         })
     }
 
-    // Whether a path with a changed element is accepted and gives a collision at that element.
+    // Reports whether a path with a changed element is accepted and gives a collision at that element.
     fn is_change_shown(&self, alloc: Global, leaf: &[u8], m: usize, path: &[[u8; 32]]) -> bool {
         let hash = leaf_hash(&ZeroHash, leaf);
         let size = self.leaves.len() as u64;
@@ -177,7 +177,7 @@ impl Listed {
         answer == Ok(()) && differ_in_one_hash(&evidence)
     }
 
-    // Whether each element of a path, changed in turn, is shown.
+    // Reports whether `is_change_shown` holds for each element of a path, changed in turn.
     fn are_elements_shown(
         &self,
         alloc: Global,
@@ -194,7 +194,7 @@ impl Listed {
         right
     }
 
-    // Whether the true path of a leaf of one byte holds, and with another leaf gives the two leaves.
+    // Reports whether the true path of a leaf of one byte holds, and with another leaf gives the two leaves.
     fn is_leaf_shown(&self, alloc: Global, byte: u8, m: usize, path: &[[u8; 32]]) -> bool {
         let index = m as u64;
         let true_path = explain_inclusion(alloc, &ZeroHash, &self.leaves, &[byte], index, path);
@@ -203,8 +203,8 @@ impl Listed {
             && is_collision(&other_leaf, &[0, 7, 7], &[0, byte])
     }
 
-    // Whether a leaf's path, with each element changed in turn, is accepted and gives a collision at that element, and the true path with
-    // another leaf gives the two leaves.
+    // Reports whether a leaf's path, with each element changed in turn, is accepted and gives a collision at that element, and whether the
+    // true path with another leaf gives the two leaves.
     fn is_path_shown(&self, alloc: Global, byte: u8, m: usize) -> Result<bool, AllocError> {
         if m >= self.hashes.len() {
             return Ok(false);
@@ -217,7 +217,7 @@ impl Listed {
     }
 }
 
-// Whether each path of a list is shown so.
+// Reports whether this holds for each path of a list.
 fn are_changes_shown(alloc: Global, bytes: &[u8]) -> Result<bool, AllocError> {
     let list = Listed::new(alloc, bytes)?;
     let mut m = 0usize;
@@ -230,7 +230,7 @@ fn are_changes_shown(alloc: Global, bytes: &[u8]) -> Result<bool, AllocError> {
     Ok(list.hashes.len() == bytes.len() && list.leaves.len() == bytes.len())
 }
 
-// The size before the first with a change that isn't shown.
+// The size before the first one with a change that does not give a collision.
 fn shown_sizes(alloc: Global) -> Result<usize, AllocError> {
     let bytes = b"@ABCDEFGH";
     for size in 1..=9 {
@@ -246,7 +246,7 @@ fn every_changed_element_is_shown(rt: HostRuntime) {
     assert!(rt; shown_sizes(rt.alloc()) == Ok(9));
 }
 
-// Whether one of those tried was accepted, and whether each was answered rightly.
+// Whether one of the tried proofs was accepted, and whether the result for each was right.
 #[derive(Clone, Copy)]
 struct Tried {
     is_one_accepted: bool,
@@ -284,7 +284,7 @@ fn five_leaves(alloc: Global) -> Result<Five, AllocError> {
 }
 
 impl Five {
-    // An accepted path has to give a true collision, and each other one the refusal.
+    // Tries the path: an accepted path must give a true collision, and any other path must be refused.
     fn try_path(&self, alloc: Global, tried: &mut Tried) {
         let answer = verify_inclusion(&WeakHash, &self.leaf, 2, 5, &self.path, &self.root);
         let evidence = explain_inclusion(alloc, &WeakHash, &self.leaves, &[3], 2, &self.path);
@@ -297,7 +297,7 @@ impl Five {
         }
     }
 
-    // Tries the path with each element made this one in turn.
+    // Tries the path with each element replaced in turn by this one.
     fn try_element(&mut self, alloc: Global, made_up: [u8; 32], tried: &mut Tried) {
         for j in 0..self.path.len() {
             let kept = self.path[j];
@@ -308,8 +308,8 @@ impl Five {
     }
 }
 
-// Whether one of many false paths of five leaves is accepted under the weak hash, and whether each that is gives a true
-// collision, and each other one the refusal.
+// Reports whether one of many false paths of five leaves is accepted under the weak hash, and whether each accepted path gives a true
+// collision and each other path is refused.
 fn accepted_false_paths(alloc: Global, trials: u32) -> Result<bool, AllocError> {
     let mut five = five_leaves(alloc)?;
     let mut tried = Tried {
@@ -328,14 +328,14 @@ fn accepted_false_paths_under_a_weak_hash(rt: HostRuntime) {
     assert!(rt; accepted_false_paths(rt.alloc(), 2_000) == Ok(true));
 }
 
-// The leaves 1 and 2, and one that is made up.
+// The leaves 1 and 2, and an invented one.
 fn three(alloc: Global, made_up: &[u8]) -> Result<Vec<Vec<u8>>, AllocError> {
     let mut leaves = one_byte_leaves(alloc, &[1, 2])?;
     leaves.push(Vec::from_slice(alloc, made_up)?)?;
     Ok(leaves)
 }
 
-// A list that is accepted as the beginning of the new one has to give a true collision, and each other one the refusal.
+// Tries a list as the beginning of the new one: an accepted list must give a true collision, and any other list must be refused.
 fn try_beginning(
     alloc: Global,
     new: &[Vec<u8>],
@@ -353,7 +353,7 @@ fn try_beginning(
     Ok(())
 }
 
-// Whether one of many lists is accepted, and whether each was answered rightly.
+// Reports whether one of many lists is accepted, and whether the result for each was right.
 fn are_beginnings_tried(
     alloc: Global,
     new: &[Vec<u8>],
@@ -370,7 +370,7 @@ fn are_beginnings_tried(
     Ok(tried.right && tried.is_one_accepted)
 }
 
-// The true proof from the first three leaves. None starts where there are no more.
+// The true proof from the first three leaves. There is none if there are no more than three.
 fn proof_from_three(alloc: Global, leaves: &[Vec<u8>]) -> Result<Vec<[u8; 32]>, AllocError> {
     let hashes = hashes_of(alloc, &WeakHash, leaves)?;
     if hashes.len() < 4 {
@@ -379,8 +379,8 @@ fn proof_from_three(alloc: Global, leaves: &[Vec<u8>]) -> Result<Vec<[u8; 32]>, 
     reference::proof(alloc, &WeakHash, 3, &hashes)
 }
 
-// Whether one of many lists that don't begin five leaves is accepted as their beginning under the weak hash, by the true
-// proof of the beginning, and whether each that is gives a true collision, and each other one the refusal.
+// Reports whether one of many lists that do not begin five leaves is accepted as their beginning under the weak hash, by the true proof of
+// the beginning. It also reports whether each accepted list gives a true collision and each other list is refused.
 fn accepted_false_proofs(alloc: Global, trials: u32) -> Result<bool, AllocError> {
     let new = one_byte_leaves(alloc, &[1, 2, 3, 4, 5])?;
     let proof = proof_from_three(alloc, &new)?;

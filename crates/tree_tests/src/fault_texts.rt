@@ -1,11 +1,11 @@
-// What a reader of `Display` is told of each fault of a proof, of evidence and of a head, and of what a guard refuses.
+// The text that `Display` shows for each fault of a proof, of evidence and of a head, and for each refusal of a guard.
 use ct_guard::{HeadRefusal, ReceiptRefusal};
 use ct_monitor::MonitorFault;
 use ct_verify::{EvidenceFault, ProofFault};
 use std::alloc::Global;
 use std::fmt::Display;
 
-// Whether the fault is told in these words.
+// Reports whether the text of the fault is these words.
 fn is_told<T: Display>(alloc: Global, fault: &T, words: &str) -> bool {
     match format!(in alloc; "{fault}") {
         Ok(text) => text.as_str() == words,
@@ -13,7 +13,7 @@ fn is_told<T: Display>(alloc: Global, fault: &T, words: &str) -> bool {
     }
 }
 
-// The same of each of them.
+// The same for each of several faults.
 fn are_told<T: Display>(alloc: Global, faults: &[(T, &str)]) -> bool {
     for (fault, words) in faults {
         if !is_told(alloc, fault, words) {

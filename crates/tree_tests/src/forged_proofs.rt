@@ -1,8 +1,13 @@
-// Audit paths and consistency proofs of the sizes 1 to 9 under SHA-256, forged: an element left out, doubled, swapped with another or with
-// one bit changed; another index or size by one; a leaf or root with one bit changed. What the verifiers have to answer is computed from the
-// root down, by the recursions of RFC 6962, sections 2.1.1 and 2.1.2, while the verifiers go up from the leaf. The numbers of proofs, and of
-// those accepted, were computed by Python: the 45 true paths and 36 true proofs, and 44 and 48 times the same ones at another index or size
-// from which they go by the same sides. A path doesn't show the size of its tree: the tree head does.
+// Forged audit paths and consistency proofs of the sizes 1 to 9 under SHA-256, each with one of these changes:
+// - an element left out, doubled, swapped with another or with one bit changed,
+// - an index or a size that differs by one,
+// - a leaf or root with one bit changed.
+//
+// The expected results are computed from the root down, by the recursions of RFC 6962, sections 2.1.1 and 2.1.2, while the verifiers go up
+// from the leaf.
+//
+// Python computed the numbers of proofs, and of accepted ones. Accepted are the 45 true paths and 36 true proofs, and in 44 and 48 cases
+// the same ones at another index or size for which they use the same sides. A path does not prove the size of its tree: the tree head does.
 ghost use Rattle.std.specs.Prelude.{◌<◌, length};
 
 use crate::claims::{Claim, Kind, first_of};
@@ -39,7 +44,8 @@ fn root_by_path(
     }
 }
 
-// The roots of `m` and of `n` leaves to which the proof leads. The first is `known` where no tree of `m` leaves stands in the proof.
+// The roots of `m` and of `n` leaves to which the proof leads. If the proof does not contain the root of a tree of `m` leaves, the first
+// root is `known`.
 fn roots_by_proof(
     m: usize,
     n: usize,
@@ -114,7 +120,7 @@ fn wanted(claim: &Claim, proof: &[[u8; 32]]) -> Result<(), ProofFault> {
     }
 }
 
-// How many proofs were tried and accepted, and whether each was answered rightly.
+// The numbers of proofs that were tried and accepted, and whether the result for each was right.
 #[derive(Clone, Copy, PartialEq)]
 struct Tally {
     tried: u32,
@@ -151,7 +157,7 @@ fn flipped(hash: &[u8; 32], place: usize) -> [u8; 32] {
     other
 }
 
-// The path with an element swapped with each behind it.
+// The path with an element swapped with each one after it.
 fn push_swapped(
     alloc: Global,
     path: &[[u8; 32]],
@@ -168,7 +174,7 @@ fn push_swapped(
     Ok(())
 }
 
-// The path with each element left out, doubled, with one bit changed, and swapped with each behind it.
+// The path with each element left out, doubled, with one bit changed, and swapped with each one after it.
 fn forged(alloc: Global, path: &[[u8; 32]]) -> Result<Vec<Vec<[u8; 32]>>, AllocError> {
     let mut all = Vec::new(alloc);
     for i in 0..path.len() {
@@ -185,7 +191,7 @@ impl Claim {
         }
     }
 
-    // The proof at other places and sizes.
+    // Tries the proof at the indexes and sizes that differ by at most one.
     fn try_near(&self, proof: &[[u8; 32]], tally: &mut Tally) {
         for m in self.m.saturating_sub(1)..=self.m.saturating_add(1) {
             for n in self.n.saturating_sub(1)..=self.n.saturating_add(1) {
@@ -194,7 +200,7 @@ impl Claim {
         }
     }
 
-    // The proof with another leaf or first root, and with another root.
+    // Tries the proof with another leaf or first root, and with another root.
     fn try_changed(&self, proof: &[[u8; 32]], tally: &mut Tally) {
         let first = flipped(&self.first, self.m);
         tally.try_proof(&Claim { first, ..*self }, proof);
@@ -203,7 +209,7 @@ impl Claim {
     }
 }
 
-// The true proof. None starts from no leaves.
+// The true proof. There is none from no leaves.
 fn whole(
     alloc: Global,
     kind: Kind,
@@ -219,7 +225,7 @@ fn whole(
     }
 }
 
-// The proof at a place, as it is at near places, changed and forged.
+// Tries the proof at an index: at nearby indexes and sizes, with another leaf or root, and forged.
 fn try_place(
     alloc: Global,
     kind: Kind,
@@ -244,7 +250,7 @@ fn try_place(
     Ok(())
 }
 
-// The proof at each place: paths from the leaf 0 on, and proofs from the size 1 on.
+// Tries the proof at each index: paths from the leaf 0 on, and proofs from the size 1 on.
 fn try_places(
     alloc: Global,
     kind: Kind,
@@ -267,7 +273,7 @@ fn nine_leaves() -> [[u8; 32]; 9] {
     leaves
 }
 
-// The proofs of this kind of the sizes 1 to 9.
+// Tries the proofs of this kind for the sizes 1 to 9.
 fn tally_of(alloc: Global, kind: Kind) -> Result<Tally, AllocError> {
     let leaves = nine_leaves();
     let mut tally = Tally::new();

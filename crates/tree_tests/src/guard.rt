@@ -1,5 +1,5 @@
-// What a guard lets through: heads over the leaves of the Certificate Transparency reference tree, and a receipt of README.md's first
-// session.
+// The heads and the receipt that a guard passes: heads over the leaves of the Certificate Transparency reference tree, and a receipt of
+// README.md's first session.
 
 use crate::rows::{Row, Shown, right_rows};
 use ct_guard::{Guard, laws, pass_receipt};
@@ -8,7 +8,7 @@ use ct_step_receipts::pass_receipts;
 use ct_tree::Sha256Hash;
 use std::alloc::Global;
 
-// A row of a head and the proof.
+// Checks a row of a head and the proof.
 fn is_head_answered(alloc: Global, guard: &mut Guard, mut row: Row<'_>) -> bool {
     let head = row.head();
     let proof = row.hashes(alloc);
@@ -16,7 +16,7 @@ fn is_head_answered(alloc: Global, guard: &mut Guard, mut row: Row<'_>) -> bool 
     row.ends_in(alloc, &answer)
 }
 
-// A row of a leaf's bytes, its index and the path.
+// Checks a row of a leaf's bytes, its index and the path.
 fn is_receipt_answered(alloc: Global, guard: &Guard, mut row: Row<'_>) -> bool {
     let leaf = row.bytes(alloc);
     let index = row.number();
@@ -25,7 +25,7 @@ fn is_receipt_answered(alloc: Global, guard: &Guard, mut row: Row<'_>) -> bool {
     row.ends_in(alloc, &answer)
 }
 
-// A row of a step: its first index, the subtrees before it, and its leaves.
+// Checks a row of a step: its first index, the subtrees before it, and its leaves.
 fn is_step_answered(alloc: Global, guard: &Guard, mut row: Row<'_>) -> bool {
     let first = row.number();
     let subtrees = row.hashes(alloc);

@@ -27,7 +27,7 @@ fn tell<W: Write>(
 struct Told;
 
 impl Shown for Told {
-    // A row of a root, a leaf and its path, and what is written of them.
+    // Checks a row of a root, a leaf and its path, and the text that is written about them.
     fn is_right(&mut self, alloc: Global, mut row: Row<'_>) -> bool {
         let root = row.hash();
         let leaf = row.bytes(alloc);

@@ -7,13 +7,13 @@ use ct_tree::{Head, NodeHash, Sha256Hash};
 use std::alloc::{AllocError, Global};
 use std::test::Fail;
 
-// Whether the monitor keeps these leaves, and this is its last head.
+// Reports whether the monitor keeps these leaves, and this is its last head.
 fn is_at(monitor: &Monitor<Sha256Hash>, leaves: &[Vec<u8>], last: Head) -> bool {
     monitor.last_head() == Some(last) && monitor.leaves() == leaves
 }
 
 impl Shown for Monitor<Sha256Hash> {
-    // A row of a head and its new leaves, the leaves and the last head that are kept then, and the answer.
+    // Checks a row of a head and its new leaves, the leaves and the last head that are kept then, and the result.
     fn is_right(&mut self, alloc: Global, mut row: Row<'_>) -> bool {
         let next = row.head();
         let answer = self.observe(next, row.leaves(alloc));
@@ -23,7 +23,7 @@ impl Shown for Monitor<Sha256Hash> {
     }
 }
 
-// How many rows a new monitor answers rightly, before the first that it doesn't.
+// The number of rows for which a new monitor gives the right result, before the first for which it does not.
 fn observed(rt: &HostRuntime, rows: &str) -> u32 {
     let mut monitor = Monitor::new(rt.alloc(), Sha256Hash);
     if monitor.last_head() != None || !monitor.leaves().is_empty() {
@@ -32,7 +32,7 @@ fn observed(rt: &HostRuntime, rows: &str) -> u32 {
     right_rows(rt.alloc(), &mut monitor, rows)
 }
 
-// Rows, each lot of a monitor of its own, and how many there are.
+// Groups of rows, each for a monitor of its own, with the number of rows.
 const OBSERVED: [(u32, &str); 3] = [
     // A monitor follows three heads.
     (
@@ -42,7 +42,7 @@ const OBSERVED: [(u32, &str); 3] = [
 2 6 AB B AB 2 6 AB Ok(())
 3 7 ABC C ABC 3 7 ABC Ok(())",
     ),
-    // Faults beside one leaf.
+    // Faults of heads after one leaf.
     (
         6,
         "\
@@ -53,7 +53,7 @@ const OBSERVED: [(u32, &str); 3] = [
 3 6 ABC B A 1 5 A Err(CountMismatch)
 1 5 A - A 1 5 A Ok(())",
     ),
-    // Faults beside two leaves.
+    // Faults of heads after two leaves.
     (
         5,
         "\
@@ -72,7 +72,7 @@ fn a_monitor_answers_heads(rt: HostRuntime) {
     }
 }
 
-// A row of two heads and the proof.
+// Checks a row of two heads and the proof.
 fn are_heads_checked<H: NodeHash + Drop>(
     alloc: Global,
     auditor: &Auditor<H>,
@@ -84,7 +84,7 @@ fn are_heads_checked<H: NodeHash + Drop>(
     row.ends_in(alloc, &auditor.check_heads(&first, &second, &proof))
 }
 
-// A row of a head, a leaf, its index and its path.
+// Checks a row of a head, a leaf, its index and its path.
 fn is_path_checked<H: NodeHash + Drop>(
     alloc: Global,
     auditor: &Auditor<H>,
@@ -97,7 +97,7 @@ fn is_path_checked<H: NodeHash + Drop>(
     row.ends_in(alloc, &auditor.check(&head, leaf, index, &path))
 }
 
-// A row of all leaves, a leaf, its index and its path.
+// Checks a row of all leaves, a leaf, its index and its path.
 fn is_path_explained<H: NodeHash + Drop>(
     alloc: Global,
     auditor: &Auditor<H>,
@@ -121,7 +121,7 @@ impl<H: NodeHash + Drop> Shown for Auditor<H> {
     }
 }
 
-// Rows of an auditor, and how many there are.
+// Groups of rows for an auditor, with the number of rows.
 const AUDITED: [(u32, &str); 2] = [
     // An auditor checks three heads.
     (
@@ -161,7 +161,7 @@ explain AB A 0 ZEROS Ok(Holds)";
     assert!(rt; right_rows(rt.alloc(), &mut Auditor::new(ZeroHash), rows) == 4);
 }
 
-// Takes in a leaf, once more where memory was refused: then nothing has changed.
+// Takes in a leaf, and tries again if memory was refused, because nothing has changed then.
 fn taken_at_last(
     alloc: Global,
     monitor: &mut Monitor<Sha256Hash>,
@@ -180,14 +180,14 @@ fn taken_at_last(
     Ok(answer == Ok(()))
 }
 
-// A monitor that is asked once more where memory was refused.
+// A monitor that is called again if memory was refused.
 #[derive(Drop)]
 struct Patient {
     monitor: Monitor<Sha256Hash>,
 }
 
 impl Shown for Patient {
-    // A row of a head and its new leaves, and all that are kept then.
+    // Checks a row of a head and its new leaves, and all leaves that are kept then.
     fn is_right(&mut self, alloc: Global, mut row: Row<'_>) -> bool {
         let next = row.head();
         let bytes = row.text();
@@ -209,8 +209,8 @@ fn a_refused_growth_changes_nothing(rt: HostRuntime) {
     assert!(rt; right_rows(rt.alloc(), &mut patient, rows) == 3);
 }
 
-// Shows a head and its new leaves to a monitor and to a follower. What both answer, where they answer the same, have the
-// same last head, and the leaves are left where the head is refused.
+// Shows a head and its new leaves to a monitor and to a follower. Returns the result of both, if both give the same result, have the same
+// last head, and leave the leaves in place if the head is refused.
 fn both_answer(
     alloc: Global,
     monitor: &mut Monitor<Sha256Hash>,
@@ -230,7 +230,7 @@ fn both_answer(
     }
 }
 
-// The follower of the same parts.
+// The follower with the same parts.
 fn made_again(follower: &Follower<Sha256Hash>) -> Result<Follower<Sha256Hash>, AllocError> {
     let saved = follower.peaks().copied()?;
     Ok(Follower::from_parts(Sha256Hash, saved, follower.last_head()))
@@ -256,7 +256,7 @@ impl Both {
 }
 
 impl Shown for Both {
-    // A row of a head and its new leaves. The follower is made again of its parts behind each.
+    // Checks a row of a head and its new leaves. The follower is made again from its parts after each.
     fn is_right(&mut self, alloc: Global, mut row: Row<'_>) -> bool {
         let next = row.head();
         let bytes = row.text();
@@ -267,7 +267,7 @@ impl Shown for Both {
     }
 }
 
-// A row of a monitor's leaves and last head, and of a follower's size, subtrees and root.
+// Checks a row of a monitor's leaves and last head, and of a follower's size, subtrees and root.
 fn are_at(alloc: Global, both: &Both, mut row: Row<'_>) -> bool {
     let kept = row.leaves(alloc);
     let last = row.head();
@@ -304,7 +304,7 @@ fn a_follower_answers_as_a_monitor(rt: HostRuntime) {
     assert!(rt; are_at(rt.alloc(), &both, Row::new("ABC 3 7 ABC 3 AB,C ABC ()")));
 }
 
-// The watcher of the same parts.
+// The watcher with the same parts.
 fn watched_again(watcher: &Watcher<Sha256Hash>) -> Result<Watcher<Sha256Hash>, AllocError> {
     let sure = watcher.sure().copied()?;
     let all = watcher.all().copied()?;
@@ -312,7 +312,7 @@ fn watched_again(watcher: &Watcher<Sha256Hash>) -> Result<Watcher<Sha256Hash>, A
     Ok(Watcher::from_parts(Sha256Hash, accepted, waiting, sure, all))
 }
 
-// Makes a watcher again of its parts.
+// Makes a watcher again from its parts.
 fn is_made_again(watcher: &mut Watcher<Sha256Hash>) -> bool {
     match watched_again(watcher) {
         Ok(again) => {
@@ -323,7 +323,7 @@ fn is_made_again(watcher: &mut Watcher<Sha256Hash>) -> bool {
     }
 }
 
-// What is said of a row of entries: the number of the first, and the leaves.
+// The verdict on a row of entries: the number of the first, and the leaves.
 fn said_of_entries(
     alloc: Global,
     watcher: &mut Watcher<Sha256Hash>,
@@ -334,7 +334,7 @@ fn said_of_entries(
     watcher.take_entries(start, &leaves)
 }
 
-// What is said of a row of this kind, and whether it accuses the log.
+// The verdict on a row of this kind, and whether it accuses the log.
 fn said(
     alloc: Global,
     watcher: &mut Watcher<Sha256Hash>,
@@ -350,7 +350,7 @@ fn said(
     Some((verdict, verdict.accuses()))
 }
 
-// Whether this is said, and so accuses the log or doesn't.
+// Reports whether this is the verdict, and whether it accuses the log as the row says.
 fn is_said(alloc: Global, watcher: &mut Watcher<Sha256Hash>, kind: &str, mut row: Row<'_>) -> bool {
     match said(alloc, watcher, kind, &mut row) {
         Some(said) => row.ends_in(alloc, &said),
@@ -377,7 +377,7 @@ fn watched(rt: &HostRuntime, rows: &str) -> u32 {
     right_rows(rt.alloc(), &mut Watcher::new(rt.alloc(), Sha256Hash), rows)
 }
 
-// Rows, each lot of a watcher of its own, and how many there are.
+// Groups of rows, each for a watcher of its own, with the number of rows.
 const WATCHED: [(u32, &str); 3] = [
     // A watcher takes answers.
     (
@@ -393,8 +393,7 @@ made-again true
 entries 2 C (Accepted, false)
 accepted 3 7 ABC (true, true)",
     ),
-    // A watcher tells what speaks against a log.
-    // The root that is told is of the leaves 41 to 44, by Python's hashlib.
+    // A watcher reports evidence against a log. Python's hashlib computed the reported root of the leaves 41 to 44.
     (
         9,
         "\
@@ -408,7 +407,7 @@ head 4 9 ABC (Pending, false)
 entries 3 D (RootMismatch([92, 141, 198, 23, 210, 135, 164, 41, 126, 178, 188, 184, 27, 55, 100, 75, 81, 56, 229, 122, 212, 97, 198, 87, 219, 21, 33, 9, 227, 252, 159, 202]), true)
 all (3, true)",
     ),
-    // A larger head is later than the known ones, the accepted and the waiting one. The roots are those of the rows before.
+    // A larger head is later than the known heads, the accepted and the waiting one. The roots are those of the rows before.
     (
         10,
         "\
@@ -432,7 +431,7 @@ fn a_watcher_answers(rt: HostRuntime) {
     }
 }
 
-// So many leaves, from a number on: each is its number in four bytes.
+// As many leaves as given, from a number on: each is its number in four bytes.
 fn numbered_leaves(alloc: Global, first: u64, count: u64) -> Result<Vec<Vec<u8>>, AllocError> {
     let mut leaves = Vec::new(alloc);
     for place in 0..count {
@@ -442,7 +441,7 @@ fn numbered_leaves(alloc: Global, first: u64, count: u64) -> Result<Vec<Vec<u8>>
     Ok(leaves)
 }
 
-// Whether the monitor takes each of so many heads with so many new leaves each, whose roots are those of `Peaks`.
+// Reports whether the monitor takes a given number of heads with a given number of new leaves each; `Peaks` computes their roots.
 fn takes_heads(
     alloc: Global,
     monitor: &mut Monitor<Sha256Hash>,
@@ -472,7 +471,7 @@ struct Long {
 }
 
 impl Shown for Long {
-    // A row of the number of leaves and the last head, then of a head without new leaves, and the answer.
+    // Checks a row of the number of leaves and the last head, then of a head without new leaves, and the result.
     fn is_right(&mut self, alloc: Global, mut row: Row<'_>) -> bool {
         let count = row.number();
         let last = row.head();
@@ -483,7 +482,8 @@ impl Shown for Long {
     }
 }
 
-// How many rows a monitor answers rightly that has taken so many heads with so many new leaves each.
+// The number of rows for which a monitor gives the right result after it has taken a given number of heads with a given number of new
+// leaves each.
 fn answered_behind_heads(
     alloc: Global,
     heads: u64,

@@ -1,21 +1,25 @@
-// Tables of rows: a line each, of words with one blank between them, and behind them what has to be answered, by its
-// `Debug`. Hashes are names of the table below. Bytes are in hex, lists have commas between, and `-` is an empty one.
+// Tables of rows. Each row is a line of words with one blank between them, and ends with the `Debug` text of the expected result. Hashes
+// are names of the table below. Bytes are in hex, lists have commas between their elements, and `-` is an empty one.
 use crate::evidence::one_byte_leaves;
 use ct_tree::Head;
 use std::alloc::Global;
 use std::fmt::Debug;
 
-// Hashes under SHA-256. `L0` to `L7` are of the leaves of the Certificate Transparency reference tree (the tests of
-// Google's reference implementation): none, 00, 10, 20 21, 30 31, 40 to 43, 50 to 57, 60 to 6f. `N01` is the node over
-// leaves 0 and 1, and so on; `MTH_3` is the root of the first three leaves, and `MTH_0` that of none. The roots are the
-// published ones, and all values were computed anew by another program (Python's hashlib). So were those of the tree of
-// the leaves 41 to 45: `A`, `AB`, `ABC`, `ABCD` and `ABCDE` are the roots of its first leaves, `B` and `C` the hashes of
-// two of them, and `ALL_1100` and `ALL_3000` are the roots of the 1,100 and 3,000 leaves that are the numbers from 0 on, in four bytes
-// each. `SESSION` is the root of the two leaves of README.md's first session, and `SESSION_0` the hash of its first leaf.
-// `STEP_01` is the node over the first two of seven leaves that are MerkleTreeLeaf structures, `STEP_2` the hash of the third
-// one, and so on; `STEP_7` is the root of all seven, `STEP_TWO` that of the first and the sixth one, and `STEP_BAD` that of
-// the first one and the byte 00. Another program (Python's hashlib) computed them.
-// The others are no hashes of anything.
+// Hashes under SHA-256.
+//
+// - `L0` to `L7` are the hashes of the leaves of the Certificate Transparency reference tree (the tests of Google's reference
+//   implementation): none, 00, 10, 20 21, 30 31, 40 to 43, 50 to 57, 60 to 6f.
+// - `N01` is the node over leaves 0 and 1, and so on. `MTH_3` is the root of the first three leaves, and `MTH_0` that of none. The roots
+//   are the published ones. Another program (Python's hashlib) computed all of these values again.
+// - `A`, `AB`, `ABC`, `ABCD` and `ABCDE` are the roots of the first leaves of the tree of the leaves 41 to 45, and `B` and `C` are the
+//   hashes of two of them. Python's hashlib computed these too.
+// - `ALL_1100` and `ALL_3000` are the roots of the 1,100 and 3,000 leaves that are the numbers from 0 on, in four bytes each, also by
+//   Python's hashlib.
+// - `SESSION` is the root of the two leaves of README.md's first session, and `SESSION_0` the hash of its first leaf.
+// - `STEP_01` is the node over the first two of seven leaves that are MerkleTreeLeaf structures, `STEP_2` the hash of the third one, and so
+//   on. `STEP_7` is the root of all seven, `STEP_TWO` that of the first and the sixth one, and `STEP_BAD` that of the first one and the
+//   byte 00. Python's hashlib computed these too.
+// - The others are not hashes of anything.
 const NAMED: &str = "\
 L0 6e340b9cffb37a989ca544e6bb780a2c78901d3fb33738768511a30617afa01d
 L1 96a296d224f285c67bee93c30f8a309157f0daa35dc5b87e410b78630a09cfc7
@@ -66,13 +70,13 @@ fn digit(sign: u8) -> Option<u8> {
     }
 }
 
-// The byte of two digits.
+// The byte that two digits encode.
 fn byte(high: u8, low: u8) -> Option<u8> {
     let high = digit(high)?;
     Some(high.wrapping_mul(16).wrapping_add(digit(low)?))
 }
 
-// The bytes of two digits each.
+// The bytes that digits encode, two for each byte.
 fn bytes_of(alloc: Global, word: &str) -> Option<Vec<u8>> {
     let digits = word.as_bytes();
     let mut bytes = Vec::new(alloc);
@@ -86,7 +90,7 @@ fn bytes_of(alloc: Global, word: &str) -> Option<Vec<u8>> {
     if is_read { Some(bytes) } else { None }
 }
 
-// The hash of 64 digits.
+// The hash that 64 digits encode.
 fn hash_of(word: &str) -> Option<[u8; 32]> {
     let digits = word.as_bytes();
     if digits.len() != 64 {
@@ -99,7 +103,7 @@ fn hash_of(word: &str) -> Option<[u8; 32]> {
     Some(hash)
 }
 
-// The hash of this name.
+// The hash with this name.
 fn named(name: &str) -> Option<[u8; 32]> {
     for line in NAMED.lines() {
         if let Some((word, digits)) = line.split_once(' ')
@@ -111,7 +115,7 @@ fn named(name: &str) -> Option<[u8; 32]> {
     None
 }
 
-// The hashes of these names.
+// The hashes with these names.
 fn all_named(alloc: Global, names: &str) -> Option<Vec<[u8; 32]>> {
     let mut hashes = Vec::new(alloc);
     let mut is_read = true;
@@ -127,7 +131,7 @@ fn all_named(alloc: Global, names: &str) -> Option<Vec<[u8; 32]>> {
     if is_read { Some(hashes) } else { None }
 }
 
-// The strings of two digits a byte, with commas between.
+// The strings that are encoded with two digits per byte, with commas between them.
 fn all_bytes(alloc: Global, words: &str) -> Option<Vec<Vec<u8>>> {
     let mut all = Vec::new(alloc);
     let mut is_read = true;
@@ -143,7 +147,7 @@ fn all_bytes(alloc: Global, words: &str) -> Option<Vec<Vec<u8>>> {
     if is_read { Some(all) } else { None }
 }
 
-// What is left of a row. One of which a word can't be read is wrong, whatever is answered.
+// The remaining words of a row. If a word of a row cannot be read, the row is wrong, whatever the result is.
 #[derive(Clone, Copy)]
 pub(crate) struct Row<'a> {
     rest: &'a str,
@@ -203,7 +207,7 @@ impl<'a> Row<'a> {
         self.read(hashes, Vec::new(alloc))
     }
 
-    // A size, a moment and a root.
+    // A size, a timestamp and a root.
     pub(crate) fn head(&mut self) -> Head {
         Head {
             tree_size: self.number(),
@@ -218,7 +222,7 @@ impl<'a> Row<'a> {
         self.read(leaves, Vec::new(alloc))
     }
 
-    // Whether the row ends in this answer.
+    // Reports whether the row ends with this result.
     pub(crate) fn ends_in<T: Debug>(&self, alloc: Global, answer: &T) -> bool {
         match format!(in alloc; "{answer:?}") {
             Ok(text) => !self.is_bad && text.as_str() == self.rest,
@@ -227,13 +231,13 @@ impl<'a> Row<'a> {
     }
 }
 
-// What rows are shown to.
+// An object to which rows are shown.
 pub(crate) trait Shown {
-    // Whether it answers as the row says.
+    // Reports whether its result is the one that the row expects.
     fn is_right(&mut self, alloc: Global, row: Row<'_>) -> bool;
 }
 
-// How many rows are right, before the first that isn't.
+// The number of rows that are right, before the first that is not.
 pub(crate) fn right_rows<T: Shown>(alloc: Global, shown: &mut T, rows: &str) -> u32 {
     let mut count = 0u32;
     for line in rows.lines() {

@@ -1,5 +1,5 @@
-// Every audit path and every consistency proof of the sizes 1 to 40, each as it is and made false in many ways. What
-// the verifiers have to answer is read off the lists that the recursions of RFC 6962 give over the leaf hashes.
+// Every audit path and every consistency proof of the sizes 1 to 40, each unchanged and falsified in many ways. The expected results follow
+// from the lists that the recursions of RFC 6962 give over the leaf hashes.
 ghost use Rattle.std.specs.Prelude.{◌≡◌, ◌<◌, IfOk, length};
 
 use crate::claims::{Claim, Kind, first_of};
@@ -74,7 +74,7 @@ pub(crate) fn copied(alloc: Global, path: &[[u8; 32]]) -> Result<Vec<[u8; 32]>, 
     Ok(copy)
 }
 
-// The path with an element made another one, with it left out, and with it doubled.
+// The path with an element replaced by another one, with it left out, and with it doubled.
 pub(crate) fn push_variants(
     alloc: Global,
     path: &[[u8; 32]],
@@ -96,7 +96,7 @@ pub(crate) fn push_variants(
     Ok(())
 }
 
-// The path with one element changed, with one left out, and with one added, at each place.
+// The path with one element changed, with one left out, and with one added, at each index.
 fn variants(alloc: Global, path: &[[u8; 32]]) -> Result<Vec<Vec<[u8; 32]>>, AllocError> {
     let mut all = Vec::new(alloc);
     for i in 0..path.len() {
@@ -117,7 +117,7 @@ fn numbered_hashes(alloc: Global, size: u8) -> Result<Vec<[u8; 32]>, AllocError>
     Ok(leaves)
 }
 
-// The answer to a path of the right place, by the true one.
+// The result for a path at the right index, by comparison with the true path.
 fn answer_beside(
     true_path: &[[u8; 32]],
     path: &[[u8; 32]],
@@ -134,7 +134,7 @@ fn answer_beside(
     }
 }
 
-// The answer at a place that has no proof.
+// The result at an index, or for a first size, that has no proof.
 fn out_of_range(kind: Kind) -> ProofFault {
     match kind {
         Kind::Path => ProofFault::IndexOutOfRange,
@@ -142,7 +142,7 @@ fn out_of_range(kind: Kind) -> ProofFault {
     }
 }
 
-// The true proofs of a size: by the index of a leaf or the first size, the hash of which each speaks, and the proof.
+// The true proofs for a size: for each index of a leaf, or each first size, the hash that the proof is about, and the proof.
 #[derive(Drop)]
 struct Proofs {
     kind: Kind,
@@ -195,7 +195,7 @@ fn proofs_of(alloc: Global, kind: Kind, leaves: &[[u8; 32]]) -> Result<Proofs, A
 }
 
 impl Proofs {
-    // The answer to a proof. Both mismatches are one here.
+    // The expected result for a proof. Both mismatches count as one here.
     fn wanted(&self, m: usize, first: &[u8; 32], proof: &[[u8; 32]]) -> Result<(), ProofFault> {
         let (Some(true_first), Some(true_proof)) = (self.firsts.get(m), self.proofs.get(m)) else {
             return Err(out_of_range(self.kind));
@@ -223,7 +223,7 @@ impl Proofs {
         }
     }
 
-    // Whether a proof is answered rightly at each index, or with each first size.
+    // Reports whether the result for a proof is right at each index, or with each first size.
     fn is_answered(&self, first: &[u8; 32], proof: &[[u8; 32]]) -> bool {
         for m in 0..=self.firsts.len() {
             if self.answer(m, first, proof) != self.wanted(m, first, proof) {
@@ -233,7 +233,7 @@ impl Proofs {
         true
     }
 
-    // Whether each variant of a proof is refused rightly.
+    // Reports whether each variant of a proof is refused with the right fault.
     fn are_refused(&self, m: usize, first: &[u8; 32], variants: &[Vec<[u8; 32]>]) -> bool {
         for variant in variants {
             let answer = self.answer(m, first, variant);
@@ -245,7 +245,7 @@ impl Proofs {
     }
 }
 
-// Whether a true proof is answered rightly: at each place, and each of its variants.
+// Reports whether the results for a true proof are right: at each index, and for each of its variants.
 fn is_proof_answered(alloc: Global, all: &Proofs, m: usize) -> Result<bool, AllocError> {
     let (Some(first), Some(proof)) = (all.firsts.get(m), all.proofs.get(m)) else {
         return Ok(false);
@@ -254,7 +254,7 @@ fn is_proof_answered(alloc: Global, all: &Proofs, m: usize) -> Result<bool, Allo
     Ok(all.is_answered(first, proof) && all.are_refused(m, first, &variants))
 }
 
-// Whether each proof over these leaves is answered rightly.
+// Reports whether the results for each proof over these leaves are right.
 fn are_answered(alloc: Global, kind: Kind, leaves: &[[u8; 32]]) -> Result<bool, AllocError> {
     let all = proofs_of(alloc, kind, leaves)?;
     for m in 0..leaves.len() {
@@ -265,13 +265,13 @@ fn are_answered(alloc: Global, kind: Kind, leaves: &[[u8; 32]]) -> Result<bool, 
     Ok(true)
 }
 
-// Whether there are so many leaf hashes, and each proof over them is answered rightly.
+// Reports whether there are that many leaf hashes, and the results for each proof over them are right.
 fn is_size_answered(alloc: Global, kind: Kind, size: u8) -> Result<bool, AllocError> {
     let leaves = numbered_hashes(alloc, size)?;
     Ok(leaves.len() == size as usize && are_answered(alloc, kind, &leaves)?)
 }
 
-// The size before the first with a proof that isn't answered rightly.
+// The size before the first for which a result is wrong.
 fn right_sizes(alloc: Global, kind: Kind) -> Result<u8, AllocError> {
     for size in 1..=40 {
         if !is_size_answered(alloc, kind, size)? {

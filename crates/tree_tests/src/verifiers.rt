@@ -12,7 +12,7 @@ const ZEROS: [u8; 32] = [0; 32];
 #[derive(Clone, Copy)]
 struct Verifiers;
 
-// A row of a leaf, its index, a size, the path and the root.
+// Checks a row of a leaf, its index, a size, the path and the root.
 fn is_path_answered(alloc: Global, mut row: Row<'_>) -> bool {
     let leaf = row.hash();
     let index = row.number();
@@ -23,7 +23,7 @@ fn is_path_answered(alloc: Global, mut row: Row<'_>) -> bool {
     row.ends_in(alloc, &answer)
 }
 
-// A row of two sizes, their roots and the proof.
+// Checks a row of two sizes, their roots and the proof.
 fn is_proof_answered(alloc: Global, mut row: Row<'_>) -> bool {
     let first = row.number();
     let second = row.number();
@@ -41,7 +41,7 @@ fn is_proof_answered(alloc: Global, mut row: Row<'_>) -> bool {
     row.ends_in(alloc, &answer)
 }
 
-// A row of an index, a size and how long the path is: the leaf, the path and the root are zeros.
+// Checks a row of an index, a size and the length of the path: the leaf, the path and the root are zeros.
 fn is_path_of_zeros_answered(alloc: Global, mut row: Row<'_>) -> bool {
     let index = row.number();
     let size = row.number();
@@ -69,7 +69,7 @@ fn right(rt: &HostRuntime, rows: &str) -> u32 {
     right_rows(rt.alloc(), &mut Verifiers, rows)
 }
 
-// Rows of worked paths and proofs, and how many there are.
+// Groups of rows of worked paths and proofs, with the number of rows.
 const VERIFIED: [(u32, &str); 7] = [
     // Eight leaves.
     (
@@ -126,7 +126,7 @@ proof 5 5 MTH_3 MTH_5 L2,L3,N01,L4 Err(SizesOutOfRange)
 proof 0 5 MTH_3 MTH_5 L2,L3,N01,L4 Err(SizesOutOfRange)
 proof 3 5 MTH_3 MTH_5 - Err(EmptyPath)",
     ),
-    // Of two faults, the one that comes first in the order is answered.
+    // If there are two faults, the one that comes first in the order is returned.
     (
         7,
         "\
@@ -159,7 +159,7 @@ fn worked_paths_and_proofs(rt: HostRuntime) {
     }
 }
 
-// Under another hash function, and at the largest size, a path of the right length is accepted.
+// With another hash function, and at the largest size, a path of the right length is accepted.
 #[test]
 fn another_hash(rt: HostRuntime) {
     let size = u64::MAX;

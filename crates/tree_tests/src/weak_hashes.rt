@@ -1,4 +1,4 @@
-// Hash functions that fail.
+// Hash functions that have collisions.
 ghost use Rattle.std.specs.Prelude.{ℕ, List, [], ◌∷◌, replicate, get_or, length, ◌≡◌};
 ghost use Rattle.std.proofs.Common.{refl};
 ghost use Rattle.std.proofs.lemmas.List.{length-replicate};

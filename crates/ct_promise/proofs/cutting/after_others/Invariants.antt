@@ -3,7 +3,7 @@ use Rattle.ct_promise.specs.Reading.{others_at}
 use Rattle.ct_promise.proofs.Loops.{Going}
 use Rattle.ct_promise.proofs.cutting.after_others.Given as goal
 
--- what the rest gives
+-- the result for the rest
 abbrev pub invariant-others : goal.invariant-others
 invariant-others l = Going (others_at l.identifier) l.rest l.extensions
 
