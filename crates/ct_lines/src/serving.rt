@@ -109,7 +109,7 @@ fn feed<W: Write>(
 /// - Each whole line that was read is replied to before the reader is called again.
 /// - Memory is taken for one line and its reply at a time. Memory for all leaves is taken only if an audit's leaf and path are not the
 ///   log's own but lead to the head's root.
-/// - Of a line that is too long, at most two bytes more than the longest allowed line are kept.
+/// - A line that is too long is cut: at most two bytes more than the longest allowed line are kept.
 /// - The writer is not flushed.
 ///
 /// # Errors
