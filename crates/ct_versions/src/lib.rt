@@ -1,5 +1,5 @@
-//! Snapshots of a log's published states for its readers. Reading takes no lock and never waits, and a state that a reader has seen is a
-//! prefix of each state that it sees later.
+//! Snapshots of a log's published states: readers take no lock, never wait, and never go back to an older state. A state that a reader has
+//! seen is a prefix of each state that it sees later.
 //!
 //! - `Shelf` shows a log's published states, one after another. It belongs to one thread, which makes publications (`publish`) and tokens
 //!   of everything published so far (`bulletin`).
