@@ -1,4 +1,4 @@
--- What a parse of the command line gives.
+-- The result of parsing the command line.
 use Rattle.std.proofs.Common.{◌==◌, ◌&&◌, ◌≡◌, ◌⊎◌, ◌∙◌, ◌<◌, ap, ℕ, Bool, true, false, not, List, [], ◌∷◌, length, is_some, Option, Some, None, refl, sym}
 use Rattle.std.proofs.Common.{subst, inl, inr, arith, zero, suc, map, true≢false}
 use Rattle.std.specs.List.{slice_index_or}
@@ -15,7 +15,7 @@ use Rattle.clap.specs.declared.builder.command.Command.{Command}
 use Rattle.clap.specs.declared.builder.command.Command.TheViews.{out-Command}
 use Rattle.ct_command.specs.CommandLine.{app_named, fronts_rule, ring_rule, open_at_rule, close_at_rule}
 
--- ---- what the command's rules say of its arguments
+-- ---- the command's rules for its arguments
 
 both : (a b : Bool) → (a && b) ≡ true → (a ≡ true) × (b ≡ true)
 both true b e = (refl, e)

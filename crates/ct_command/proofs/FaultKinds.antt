@@ -1,4 +1,4 @@
--- clap finds one fault of a command line, or none.
+-- clap finds at most one fault of a command line.
 use Rattle.std.proofs.Common.{◌≡◌, ◌⊎◌, ◌≤◌, ◌&&◌, ◌||◌, ◌==◌, ap, ℕ, Bool, true, false, not, List, [], ◌∷◌, length, is_some, Option, Some, None, refl, sym}
 use Rattle.std.proofs.Common.{inl, inr, arith, zero, suc, drop}
 use Rattle.std.specs.Prelude.{if◌then◌else◌, nat_lt, codes, encode_utf8, slice_get}
@@ -23,7 +23,7 @@ use Rattle.clap.specs.declared.error.kind.ErrorKind.{ErrorKind}
 use Rattle.clap.specs.declared.error.kind.ErrorKind.TheVariants as kind
 use Rattle.ct_command.specs.CommandLine.{CommandLine, app_named, by_fault, by_kind}
 
--- one kind, or none
+-- at most one kind
 abbrev AtMostOne : Kinds → Type 0
 AtMostOne ks = length ks ≤ 1
 
@@ -202,7 +202,7 @@ entered_one : (a : App) → a.subs ≡ [] → (stop : Option (Text × List Text)
 entered_one a no_subs None = none
 entered_one a no_subs (Some p) = rw no_subs none
 
--- clap finds one fault of a command line, or none
+-- clap finds at most one fault of a command line
 pub one_fault : (program : Text) (words : List Text) → AtMostOne (fault_of (app_named program) words)
 one_fault program words =
     let a = built (app_named program) in
@@ -214,7 +214,7 @@ among_one [] k ok single among = absurd among
 among_one (x ∷ []) k ok single among = elim among [ inl e ↦ ap by_kind (sym e) | inr never ↦ absurd never ]
 among_one (x ∷ y ∷ ks) k ok single among = absurd (omega arith)
 
--- what an error of this kind says of the words
+-- the meaning of an error of this kind for the arguments
 pub error_says : (program : Text) (words : List Text) (k : ErrorKind) (ok : CommandLine) → IsAmong k (fault_of (app_named program) words)
     → by_fault (fault_of (app_named program) words) ok ≡ by_kind k
 error_says program words k ok among = among_one (fault_of (app_named program) words) k ok (one_fault program words) among

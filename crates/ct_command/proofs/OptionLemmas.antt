@@ -1,4 +1,4 @@
--- What a parse reads of the options, and which number that is.
+-- The texts that a parse reads for the options, and the numbers that they mean.
 use Rattle.std.proofs.Common.{◌≡◌, ◌⊎◌, ◌∙◌, ◌<◌, ◌≤◌, ap, ℕ, Bool, true, false, List, [], ◌∷◌, length, is_some, Option, Some, None, refl, sym, subst, inl, inr}
 use Rattle.std.proofs.Common.{arith, ◌^◌, zero, suc}
 use Rattle.std.specs.List.{All, slice_index_or}
@@ -31,7 +31,7 @@ use Rattle.clap.proofs.WalkLemmas.{one_text-rows}
 use Rattle.ct_command.specs.CommandLine.{app_named, number_given, latest_moment}
 use Rattle.ct_command.proofs.CommandLemmas.{option_rules, many, rule_at, all_plain, plain_fields, unique_ids, own_id, has_name, no_delimiter}
 
--- ---- what an entry of the matches says of its text
+-- ---- the text of an entry of the matches
 
 head_passes : (P : Bor (List ℕ) → Type 0) (how : Reading) (vs : List (Bor (List ℕ))) → All P vs
     → is_some (option_map (λ s. s.now) (slice_get vs 0)) ≡ true
@@ -43,7 +43,7 @@ one_text_at_entry : (f : Found) (id : List ℕ) (x : MatchedArg) (how : Reading)
     → option_map (λ s. read_as how s.now) (slice_get x.vals.items 0) ≡ Some t → one_text f id ≡ Some t
 one_text_at_entry f id x how t found is v = rw (found, is) v
 
--- an argument with the id of the caller's argument is read as the caller's parser says
+-- an argument with the id of the caller's argument is read by the caller's parser
 only_reading : (old : Command) (m : ArgMatches) (p : IsParsedFrom old m) (k : ℕ) (d : Arg) → k < length (args_of old)
     → ((j : ℕ) (e : Arg) → j < length (args_of old)
     → bytes_eq (slice_index_or (args_of old) j e).id.now (slice_index_or (args_of old) k d).id.now ≡ true → j ≡ k)
@@ -74,7 +74,7 @@ passes_read old m p k d lt unique own q parser w v key pass =
     subst (λ (u : List ℕ). bytes_eq pass.1.id.now u ≡ true) key pass.4.0 in
     accepts_of _ pass.1 q v.now (same_rules_by_id old m p k d lt unique own pass.0 pass.1 pass.2 pass.3 same) parser pass.4.1
 
--- what one entry gives
+-- the text of one entry
 read_of : (c : Command) (f : Found) (id : List ℕ) (Q : List ℕ → Type 0) (how : Reading) (x : MatchedArg) (e : Entry)
     → groups_of c ≡ [] → (id ≡ [] → ⊥) → ((r : Reading) → HasReading c id r → r ≡ how)
     → ((v : Bor (List ℕ)) → PassesArg c id v.now → Q v.now)
@@ -102,7 +102,7 @@ read_of c f id Q how x e no_groups named reads read found first same_x key_id pa
         → x.reading ≡ how → (t : List ℕ) × (one_text f id ≡ Some (read_as how t)) × Q t
     finish hd is = (hd.0.now, one_text_at_entry f id x how (read_as how hd.0.now) found is hd.1, read hd.0 hd.2)
 
--- what the entry of an id gives, where it is an argument's with a first value
+-- the text of the entry of an id, if the entry is an argument's and has a first value
 entry_read : (c : Command) (f : Found) (id : List ℕ) (Q : List ℕ → Type 0) (how : Reading) → ValuesPass c f → groups_of c ≡ [] → (id ≡ [] → ⊥)
     → is_some (first_value f id) ≡ true → ((r : Reading) → HasReading c id r → r ≡ how)
     → ((v : Bor (List ℕ)) → PassesArg c id v.now → Q v.now)
@@ -142,7 +142,7 @@ some_arg : (xs : List Arg) → length xs ≡ 4 → Arg
 some_arg [] e = absurd (omega arith)
 some_arg (x ∷ xs) e = x
 
--- an option that isn't required has no text, or one that passed its parser
+-- an option that is not required has no text, or one that its parser accepted
 pub optional_text : {program : Text} (old : Command) (m : ArgMatches) → IsParsedFrom old m → app_of old ≡ app_named program
     → (k : ℕ) (d : Arg) (name : List ℕ) (q : ValueParser) → k < 4
     → (slice_index_or option_rules k (rule_of d)).id ≡ name → (slice_index_or option_rules k (rule_of d)).parser ≡ Some q
@@ -183,7 +183,7 @@ optional_text old m p is k d name q lt named parser = go (is_some (first_value (
           r.2,
         )
 
--- one that is required has a text
+-- an option that is required has a text that its parser accepted
 pub required_text : {program : Text} (old : Command) (m : ArgMatches) → IsParsedFrom old m → app_of old ≡ app_named program
     → (k : ℕ) (d : Arg) (name : List ℕ) (q : ValueParser) → k < 4
     → (slice_index_or option_rules k (rule_of d)).id ≡ name → (slice_index_or option_rules k (rule_of d)).parser ≡ Some q
@@ -239,12 +239,12 @@ close_at_text old m p is =
 
 -- ---- numbers
 
--- the number that a text of digits stands for
+-- the number that a text of digits means
 abbrev pub number : List ℕ → ℕ
 number t = digits_value 10 (without_leading_plus t)
 
 module _ {E : Type 0} (G : List ℕ → Result ℕ E → Type 0) where
-  -- a text that passed a range reads as its number
+  -- a text that was found in a range reads as its number
   pub unsigned_read : (low high : ℕ) (t : List ℕ) (r : Option ℕ) → ((u : List ℕ) (x : Result ℕ E) → G u x → ParsesUnsigned 64 10 u x) → ReadsOne G t r
       → IsUnsignedIn low high t
       → (r ≡ Some (number t)) × (low ≤ number t) × (number t ≤ high)
@@ -266,7 +266,7 @@ module _ {E : Type 0} (G : List ℕ → Result ℕ E → Type 0) where
           let same : v ≡ got.0 = ap (λ (o : Option ℕ). unwrap_or o 0) got.1 in
           (ap Some is, subst (λ (n : ℕ). low ≤ n) (sym same ∙ is) got.2, subst (λ (n : ℕ). n ≤ high) (sym same ∙ is) got.3)
 
--- the number that the words give, by the text that is read
+-- the number that the arguments give to an option, from the text that is read
 pub given_is : (program : Text) (m : ArgMatches) (words : List Text) (name : Text) (o : Option Text)
     → rows_of (found_of m) ≡ matches_of (app_named program) words
     → one_text (found_of m) name ≡ o

@@ -1,4 +1,4 @@
--- What an error of clap's says of a run, by what the command line asks for.
+-- The meaning of a clap error for a run, by the request in the command line.
 use Rattle.std.proofs.Common.{◌≡◌, ◌⊎◌, ◌∙◌, ℕ, List, [], refl, ap, sym, subst, inl, inr}
 use Rattle.std.specs.Prelude.{Option}
 use Rattle.std.specs.Io.KnownBytes.{Appends}
@@ -19,13 +19,13 @@ not_both k memory (inr is) = absurd (other (sym memory ∙ is))
     other e = cc
 
 module _ (Ends : CommandLine → Type 0) where
-  -- help or the version was asked for
+  -- help or the version was requested
   pub noticed : (k : ErrorKind) (a : CommandLine) → IsRefusalOf a k → IsNotice k → Ends help → Ends version → Ends a
   noticed k a (inl memory) is of_help of_version = not_both k memory is
   noticed k a (inr e) (inl h) of_help of_version = subst Ends (sym (e ∙ ap by_kind h)) of_help
   noticed k a (inr e) (inr v) of_help of_version = subst Ends (sym (e ∙ ap by_kind v)) of_version
 
-  -- the text that was asked for was broken off, or nothing was written
+  -- the requested text was broken off, or nothing was written
   pub unanswered : (k : ErrorKind) (a : CommandLine) (f : Fault) (old new : Option (List ℕ)) → IsRefusalOf a k → IsUnanswered k f old new
       → (((f ≡ Write) ⊎ (f ≡ Memory)) × ((text : List ℕ) × Appends old new text) → Ends help × Ends version)
       → ((f ≡ Memory) × Appends old new [] → (b : CommandLine) → Ends b) → Ends a
@@ -34,7 +34,7 @@ module _ (Ends : CommandLine → Type 0) where
       noticed k a r is (of_text (fault, text)).0 (of_text (fault, text)).1
   unanswered k a f old new r (inr none) of_text of_none = of_none none a
 
--- an error that is no text and no want of memory
+-- an error that is neither a requested text nor out of memory
 other_kind : (k : ErrorKind) → (IsNotice k → ⊥) → by_kind k ≡ nothing
 other_kind kind.DisplayHelp not_notice = absurd (not_notice (inl refl))
 other_kind kind.DisplayVersion not_notice = absurd (not_notice (inr refl))
@@ -54,7 +54,7 @@ other_kind kind.Io not_notice = refl
 other_kind kind.Format not_notice = refl
 other_kind kind.OutOfMemory not_notice = refl
 
--- there is nothing that the words ask for
+-- the arguments request nothing that exists
 pub refused_words : (k : ErrorKind) (a : CommandLine) → IsRefusalOf a k → (IsNotice k → ⊥) → (k ≡ kind.OutOfMemory → ⊥) → a ≡ nothing
 refused_words k a (inl memory) not_notice not_memory = absurd (not_memory memory)
 refused_words k a (inr e) not_notice not_memory = e ∙ other_kind k not_notice

@@ -9,6 +9,6 @@ use Rattle.ct_command.specs.declared.program.Program.TheVariants.{Ctlog}
 abbrev pub name_of : Program → List ℕ
 name_of Ctlog = codes "ctlog"
 
--- the line that the program with this name writes of a fault
+-- the line that the program with this name writes for a fault
 abbrev pub fault_line : List ℕ → Fault → List ℕ
 fault_line program f = program ++ codes ": " ++ fault_name f ++ 10 ∷ []

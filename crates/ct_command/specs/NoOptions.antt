@@ -1,4 +1,4 @@
--- What a command line that gives no numbers is answered.
+-- The answer to a command line that gives no numbers.
 use Rattle.std.specs.Prelude.{◌≡◌, ◌≢◌}
 use Rattle.clap.specs.declared.error.kind.ErrorKind.{ErrorKind}
 use Rattle.clap.specs.declared.error.kind.ErrorKind.TheVariants as kind
@@ -7,7 +7,7 @@ use Rattle.ct_command.specs.declared.command.NoOptions.{NoOptions}
 use Rattle.ct_command.specs.declared.command.NoOptions.TheVariants.{Fault, Notice, Refusal}
 use Rattle.ct_tasks.specs.declared.fault.Fault.TheVariants.{Memory}
 
--- it is answered so where clap's error is of this kind
+-- this is the answer if clap's error is of this kind
 abbrev pub IsNoOptions : NoOptions → ErrorKind → Type 0
 IsNoOptions (Fault f) k = (k ≡ kind.OutOfMemory) × (f ≡ Memory)
 IsNoOptions Notice k = IsNotice k

@@ -1,4 +1,4 @@
-//! What a command line is answered that gives no numbers.
+//! Answers to command lines that give no numbers.
 
 ghost use Rattle.std.specs.Prelude.{◌≡◌, ◌≢◌, ◌⊎◌, ◌≤◌, ℕ, List, [], OnErr, IfErr};
 ghost use Rattle.std.specs.Io.KnownBytes.{Appends};
@@ -21,7 +21,7 @@ use std::alloc::Global;
 use std::io;
 use std::io::Write;
 
-// Writes help or the version on the output.
+// Writes help or the version to the output.
 fn send_notice<W: Write>(alloc: Global, error: &Error, output: &mut W) -> Result<(), Fault>
     ensures text { (text : List ℕ) × Appends (W.contents output.old) (W.contents output.new) text }
     ensures faults { IfErr result (λ f. (f ≡ Fault.Write) ⊎ (f ≡ Fault.Memory)) }
@@ -31,10 +31,10 @@ fn send_notice<W: Write>(alloc: Global, error: &Error, output: &mut W) -> Result
     Ok(())
 }
 
-// Where the requests come from, for whoever gave them as words.
+// The source of requests, for a user who gave them as arguments.
 const SOURCE: &str = "Requests come on standard input, a line of JSON each.\n";
 
-// Writes among the faults, as far as it can be written, why the words are refused.
+// Writes the reason why the arguments are refused to the faults. Write errors are ignored.
 fn tell_refusal<E: Write>(alloc: Global, error: &Error, faults: &mut E) -> Result<(), Fault>
     ensures memory { IfErr result (λ f. f ≡ Fault.Memory) }
     ensures same { OnErr result (faults.new ≡ faults.old) }
@@ -44,11 +44,11 @@ fn tell_refusal<E: Write>(alloc: Global, error: &Error, faults: &mut E) -> Resul
     Ok(())
 }
 
-/// Answers a command line that gives no numbers, for which clap has this error, and answers the exit status.
+/// Answers a command line that gives no numbers and for which clap has this error. Returns the exit status.
 ///
-/// - 0: help or the version was written on the output.
-/// - 1: a fault broke it off, and its line was written among the faults, as far as it could be.
-/// - 2: the words are refused, which was written among the faults, as far as it could be.
+/// - 0: help or the version was written to the output.
+/// - 1: a fault broke it off, and its line was written to the faults, as far as possible.
+/// - 2: the arguments are refused, and the reason was written to the faults, as far as possible.
 pub fn answer_command_line<W: Write, E: Write>(
     alloc: Global,
     program: Program,
@@ -77,11 +77,11 @@ pub fn answer_command_line<W: Write, E: Write>(
     }
 }
 
-/// Answers a command line whose words couldn't be read, which is never the status 0.
+/// Answers a command line whose arguments could not be read. Returns the exit status, which is never 0.
 ///
-/// - 1: there was no memory, for the words or for the refusal: the fault's line was written among the faults, as far as it
-///   could be, and nothing on the output.
-/// - 2: a word isn't UTF-8, and the refusal was written among the faults, as far as it could be. Its text is tested alone.
+/// - 1: there was no memory, for the arguments or for the refusal. The fault's line was written to the faults, as far as possible, and
+///   nothing to the output.
+/// - 2: an argument is not UTF-8, and the refusal was written to the faults, as far as possible. Only tests check its text.
 pub fn refuse_words<W: Write, E: Write>(
     alloc: Global,
     program: Program,

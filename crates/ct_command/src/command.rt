@@ -13,13 +13,13 @@ use clap::{Arg, ArgAction, Command, Error, value_parser};
 use ct_tasks::{Fault, Options};
 use std::alloc::Global;
 
-// The last moment that the command line takes, 2^53 - 1, in milliseconds.
+// The latest timestamp that the command line accepts, 2^53 - 1, in milliseconds.
 const LAST_MOMENT: u64 = 9_007_199_254_740_991;
 
 // The version of the programs and of the library for C (include/wagtenib.pc.in).
 const VERSION: &str = "0.1.0";
 
-// The option for the number of fronts.
+// Returns the option for the number of fronts.
 fn fronts_option<'a>(alloc: Global) -> Arg<'a>
     ensures rule { rule_of result ≡ fronts_rule }
     ensures local { result.global ≡ false }
@@ -33,7 +33,7 @@ fn fronts_option<'a>(alloc: Global) -> Arg<'a>
         .value_parser(value_parser!(u16).range(1..=16))
 }
 
-// The option for the places of a ring.
+// Returns the option for the capacity of a ring.
 fn ring_option<'a>(alloc: Global) -> Arg<'a>
     ensures rule { rule_of result ≡ ring_rule }
     ensures local { result.global ≡ false }
@@ -47,7 +47,7 @@ fn ring_option<'a>(alloc: Global) -> Arg<'a>
         .value_parser(value_parser!(usize).range(1..=4096))
 }
 
-// The option for the moment of opening.
+// Returns the option for the timestamp of opening.
 fn open_at_option<'a>(alloc: Global) -> Arg<'a>
     ensures rule { rule_of result ≡ open_at_rule }
     ensures local { result.global ≡ false }
@@ -62,7 +62,7 @@ fn open_at_option<'a>(alloc: Global) -> Arg<'a>
         .value_parser(value_parser!(u64).range(0..=9_007_199_254_740_991))
 }
 
-// The option for the moment of closing.
+// Returns the option for the timestamp of closing.
 fn close_at_option<'a>(alloc: Global, program: Program) -> Arg<'a>
     ensures rule { rule_of result ≡ close_at_rule }
     ensures local { result.global ≡ false }
@@ -75,7 +75,7 @@ fn close_at_option<'a>(alloc: Global, program: Program) -> Arg<'a>
         .value_parser(value_parser!(u64).range(0..=9_007_199_254_740_991))
 }
 
-// The command and its arguments.
+// Returns the command and its arguments.
 fn arguments<'a>(alloc: Global, program: Program) -> Result<Command<'a>, Error>
     ensures app { IfOk result (λ c. app_of c ≡ options_named (name_of program)) }
     ensures memory { IfErr result (λ e. kind_of e ≡ ErrorKind.OutOfMemory) }
@@ -88,21 +88,21 @@ fn arguments<'a>(alloc: Global, program: Program) -> Result<Command<'a>, Error>
     Ok(command)
 }
 
-// The command, with what the program does below its options.
+// Returns the command, with a description of the program after its options.
 fn with_about<'a>(command: Command<'a>, program: Program) -> Command<'a>
     ensures { app_of result ≡ app_of command.entry }
 {
     command.after_help(program.about())
 }
 
-// The command, with the version of the programs.
+// Returns the command, with the version of the programs.
 fn with_version<'a>(command: Command<'a>) -> Command<'a>
     ensures { app_of result ≡ versioned (app_of command.entry) }
 {
     command.version(VERSION)
 }
 
-// The command, its arguments, its version, and what help says of it.
+// Returns the command, its arguments, its version, and the description for help.
 fn command<'a>(alloc: Global, program: Program) -> Result<Command<'a>, Error>
     ensures app { IfOk result (λ c. app_of c ≡ app_named (name_of program)) }
     ensures memory { IfErr result (λ e. kind_of e ≡ ErrorKind.OutOfMemory) }
@@ -111,7 +111,7 @@ fn command<'a>(alloc: Global, program: Program) -> Result<Command<'a>, Error>
     Ok(with_version(with_about(command, program)))
 }
 
-// The numbers, where both are there and in their ranges.
+// Returns the numbers, if both exist and are in their ranges.
 fn in_range(fronts: Option<u16>, ring: Option<usize>) -> Option<(u16, usize)>
     ensures some { IfSome result (λ p. (fronts ≡ Some p.0) × (ring ≡ Some p.1) × (0 < p.0) × (p.0 ≤ 16) × (0 < p.1) × (p.1 ≤ 4096)) }
     ensures none { result ≡ None → (f k : ℕ) → fronts ≡ Some f → ring ≡ Some k → 1 ≤ f → f ≤ 16 → 1 ≤ k → k ≤ 4096 → ⊥ }
@@ -122,14 +122,14 @@ fn in_range(fronts: Option<u16>, ring: Option<usize>) -> Option<(u16, usize)>
     }
 }
 
-/// The numbers that the words ask for of this program. The first word is the name by which it was called.
+/// Returns the numbers that the arguments request of this program. The first argument is the name by which the program was called.
 ///
-/// Of the moments nothing is asked but that each is in its range: a log may open behind its closing, which its clock then refuses.
+/// Each timestamp only has to be in its range. A log may open after its closing, and then its clock refuses the closing.
 ///
 /// # Errors
 ///
-/// Clap's error: of the kind `OutOfMemory`; of the kind `DisplayHelp` or `DisplayVersion`, where the words ask for help or
-/// for the version; or of another, where they ask for nothing that there is.
+/// Clap's error: of the kind `OutOfMemory`; of the kind `DisplayHelp` or `DisplayVersion`, if the arguments request help or the version; or
+/// of another kind, if they request nothing that exists.
 pub fn read_options<'a>(
     alloc: Global,
     program: Program,
@@ -157,7 +157,7 @@ pub fn read_options<'a>(
     })
 }
 
-// A refusal that says this.
+// Returns a refusal with this message.
 fn refused(alloc: Global, program: Program, message: &str) -> Result<Error, Error>
     ensures refusal { IfOk result (λ e. kind_of e ≡ ErrorKind.InvalidValue) }
     ensures memory { IfErr result (λ e. kind_of e ≡ ErrorKind.OutOfMemory) }
@@ -167,7 +167,7 @@ fn refused(alloc: Global, program: Program, message: &str) -> Result<Error, Erro
     Ok(error)
 }
 
-// A refusal that says this, or clap's error where there was no memory for it.
+// Returns a refusal with this message, or clap's error if there was no memory for it.
 fn refusal(alloc: Global, program: Program, message: &str) -> Error
     ensures { (kind_of result ≡ ErrorKind.InvalidValue) ⊎ (kind_of result ≡ ErrorKind.OutOfMemory) }
 {
@@ -177,12 +177,12 @@ fn refusal(alloc: Global, program: Program, message: &str) -> Error
     }
 }
 
-/// What there is to answer where the words give no numbers.
+/// The kind of answer if the arguments give no numbers.
 #[derive(Clone, Copy, Debug, PartialEq, Eq)]
 pub enum NoOptions {
     /// There was no memory.
     Fault(Fault),
-    /// Help or the version, which they ask for.
+    /// Help or the version, which the arguments request.
     Notice,
     /// A refusal.
     Refusal,
@@ -200,8 +200,8 @@ impl From<ErrorKind> for NoOptions {
     }
 }
 
-/// The refusal of a command line with a word that isn't UTF-8: clap's error, of the kind `InvalidValue`, or `OutOfMemory`
-/// where there was no memory for it.
+/// Returns the refusal of a command line with an argument that is not UTF-8: clap's error, of the kind `InvalidValue`, or `OutOfMemory` if
+/// there was no memory for it.
 pub fn unreadable_word(alloc: Global, program: Program) -> Error
     ensures { (kind_of result ≡ ErrorKind.InvalidValue) ⊎ (kind_of result ≡ ErrorKind.OutOfMemory) }
 {

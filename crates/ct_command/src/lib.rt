@@ -1,10 +1,10 @@
-//! The command line of the program that runs a log, `ctlog`: its options, exit statuses and lines of faults.
+//! The command line of the program that runs a log, `ctlog`: its options, exit statuses and lines for faults.
 //!
-//! - `program` has the program's name, and what it says of itself.
-//! - `words` has the texts of the words.
+//! - `program` has the program's name and its descriptions for help.
+//! - `words` has the texts of the arguments.
 //! - `command` reads the numbers of a log from them.
-//! - `answer` is what a command line is answered that gives no numbers.
-//! - `reporting` writes the line of a fault.
+//! - `answer` answers a command line that gives no numbers.
+//! - `reporting` writes the line for a fault.
 #![tactic(auto)]
 
 mod answer;

@@ -1,4 +1,4 @@
-//! The program, and what it says of itself.
+//! The program, with its name and its descriptions for help.
 
 ghost use Rattle.std.specs.Prelude.{◌≡◌};
 ghost use Rattle.ct_command.specs.FaultLines.{fault_line, name_of};
@@ -8,12 +8,12 @@ use ct_tasks::Fault;
 /// A program that runs a log.
 #[derive(Clone, Copy, Debug, PartialEq, Eq)]
 pub enum Program {
-    /// `ctlog`, which reads its input whole before the log opens.
+    /// `ctlog`, which reads its whole input before the log opens.
     Ctlog,
 }
 
 impl Program {
-    /// The program's name.
+    /// Returns the program's name.
     pub fn name<'a>(self) -> &'a str
         ensures { result.now ≡ name_of self }
     {
@@ -22,7 +22,7 @@ impl Program {
         }
     }
 
-    /// What the program does, for help to say below the options.
+    /// Returns the description of the program, which help shows below the options.
     pub fn about(self) -> &'static str {
         match self {
             Program::Ctlog => {
@@ -32,7 +32,7 @@ a line of JSON each; docs/LINES.md has their form. The input is read whole befor
         }
     }
 
-    /// What help says of the moment of closing.
+    /// Returns the description of the timestamp of closing, for help.
     pub fn closing(self) -> &'static str {
         match self {
             Program::Ctlog => {
@@ -41,7 +41,7 @@ a line of JSON each; docs/LINES.md has their form. The input is read whole befor
         }
     }
 
-    /// What the program writes of a fault, with the end of the line.
+    /// Returns the line that the program writes for a fault, with the end of the line.
     pub fn line_of(self, fault: Fault) -> &'static str
         ensures { result.now ≡ fault_line (name_of self) fault }
     {

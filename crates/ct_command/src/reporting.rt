@@ -1,4 +1,4 @@
-//! The line of a fault.
+//! The line for a fault.
 
 ghost use Rattle.std.specs.Prelude.{◌≡◌};
 ghost use Rattle.json_lines.specs.Sends.{SendsSome};
@@ -9,7 +9,7 @@ use ct_tasks::Fault;
 use json_lines::tell;
 use std::io::Write;
 
-/// Writes the fault's line, as far as it can be written, and answers the status 1.
+/// Writes the fault's line, as far as possible, and returns the status 1.
 pub fn report<E: Write>(program: Program, fault: Fault, faults: &mut E) -> u8
     ensures status { result ≡ 1 }
     ensures line { SendsSome (E.contents faults.old) (E.contents faults.new) (fault_line (name_of program) fault) }

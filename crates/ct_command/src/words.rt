@@ -1,10 +1,10 @@
-//! The words of a command line.
+//! The arguments of a command line.
 
 ghost use Rattle.std.specs.Prelude.{◌≡◌, IfOk, map, string_bytes};
 
 use std::alloc::{AllocError, Global};
 
-/// The texts of the words, for as long as the words stand.
+/// Returns the texts of the arguments, which borrow from them.
 ///
 /// # Errors
 ///

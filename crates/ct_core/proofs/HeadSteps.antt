@@ -1,4 +1,4 @@
--- Heads by their sizes, which never fall.
+-- Search of heads by their tree sizes, which never fall.
 use Rattle.std.proofs.Common.{◌≡◌, ℕ, ◌+◌, ◌<◌, ◌≤◌, List, [], ◌∷◌, length, get_or, refl, ap, sym, ◌∙◌, inl, inr, arith}
 use Rattle.std.proofs.lemmas.Bool.{cases_lt}
 use Rattle.std.proofs.lemmas.Bool.Decides.{nat_tests}
@@ -12,11 +12,11 @@ use Rattle.std.specs.List.Sorted.{IsNonDecreasingBy}
 use Rattle.ct_tree.specs.declared.head.Head.{Head}
 use Rattle.ct_core.specs.Settlement.{Log, Lawful}
 
--- what is read at an index, whatever stands for what is past the end
+-- a read at an index within the list, with any default
 size_at : (heads : List Head) (m : ℕ) (d r : Head) → m < length heads → r ≡ get_or heads m r → (get_or heads m d).tree_size ≡ r.tree_size
 size_at heads m d r below e = ap (λ (h : Head). h.tree_size) (get_or_default heads m d r below ∙ sym e)
 
--- up to a head that is less than a size all are less
+-- if a head is smaller than a size, each head before it is smaller too
 pub below_middle : (heads : List Head) (n m i : ℕ) (d r : Head) → IsNonDecreasingBy (λ (h : Head). h.tree_size) heads → m < length heads
     → r ≡ get_or heads m r → r.tree_size < n → i < m + 1
     → (get_or heads i d).tree_size < n
@@ -25,7 +25,7 @@ below_middle heads n m i d r sorted inside e small low =
     let most = sorted i m d (omega arith) inside in
     omega (arith, same, most)
 
--- from a head on that is at least a size none is less
+-- if a head is at least a size, each head after it is at least that size too
 pub above_middle : (heads : List Head) (n m i : ℕ) (d r : Head) → IsNonDecreasingBy (λ (h : Head). h.tree_size) heads → m < length heads
     → r ≡ get_or heads m r → n ≤ r.tree_size → m ≤ i → i < length heads
     → n ≤ (get_or heads i d).tree_size
@@ -34,7 +34,7 @@ above_middle heads n m i d r sorted inside e large high within =
     let most = sorted m i d high within in
     omega (arith, same, most)
 
--- the heads before the place p are less than n, and none from there on is
+-- the heads before the index p are smaller than n, and no head from p on is
 pub record IsPlaceOfSize (heads : List Head) (n p : ℕ) : Type 0 where
   pub below : (i : ℕ) (d : Head) → i < p → (get_or heads i d).tree_size < n
   pub above : (i : ℕ) (d : Head) → p ≤ i → i < length heads → n ≤ (get_or heads i d).tree_size
@@ -51,7 +51,7 @@ more_than a n e h = grind (arith, nat_tests)
 is_equal : (a n : ℕ) → (a == n) ≡ true → n ≤ a × a ≤ n
 is_equal a n e = (grind (arith, nat_tests), grind (arith, nat_tests))
 
--- where no head from the place on has the size, none has
+-- if no head from p on has the size, no head has
 none_sized : (heads : List Head) (n p : ℕ) → IsPlaceOfSize heads n p → ((i : ℕ) (d : Head) → p ≤ i → i < length heads → n < (get_or heads i d).tree_size)
     → list_any (λ (h : Head). h.tree_size == n) heads ≡ false
 none_sized heads n p is more = list_any_none (λ (h : Head). h.tree_size == n) heads other
@@ -62,11 +62,11 @@ none_sized heads n p is more = list_any_none (λ (h : Head). h.tree_size == n) h
       | inr high ↦ unequal_above (get_or heads i d).tree_size n (more i d high inside)
     ]
 
--- past the last head there is none of that size
+-- if p is past the last head, no head has the size
 pub size_past : (heads : List Head) (n p : ℕ) → IsPlaceOfSize heads n p → length heads ≤ p → false ≡ list_any (λ (h : Head). h.tree_size == n) heads
 size_past heads n p is past = sym (none_sized heads n p is (λ i d high inside. absurd (omega arith)))
 
--- a head has the size, where the one at the place has
+-- some head has the size if and only if the head at p has it
 pub size_found : (heads : List Head) (n p : ℕ) (r : Head) → IsNonDecreasingBy (λ (h : Head). h.tree_size) heads → IsPlaceOfSize heads n p
     → p < length heads → r ≡ get_or heads p r
     → (r.tree_size == n) ≡ list_any (λ (h : Head). h.tree_size == n) heads
@@ -86,7 +86,7 @@ size_found heads n p r sorted is inside e = by (r.tree_size == n) refl
             let most = sorted p i d high within in
             omega (arith, first, same, most)
 
--- the first head of the size is the one at the place, where that one has it
+-- if the head at p has the size, it is the first that has
 pub size_first : (heads : List Head) (n p : ℕ) (r : Head) → IsPlaceOfSize heads n p → p < length heads → r ≡ get_or heads p r
     → (r.tree_size == n) ≡ true → Some r ≡ find (λ (h : Head). h.tree_size == n) heads
 size_first heads n p r is inside e same = sym (find_at sized heads ∙ ap (slice_get heads) place ∙ slice_get_read heads (length heads) p r refl inside e)
@@ -101,7 +101,7 @@ size_first heads n p r is inside e same = sym (find_at sized heads ∙ ap (slice
     place = position_or_len_is sized heads p r (omega (arith, inside)) (λ k low. unequal_below (get_or heads k r).tree_size n (is.below k r low))
         (λ _. ap (λ (k : ℕ). k == n) here ∙ same)
 
--- where no head has the size, there is no first one
+-- if no head has the size, there is no first head of that size
 pub size_nowhere : (heads : List Head) (n : ℕ) → false ≡ list_any (λ (h : Head). h.tree_size == n) heads → None ≡ find (λ (h : Head). h.tree_size == n) heads
 size_nowhere [] n e = refl
 size_nowhere (h ∷ hs) n e = by (size_nowhere hs n) (h.tree_size == n) e

@@ -1,4 +1,4 @@
--- Where a proof, a path or entries are to be made, the reply takes memory.
+-- A reply takes memory if a proof, a path or entries must be made for it.
 use Rattle.std.proofs.Common.{◌≡◌, ℕ, ◌+◌, ◌-◌, ◌<◌, ◌≤◌, List, map, take, refl, ap, sym}
 use Rattle.std.specs.Prelude.{true, min, Some, position, slice_get}
 use Rattle.std.specs.Str.{bytes_eq}

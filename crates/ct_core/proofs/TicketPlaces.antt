@@ -1,4 +1,4 @@
--- The places of records, by their tickets.
+-- The indexes of records, by their tickets.
 use Rattle.std.proofs.Common.{◌≡◌, ℕ, zero, suc, ◌+◌, ◌<◌, List, [], ◌∷◌, length, get_or, map, refl, ap, sym, ◌∙◌, arith}
 use Rattle.std.specs.Prelude.{◌==◌, Some, false, position, slice_get}
 use Rattle.shared_table.specs.Looked.{places_from, first_where}
@@ -11,7 +11,7 @@ get_at [] j d h = absurd (omega arith)
 get_at (r ∷ records) zero d h = refl
 get_at (r ∷ records) (suc j) d h = get_at records j d (omega arith)
 
--- the first place of a ticket at which a record has it is that of its first record
+-- among the indexes noted for a ticket, the first at which a record has it is the index of the ticket's first record
 pub first_of_ticket : (records : List Settled) (ticket : ℕ)
     → first_where (is_ticket_at records ticket) (places_from 0 (map ticket_of records) ticket) ≡ position (λ (r : Settled). r.ticket == ticket) records
 first_of_ticket records ticket =

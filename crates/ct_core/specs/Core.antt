@@ -20,18 +20,18 @@ pub record CoreState : Type 0 where
 abbrev pub IsSettled : CoreState → List Item → Type 0
 IsSettled core items = SettlesAs items core.entries core.settlement
 
--- the list xs begins the list ys
+-- the list xs is a prefix of the list ys
 abbrev pub Begins : {X : Type 0} → List X → List X → Type 0
 Begins {X} xs ys = (rest : List X) × (ys ≡ xs ++ rest)
 
--- of two published states, the older one's entries, settlement and heads begin the newer one's
+-- the entries, settlement and heads of the older published state are prefixes of those of the newer one
 pub record Extends (older newer : Log) : Type 0 where
   pub entries : Begins older.entries newer.entries
   pub settlement : Begins older.settlement newer.settlement
   pub heads : Begins older.heads newer.heads
 
--- what holds of every core: its published state is lawful; some items are settled in it; the published entries and records begin all
--- entries and records; each entry has its texts, and timestamps of entries never fall
+-- The invariant of every core. Its published state is lawful, and some items are settled in it. The published entries and records are
+-- prefixes of all entries and records. Each entry has its texts, and timestamps of entries never fall.
 pub record IsCore (core : CoreState) : Type 0 where
   pub lawful : Lawful core.published
   pub settled : (items : List Item) × IsSettled core items
@@ -40,7 +40,7 @@ pub record IsCore (core : CoreState) : Type 0 where
   pub texts : All HasTexts core.entries
   pub never_fall : IsNonDecreasingBy (λ (e : Entry). e.timestamp) core.entries
 
--- the newest leaf's timestamp, or 0 where there is no leaf
+-- the newest leaf's timestamp, or 0 if there is no leaf
 abbrev pub newest_leaf : List Entry → ℕ
 newest_leaf entries = slice_index (map (λ (e : Entry). e.timestamp) entries) (length entries - 1)
 
@@ -52,25 +52,25 @@ last_moment heads = slice_index (map (λ (h : Head). h.timestamp) heads) (length
 abbrev pub clock_of : CoreState → ℕ
 clock_of core = max (last_moment core.published.heads) (newest_leaf core.entries)
 
--- the refusal of a settling at now: by the clock where now is before it, else for want of memory
+-- the refusal of a settling at now: `ClockBack` if now is before the clock, otherwise `Memory`
 abbrev pub settle_refusal : CoreState → ℕ → Refusal
 settle_refusal core now = (if nat_lt now (clock_of core) then ClockBack else Memory)
 
--- a publication at now is in time: not before the newest leaf's timestamp, and behind the last head's (RFC 6962, section 3.5)
+-- a publication at now is in time: now is not before the newest leaf's timestamp, and is after the last head's (RFC 6962, section 3.5)
 pub record IsInTime (core : CoreState) (now : ℕ) : Type 0 where
   pub leaves : newest_leaf core.entries ≤ now
   pub heads : last_moment core.published.heads < now
 
--- the refusal of a publication at now: by the clock where now is before the newest leaf's timestamp, or at or before the last head's; else
--- for want of memory (RFC 6962, section 3.5)
+-- the refusal of a publication at now: `ClockBack` if now is before the newest leaf's timestamp, or is not after the last head's; otherwise
+-- `Memory` (RFC 6962, section 3.5)
 abbrev pub publish_refusal : CoreState → ℕ → Refusal
 publish_refusal core now = (if nat_lt now (newest_leaf core.entries) || nat_lt now (last_moment core.published.heads + 1) then ClockBack else Memory)
 
--- the head of a new log: size 0, and the moment at which it was opened
+-- the head of a new log: size 0, and the timestamp at which it was opened
 abbrev pub first_head : ℕ → Head
 first_head now = record { tree_size = 0; timestamp = now; root = MTH [] }
 
--- the state of a new log: one head of size 0 and the moment now, and nothing else
+-- the state of a new log: one head of size 0 with the timestamp now, and nothing else
 abbrev pub new_core : ℕ → CoreState
 new_core now = record { published = record { entries = []; settlement = []; heads = first_head now ∷ [] }; entries = []; settlement = [] }
 
@@ -78,22 +78,22 @@ new_core now = record { published = record { entries = []; settlement = []; head
 abbrev pub entry_at : ℕ → Item → Entry
 entry_at now x = record { submission = x.submission; timestamp = now }
 
--- behind the items, xs were settled at now: the settlement is that of both and begins with what it was, a new entry with timestamp now
--- stands exactly for each first among xs, and the published state is the same
+-- After `items`, the items xs were settled at now. The new settlement is that of both and begins with the old one. The new entries, with
+-- timestamp now, are exactly one for each first occurrence among xs. The published state is unchanged.
 pub record Grows (old : CoreState) (items xs : List Item) (now : ℕ) (new : CoreState) : Type 0 where
   pub settled : IsSettled new (items ++ xs)
   pub entries : new.entries ≡ old.entries ++ map (entry_at now) (firsts_after items xs)
   pub settlement : Begins old.settlement new.settlement
   pub published : new.published ≡ old.published
 
--- h is the head that a publication at now makes, over all entries so far: their number, MTH of their leaves, and that moment (RFC 6962,
--- section 3.5)
+-- h is the head that a publication at now makes over all entries so far: its size is their number, its root is MTH of their leaves, and its
+-- timestamp is now (RFC 6962, section 3.5)
 pub record IsNextHead (core : CoreState) (now : ℕ) (h : Head) : Type 0 where
   pub size : h.tree_size ≡ length core.entries
   pub moment : h.timestamp ≡ now
   pub root : h.root ≡ MTH (leaves_of core.entries)
 
--- the published state with all entries and records, and one head more (RFC 6962, section 3.5)
+-- the published state with all entries and records, and one more head (RFC 6962, section 3.5)
 abbrev pub published_with : CoreState → Head → Log
 published_with core h = record { entries = core.entries; settlement = core.settlement; heads = core.published.heads ++ h ∷ [] }
 
@@ -105,6 +105,6 @@ IsNextState core now p = (h : Head) × IsNextHead core now h × (p ≡ published
 abbrev pub after_publishing : CoreState → Head → CoreState
 after_publishing core h = record { published = published_with core h; entries = core.entries; settlement = core.settlement }
 
--- nothing stands past the last head
+-- all entries and records are published
 abbrev pub IsCovered : CoreState → Type 0
 IsCovered core = (core.published.entries ≡ core.entries) × (core.published.settlement ≡ core.settlement)

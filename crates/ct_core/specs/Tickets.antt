@@ -14,14 +14,14 @@ abbrev pub is_of_ticket : ℕ → Option Settled → Bool
 is_of_ticket ticket None = false
 is_of_ticket ticket (Some r) = r.ticket == ticket
 
--- whether a record of that ticket stands at a place
+-- whether the record at index k has that ticket
 abbrev pub is_ticket_at : List Settled → ℕ → ℕ → Bool
 is_ticket_at records ticket k = is_of_ticket ticket (slice_get records k)
 
--- the table has the place of each record, by its ticket
+-- the table has the index of each record, by its ticket
 abbrev pub IsByTicket : Table → List Settled → Type 0
 IsByTicket table records = HasPlaces ticket_of table records
 
--- the slots have the places of these records by their tickets, of which the first has the place k
+-- the slots have the indexes of these records by their tickets; the first record has index k
 abbrev pub AreEntered : List Slot → ℕ → List Settled → Type 0
 AreEntered slots k records = ArePlaced ticket_of slots k records

@@ -1,9 +1,9 @@
-//! Two results as one. Where the one is refused the other's value is let go here: a function that makes several large values one after
-//! the other would let go of all that it has at each refusal, and each way to do so is a step of its proof.
+//! Joins two results into one. If one is refused, the other's value is dropped here. A function that makes several large values in turn
+//! would otherwise have to drop all earlier ones at each refusal, and its proof would need a step for each case.
 
 ghost use Rattle.std.specs.Prelude.{◌≡◌, Ok, IfOk, IsOkUnless};
 
-// Both values, or what refused the first of them that was refused.
+// Returns both values, or the refusal of the first result that was refused.
 pub(crate) fn both<A: Drop, B: Drop, E: Drop>(
     first: Result<A, E>,
     second: Result<B, E>,

@@ -17,7 +17,7 @@ use std::marker::Model;
 #[derive(Drop)]
 pub(crate) struct RecordTable {
     records: SharedList<Settled>,
-    // The places of the records, by their tickets.
+    // The indexes of the records, by their tickets.
     by_ticket: Table,
 }
 
@@ -53,7 +53,7 @@ impl<'a> Test for HasTicket<'a> {
     }
 }
 
-// Takes in a record, and enters its place.
+// Appends a record, and notes its index.
 fn take_in(
     alloc: Global,
     records: &mut SharedList<Settled>,
@@ -72,7 +72,7 @@ fn take_in(
     Ok(())
 }
 
-// Takes in these records, and gives their places by their tickets.
+// Appends these records, and returns their indexes by their tickets.
 fn take_all_in(
     alloc: Global,
     records: &mut SharedList<Settled>,
@@ -89,7 +89,7 @@ fn take_all_in(
     Ok(slots)
 }
 
-// The list with these records behind it, and the places of those by their tickets.
+// Returns the list followed by these records, and their indexes by their tickets.
 fn records_with(
     alloc: Global,
     records: &SharedList<Settled>,
@@ -105,7 +105,7 @@ fn records_with(
 }
 
 impl RecordTable {
-    // An empty table. It takes no memory.
+    // Returns an empty table. It allocates no memory.
     pub(crate) fn new(alloc: Global) -> RecordTable
         ensures { result ≡ [] }
     {
@@ -115,14 +115,14 @@ impl RecordTable {
         }
     }
 
-    // The records, in the order of settling.
+    // Returns the records, in the order of settling.
     pub(crate) fn records(&self) -> &SharedList<Settled>
         ensures { result.now ≡ self.now }
     {
         &self.records
     }
 
-    // The place of the first record of a ticket, or `None` where it has none.
+    // Returns the index of the first record of a ticket, or `None` if it has none.
     fn place_of(&self, ticket: u64) -> Option<u64>
         ensures { result ≡ position (λ r. r.ticket == ticket) self.now }
     {
@@ -133,7 +133,7 @@ impl RecordTable {
         first_place(&self.by_ticket, ticket, &test)
     }
 
-    // The first record of a ticket, or `None` where it has none.
+    // Returns the first record of a ticket, or `None` if it has none.
     pub(crate) fn first_record(&self, ticket: u64) -> Option<Settled>
         ensures { result ≡ find (λ r. r.ticket == ticket) self.now }
     {
@@ -143,7 +143,7 @@ impl RecordTable {
         Some(*self.records.at(place as usize))
     }
 
-    // An equal table.
+    // Returns an equal table.
     pub(crate) fn copy(&self, alloc: Global) -> Result<RecordTable, Refusal>
         ensures same { IfOk result (λ t. t ≡ self.now) }
         ensures memory { IsOkUnless result Refusal.Memory }
@@ -152,7 +152,7 @@ impl RecordTable {
         Ok(RecordTable { records, by_ticket })
     }
 
-    // The table with these records behind those that it has. It shares what it can with this one.
+    // Returns the table with these records appended. It shares what it can with this one.
     pub(crate) fn with_records(
         &self,
         alloc: Global,

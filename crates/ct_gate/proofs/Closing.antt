@@ -1,4 +1,4 @@
--- The rule of the gate word while the fronts' seats are taken in, and at the end.
+-- The rule of the gate word holds while the fronts' seats are taken in, and at the end.
 use Rattle.std.proofs.Common.{◌≡◌, ◌≢◌, ℕ, zero, suc, ◌+◌, ◌≤◌, ◌||◌, List, [], ◌∷◌, map, length, set, flat_map, All, Bool, true, false, true≢false, Some, None}
 use Rattle.std.proofs.Common.{refl, sym, ap, ap₂, ◌∙◌, subst, inl, inr, ⊎_elim, arith, length-append}
 use Rattle.std.proofs.lemmas.List.{map-append, length-map}
@@ -28,7 +28,7 @@ neither false false e = (refl, refl)
 neither false true e = absurd (true≢false e)
 neither true b e = absurd (true≢false e)
 
--- A seat takes in the fronts of one that is not the shutter's.
+-- A seat takes in the fronts of a seat that is not the shutter's.
 pub gathers : (fronts id : ℕ) (v : SeatView) (other : ℕ) (w : SeatView) → w.is_shutter ≡ false → Joins (GateHolds fronts) id v other w (gathered v w) spent
 gathers fronts id v other w front s h at apart there =
     let b = gathered v w in
@@ -115,7 +115,7 @@ within_length [] id v e = absurd (some-ne-none v (sym e))
 within_length (u ∷ us) zero v e = omega (arith, length-append (fronts_in u) (flat_map fronts_in us), ap (λ y. length (fronts_in y)) (some-injective u v e))
 within_length (u ∷ us) (suc id) v e = omega (arith, length-append (fronts_in u) (flat_map fronts_in us), within_length us id v e)
 
--- who stands for all fronts has all tickets
+-- a view that holds all fronts has all tickets
 alone : (x : ℕ) (views : List SeatView) (id : ℕ) (v : SeatView) → get_elem? views id ≡ some v → length (flat_map fronts_in views) ≤ length (fronts_in v)
     → times x (flat_map tickets_in views) ≡ times x (tickets_in v)
 alone x [] id v e h = absurd (some-ne-none v (sym e))
@@ -138,7 +138,7 @@ alone x (u ∷ us) (suc id) v e h =
       no_fronts x (u ∷ []) (omega (arith, length-append (fronts_in u) [])),
     )
 
--- The shutter's view, which stands for all fronts and has n, has all tickets below n.
+-- The shutter's view, if it holds all fronts and its `accepted` is n, has exactly the tickets 0 to n - 1, and those of each front rise.
 pub ends : (fronts n : ℕ) (s : State (Unit {0}) SeatView) (id : ℕ) (v : SeatView) → Seen (GateHolds fronts) id v s → length v.fronts ≡ fronts
     → v.is_shutter ≡ true → v.accepted ≡ Some n
     → Tickets (map (λ (f : FrontTickets). f.tickets) v.fronts) n

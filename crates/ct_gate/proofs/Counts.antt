@@ -1,4 +1,4 @@
--- Numbers that stand once in a list, and lists that are joined from those of all views.
+-- Numbers that occur once in a list, and the lists joined from all views.
 use Rattle.std.proofs.Common.{◌≡◌, ◌≢◌, ℕ, zero, suc, ◌+◌, ◌*◌, ◌^◌, ◌<◌, ◌≤◌, ◌==◌, nat_lt, if◌then◌else◌, List, [], ◌∷◌, ◌++◌, length, get_or, set, flat_map}
 use Rattle.std.proofs.Common.{All, true, false, true≢false, refl, sym, ap, ◌∙◌, subst, ⊎_elim, arith, length-append}
 use Rattle.std.proofs.lemmas.Bool.Decides.{nat_tests}
@@ -72,7 +72,7 @@ within_once n (suc k) xs once le = omega (arith, within_once n k xs once (omega 
 below_of : (n y : ℕ) → 0 < (if nat_lt y n then 1 else 0) → y < n
 below_of n y h = grind (arith, nat_tests)
 
--- each number that stands in the list is below n
+-- each number that occurs in the list is below n
 pub member_below : (n : ℕ) (xs : List ℕ) → EachOnceBelow n xs → (y : ℕ) → 0 < times y xs → y < n
 member_below n xs once y h = below_of n y (subst (λ k. 0 < k) (once y) h)
 
@@ -90,11 +90,11 @@ length_within n (x ∷ xs) below =
     let lt : x < n = below x (times_head x xs) in
     omega (arith, is_below x n lt, within-cons n x xs, length_within n xs (λ y h. below y (omega (arith, times_more y x xs))))
 
--- there are n of them
+-- the list has n elements
 pub length_once : (n : ℕ) (xs : List ℕ) → EachOnceBelow n xs → length xs ≡ n
 length_once n xs once = length_within n xs (member_below n xs once) ∙ within_once n n xs once (omega arith)
 
--- the joined lists are no longer than so many for each front
+-- if each view has at most 2 ^ 32 tickets for each of its fronts, the same bound holds for the joined lists
 pub tickets_bound : (views : List SeatView)
     → ((id : ℕ) (v : SeatView) → get_elem? views id ≡ some v → length (tickets_in v) ≤ 2 ^ 32 * length (fronts_in v))
     → length (flat_map tickets_in views) ≤ 2 ^ 32 * length (flat_map fronts_in views)
@@ -123,7 +123,7 @@ own_bound (f ∷ fs) h = omega (
       (λ k d lt. h (suc k) d (omega arith)),
 )
 
--- the tickets of a view are no more than 2 ^ 32 for each front
+-- a sound view has at most 2 ^ 32 tickets for each of its fronts
 pub view_bound : (v : SeatView) → IsSound v → length (tickets_in v) ≤ 2 ^ 32 * length (fronts_in v)
 view_bound v s = omega (arith, own_bound v.fronts s.tickets, length-map v.fronts (λ (f : FrontTickets). f.front))
 
@@ -133,13 +133,13 @@ view_refused v s = omega (arith, s.refused, length-map v.fronts (λ (f : FrontTi
 pub below_more : (x n : ℕ) → (if nat_lt x (n + 1) then 1 else 0) ≡ (if n == x then 1 else 0) + (if nat_lt x n then 1 else 0)
 below_more x n = grind (arith, nat_tests)
 
--- a number that is in the list stands in it
+-- an element of the list occurs in it at least once
 pub times_there : (xs : List ℕ) (k d : ℕ) → k < length xs → 0 < times (get_or xs k d) xs
 times_there [] k d h = absurd (omega arith)
 times_there (x ∷ xs) zero d h = times_head x xs
 times_there (x ∷ xs) (suc k) d h = omega (arith, times_there xs k d (omega arith), times_more (get_or xs k d) x xs)
 
--- what one view has stands in the joined list
+-- a number occurs in the joined list at least as often as in the list of one view
 pub times_within : (f : SeatView → List ℕ) (views : List SeatView) (id : ℕ) (v : SeatView) (x : ℕ) → get_elem? views id ≡ some v
     → times x (f v) ≤ times x (flat_map f views)
 times_within f [] id v x e = absurd (some-ne-none v (sym e))

@@ -1,4 +1,4 @@
--- What was received, beside what was sent.
+-- The items that were received, compared with those that were sent.
 use Rattle.std.proofs.Common.{◌≡◌, ◌<◌, ℕ, suc, List, [], ◌∷◌, ◌++◌, length, All, refl, sym, ap, ◌∙◌, subst, arith, length-append, append-nil, append_assoc}
 use Rattle.std.proofs.Common.{IsTrue, nat_eq}
 use Rattle.std.proofs.lemmas.Bool.Decides.{nat_tests}
@@ -36,7 +36,7 @@ popped before after known left sent x grown first all =
 pub is_zero : (n : ℕ) → IsTrue (nat_eq n 0) → n ≡ 0
 is_zero n h = grind (arith, nat_tests)
 
--- what was in sight, and what is now
+-- the items that were in sight are a prefix of those in sight now
 pub still_seen : (n : ℕ) (before after : List Item) → IsPrefix before after → IsPrefix (from_front n before) (from_front n after)
 still_seen n before after (more, e) = (from_front n more, sym (map-append (λ (t : Item). made_item n t.ticket t.submission) before more) ∙ ap (from_front n) e)
 

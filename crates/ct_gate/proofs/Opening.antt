@@ -1,4 +1,4 @@
--- The rule of the gate word at the opening, and while the fronts' seats are dealt out.
+-- The rule of the gate word holds at the opening, and while the fronts' seats are dealt out.
 use Rattle.std.proofs.Common.{◌≡◌, ℕ, zero, suc, ◌+◌, ◌-◌, ◌<◌, ◌≤◌, nat_lt, if◌then◌else◌, List, [], ◌∷◌, ◌++◌, map, length, set, flat_map, All, true, false}
 use Rattle.std.proofs.Common.{true≢false, Some, None, refl, sym, ap, ◌∙◌, subst, subst₂, get_or, ◌⊎◌, inl, inr, ⊎_elim, arith, length-append}
 use Rattle.std.specs.Prelude.{Option, slice_get}
@@ -38,7 +38,7 @@ tickets_first (f ∷ fs) h = λ k d lt. at k d lt
     at zero d lt = h 0 f (omega arith)
     at (suc k) d lt = absurd (omega arith)
 
--- The first front of those that the opener still stands for gets a seat.
+-- The first of the fronts that the opener still holds gets a seat of its own.
 deals : (fronts id : ℕ) (fs : List FrontTickets)
     → Splits (GateHolds fronts) id (view_of_fronts fs true) (rest_of (view_of_fronts fs true)) (first_seat (view_of_fronts fs true))
 deals fronts id fs s h at =
@@ -107,7 +107,7 @@ one_each P v p (suc id) u e = absurd (some-ne-none u (sym e))
 none_below : (x : ℕ) → ◌≡◌ {A = ℕ} (if nat_lt x 0 then 1 else 0) 0
 none_below x = grind (arith, nat_tests)
 
--- At the opening one seat stands for all fronts and is the shutter's.
+-- At the opening, one seat holds all fronts. It is the shutter's seat.
 pub opens : (fronts : ℕ) → fronts ≤ 16 → GateHolds fronts (opening (0 ∷ []) [] (all_in_one fronts))
 opens fronts few =
     let sound : IsSound (all_in_one fronts) =
@@ -136,7 +136,7 @@ opens fronts few =
 next_front : (k n : ℕ) → k < n → new_fronts k (n - k) ≡ record { front = k; tickets = [] } ∷ new_fronts (k + 1) (n - (k + 1))
 next_front k n lt = let e : n - k ≡ suc (n - (k + 1)) = omega arith in ap (new_fronts k) e
 
--- what is left after the k-th front of n got its seat, and that seat
+-- the rest after the k-th of n fronts got its seat, and that seat
 pub rest_left : (k n : ℕ) (m : Me (Unit {0}) SeatView) → k < n → m ≡ (view_of_fronts (new_fronts k (n - k)) true, [])
     → ◌≡◌ {A = Me (Unit {0}) SeatView} (rest_of m.0, m.1) (view_of_fronts (new_fronts (k + 1) (n - (k + 1))) true, [])
 rest_left k n m lt is = ap (λ (m : Me (Unit {0}) SeatView). (rest_of m.0, m.1)) is
@@ -150,7 +150,7 @@ first_given k n m lt is = ap (λ (m : Me (Unit {0}) SeatView). (first_seat m.0, 
 pub no_front_left : (n : ℕ) (m : Me (Unit {0}) SeatView) → m ≡ (view_of_fronts (new_fronts n (n - n)) true, []) → m ≡ (view_of_shutter None, [])
 no_front_left n m is = let e : n - n ≡ 0 = omega arith in is ∙ ap (λ (j : ℕ). (view_of_fronts (new_fronts n j) true, [])) e
 
--- an element of a list with one more at its end
+-- an element of a list with one more element at its end
 pub get_snoc : {X : Type 0} (xs : List X) (x y : X) (k : ℕ) → slice_get (xs ++ x ∷ []) k ≡ Some y → ((k < length xs) × (slice_get xs k ≡ Some y))
     ⊎ ((k ≡ length xs) × (x ≡ y))
 get_snoc [] x y zero e = inr (refl, same_Some x y e)
@@ -162,7 +162,7 @@ get_snoc {X} (z ∷ zs) x y (suc k) e =
     (λ (b : (k ≡ length zs) × (x ≡ y)). inr (ap suc b.0, b.1))
     (get_snoc zs x y k e)
 
--- one front more
+-- one more front
 pub one_more_front : (gate : TableId) (places n : ℕ) (intakes : List IntakeView) (outlets : List OutletView) (i : IntakeView) (o : OutletView)
     → AreNewFronts gate places n intakes outlets → IsNewFront gate places n i o → AreNewFronts gate places (n + 1) (intakes ++ i ∷ []) (outlets ++ o ∷ [])
 one_more_front gate places n intakes outlets i o all new = record {

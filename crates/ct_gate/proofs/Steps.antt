@@ -16,7 +16,7 @@ use Rattle.ct_gate.specs.Steps.{Draws, Glances, Shuts, after_shut}
 use Rattle.ct_gate.proofs.Counts.{off, times-append, times_set, times_within, times_there, refused_set, each_set, length_once, member_below, tickets_bound}
 use Rattle.ct_gate.proofs.Counts.{refused_bound, view_bound, view_refused, below_more}
 
--- the word is as it is found
+-- the table has one word, the word found
 found_word : (fronts : ℕ) (s : State (Unit {0}) SeatView) → GateHolds fronts s → s.words ≡ slice_index s.words 0 ∷ []
 found_word fronts s h = h.words ∙ ap (λ (k : ℕ). k ∷ []) (sym (ap (λ ws. slice_index ws 0) h.words))
 
@@ -24,7 +24,7 @@ found_phase : (fronts : ℕ) (s : State (Unit {0}) SeatView) → GateHolds front
     ⊎ ((n : ℕ) × IsShut n (slice_index s.words 0) s.views)
 found_phase fronts s h = subst (λ (k : ℕ). IsOpen k s.views ⊎ ((n : ℕ) × IsShut n k s.views)) (sym (ap (λ ws. slice_index ws 0) h.words)) h.phase
 
--- One seat's view becomes w, which stands for the same fronts.
+-- One seat's view becomes w, which holds the same fronts.
 one_view : (fronts id : ℕ) (s : State (Unit {0}) SeatView) (hs : List (Maybe (Unit {0}))) (ws : List ℕ) (word : ℕ) (v w : SeatView) → GateHolds fronts s
     → get_elem? s.views id ≡ some v
     → fronts_in w ≡ fronts_in v → IsSound w → (w.is_shutter ≡ true → v.is_shutter ≡ true) → ws ≡ word ∷ []
@@ -41,7 +41,7 @@ one_view fronts id s hs ws word v w h at same sound place is phase = record {
   phase = phase;
 }
 
--- how many fronts, tickets and refused draws there are at most
+-- the maximum number of fronts, tickets and refused draws
 fronts_count : (fronts : ℕ) (s : State (Unit {0}) SeatView) → GateHolds fronts s → length (flat_map fronts_in s.views) ≤ 16
 fronts_count fronts s h = omega (arith, length_once fronts (flat_map fronts_in s.views) h.dealt, h.limit)
 
@@ -58,11 +58,11 @@ words_set ws word new e = ap (λ (l : List ℕ). slice_set l 0 new) e
 not_both : (word : ℕ) → word < 2 ^ 63 → 2 ^ 63 ≤ word → ⊥
 not_both word lt ge = omega arith
 
--- once the gate is shut, bit 63 is set
+-- after the gate is shut, bit 63 is set
 not_clear : (n word r : ℕ) → word ≡ 2 ^ 63 + n + r → word < 2 ^ 63 → ⊥
 not_clear n word r is lt = omega arith
 
--- a draw, by the phase in which it falls
+-- a draw, by the phase in which it happens
 module _ (fronts id number : ℕ) (ts : List ℕ) (refused : ℕ) (few : length ts < 2 ^ 32) (s : State (Unit {0}) SeatView) (h : GateHolds fronts s)
     (at : get_elem? s.views id ≡ some (view_of_front number ts false refused)) where
   draw_open : (n : ℕ) → IsOpen n s.views → IsOpen (n + 1) (set s.views id (view_of_front number (ts ++ n ∷ []) false refused))
@@ -159,7 +159,7 @@ draws fronts slots id number ts refused few s h _ at fits =
     room_shut : (n word r : ℕ) → word ≡ 2 ^ 63 + n + r → n ≤ 2 ^ 32 * 16 → r ≤ 16 → word + 1 < 2 ^ 64
     room_shut n word r is a b = omega arith
 
--- A front's seat glances at the word.
+-- A front's seat reads the word (a glance).
 pub glances : (fronts slots id number : ℕ) (ts : List ℕ) (refused : ℕ)
     → Allows (GateHolds fronts) slots id (view_of_front number ts false refused, []) 0 (λ n. n)
     (Glances (step slots 0 0 0 none) (view_of_front number ts false refused, []))

@@ -1,11 +1,11 @@
--- The end of a gate. The shutter's seat takes in each front's, so that one view has all tickets.
+-- The end of a gate. The shutter's seat takes in each front's seat, so that one view has all tickets.
 use Rattle.std.specs.Prelude.{◌+◌, false, ◌||◌, ◌++◌, []}
 use Rattle.ct_codec.specs.Items.{tickets_of}
 use Rattle.ct_gate.specs.Seats.{FrontTickets, SeatView}
 use Rattle.ct_gate.specs.Ends.{IntakeView}
 use Rattle.ct_gate.specs.Opening.{view_of_fronts}
 
--- the fronts of gathered, and the first one's place as shutter
+-- the fronts of both views; whether it is the shutter's, and its accepted count, are the first view's
 abbrev pub gathered : SeatView → SeatView → SeatView
 gathered v w =
     record {
@@ -17,7 +17,7 @@ gathered v w =
       accepted = v.accepted;
     }
 
--- what is left of a seat that was taken in
+-- a seat after its fronts were taken in: it holds none
 abbrev pub spent : SeatView
 spent = view_of_fronts [] false
 

@@ -1,18 +1,18 @@
--- What contracts see of a shutter, an intake and an outlet.
+-- The shutter, intake and outlet as contracts see them.
 use Rattle.std.specs.Prelude.{◌≡◌, ℕ, Bool, List, map, Option}
 use Rattle.atomic_table.specs.Seated.{TableId}
 use Rattle.ct_codec.specs.Submitted.{Submitted}
 use Rattle.ct_codec.specs.declared.item.Item.{Item}
 use Rattle.ct_gate.specs.Ring.{RingName}
 
--- Of a shutter: its gate, how many fronts that has, and how many submissions were accepted, once it was shut.
+-- A shutter: its gate, the number of fronts of that gate, and, after it shut the gate, how many submissions were accepted.
 pub record ShutterView : Type 0 where
   pub gate : TableId
   pub fronts : ℕ
   pub accepted : Option ℕ
 
--- Of an intake: its gate, its front's number, its ring, the ring's places, the items accepted so far, whether the shutdown is known, and
--- how many places of the ring it knows to be free.
+-- An intake: its gate, its front's number, its ring, the ring's capacity (`places`), the items accepted so far, whether it knows of the
+-- shutdown, and how many free slots of the ring it knows of.
 pub record IntakeView : Type 0 where
   pub gate : TableId
   pub number : ℕ
@@ -22,14 +22,14 @@ pub record IntakeView : Type 0 where
   pub knows_shutdown : Bool
   pub free : ℕ
 
--- Of an outlet: its front's number, its ring, the items received so far, and those that it has seen in the ring and not yet taken.
+-- An outlet: its front's number, its ring, the items received so far, and the items that it has seen in the ring but not taken yet.
 pub record OutletView : Type 0 where
   pub number : ℕ
   pub ring : RingName
   pub received : List Item
   pub in_sight : List Item
 
--- the item of a submission, with its front's number and its ticket
+-- the item made from a submission, its front's number and its ticket
 abbrev pub made_item : ℕ → ℕ → Submitted → Item
 made_item front ticket s = record { front = front; ticket = ticket; submission = s }
 
@@ -37,15 +37,15 @@ made_item front ticket s = record { front = front; ticket = ticket; submission =
 abbrev pub from_front : ℕ → List Item → List Item
 from_front front items = map (λ i. made_item front i.ticket i.submission) items
 
--- the shutter is of the same gate, with as many fronts, as before
+-- the shutter has the same gate and the same number of fronts as before
 abbrev pub SameShutter : ShutterView → ShutterView → Type 0
 SameShutter a b = (b.gate ≡ a.gate) × (b.fronts ≡ a.fronts)
 
--- the intake is of the same gate, front and ring, with as many places, as before
+-- the intake has the same gate, front, ring and capacity as before
 abbrev pub SameIntake : IntakeView → IntakeView → Type 0
 SameIntake a b = (b.gate ≡ a.gate) × (b.number ≡ a.number) × (b.ring ≡ a.ring) × (b.places ≡ a.places)
 
--- the outlet is of the same front and ring as before
+-- the outlet has the same front and ring as before
 abbrev pub SameOutlet : OutletView → OutletView → Type 0
 SameOutlet a b = (b.number ≡ a.number) × (b.ring ≡ a.ring)
 

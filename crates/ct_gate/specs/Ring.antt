@@ -1,11 +1,12 @@
--- Which ring the ends of a front belong to.
+-- The ring that the ends of a front belong to.
 use Rattle.std.specs.Global.{Global}
 use denote.RawPtr.{Ptr}
 use Rattle.rtrb.specs.Shared.{Names}
 use Rattle.rtrb.specs.declared.producer.Producer.{Producer}
 use Rattle.rtrb.specs.declared.consumer.Consumer.{Consumer}
 
--- which ring an end is of: where its words, its slots and its names lie, and in which heap; two ends with one name are the ends of one ring
+-- identifies the ring of an end: the addresses of its words, its slots and its names, and its heap; two ends with equal names belong to one
+-- ring
 pub record RingName : Type 0 where
   pub words : Ptr
   pub slots : Ptr

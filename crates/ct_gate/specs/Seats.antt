@@ -1,4 +1,4 @@
--- What the seats at the gate word know. A seat's view stands for fronts, each with the tickets that were drawn for it.
+-- The knowledge of the seats at the gate word. A seat's view holds fronts, each with the tickets that were drawn for it.
 use Rattle.std.specs.Prelude.{◌≡◌, ℕ, ◌+◌, Bool, true, false, List, [], ◌∷◌, map, flat_map, Option, None}
 use mathlib.Core.Option.{some}
 use lib.ListN.{get_elem?}
@@ -8,8 +8,8 @@ pub record FrontTickets : Type 0 where
   pub front : ℕ
   pub tickets : List ℕ
 
--- what a seat knows: the fronts that it stands for, whether it knows of the shutdown, how many refused draws it made, whether it is
--- the shutter's, and how many submissions were accepted, once the gate was shut by it
+-- the knowledge of a seat: the fronts that it holds, whether it knows of the shutdown, how many refused draws it made, whether it is the
+-- shutter's, and how many submissions were accepted, if it shut the gate
 pub record SeatView : Type 0 where
   pub fronts : List FrontTickets
   pub knows_shutdown : Bool
@@ -17,7 +17,7 @@ pub record SeatView : Type 0 where
   pub is_shutter : Bool
   pub accepted : Option ℕ
 
--- the numbers of the fronts that the view stands for
+-- the numbers of the fronts that the view holds
 abbrev pub fronts_in : SeatView → List ℕ
 fronts_in v = map (λ f. f.front) v.fronts
 
@@ -30,11 +30,11 @@ abbrev pub refused_draws : List SeatView → ℕ
 refused_draws [] = 0
 refused_draws (v ∷ vs) = v.refused + refused_draws vs
 
--- P holds of each seat's number and view
+-- P holds for the number and view of each seat
 abbrev pub EachView : (ℕ → SeatView → Type 0) → List SeatView → Type 0
 EachView P views = (id : ℕ) (v : SeatView) → get_elem? views id ≡ some v → P id v
 
--- what the seat of one front knows
+-- the knowledge of the seat of one front
 abbrev pub view_of_front : ℕ → List ℕ → Bool → ℕ → SeatView
 view_of_front number tickets knows_shutdown refused =
     record {
@@ -45,10 +45,10 @@ view_of_front number tickets knows_shutdown refused =
       accepted = None;
     }
 
--- of the shutter's seat
+-- the knowledge of the shutter's seat
 abbrev pub view_of_shutter : Option ℕ → SeatView
 view_of_shutter accepted = record { fronts = []; knows_shutdown = false; refused = 0; is_shutter = true; accepted = accepted }
 
--- of a seat that stands for nothing
+-- the knowledge of a seat that holds no front
 abbrev pub nothing_known : SeatView
 nothing_known = record { fronts = []; knows_shutdown = false; refused = 0; is_shutter = false; accepted = None }

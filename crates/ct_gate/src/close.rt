@@ -12,9 +12,9 @@ use crate::word::{Gate, GateSeat, Gather};
 use std::sync::{Arc, Wait};
 use std::thread;
 
-/// Closes a gate that was shut, with all its intakes in order, and answers how many submissions were accepted.
+/// Closes a gate that was shut, given all its intakes in order, and returns how many submissions were accepted.
 ///
-/// It takes no memory. It waits until nobody else holds the gate.
+/// It allocates no memory. It waits until nobody else holds the gate.
 pub fn close_gate<R: Wait>(rt: &R, shutter: Shutter, intakes: Vec<Intake>) -> u64
     requires shut { shutter.accepted ≢ None }
     requires gate { All (λ i. i.gate ≡ shutter.gate) intakes.items }
@@ -36,7 +36,7 @@ pub fn close_gate<R: Wait>(rt: &R, shutter: Shutter, intakes: Vec<Intake>) -> u6
     accepted.unwrap()
 }
 
-// The seat takes in the intake's front, and the ring's end is given up.
+// The seat takes in the intake's front, and the ring's end is dropped.
 fn give_up(table: &Arc<Gate>, seat: &mut GateSeat, intake: Intake)
     requires { (seat.old.table_id ≡ (arc_value table.now).shared.table_id)
         × (intake.gate ≡ seat.old.table_id) × (seat.old.table_id.words ≡ 1) }
@@ -57,7 +57,7 @@ fn give_up(table: &Arc<Gate>, seat: &mut GateSeat, intake: Intake)
     table.shared.join_seat::<Gather>(seat, place);
 }
 
-// The table, once nobody else has it.
+// Returns the table after all other owners have dropped it.
 fn sole_owner<R: Wait>(rt: &R, table: Arc<Gate>) -> Gate
     ensures { result ≡ arc_value table }
 {

@@ -11,13 +11,13 @@ use rtrb::Producer;
 use std::marker::Model;
 use std::sync::Arc;
 
-/// How many submissions of one front are accepted at most.
+/// The maximum number of submissions accepted from one front.
 const MOST: u64 = 1 << 32;
 
 /// Accepts the submissions of one front. It can move to a thread of its own.
 ///
-/// Contracts see its gate, its front's number, its ring and the ring's places, the items accepted so far,
-/// whether it knows of the shutdown, and how many places of the ring it knows to be free.
+/// Contracts see its gate, its front's number, its ring and the ring's capacity, the items accepted so far, whether it knows of the
+/// shutdown, and how many free slots of the ring it knows of.
 #[derive(Drop)]
 pub struct Intake {
     pub(crate) table: Arc<Gate>,
@@ -25,7 +25,7 @@ pub struct Intake {
     pub(crate) producer: Producer<Item>,
     pub(crate) number: u16,
     pub(crate) tickets: u64,
-    // How many places were free at the last look at the ring, less those filled since.
+    // The number of free slots at the last look at the ring, minus those filled since.
     pub(crate) room: usize,
     pub(crate) knows_shutdown: bool,
 }
@@ -51,9 +51,9 @@ impl Model for Intake {
       free = i.room;
     } };
 
-    // The seat is of the table. Its view has the front's number and, in order, the tickets of the items that were
-    // pushed. The places that are counted as free are free. As many items were pushed as the ring has places, or a place
-    // is free.
+    // The seat belongs to the table. Its view has the front's number and, in order, the tickets of the items that were pushed. There are at
+    // most 2^32 of them, and each item has the front's number. The slots that are counted as free are free. Either as many items were
+    // pushed as the ring has slots, or a slot is free.
     ghost invariant = { λ i.
         (i.seat.table_id ≡ (arc_value i.table).shared.table_id) × (i.seat.table_id.words ≡ 1)
         × (i.seat.me ≡ (view_of_front i.number (tickets_of (sent i.producer)) i.knows_shutdown i.seat.me.0.refused, []))
@@ -63,7 +63,7 @@ impl Model for Intake {
         × (producer_capacity i.producer ≤ i.room + length (sent i.producer)) };
 }
 
-// How many places of the ring are free: those counted before, or, where none was, all that a look finds.
+// Returns how many slots of the ring are free: those counted before, or, if none was counted, all that a look at the ring finds.
 fn free_places(producer: &mut Producer<Item>, counted: usize) -> usize
     requires { counted ≤ known_free producer.old }
     ensures looked { ProducerLooked producer.old producer.new }
@@ -78,14 +78,14 @@ fn free_places(producer: &mut Producer<Item>, counted: usize) -> usize
 }
 
 impl Intake {
-    /// The number of its front.
+    /// Returns the number of its front.
     pub fn number(&self) -> u16
         ensures { result ≡ self.now.number }
     {
         self.number
     }
 
-    // One glance at the word, unless the shutdown is known.
+    // Reports whether the gate is known to be shut. It reads the word once, unless the shutdown is known already.
     fn is_shut(&mut self) -> bool
         ensures same { SameIntake self.old self.new × (self.new.accepted ≡ self.old.accepted)
             × (self.new.free ≡ self.old.free) }
@@ -99,7 +99,7 @@ impl Intake {
         self.knows_shutdown
     }
 
-    // Whether there is room in the ring. Where none is known, it looks once.
+    // Reports whether the ring has a free slot. If none is known, it looks once.
     fn has_room(&mut self) -> bool
         ensures same { SameIntake self.old self.new × (self.new.accepted ≡ self.old.accepted)
             × (self.new.knows_shutdown ≡ self.old.knows_shutdown) }
@@ -110,12 +110,15 @@ impl Intake {
         self.room > 0
     }
 
-    /// Accepts a submission and answers its ticket, or hands it back with the reason. It takes no memory and waits
-    /// for nobody.
+    /// Accepts a submission and returns its ticket, or hands the submission back with the reason. It allocates no memory and never waits.
     ///
-    /// The refusals, in order: `Shutdown` where a glance at the gate word, or an earlier refused draw, showed the
-    /// shutdown; `FrontSpent` where 2^32 submissions of this front were accepted; `Full` where no free place of the ring is known
-    /// before the call and after it (where none is counted it looks, which is tested too). Then one draw is made, which is `Shutdown` too where the gate was shut in between.
+    /// The refusals, in order:
+    ///
+    /// - `Shutdown`, if a glance at the gate word, or an earlier refused draw, showed the shutdown.
+    /// - `FrontSpent`, if 2^32 submissions of this front were accepted.
+    /// - `Full`, if no free slot of the ring is known before the call and after it. If none is counted, it looks; a test shows this too.
+    ///
+    /// Then one draw is made. If the gate was shut in between, the draw is refused, and this is `Shutdown` too.
     pub fn send(&mut self, submission: Submission) -> Result<u64, (Refusal, Submission)>
         ensures same { SameIntake self.old self.new }
         ensures shutdown { self.old.knows_shutdown ≡ true → self.new.knows_shutdown ≡ true }

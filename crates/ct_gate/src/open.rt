@@ -15,9 +15,9 @@ use rtrb::RingBuffer;
 use std::alloc::Global;
 use std::sync::Arc;
 
-/// Opens a gate with 1 to 16 fronts, numbered from 0, each with a ring of 1 to 4,096 places.
+/// Opens a gate with 1 to 16 fronts, numbered from 0, each with a ring of 1 to 4,096 slots.
 ///
-/// Answers the shutter, and the intakes and outlets in the fronts' order. `Memory` is the only refusal.
+/// Returns the shutter, and the intakes and outlets in the fronts' order. The only refusal is `Memory`.
 pub fn open_gate(
     alloc: Global,
     fronts: u16,
@@ -46,7 +46,7 @@ pub fn open_gate(
     Ok((shutter, intakes, outlets))
 }
 
-// The ends of the next front. The seat stands for the fronts from this one on.
+// Makes the ends of the next front. The seat holds this front and all later ones.
 fn new_front(
     alloc: Global,
     table: &Arc<Gate>,

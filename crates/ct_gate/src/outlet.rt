@@ -11,8 +11,7 @@ use std::marker::Model;
 
 /// Takes out the accepted submissions of one front, in order. It can move to a thread of its own.
 ///
-/// Contracts see its front's number, its ring, the items received so far, and those that it has seen in the ring
-/// and not yet taken.
+/// Contracts see its front's number, its ring, the items received so far, and those that it has seen in the ring but not taken yet.
 #[derive(Drop)]
 pub struct Outlet {
     pub(crate) consumer: Consumer<Item>,
@@ -35,10 +34,10 @@ impl Model for Outlet {
 }
 
 impl Outlet {
-    /// The next item of the front, where one is seen. It takes no memory and waits for nobody.
+    /// Returns the next item of the front, if one is seen. It allocates no memory and never waits.
     ///
-    /// `None` where no item is in sight before the call and after it (that it looks into the ring is tested). It says
-    /// nothing of what the front has sent: an item may come into sight later.
+    /// Returns `None` if no item is in sight before the call and after it (a test shows that it looks into the ring). `None` says nothing
+    /// about what the front has sent: an item may come into sight later.
     pub fn take(&mut self) -> Option<Item>
         ensures same { SameOutlet self.old self.new }
         ensures next { MatchOption result
@@ -55,8 +54,8 @@ impl Outlet {
         }
     }
 
-    /// The next item, with both ends of the ring at hand: `None` where all that was accepted has been received.
-    /// It takes no memory and waits for nobody.
+    /// Returns the next item, given both ends of the ring, or `None` if all accepted items have been received. It allocates no memory and
+    /// never waits.
     pub fn drain_step(&mut self, intake: &mut Intake) -> Option<Item>
         requires { AreEnds intake.old self.old }
         ensures same { SameOutlet self.old self.new × (intake.new ≡ intake.old) }
@@ -74,7 +73,7 @@ impl Outlet {
         Some(from_front(self.number, item))
     }
 
-    /// Whether all that was accepted has been received. It takes nothing out, and no memory.
+    /// Reports whether all accepted items have been received. It takes no item out and allocates no memory.
     pub fn is_drained(&mut self, intake: &mut Intake) -> bool
         requires { AreEnds intake.old self.old }
         ensures same { SameOutlet self.old self.new × (intake.new ≡ intake.old) }
@@ -86,7 +85,7 @@ impl Outlet {
     }
 }
 
-// The item, with the front's number.
+// Returns the item with the front's number set.
 fn from_front(number: u16, item: Item) -> Item
     ensures { result ≡ made_item number item.ticket item.submission }
 {

@@ -11,8 +11,7 @@ use std::sync::Arc;
 
 /// Shuts the gate, once. It can move to a thread of its own.
 ///
-/// Contracts see its gate, the number of fronts that this has, and how many submissions were accepted, once it was
-/// shut.
+/// Contracts see its gate, the number of fronts of that gate, and, after it was shut, how many submissions were accepted.
 #[derive(Drop)]
 pub struct Shutter {
     pub(crate) table: Arc<Gate>,
@@ -34,17 +33,16 @@ impl Model for Shutter {
       accepted = s.accepted;
     } };
 
-    // The seat is of the table, which has the one word and no slot. Its view is the shutter's.
+    // The seat belongs to the table, which has one word and no slot. Its view is the shutter's.
     ghost invariant = { λ s.
         (s.seat.table_id ≡ (arc_value s.table).shared.table_id) × (s.seat.table_id.words ≡ 1)
         × (s.seat.table_id.slots ≡ 0) × (s.seat.me ≡ (view_of_shutter s.accepted, [])) };
 }
 
 impl Shutter {
-    /// Shuts the gate, and answers how many submissions were accepted in all. It takes no memory and waits for
-    /// nobody.
+    /// Shuts the gate, and returns how many submissions were accepted in all. It allocates no memory and never waits.
     ///
-    /// The second time and from then on: `Shutdown`.
+    /// Each later call returns `Shutdown`.
     pub fn shut(&mut self) -> Result<u64, Refusal>
         ensures same { SameShutter self.old self.new }
         ensures answer { MatchResult result
@@ -62,7 +60,7 @@ impl Shutter {
         Ok(count)
     }
 
-    /// How many submissions were accepted in all, once the gate was shut.
+    /// Returns how many submissions were accepted in all, or `None` before the gate is shut.
     pub fn accepted(&self) -> Option<u64>
         ensures { result ≡ self.now.accepted }
     {

@@ -1,8 +1,8 @@
-//! What a seat at the gate word knows.
+//! The knowledge of a seat at the gate word.
 
 use std::marker::Model;
 
-/// What a seat at the gate word knows. It has a value in contracts alone.
+/// The knowledge of a seat at the gate word. It has a value only in contracts.
 pub struct Knowledge;
 
 impl Model for Knowledge {

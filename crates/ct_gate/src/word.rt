@@ -1,10 +1,10 @@
-//! The gate word: its rule, and what each kind of step on it tells.
+//! The gate word: its rule, and what a seat learns from each kind of step.
 
 use crate::view::Knowledge;
 use atomic_table::{Join, Play, Seat, Split, Table, TableRule};
 use std::alloc::Global;
 
-/// Bit 63 of the word, which is set once the gate is shut.
+/// Bit 63 of the word, which is set when the gate is shut.
 pub const SHUTDOWN: u64 = 1 << 63;
 
 /// The table with the one word. Its key is the number of fronts.
@@ -25,7 +25,7 @@ impl TableRule<(), Knowledge, u64> for GateRule {
     ghost first = { all_in_one };
 }
 
-/// A draw: one is added to the word. Bit 63 says whether it is refused.
+/// A draw: one is added to the word. Bit 63 of the word found says whether the draw is refused.
 pub struct Draw;
 
 impl Play<(), Knowledge> for Draw {

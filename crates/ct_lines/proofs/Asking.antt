@@ -1,4 +1,4 @@
--- What a line asks, and the answer to it.
+-- The request in a line, and the answer to it.
 use Rattle.std.proofs.Common.{inl, inr, ◌≡◌, ◌<◌, ◌≤◌, ℕ, List, [], ◌∷◌, length, Vec, Global, Option, Some, None, Result, Ok, Err}
 use Rattle.std.proofs.Common.{refl, sym, ap, subst, ◌∙◌, arith, take, take_all}
 use Rattle.std.proofs.lemmas.Bool.{cases_lt}
@@ -19,12 +19,12 @@ use Rattle.ct_lines.specs.Serving.{reply_if}
 use Rattle.ct_lines.specs.Frozen.{asked_answer, answer_if, frozen_answer, line_answer, Answers, frozen_reply}
 use Rattle.json_lines.proofs.Values.{value_is, value_long}
 
--- a line that is too long asks nothing
+-- a line that is too long is no request
 pub too_long : (line : List ℕ) → 1048576 < length line → request_of line ≡ None
 unfolding request_of
 too_long line h = ap (option_and_then asked_in) (sym (value_long 1048576 line h))
 
--- a request isn't too long
+-- a request is not too long
 pub request_fits : (line : List ℕ) (a : Asked) → IsRequest line a → length line ≤ 1048576
 unfolding request_of
 request_fits line a is = go (value_of_line 1048576 line) refl is
@@ -40,14 +40,14 @@ no_request line h = go (request_of line) refl
     go None e = e
     go (Some a) e = absurd (h a e)
 
--- the answer to a line that is a request, and to one that is none
+-- the answer to a line that is this request
 pub asked_line : (log : Log) (line : List ℕ) (a : Asked) → IsRequest line a → asked_answer log a ≡ line_answer log line
 asked_line log line a r = sym (ap (answer_if log) r)
 
 pub bad_line : (log : Log) (line : List ℕ) → ((a : Asked) → IsRequest line a → ⊥) → refused BadLine ≡ line_answer log line
 bad_line log line h = sym (ap (answer_if log) (no_request line h))
 
--- the text of what was answered, where no growth was refused
+-- the text of the answer, if memory was not refused
 text_as : (a : Answer) (text : List ℕ) (r : Result Reply Refusal) → Answers r a → (r ≡ Err Memory → ⊥) → text ≡ reply_line (answered r) → text ≡ reply_line a
 text_as a text (Ok x) is h e = e ∙ ap reply_line is
 text_as a text (Err f) (inl same) h e = absurd (h (ap Err same))
@@ -58,7 +58,7 @@ text_ok : (a : Answer) (t : Result (Vec ℕ Global) AllocError) (r : Result Repl
 text_ok a (Ok b) r e is h = text_as a b.items r is h e
 text_ok a (Err f) r e is h = tt
 
--- of what is told
+-- the text of an answer that was passed on
 pub text_told : (a : Answer) (t : Result (Vec ℕ Global) AllocError) (r told : Result Reply Refusal) (o : Result (Result Reply Refusal) AllocError)
     → o ≡ Ok told → MatchResult o (λ x. (x ≡ r) × (r ≢ Err Memory)) (λ _. r ≡ Err Memory) → IfOk t (λ b. b.items ≡ reply_line (answered told))
     → Answers r a → IfOk t (λ b. b.items ≡ reply_line a)
@@ -76,7 +76,7 @@ pub reply_told : (log : Log) (line : List ℕ) (t : Result (Vec ℕ Global) Allo
 unfolding frozen_reply
 reply_told log line t r told o e said text a = text_told (line_answer log line) t r told o e said text a
 
--- the reply to a request is that to each line that is this request
+-- the reply to a request is the reply to each line that is this request
 pub reply_of_line : (log : Log) (r : FrozenAsked) (t : Result (Vec ℕ Global) AllocError) → IfOk t (λ b. b.items ≡ reply_line (frozen_answer log r))
     → IfOk t (λ b. (line : List ℕ) → IsRequest line (by_frozen r) → b.items ≡ frozen_reply log line)
 unfolding frozen_reply
@@ -87,7 +87,7 @@ pub reply_too_long : (log : Log) (line : List ℕ) → 1048576 < length line →
 unfolding frozen_reply
 reply_too_long log line h = ap reply_line (sym (ap (answer_if log) (too_long line h)))
 
--- the reply to what is kept of a line is the line's
+-- the reply to the kept part of a line is the line's reply
 reply_kept : (log : Log) (line kept : List ℕ) → kept ≡ take 1048578 line → frozen_reply log kept ≡ frozen_reply log line
 reply_kept log line kept is = elim (cases_lt 1048578 (length line)) [
   | inl more ↦

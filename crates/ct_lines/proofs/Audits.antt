@@ -1,4 +1,4 @@
--- What an audit stands on: the head of a size, the log's own leaf and path, and what the verdict is then.
+-- The basis of an audit: the head of a size, the log's own leaf and path, and the verdict on them.
 use Rattle.std.proofs.Common.{◌≡◌, ◌<◌, ◌≤◌, ℕ, List, [], length, map, take, Option, Some, None, true, false, cond}
 use Rattle.std.proofs.Common.{refl, sym, ap, ◌∙◌, subst, arith, rules}
 use Rattle.std.specs.Prelude.{not, IfSome, is_some, slice_get}
@@ -20,7 +20,7 @@ use Rattle.ct_core.specs.Replies.{EntryBytes, an_entry, proof_holds, proof_refus
 use Rattle.ct_lines.specs.Asked.{audit}
 use Rattle.ct_lines.specs.Verdicts.{is_accepted, verdict_on, verdict, audit_answer}
 
--- the head of a size, by what looking it up says
+-- the head of a size, from the result of the look-up
 pub head_found : (log : Log) (n : ℕ) (o : Option Head) → Lawful log → IfSome o (λ h. Contains log.heads h × (h.tree_size ≡ n)) → is_some o ≡ is_size log n
     → IfSome o (λ h. (is_size log n ≡ true) × (n ≤ length log.entries) × (h.tree_size ≡ n) × (h.root ≡ mth_of_leaves sha256 (first_leaves log n)))
 unfolding tree_hash sha256_leaf
@@ -60,7 +60,7 @@ own_audited log m n t v sized below e =
           way,
         )
 
--- what the verdict on it is
+-- the verdict on the log's own leaf and path
 pub own_holds : (D : List (List ℕ)) (leaf : List ℕ) (m : ℕ) (p : List (List ℕ)) → is_accepted D leaf m p ≡ true → evid sha256 D leaf m p ≡ None
     → verdict D leaf m p ≡ proof_holds
 unfolding verdict
@@ -70,7 +70,7 @@ pub not_accepted : (D : List (List ℕ)) (leaf : List ℕ) (m : ℕ) (p : List (
 unfolding verdict
 not_accepted D leaf m p e = ap (λ t. cond t (verdict_on (evid sha256 D leaf m p)) proof_refused) e
 
--- the whole: the answer to an audit against a published size
+-- the complete answer to an audit against a published size
 
 pub size_known : (log : Log) (leaf : List ℕ) (m n : ℕ) (p : List (List ℕ)) → is_size log n ≡ true
     → audit_answer log (audit leaf m n p) ≡ verdict (first_leaves log n) leaf m p

@@ -1,4 +1,4 @@
--- Which answers take memory before they are written.
+-- The answers that take memory before they are written.
 use Rattle.std.proofs.Common.{inl, inr, ◌≡◌, ℕ, List, Option, Some, None, Result, Ok, Err, true, cond, refl, sym, ap, ◌∙◌}
 use Rattle.std.specs.Prelude.{IfErr, MatchResult, not, ◌||◌, ◌⊎◌}
 use Rattle.sha2.specs.Sha256.{sha256}

@@ -33,7 +33,7 @@ both : (t u : Bool) → (t && u) ≡ true → (t ≡ true) × (u ≡ true)
 both true u e = (refl, e)
 both false u e = absurd (false≢true e)
 
--- the path leads to the root, by the definition that the verifier answers by
+-- the path leads to the root, by the definition that the verifier uses
 accepts : (D : List (List ℕ)) (leaf : List ℕ) (m : ℕ) (p : List (List ℕ)) → is_accepted D leaf m p ≡ true → IsAccepted sha256 D leaf m p
 accepts D leaf m p e =
     let t = both (nat_lt m (length D)) (is_root (rebuild sha256 m (length D) (hash_leaf sha256 leaf) p) (mth_of_leaves sha256 D)) e in
@@ -46,7 +46,7 @@ accepted D leaf m p a =
     ap (λ t. t && is_root (rebuild sha256 m (length D) (hash_leaf sha256 leaf) p) (mth_of_leaves sha256 D)) below
     ∙ ap (λ o. is_root o (mth_of_leaves sha256 D)) a.1 ∙ (bytes_eq-Decides (mth_of_leaves sha256 D) (mth_of_leaves sha256 D)).1 refl
 
--- whether the path leads to the root is what the verifier answers
+-- the verifier accepts if and only if the path leads to the root
 pub accepted-judged : (D : List (List ℕ)) (leaf : List ℕ) (m : ℕ) (p : List (List ℕ)) (r : Result (Unit {0}) ProofFault) → PathNotRefused
     → MatchResult r (λ _. AcceptsInclusion sha256 (hash_leaf sha256 leaf) m (length D) p (mth_of_leaves sha256 D))
     (RefusesInclusion sha256 (hash_leaf sha256 leaf) m (length D) p (mth_of_leaves sha256 D))
@@ -75,7 +75,7 @@ verdict-refused D leaf m p fault law r = go (is_accepted D leaf m p) refl
     go false e = sym (ap (λ t. cond t (verdict_on (evid sha256 D leaf m p)) proof_refused) e)
     go true e = absurd (law sha256 (hash_leaf sha256 leaf) m (length D) p (mth_of_leaves sha256 D) fault (accepts D leaf m p e) r)
 
--- what is said where there is no evidence
+-- the result if there is no evidence
 pub verdict-fault : (D : List (List ℕ)) (leaf : List ℕ) (m : ℕ) (p : List (List ℕ)) (fault : EvidenceFault) (r : Result Reply Refusal) → PathNotRefused
     → InclusionFault sha256 D leaf m p fault
     → MatchResult r (λ x. (x ≡ Refused) × (fault ≢ NoEvidence)) (λ e. (e ≡ Memory) × (fault ≡ NoEvidence))

@@ -16,7 +16,7 @@ use Rattle.json_lines.proofs.KeptLines.{all_of_none, ends_here, ends_on, kept_fi
 use Rattle.json_lines.specs.Lines.{last_line, lines_behind, lines_of, IsPiece}
 use Rattle.ct_lines.specs.Progress.{StandsFor, EndsAs, ServesPiece, StopsBefore, IsStopped, Goes, StopsWithin}
 
--- the replies from a line on, first its own
+-- the replies from a line on, with its own first
 pub line_first : (reply : List ℕ → List ℕ) (m : List ℕ) (ls : List (List ℕ)) → replies reply (m ∷ ls) ≡ reply_if reply m ++ replies reply ls
 line_first reply [] ls = refl
 line_first reply (b ∷ bs) ls = refl
@@ -43,7 +43,7 @@ served_byte reply line p m rs b other s = record {
 pub not_ten : (b : ℕ) → b ≢ 10 → nat_eq b 10 ≡ false
 not_ten b h = grind (arith, common_steps)
 
--- bytes of which none is the end of a line
+-- bytes none of which ends a line
 pub served_bytes : (reply : List ℕ → List ℕ) (line p m bs : List ℕ) (rs : List (List ℕ)) → All (λ x. x ≢ 10) bs → ServesPiece reply line p rs m
     → ServesPiece reply line (p ++ bs) rs (m ++ bs)
 served_bytes reply line p m [] rs other s =
@@ -97,12 +97,12 @@ stopped_end reply line p m rest next rs f s h b = record {
   why = before_more f next (reply_if reply m) (replies reply (lines_of rest)) b;
 }
 
--- serving stops with no reply begun
+-- serving stops, and no reply is begun
 pub stopped_between : (reply : List ℕ → List ℕ) (line p m rest : List ℕ) (rs : List (List ℕ)) (k : ℕ) → ServesPiece reply line p rs m
     → IsStopped reply line (p ++ rest) rs [] (Memory k)
 stopped_between reply line p m rest rs k s = record { later = replies reply (lines_behind m rest); order = s.goes_on rest; short = tt; why = refl }
 
--- a reply of which a proper beginning was written
+-- a reply of which only a proper prefix was written
 pub stop_here : (reply : List ℕ → List ℕ) (line bytes : List ℕ) (a b : Option (List ℕ)) (k : ℕ) → bytes ∷ [] ≡ reply_if reply line → (n : ℕ)
     × (n < length bytes) × Appends a b (take n bytes)
     → (next : List ℕ) × IsShort next (reply_if reply line) × StopsBefore (Write k) next (reply_if reply line) × Appends a b next
@@ -119,16 +119,16 @@ goes_none reply old kept count line s = record {
   counted = omega arith;
 }
 
--- of a line of which nothing was read nothing is kept
+-- for a line of which no byte was read, nothing is kept
 pub stands_empty : (kept : List ℕ) → kept ≡ [] → StandsFor kept []
 stands_empty kept none = (none, all_of_none)
 
--- what is kept of the line that stands has room
+-- the kept part of the current line fits
 pub has_stood : (reply : List ℕ → List ℕ) (old new : Option (List ℕ)) (kept : List ℕ) (count n : ℕ) (line p : List ℕ) → Goes reply old new kept count n line p
     → length kept ≤ 1048578
 has_stood reply old new kept count n line p g = kept_fits 1048578 kept g.line2 g.stands.0
 
--- more of a line, of whose bytes none is its end
+-- more bytes of a line, none of which ends it
 pub goes_bytes : (reply : List ℕ → List ℕ) (old new : Option (List ℕ)) (kept after : List ℕ) (count n : ℕ) (line p bs : List ℕ)
     → Goes reply old new kept count n line p → All (λ x. x ≢ 10) bs → after ≡ take 1048578 (kept ++ bs) → Goes reply old new after count n line (p ++ bs)
 goes_bytes reply old new kept after count n line p bs g other is = record {
@@ -196,7 +196,7 @@ line_end bs n p =
     let below : n - 1 < length bs = omega (arith, e.0, p.within) in
     ap (λ k. take k bs) (sym last) ∙ take_more bs (n - 1) 0 below ∙ ap (λ b. take (n - 1) bs ++ b ∷ []) e.1
 
--- the same of what is left of a piece behind what is done
+-- the same for the rest of a piece, after the part that is done
 pub goes_bytes_at : (reply : List ℕ → List ℕ) (old new : Option (List ℕ)) (kept after : List ℕ) (count n k : ℕ) (line done rest : List ℕ)
     → Goes reply old new kept count n line done → IsPiece rest k false → after ≡ take 1048578 (kept ++ take k rest)
     → Goes reply old new after count n line (done ++ take k rest)
@@ -232,7 +232,7 @@ pub stops_between_at : (reply : List ℕ → List ℕ) (old new : Option (List �
 stops_between_at reply old new kept count n line xs done rest order g =
     subst (λ l. StopsWithin reply old new count (Memory n) line l) (sym order) (stops_between reply old new kept count n line done rest g)
 
--- what is done, and what is left then
+-- the part of a piece that is done, and the rest of it
 pub done_more : (xs done rest left : List ℕ) (k : ℕ) → xs ≡ done ++ rest → left ≡ drop k rest → xs ≡ (done ++ take k rest) ++ left
 done_more xs done rest left k order is =
     order ∙ ap (λ l. done ++ l) (sym (take-append-drop k rest)) ∙ sym (append_assoc done (take k rest) (drop k rest))
@@ -264,12 +264,12 @@ goes_then reply old mid new kept after count n m line p q g then =
       counted = omega (arith, g.counted, h.counted, length-append g.texts h.texts);
     }
 
--- what a caller reads of serving that stopped
+-- a caller's view of serving that stopped
 abbrev pub CutOff : (List ℕ → List ℕ) → Option (List ℕ) → Option (List ℕ) → List ℕ → ServeFault → Type 0
 CutOff reply old new input f =
     (written : List ℕ) × Appends old new written × IsCutOff (replies reply (lines_of input)) written (count_in f) × IsEndedBy reply input written f
 
--- the texts that are whole, and the beginning of the next
+-- the texts that are written whole, and a prefix of the next one
 cut_off : (texts whole later : List (List ℕ)) (next : List ℕ) (k : ℕ) → texts ≡ whole ++ later → k ≡ length whole → IsShort next later
     → IsCutOff texts (concat whole ++ next) k
 cut_off texts whole later next k e n short =
@@ -295,7 +295,7 @@ ended_by reply input whole later next (Memory k) e n why =
     ap (λ l. concat whole ++ l) why ∙ append-nil (concat whole) ∙ ap concat (sym front)
 ended_by reply input whole later next (Endless k) e n why = absurd why
 
--- where the reader is called again, no reply is owed
+-- when the reader is called again, no reply is owed
 pub cut_between : (reply : List ℕ → List ℕ) (old new : Option (List ℕ)) (kept : List ℕ) (n : ℕ) (input : List ℕ) → Goes reply old new kept 0 n [] input
     → (written : List ℕ) × Appends old new written × IsCutOff (replies reply (lines_of input)) written n × RepliedToEnded reply input written n
 cut_between reply old new kept n input g =
@@ -324,7 +324,7 @@ cut_stopped reply old mid new kept n f input q g stop =
       ended_by reply (input ++ q) (g.texts ++ h.texts) h.stopped.later h.next f order size h.stopped.why,
     )
 
--- at the end of the input the last line is answered
+-- at the end of the input, the last line is answered
 pub served_whole : (reply : List ℕ → List ℕ) (old mid new : Option (List ℕ)) (kept : List ℕ) (n m : ℕ) (input : List ℕ)
     → Goes reply old mid kept 0 n [] input → ((l : List ℕ) → EndsAs kept l → Appends mid new (concat (reply_if reply l))
     × (m ≡ n + length (reply_if reply l))) → Appends old new (concat (replies reply (lines_of input)))

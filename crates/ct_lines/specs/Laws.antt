@@ -5,7 +5,8 @@ use Rattle.ct_core.specs.Settlement.{Log}
 use Rattle.ct_lines.specs.Frozen.{frozen_reply, frozen_replies}
 use Rattle.ct_lines.specs.Serving.{reply_if}
 
--- The replies to a line with its end and what stands behind are the line's own, or none where it is empty, and then those to what stands behind.
+-- The replies to an input that starts with a line and its end are the line's own reply, or none if the line is empty, followed by the
+-- replies to the rest.
 abbrev pub RepliesByLines : Type 0
 RepliesByLines =
     (log : Log) (line rest : List ℕ) → AllByRecursion (λ b. b ≢ 10) line

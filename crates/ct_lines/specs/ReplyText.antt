@@ -32,7 +32,7 @@ refusal_name NotYet = codes "not-yet"
 refusal_name Late = codes "late"
 refusal_name Closed = codes "closed"
 
--- an entry as a JSON object, and entries as a JSON array
+-- an entry as a JSON object
 abbrev pub entry_data : EntryBytes → Data
 entry_data e = object (member (codes "extra_data") (bytes_data e.extra_data) (member (codes "leaf_input") (bytes_data e.leaf_input) no_members))
 
@@ -40,11 +40,11 @@ entry_data e = object (member (codes "extra_data") (bytes_data e.extra_data) (me
 abbrev pub entries_data : List EntryBytes → Data
 entries_data es = array (items_of (map entry_data es))
 
--- the object of one count
+-- the object with one count
 abbrev pub count_data : List ℕ → ℕ → Data
 count_data key n = object (member key (number_data n) no_members)
 
--- the object of a verdict and nothing more
+-- the object with only a verdict
 abbrev pub verdict_data : List ℕ → Data
 verdict_data verdict = object (member (codes "verdict") (string verdict) no_members)
 
@@ -74,7 +74,7 @@ reply_data (a_collision left right) = object
     (member (codes "left") (bytes_data left) (member (codes "right") (bytes_data right) (member (codes "verdict") (string (codes "collision")) no_members)))
 reply_data (refused e) = object (member (codes "error") (string (refusal_name e)) no_members)
 
--- what a reply, or a refusal in its place, says
+-- the contents of a reply, or of the refusal in its place
 abbrev pub answered : Result Reply Refusal → Answer
 answered (Ok r) = shown r
 answered (Err e) = refused e

@@ -23,20 +23,20 @@ is_root (Some r) root = bytes_eq r root
 abbrev pub is_accepted : List (List ℕ) → List ℕ → ℕ → List (List ℕ) → Bool
 is_accepted D leaf m p = nat_lt m (length D) && is_root (rebuild sha256 m (length D) (hash_leaf sha256 leaf) p) (mth_of_leaves sha256 D)
 
--- of an accepted path: it holds, or the path's string and the list's, which differ and have one hash
+-- the verdict on an accepted path: it holds, or two different strings with one hash, from the path and from the list
 abbrev pub verdict_on : Option (List ℕ × List ℕ) → Answer
 verdict_on None = proof_holds
 verdict_on (Some strings) = a_collision strings.0 strings.1
 
--- what the evidence against the leaves is for the path p of the leaf at index m: it holds, it is refused, or two strings that collide
+-- the verdict on the path p of the leaf at index m, against the leaves: it holds, it is refused, or two strings that collide
 unfoldable pub verdict : List (List ℕ) → List ℕ → ℕ → List (List ℕ) → Answer
 verdict D leaf m p = if is_accepted D leaf m p then verdict_on (evid sha256 D leaf m p) else proof_refused
 
--- what evidence says
+-- the answer for evidence
 abbrev pub evidence_answer : Evidence Global → Answer
 evidence_answer Holds = proof_holds
 evidence_answer (Collision left right) = a_collision left.items right.items
 
--- unknown-size where no published head has that size; else the verdict against the first leaves of that size
+-- unknown-size if no published head has that size; otherwise the verdict against the first leaves of that size
 abbrev pub audit_answer : Log → AuditAsked → Answer
 audit_answer log (audit leaf m n p) = if not (is_size log n) then refused UnknownSize else verdict (first_leaves log n) leaf m p

@@ -19,7 +19,7 @@ use ct_tree::{Head, Sha256Hash, leaf_hash};
 use ct_verify::{Evidence, verify_inclusion};
 use std::alloc::Global;
 
-// The head of that size, if one was published, and what it says of the entries.
+// Returns the head of that size, if one was published, and shows how its root belongs to the entries.
 fn head_of_size(log: &Published, size: u64) -> Option<Head>
     ensures some { IfSome result (λ h. (is_size log.now size ≡ true) × (size ≤ length log.now.entries) × (h.tree_size ≡ size)
         × (h.root ≡ mth_of_leaves sha256 (first_leaves log.now size))) }
@@ -28,12 +28,12 @@ fn head_of_size(log: &Published, size: u64) -> Option<Head>
     log.head_of_size(size)
 }
 
-// Whether the path leads from the leaf to the head's root. Hashes the leaf and one node for each element of the path.
+// Reports whether the path leads from the leaf to the head's root. It hashes the leaf and one node for each element of the path.
 fn is_accepted(head: &Head, audit: &Audit) -> bool
     ensures { (D : List (List ℕ)) → length D ≡ head.now.tree_size → head.now.root ≡ mth_of_leaves sha256 D
         → result ≡ is_accepted D audit.now.leaf_input.items audit.now.leaf_index audit.now.audit_path.items }
 {
-    // A law for the prover: a path that leads to the root isn't refused.
+    // A law for the prover: a path that leads to the root is not refused.
     ct_verify::laws::path();
     let hash = leaf_hash(&Sha256Hash, &audit.leaf_input);
     let checked = verify_inclusion(
@@ -47,14 +47,14 @@ fn is_accepted(head: &Head, audit: &Audit) -> bool
     checked.is_ok()
 }
 
-// Whether the leaf and the path are these.
+// Reports whether the audit's leaf and path are these.
 fn is_same(audit: &Audit, leaf_input: &[u8], audit_path: &[[u8; 32]]) -> bool
     ensures { result ≡ true → (audit.now.leaf_input.items ≡ leaf_input.now) × (audit.now.audit_path.items ≡ audit_path.now) }
 {
     &audit.leaf_input[..] == leaf_input && &audit.audit_path[..] == audit_path
 }
 
-// Whether the leaf and the path are the log's own at that index, below a published size.
+// Reports whether the leaf and the path are the log's own at that index, below a published size.
 fn is_own(alloc: Global, log: &Published, audit: &Audit) -> Result<bool, Refusal>
     requires sized { is_size log.now audit.now.tree_size ≡ true }
     requires within { audit.now.tree_size ≤ length log.now.entries }
@@ -75,7 +75,7 @@ fn is_own(alloc: Global, log: &Published, audit: &Audit) -> Result<bool, Refusal
     }
 }
 
-// What the evidence for an audit path says.
+// Returns the reply for the evidence on an audit path.
 fn evidence_reply(evidence: Evidence) -> Reply
     ensures { shown result ≡ evidence_answer evidence }
 {
@@ -85,13 +85,13 @@ fn evidence_reply(evidence: Evidence) -> Reply
     }
 }
 
-// The verdict on a proof of inclusion, against these leaves, all of which it hashes.
+// Returns the verdict on a proof of inclusion, against these leaves, all of which it hashes.
 fn verdict(alloc: Global, leaves: &[Vec<u8>], audit: &Audit) -> Result<Reply, Refusal>
     ensures { MatchResult result
         (λ r. shown r ≡ verdict (map (λ l. l.items) leaves.now) audit.now.leaf_input.items audit.now.leaf_index audit.now.audit_path.items)
         (λ e. e ≡ Refusal.Memory) }
 {
-    // A law for the prover: a path that leads to the root isn't refused.
+    // A law for the prover: a path that leads to the root is not refused.
     ct_verify::laws::path();
     let auditor = Auditor::new(Sha256Hash);
     match auditor.explain(
@@ -106,9 +106,12 @@ fn verdict(alloc: Global, leaves: &[Vec<u8>], audit: &Audit) -> Result<Reply, Re
     }
 }
 
-// The verdict on a proof of inclusion, against the leaves of a published size. A path that doesn't lead to the head's root
-// is refused at the cost of the path; one of the log's own holds, at the cost of making it again. Only where another leaf or
-// path leads to that root, so that two strings have one hash, are all leaves hashed, to find them.
+// Returns the verdict on a proof of inclusion, against the leaves of a published size.
+//
+// - A path that does not lead to the head's root is refused at the cost of hashing the path.
+// - The log's own leaf and path are accepted at the cost of making the path again.
+// - Otherwise another leaf or path leads to that root, so two strings have one hash. Only then are all leaves hashed, to find these
+//   strings.
 pub(crate) fn audit_reply(alloc: Global, log: &Published, audit: &Audit) -> Result<Reply, Refusal>
     ensures { AnswersBuilt result (audit_answer log.now (audit_of audit.now)) }
 {

@@ -1,4 +1,4 @@
-//! Why serving ends early.
+//! The reasons why serving ends early.
 
 ghost use Rattle.std.specs.Prelude.{◌≡◌};
 ghost use Rattle.ct_lines.specs.declared.fault.ServeFault.TheVariants.{Read, Write, Memory};
@@ -7,24 +7,24 @@ use std::alloc::AllocError;
 use std::io;
 use thiserror::Error;
 
-/// Why serving ended early, and how many replies were written whole.
+/// The reason why serving ended early, and the number of replies that were written whole.
 #[derive(Clone, Copy, Debug, PartialEq, Eq, Error)]
 pub enum ServeFault {
     /// The reader failed.
     #[error("the reader failed after {0} replies")]
     Read(u64),
-    /// The writer failed, or took no bytes.
+    /// The writer failed, or accepted no bytes.
     #[error("the writer failed or took no bytes after {0} replies")]
     Write(u64),
-    /// A growth was refused.
+    /// Memory was refused.
     #[error("memory was refused after {0} replies")]
     Memory(u64),
-    /// The reader was called 2^50 times, and gave bytes each time.
+    /// The reader was called 2^50 times, and returned bytes each time.
     #[error("the input had not ended after {0} replies and 2^50 reads")]
     Endless(u64),
 }
 
-// The reader's error, after so many replies.
+// The reader's error, after this many replies.
 #[derive(Drop)]
 pub(crate) struct ReadFailed {
     pub(crate) count: u64,
@@ -40,7 +40,7 @@ impl From<ReadFailed> for ServeFault {
     }
 }
 
-// The writer's error, or `WriteZero` where it took no bytes, after so many replies.
+// The writer's error, or `WriteZero` if it accepted no bytes, after this many replies.
 #[derive(Drop)]
 pub(crate) struct WriteFailed {
     pub(crate) count: u64,
@@ -56,7 +56,7 @@ impl From<WriteFailed> for ServeFault {
     }
 }
 
-// A refused growth, after so many replies.
+// A refusal of memory, after this many replies.
 #[derive(Drop)]
 pub(crate) struct GrowthRefused {
     pub(crate) count: u64,

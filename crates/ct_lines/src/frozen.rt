@@ -16,7 +16,7 @@ use ct_core::{Published, Reply};
 use ct_tree::Memory;
 use std::alloc::Global;
 
-// The answer to a reader of the frozen log.
+// Returns the answer to a reader of the frozen log.
 #[tactic(auto, using(crate::proofs::Built::query_answers))]
 fn request_reply(alloc: Global, log: &Published, request: &FrozenRequest) -> Result<Reply, Refusal>
     ensures { AnswersBuilt result (frozen_answer log.now (frozen_asked request.now)) }
@@ -27,7 +27,7 @@ fn request_reply(alloc: Global, log: &Published, request: &FrozenRequest) -> Res
     }
 }
 
-// The answer to a line: bad-line to one that is no request, or that a front or the operator makes.
+// Returns the answer to a line: bad-line if the line is no request, or a request of a front or of the operator.
 fn line_reply(alloc: Global, log: &Published, line: &[u8]) -> Result<Reply, Refusal>
     ensures { Answers result (line_answer log.now line.now) }
 {
@@ -39,11 +39,11 @@ fn line_reply(alloc: Global, log: &Published, line: &[u8]) -> Result<Reply, Refu
     }
 }
 
-/// The closed log's reply to a line, with the end of the line. The line stands without its own.
+/// Returns the closed log's reply to a line, with the reply's end byte. The line is passed without its own end byte.
 ///
 /// # Errors
 ///
-/// `Memory`, where a growth is refused.
+/// `Memory`, if memory is refused.
 pub fn frozen_reply(alloc: Global, log: &Published, line: &[u8]) -> Result<Vec<u8>, Memory>
     ensures { IfOk result (λ b. b.items ≡ frozen_reply log.now line.now) }
 {
@@ -51,12 +51,12 @@ pub fn frozen_reply(alloc: Global, log: &Published, line: &[u8]) -> Result<Vec<u
     reply_text(alloc, &answer)
 }
 
-/// The closed log's reply to a request that was read already, with the end of the line: what `frozen_reply` answers to each
+/// Returns the closed log's reply to a request that was read already, with the reply's end byte. It is what `frozen_reply` returns for each
 /// line that is this request.
 ///
 /// # Errors
 ///
-/// `Memory`, where a growth is refused.
+/// `Memory`, if memory is refused.
 pub fn frozen_request_reply(
     alloc: Global,
     log: &Published,

@@ -1,4 +1,4 @@
-//! Requests read from lines.
+//! Reads requests from lines.
 
 ghost use Rattle.std.specs.Prelude.{◌≡◌, ◌⊎◌, ◌≤◌, length, IfOk, IfErr, IsErrOf, option_map};
 ghost use Rattle.serde_json.specs.View.{view};
@@ -12,7 +12,7 @@ use json_lines::{LONGEST_REQUEST, fields, line_value};
 use serde_json::Value;
 use std::alloc::{AllocError, Global};
 
-// Who makes a request.
+// The requester.
 #[derive(Clone, Copy, Debug)]
 enum Who {
     Front(u64),
@@ -20,7 +20,7 @@ enum Who {
     Frozen,
 }
 
-// Who makes the request, by the value under `who`.
+// Returns the requester, from the value under `who`.
 fn who_makes(value: &Value) -> Option<Who>
     ensures { option_map who result ≡ who_at (view value.now) }
 {
@@ -82,7 +82,7 @@ fn receipt_query(value: &Value) -> Option<Query>
     Some(Query::Receipt { ticket })
 }
 
-// The question that an op asks.
+// Returns the query of an op.
 fn query(alloc: Global, op: &str, value: &Value) -> Result<Option<Query>, AllocError>
     ensures { IfOk result (λ o. o ≡ query_asked op.now (view value.now)) }
 {
@@ -97,7 +97,7 @@ fn query(alloc: Global, op: &str, value: &Value) -> Result<Option<Query>, AllocE
     }
 }
 
-// The submission of a certificate.
+// Returns the submission of a certificate.
 fn chain_request(alloc: Global, value: &Value) -> Result<Option<FrontRequest>, AllocError>
     ensures { IfOk result (λ o. option_map front_asked o ≡ chain_asked (view value.now)) }
 {
@@ -107,7 +107,7 @@ fn chain_request(alloc: Global, value: &Value) -> Result<Option<FrontRequest>, A
     }
 }
 
-// The submission of a precertificate.
+// Returns the submission of a precertificate.
 fn pre_chain_request(alloc: Global, value: &Value) -> Result<Option<FrontRequest>, AllocError>
     ensures { IfOk result (λ o. option_map front_asked o ≡ pre_chain_asked (view value.now)) }
 {
@@ -127,7 +127,7 @@ fn pre_chain_request(alloc: Global, value: &Value) -> Result<Option<FrontRequest
     }))
 }
 
-// What a front asks by an op.
+// Returns a front's request, by its op.
 fn front_request(alloc: Global, op: &str, value: &Value) -> Result<Option<FrontRequest>, AllocError>
     ensures { IfOk result (λ o. option_map front_asked o ≡ front_asks op.now (view value.now)) }
 {
@@ -154,7 +154,7 @@ fn sequence_request(value: &Value) -> Option<OperatorRequest>
     Some(OperatorRequest::Sequence { from, count, now })
 }
 
-// What the operator asks by an op.
+// Returns the operator's request, by its op.
 fn operator_request(op: &str, value: &Value) -> Option<OperatorRequest>
     ensures { option_map operator_asked result ≡ operator_asks op.now (view value.now) }
 {
@@ -196,7 +196,7 @@ fn audit(alloc: Global, value: &Value) -> Result<Option<Audit>, AllocError>
     }))
 }
 
-// What a reader of the frozen log asks by an op.
+// Returns the request of a reader of the frozen log, by its op.
 fn frozen_request(
     alloc: Global,
     op: &str,
@@ -216,7 +216,7 @@ fn frozen_request(
     }
 }
 
-// The request that the value is.
+// Returns the request in the value.
 fn request_in(alloc: Global, value: &Value) -> Result<Option<Request>, AllocError>
     ensures { IfOk result (λ o. option_map asked o ≡ asked_in (view value.now)) }
 {
@@ -242,8 +242,9 @@ fn request_in(alloc: Global, value: &Value) -> Result<Option<Request>, AllocErro
     }
 }
 
-/// The request that the line is, without the byte that ends it. `BadLine`: the line is no request. `Memory`: a growth
-/// was refused before the request was read, or known to be none; a line of more than 1,048,576 bytes takes no memory.
+/// Returns the request in the line, which is passed without the byte that ends it. `BadLine`: the line is no request. `Memory`: memory was
+/// refused before the request was read, or before it was clear that there is none. A line of more than 1,048,576 bytes is never refused for
+/// memory.
 #[tactic(auto, unfolding(crate::specs::Asked::request_of))]
 pub fn read_line(alloc: Global, line: &[u8]) -> Result<Request, Refusal>
     ensures found { IfOk result (λ r. IsRequest line.now (asked r)) }

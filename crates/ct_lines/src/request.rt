@@ -1,63 +1,63 @@
-//! Requests: who makes them, and what they ask.
+//! Requests and their requesters.
 
 use ct_core::Query;
 
 /// A request.
 #[derive(Debug, PartialEq, Eq, Drop)]
 pub enum Request {
-    /// Of the front with this number. From 16 on it is a front that isn't there.
+    /// From the front with this number. A number from 16 on names a front that does not exist.
     Front(u64, FrontRequest),
-    /// Of the operator.
+    /// From the operator.
     Operator(OperatorRequest),
-    /// Of a reader of the frozen log.
+    /// From a reader of the frozen log.
     Frozen(FrozenRequest),
 }
 
-/// What a front asks.
+/// A front's request.
 #[derive(Debug, PartialEq, Eq, Drop)]
 pub enum FrontRequest {
-    /// To take in a certificate, by its chain in DER, the end entity first.
+    /// Submits a certificate, by its chain in DER, the end entity first.
     AddChain {
         chain: Vec<Vec<u8>>,
     },
-    /// To take in a precertificate (RFC 6962, section 3.1): the SHA-256 of the issuer's public key, the TBSCertificate in DER
-    /// without the poison extension, and the chain in DER, the precertificate first.
+    /// Submits a precertificate (RFC 6962, section 3.1): the SHA-256 of the issuer's public key, the TBSCertificate in DER without the
+    /// poison extension, and the chain in DER, the precertificate first.
     AddPreChain {
         issuer_key_hash: [u8; 32],
         tbs: Vec<u8>,
         chain: Vec<Vec<u8>>,
     },
-    /// To wait until a tree head of at least this size is published.
+    /// Waits until a tree head of at least this size is published.
     AwaitSize {
         tree_size: u64,
     },
-    /// An answer of the published state.
+    /// Queries the published state.
     Ask(Query),
 }
 
-/// What the operator asks.
+/// The operator's request.
 #[derive(Clone, Copy, Debug, PartialEq, Eq)]
 pub enum OperatorRequest {
-    /// To settle `count` submissions of the front with number `from` at the moment `now`, in milliseconds.
+    /// Settles `count` submissions of the front with number `from` at the timestamp `now`, in milliseconds.
     Sequence { from: u64, count: u64, now: u64 },
-    /// To publish a tree head at the moment `now`, in milliseconds.
+    /// Publishes a tree head at the timestamp `now`, in milliseconds.
     Publish { now: u64 },
-    /// To accept no submission from now on.
+    /// Ends the accepting of submissions.
     Shutdown,
-    /// To end a shift of the fronts at the moment `now`, in milliseconds.
+    /// Ends a shift of the fronts at the timestamp `now`, in milliseconds.
     Shift { now: u64 },
 }
 
-/// What a reader of the frozen log asks.
+/// A request of a reader of the frozen log.
 #[derive(Debug, PartialEq, Eq, Drop)]
 pub enum FrozenRequest {
-    /// An answer of the frozen state.
+    /// Queries the frozen state.
     Ask(Query),
-    /// A check of a proof of inclusion.
+    /// Checks a proof of inclusion.
     Audit(Audit),
 }
 
-/// A proof of inclusion that is to be checked against the tree head of a size.
+/// A proof of inclusion that will be checked against the tree head of a size.
 #[derive(Debug, PartialEq, Eq, Drop)]
 pub struct Audit {
     /// The bytes of the leaf.

@@ -1,4 +1,4 @@
-//! The frozen log over a reader of request lines and a writer of replies.
+//! Serves the frozen log over a reader of request lines and a writer of replies.
 
 ghost use Rattle.std.specs.Prelude.{◌≡◌, ◌<◌, ◌≤◌, ◌+◌, ◌^◌, ℕ, List, [], length, IfOk, OnOk, IfErr};
 ghost use Rattle.std.specs.Io.KnownBytes.{Appends, Consumes, IsAtEnd};
@@ -15,7 +15,7 @@ use json_lines::{READS, REQUEST_KEPT, content, cut_piece, write_bytes};
 use std::alloc::Global;
 use std::io::{Read, Write};
 
-// The reply to a line that ended, of which this is kept, or none where it is empty.
+// Returns the reply to a line that ended, from its kept part, or `None` if the line is empty.
 fn ended_reply(alloc: Global, log: &Published, kept: &[u8]) -> Result<Option<Vec<u8>>, Memory>
     ensures { IfOk result (λ o. (line : List ℕ) → EndsAs kept.now line → as_list o ≡ reply_if (frozen_reply log.now) line) }
 {
@@ -27,8 +27,8 @@ fn ended_reply(alloc: Global, log: &Published, kept: &[u8]) -> Result<Option<Vec
     Ok(Some(reply))
 }
 
-// Replies to the line that ended, of which this is kept, and forgets it. Answers the number of replies, of which `count` are
-// written before.
+// Writes the reply to the line that ended, from its kept part, and clears the kept part. Returns the number of replies; `count` of them
+// were written before.
 fn end_line<W: Write>(
     alloc: Global,
     log: &Published,
@@ -62,7 +62,7 @@ fn end_line<W: Write>(
     }
 }
 
-// Serves a piece of the input: replies to each line that ends in it, and keeps what it has of the line that stands behind it.
+// Serves a piece of the input: replies to each line that ends in it, and keeps the part read of the line after these.
 fn feed<W: Write>(
     alloc: Global,
     log: &Published,
@@ -101,23 +101,29 @@ fn feed<W: Write>(
     Ok(total)
 }
 
-/// Serves a log that was closed: reads request lines until the input ends, and writes for each its reply.
+/// Serves a log that was closed: reads request lines until the input ends, and writes the reply to each.
 ///
-/// A line ends at the byte 0A, and the last one may end with the input. An empty line has no reply. A line that is no
-/// request, one of more than 1,048,576 bytes among them, and a request of a front or of the operator are replied to with
-/// `bad-line`. Each whole line that was read is replied to before the reader is called again. Memory is taken for one
-/// line and its reply at a time, for all leaves only where an audit's leaf and path are another's and lead to the head's
-/// root. Of a line that is too long no more is kept than two bytes over the longest one. The writer isn't flushed.
+/// - A line ends at the byte 0A, and the last one may end with the input. An empty line has no reply.
+/// - `bad-line` is the reply to a line that is no request, such as a line of more than 1,048,576 bytes, and to a request of a front or of
+///   the operator.
+/// - Each whole line that was read is replied to before the reader is called again.
+/// - Memory is taken for one line and its reply at a time. Memory for all leaves is taken only if an audit's leaf and path are not the
+///   log's own but lead to the head's root.
+/// - A line that is too long is cut: at most two bytes more than the longest allowed line are kept.
+/// - The writer is not flushed.
 ///
 /// # Errors
 ///
-/// With the number k of the replies that were written whole; behind these at most a proper beginning of the next one is
-/// written. `Read`: the reader failed, and each line that had ended has its reply. `Write`: the writer failed or took no
-/// bytes, before a reply was whole. `Memory`: a growth was refused, and no reply is begun that isn't whole. `Endless`:
-/// the reader gave bytes 2^50 times, and each line that had ended has its reply. Each ends the call at once.
+/// Each error has the number k of the replies that were written whole. After these, at most a proper prefix of the next one is written.
+/// Each error ends the call at once.
 ///
-/// That the reader or the writer failed is no clause, since what they tell of their bytes is the same before and after
-/// a failed call: both faults are made of the error that came. Tests show it.
+/// - `Read`: the reader failed, and each line that had ended has its reply.
+/// - `Write`: the writer failed or accepted no bytes, before a reply was whole.
+/// - `Memory`: memory was refused, and no reply is begun that is not whole.
+/// - `Endless`: the reader returned bytes 2^50 times, and each line that had ended has its reply.
+///
+/// No clause says that the reader or the writer failed, because their contracts say the same of their bytes before and after a failed call.
+/// Both faults are made from the error that the reader or writer returned. Tests show this.
 pub fn serve_frozen<R: Read, W: Write>(
     alloc: Global,
     log: &Published,

@@ -1,4 +1,4 @@
-//! Want of memory: what an error of a crate below says of it, and where a refusal tells it. Elsewhere it is passed on by `?`.
+//! Out of memory: how the errors of other crates report it, and how a refusal reports it. Other functions pass it on with `?`.
 
 ghost use Rattle.std.specs.Prelude.{◌≡◌, ◌≢◌, Err, MatchResult};
 ghost use Rattle.ct_codec.specs.declared.refusal.Refusal.TheVariants.{Memory};
@@ -10,7 +10,7 @@ use ct_core::Reply;
 use ct_verify::EvidenceFault;
 use std::alloc::AllocError;
 
-// Of a proof that gives no evidence: it is refused, unless a growth was refused.
+// The reply for a proof that gives no evidence: it is refused, unless memory was refused.
 #[derive(Drop)]
 pub(crate) struct Unproved {
     pub(crate) reply: Result<Reply, Refusal>,
@@ -28,7 +28,7 @@ impl From<EvidenceFault> for Unproved {
     }
 }
 
-// What is told of an answer, unless a growth was refused.
+// An answer that can be passed on, unless memory was refused.
 #[derive(Drop)]
 pub(crate) struct Told {
     pub(crate) answer: Result<Result<Reply, Refusal>, AllocError>,

@@ -12,7 +12,7 @@ use json_lines::{bytes_value, hashes_value};
 use serde_json::{Value, json};
 use std::alloc::Global;
 
-// The name of a refusal.
+// Returns the name of a refusal.
 fn name_of(refusal: Refusal) -> &'static str
     ensures { result.now ≡ refusal_name refusal }
 {
@@ -37,7 +37,7 @@ fn name_of(refusal: Refusal) -> &'static str
     }
 }
 
-// An entry as a JSON object.
+// Returns an entry as a JSON object.
 fn entry_value(alloc: Global, entry: &ShownEntry) -> Result<Value, Memory>
     ensures { IfOk result (λ v. view v ≡ entry_data (shown_text entry.now)) }
 {
@@ -47,7 +47,7 @@ fn entry_value(alloc: Global, entry: &ShownEntry) -> Result<Value, Memory>
     })
 }
 
-// Entries as a JSON array.
+// Returns entries as a JSON array.
 fn entries_array(alloc: Global, entries: &[ShownEntry]) -> Result<Value, Memory>
     ensures { IfOk result (λ v. view v ≡ entries_data (map shown_text entries.now)) }
 {
@@ -58,7 +58,7 @@ fn entries_array(alloc: Global, entries: &[ShownEntry]) -> Result<Value, Memory>
     Ok(Value::Array(values))
 }
 
-// The reply of one count.
+// Returns the object with one count.
 fn count_value(alloc: Global, key: &str, count: u64) -> Result<Value, Memory>
     ensures { IfOk result (λ v. view v ≡ count_data key.now count) }
 {
@@ -119,7 +119,7 @@ fn published_value(alloc: Global, head: &Head) -> Result<Value, Memory>
     json!(in alloc; {"timestamp": head.timestamp, "tree_size": head.tree_size})
 }
 
-// The reply of a verdict and nothing more.
+// Returns the object with only a verdict.
 fn verdict_value(alloc: Global, verdict: &str) -> Result<Value, Memory>
     ensures { IfOk result (λ v. view v ≡ verdict_data verdict.now) }
 {
@@ -142,7 +142,7 @@ fn refusal_value(alloc: Global, refusal: Refusal) -> Result<Value, Memory>
     json!(in alloc; {"error": name_of(refusal)})
 }
 
-// The reply as a JSON value.
+// Returns the reply as a JSON value.
 fn shown_value(alloc: Global, reply: &Reply) -> Result<Value, Memory>
     ensures { IfOk result (λ v. view v ≡ reply_data (shown reply.now)) }
 {
@@ -173,7 +173,7 @@ fn shown_value(alloc: Global, reply: &Reply) -> Result<Value, Memory>
     }
 }
 
-// The reply or the refusal as a JSON value.
+// Returns the reply or the refusal as a JSON value.
 fn reply_value(alloc: Global, reply: &Result<Reply, Refusal>) -> Result<Value, Memory>
     ensures { IfOk result (λ v. view v ≡ reply_data (answered reply.now)) }
 {
@@ -183,7 +183,7 @@ fn reply_value(alloc: Global, reply: &Result<Reply, Refusal>) -> Result<Value, M
     }
 }
 
-/// The text of a reply or of a refusal: compact JSON with its keys in byte order, and the byte 0A.
+/// Returns the text of a reply or of a refusal: compact JSON with its keys in byte order, and the byte 0A.
 #[tactic(auto, using(crate::proofs::NoFloat::no_float))]
 pub fn reply_text(alloc: Global, reply: &Result<Reply, Refusal>) -> Result<Vec<u8>, Memory>
     ensures { IfOk result (λ b. b.items ≡ reply_line (answered reply.now)) }

@@ -1,4 +1,4 @@
--- What the closing leaves.
+-- The result of the closing.
 use Rattle.std.proofs.Common.{◌≡◌, ◌⊎◌, ◌<◌, ◌≤◌, ◌+◌, ℕ, List, [], ◌∷◌, ◌++◌, length, Bool, true, false, refl, sym, ap, subst, ◌∙◌, arith, inl, inr}
 use Rattle.std.specs.Prelude.{◌≢◌, ◌||◌, All, map, if◌then◌else◌, nat_lt, None, Some, Result, Ok, Err, IfErr, IfOk, MatchResult, OnOk}
 use Rattle.std.proofs.lemmas.Bool.{ltb-true}
@@ -20,14 +20,14 @@ use Rattle.ct_tasks.specs.declared.fault.Fault.{Fault}
 newest_in_time : (core : CoreState) (now : ℕ) → clock_of core ≤ now → newest_leaf core.entries ≤ now
 newest_in_time core now h = omega arith
 
--- a refused publication: what either test says, or there was no memory
+-- a refused publication: either one of the two tests holds, or there was no memory
 refused_by : (a b : Bool) (e : Refusal) (P : Type 0) → (a ≡ true → P) → (b ≡ true → P) → e ≡ (if a || b then ClockBack else Memory)
     → ((e ≡ ClockBack) × P) ⊎ (e ≡ Memory)
 refused_by true b e P p q h = inl (h, p refl)
 refused_by false true e P p q h = inl (h, q refl)
 refused_by false false e P p q h = inr h
 
--- where the newest leaf isn't past now, the last head is what stands against a publication
+-- if the newest leaf is not past now, only the last head (or memory) can refuse a publication
 publish_refused : (core : CoreState) (now : ℕ) (e : Refusal) → e ≡ publish_refusal core now
     → ((e ≡ ClockBack) × (newest_leaf core.entries ≤ now → now ≤ last_moment core.published.heads)) ⊎ (e ≡ Memory)
 publish_refused core now e h =
@@ -36,7 +36,7 @@ publish_refused core now e h =
     (λ t newest. let l : now < newest_leaf core.entries = ltb-true now (newest_leaf core.entries) t in absurd (omega arith))
     (λ t newest. let l : now < last_moment core.published.heads + 1 = ltb-true now (last_moment core.published.heads + 1) t in omega arith) h
 
--- after all was settled at now, the last head alone can be too late
+-- after everything was settled at now, only the last head can be too late
 late_head : (old shut settled : HouseState) (xs : List Item) (now : ℕ) → shut ≡ record old { accepted = shut.accepted } → SettlesMore shut settled xs now
     → clock_of settled.core ≤ now
     → (newest_leaf settled.core.entries ≤ now → now ≤ last_moment settled.core.published.heads) → IsLate old.core now
@@ -59,7 +59,7 @@ refused_by_clock : (late : Bool) (e : Refusal) (P : Type 0) → (late ≡ true �
 refused_by_clock true e P p h = inl (h, p refl)
 refused_by_clock false e P p h = inr h
 
--- where the ends are those of all fronts, a settling is refused by the clock or for want of memory
+-- if the ends are those of all fronts, only the clock or memory can refuse a settling
 pub settling_refused : (old shut : HouseState) (ends : List FrontView) (now : ℕ) (e : Refusal) → shut ≡ record old { accepted = shut.accepted }
     → AreInOrder (length old.lanes) ends
     → ((AreInOrder (length shut.lanes) ends → ⊥) × (e ≡ MissingFront)) ⊎ (AreInOrder (length shut.lanes) ends × (e ≡ settle_refusal shut.core now))
@@ -70,14 +70,14 @@ settling_refused old shut ends now e same order (inr refused) =
     refused_by_clock (nat_lt now (clock_of old.core)) e (IsLate old.core now) (λ t. inl (ltb-true now (clock_of old.core) t))
     (refused.1 ∙ ap (λ (h : HouseState). settle_refusal h.core now) same)
 
--- a shutdown leaves the house shut, whether it was before or not
+-- after a shutdown the house is shut, whether it was shut before or not
 shut_now : (told : Result ℕ Refusal) (old shut : HouseState)
     → MatchResult told (λ n. (old.accepted ≡ None) × (shut.accepted ≡ Some n)) (λ e. (e ≡ Shutdown) × (old.accepted ≢ None) × (shut ≡ old))
     → shut.accepted ≢ None
 shut_now (Ok n) old shut t none = none-some n (sym none ∙ t.1)
 shut_now (Err e) old shut t none = t.1 (ap (λ (h : HouseState). h.accepted) (sym t.2) ∙ none)
 
--- what is settled in full at a moment that the clock takes, and published then, is ready to be closed
+-- a house is ready for closing after everything was settled at a timestamp that the clock accepts, and published at that timestamp
 pub closing_ready : (told : Result ℕ Refusal) (r : Result Head Refusal) (old shut settled after : HouseState) (ends : List FrontView) (xs : List Item)
     (now : ℕ) → shut ≡ record old { accepted = shut.accepted }
     → MatchResult told (λ n. (old.accepted ≡ None) × (shut.accepted ≡ Some n)) (λ e. (e ≡ Shutdown) × (old.accepted ≢ None) × (shut ≡ old))
@@ -108,17 +108,17 @@ pub closing_fault : (s : HouseState) (now : ℕ) (e : Refusal) (f : Fault) → I
 closing_fault s now e f (inl late) i = inl (i.clock_back late.0, late.1)
 closing_fault s now e f (inr memory) i = inr (i.memory memory)
 
--- the entries of items that are settled at now are of that moment
+-- the entries of items that are settled at now have that timestamp
 of_moment : (now : ℕ) (xs : List Item) → All (λ (e : Entry). e.timestamp ≡ now) (map (entry_at now) xs)
 of_moment now xs = All-map (λ (e : Entry). e.timestamp ≡ now) (entry_at now) xs (λ k d within. refl)
 
--- so are those by which a house settles more
+-- the entries that a house adds by settling have that timestamp too
 enters_at : (old new : HouseState) (items xs : List Item) (now : ℕ) → IsSettled old.core items → SettlesMore old new xs now
     → EntersAt now old.core.entries new.core.entries
 enters_at old new items xs now settled s =
     (map (entry_at now) (firsts_after items xs), (s.core.grows items settled).entries, of_moment now (firsts_after items xs))
 
--- the closing keeps what was settled, and what it settles is of its moment
+-- the closing keeps all settled items, and the entries that it adds have its timestamp
 pub closing_keeps : (r : Result Head Refusal) (old shut settled after : HouseState) (items xs : List Item) (now : ℕ)
     → shut ≡ record old { accepted = shut.accepted }
     → IsSettled old.core items → SettlesMore shut settled xs now
@@ -132,7 +132,7 @@ closing_keeps (Ok h) old shut settled after items xs now same known s p =
     let kept : KeepsSettled now shut.core (after_publishing settled.core h) = (enters_at shut settled items xs now there s, s.core.settlement) in
     subst (λ (c : CoreState). KeepsSettled now c after.core) before (subst (λ (c : CoreState). KeepsSettled now shut.core c) (sym behind) kept)
 
--- a shutdown that was made before stays, with its number
+-- an earlier shutdown remains, with its count
 pub closing_counts : (told : Result ℕ Refusal) (r : Result Head Refusal) (old shut settled after : HouseState) (xs : List Item) (now : ℕ)
     → MatchResult told (λ n. (old.accepted ≡ None) × (shut.accepted ≡ Some n)) (λ e. (e ≡ Shutdown) × (old.accepted ≢ None) × (shut ≡ old))
     → SettlesMore shut settled xs now → IfOk r (λ h. IsNextHead settled.core now h × (after ≡ record settled { core = after_publishing settled.core h }))
@@ -142,7 +142,7 @@ closing_counts (Ok m) (Ok h) old shut settled after xs now t s p = λ n is. absu
 closing_counts (Err e) (Ok h) old shut settled after xs now t s p =
     λ n is. ap (λ (k : HouseState). k.accepted) p.1 ∙ s.accepted ∙ ap (λ (k : HouseState). k.accepted) t.2 ∙ is
 
--- the log that the closing leaves goes on from what there was
+-- the log after the closing continues the log before it
 pub ends_at : (old new : HouseState) (ends : List FrontView) (now : ℕ) (h : Head) (log : Log) → IsReady old ends now h new → KeepsSettled now old.core new.core
     → log ≡ new.core.published → EndsAt old now log
 ends_at old new ends now h log r kept same =

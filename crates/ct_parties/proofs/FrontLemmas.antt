@@ -1,4 +1,4 @@
--- What a front shows, and how it goes on.
+-- The published states that a front shows, and how a front continues.
 use Rattle.std.proofs.Common.{◌≡◌, ◌⊎◌, ◌∙◌, true, false, inl, inr, ap, subst, refl, sym}
 use Rattle.std.specs.Prelude.{Result, Ok, Err, MatchResult, IfErr, IsErrAnd}
 use Rattle.ct_codec.specs.declared.refusal.Refusal.{Refusal}
@@ -17,7 +17,7 @@ use Rattle.ct_versions.specs.Sights.{Sight, Moves}
 use Rattle.ct_lines.specs.ReplyText.{answered}
 use Rattle.ct_parties.specs.FrontWork.{FrontGoesOn, Looks, Shows}
 
--- ---- what is shown
+-- ---- the shown state
 
 pub shows_answered : (r : Result Reply Refusal) (q : Query) (p : Log) → Lawful p
     → MatchResult r (λ x. shown x ≡ answer p q) (λ e. (e ≡ Memory) ⊎ ((e ≡ Closed) ⊎ (refused e ≡ answer p q)))
@@ -38,7 +38,7 @@ same_refused d e is = ap of is
     of (refused x) = x
     of _ = d
 
--- which is refused only where no state is shown
+-- the head is refused only if no state is shown
 pub head_refused : (p : Log) (e : Refusal) → Shows p GetSth (refused e) → e ≡ Closed
 head_refused p e s = let (h, is) = head_shown p s.lawful in go h is s.shown
   where
@@ -53,7 +53,7 @@ head_refused p e s = let (h, is) = head_shown p s.lawful in go h is s.shown
     go h is (inr (inl closed)) = same_refused e Closed closed
     go h is (inr (inr told)) = absurd (other h (told ∙ is))
 
--- ---- how a front goes on
+-- ---- how a front continues
 
 moves_none : (s : Sight) → Moves s s
 moves_none s = record {
@@ -80,7 +80,7 @@ looks_none a = record { intake = refl; moves = moves_none a.sight }
 pub looks_both : (a b c : FrontView) → Looks a b → Looks b c → Looks a c
 looks_both a b c p q = record { intake = q.intake ∙ p.intake; moves = moves_both a.sight b.sight c.sight p.moves q.moves }
 
--- a front that looked goes on, and so does one that submitted
+-- a front that looked continues; a front that submitted does too
 pub looks_on : (a b : FrontView) → Looks a b → FrontGoesOn a b
 looks_on a b l = record {
   same = subst (λ (i : IntakeView). SameIntake a.intake i) (sym l.intake) (same_none a.intake);
@@ -106,7 +106,7 @@ front_goes_on_both a b c p q = record {
   shutdown = λ known. q.shutdown (p.shutdown known);
 }
 
--- what holds of the fault holds of the error that it became
+-- a property of the fault is a property of the error that it became
 pub if_err_is : {T E : Type 0} (P : E → Type 0) (r : Result T E) (x : E) → IsErrAnd r (λ e. e ≡ x) → P x → IfErr r P
 if_err_is P (Ok o) x none p = absurd none
 if_err_is P (Err e) x is p = subst P (sym is) p

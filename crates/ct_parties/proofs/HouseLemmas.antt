@@ -12,11 +12,11 @@ use Rattle.ct_house.specs.House.{HouseState, FrontView, IsNewHouse, IsOfHouse, A
 pub lanes_of_new : (s : HouseState) (fronts : List FrontView) (n places now : ℕ) → IsNewHouse s fronts n places now → length s.lanes ≡ n
 lanes_of_new s fronts n places now i = ap length i.lanes ∙ length-replicate n empty_lane
 
--- the fronts of a new house are of it
+-- the fronts of a new house belong to it
 pub new_of_house : (s : HouseState) (fronts : List FrontView) (n places now : ℕ) → IsNewHouse s fronts n places now → All (IsOfHouse s.house) fronts
 new_of_house s fronts n places now i k d below = let f = i.each k (get_or fronts k d) (slice_get-get_or fronts k d below) in f.of_house
 
--- and they are in order
+-- the fronts of a new house are in order
 pub new_in_order : (s : HouseState) (fronts : List FrontView) (n places now : ℕ) → IsNewHouse s fronts n places now → AreInOrder (length s.lanes) fronts
 new_in_order s fronts n places now i =
     let size = length-map fronts (λ (f : FrontView). f.intake.number) in

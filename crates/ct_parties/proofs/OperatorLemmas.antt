@@ -58,7 +58,7 @@ core_grows_both a b c xs ys now s t = record {
   settlement = Begins-trans a.settlement b.settlement c.settlement s.settlement t.settlement;
 }
 
--- two settlings at one moment
+-- two settlings at one timestamp
 pub settles_both : (a b c : HouseState) (xs ys : List Item) (now : ℕ) → SettlesMore a b xs now → SettlesMore b c ys now → SettlesMore a c (xs ++ ys) now
 settles_both a b c xs ys now s t = record {
   house = t.house ∙ s.house;
@@ -96,7 +96,7 @@ settling_both front now a b c xs ys s t = record {
   early = early_both a b c now s.early t.early;
 }
 
--- a moment that the clock takes later on, it took before
+-- if the clock accepts a timestamp after a settling, it accepted it before
 pub in_time_before : (front now : ℕ) (a b : HouseState) (xs : List Item) → Settling front now a b xs → clock_of b.core ≤ now → clock_of a.core ≤ now
 in_time_before front now a b xs s late = elim (cases_lt now (clock_of a.core)) [
   | inl before ↦ (let same = s.early before in let there : clock_of a.core ≤ now =
@@ -104,7 +104,7 @@ in_time_before front now a b xs s late = elim (cases_lt now (clock_of a.core)) [
   | inr after ↦ after
 ]
 
--- after turns that settled nothing: a turn that is refused, one that settles some, and one more that settles none
+-- after turns that settled nothing, three cases: a turn that is refused, a turn that settles some items, and another turn that settles none
 pub some_refused : (front most now : ℕ) (a b c : HouseState) (ys : List Item) (e : Refusal) → Settling front now a b []
     → Takes b c front ys now → SettlesMore b c ys now
     → (now < clock_of b.core → c ≡ b) → length ys < most → e ≡ settle_refusal b.core now → SettlesSome front most now a (Err e) c
@@ -128,7 +128,7 @@ pub still_none : (front now : ℕ) (a b c : HouseState) (ys : List Item) (n : �
 still_none front now a b c [] n s t more early count none = settling_take front now a b c [] [] s t more early
 still_none front now a b c (y ∷ ys) n s t more early count none = absurd (omega arith)
 
--- some items were settled, and left more are to be
+-- some items were settled, and `left` more must still be settled
 pub record Underway (front count now left : ℕ) (old new : HouseState) : Type 0 where
   pub items : List Item
   pub settling : Settling front now old new items

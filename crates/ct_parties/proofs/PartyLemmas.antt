@@ -1,4 +1,4 @@
--- The fronts of a house stay its fronts, one after the other.
+-- The fronts of a house remain its fronts, in the same order.
 use Rattle.std.proofs.Common.{◌≡◌, ℕ, suc, List, [], ◌∷◌, ◌++◌, length, map, refl, sym, ap, subst, ◌∙◌, arith, reverse}
 use Rattle.std.proofs.lemmas.List.Elements.{All-cons, length_all_zip}
 use Rattle.std.specs.Prelude.{◌<◌, All, Some, Vec, slice_get}
@@ -27,7 +27,7 @@ same_numbers [] (b ∷ ys) same = absurd same
 same_numbers (a ∷ xs) [] same = absurd same
 same_numbers (a ∷ xs) (b ∷ ys) (on, rest) = ap (λ (n : ℕ). n ∷ numbers_of ys) (on.same.1) ∙ ap (λ (ns : List ℕ). a.intake.number ∷ ns) (same_numbers xs ys rest)
 
--- the fronts of a house stay its fronts, where the house and its lanes stay
+-- the fronts of a house remain its fronts, if the house and its number of lanes are unchanged
 pub fronts_kept : (old new : HouseState) (xs ys : List FrontView) → new.house ≡ old.house → length new.lanes ≡ length old.lanes → AllGoOn xs ys
     → AreFrontsOf old xs → AreFrontsOf new ys
 fronts_kept old new xs ys house count same i = record {

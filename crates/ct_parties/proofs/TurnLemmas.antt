@@ -1,4 +1,4 @@
--- Tasks done in turn, with one task more.
+-- Tasks done in turn, with one more task.
 use Rattle.std.proofs.Common.{◌≡◌, ℕ, List, [], ◌∷◌, ◌++◌, length, refl, sym, ap, subst, ◌∙◌, arith, append_assoc, append-nil}
 use Rattle.std.specs.List.{flat_map}
 use Rattle.ct_core.specs.Replies.{Answer}
@@ -13,7 +13,7 @@ in_turn_more does a m b [] t (q ∷ rs) r i d = absurd i
 in_turn_more does a m b (u ∷ ts) t [] r i d = absurd i
 in_turn_more does a m b (u ∷ ts) t (q ∷ rs) r (n, one, rest) d = (n, one, in_turn_more does n m b ts t rs r rest d)
 
--- what each task keeps, all tasks keep
+-- a relation that each task keeps is kept by all tasks
 pub in_turn_keeps : {State Task Reply : Type 0} (does : State → Task → Reply → State → Type 0) (on : State → State → Type 0) → ((a : State) → on a a)
     → ((a m b : State) → on a m → on m b → on a b) → ((a b : State) (t : Task) (r : Reply) → does a t r b → on a b)
     → (a b : State) (ts : List Task) (rs : List Reply) → InTurn does a ts rs b → on a b
@@ -23,9 +23,9 @@ in_turn_keeps does on nothing both one a b (t ∷ ts) [] i = absurd i
 in_turn_keeps does on nothing both one a b (t ∷ ts) (r ∷ rs) (m, first, rest) =
     both a m b (one a m t r first) (in_turn_keeps does on nothing both one m b ts rs rest)
 
--- ---- what is done of a list, and what is left
+-- ---- the part of a list that is done, and the rest
 
--- the next of what is left
+-- the next element of the rest
 pub cut_here : {A : Type 0} (all done left : List A) (x : A) (rest : List A) → done ++ left ≡ all → left ≡ x ∷ rest → all ≡ done ++ x ∷ rest
 cut_here all done left x rest e is = sym e ∙ ap (λ l. done ++ l) is
 
@@ -49,7 +49,7 @@ module _ {State Task : Type 0} (does : State → Task → List ℕ → State →
   pub serves_none : (a : State) (before : List ℕ) → ServesAll does a [] before a before
   serves_none a before = ([], refl, sym (append-nil before))
 
-  -- one more
+  -- one more task
   pub serves_more : (a m b : State) (ts : List Task) (t : Task) (before text reply after : List ℕ) → ServesAll does a ts before m text
       → does m t reply b → after ≡ text ++ reply → ServesAll does a (ts ++ t ∷ []) before b after
   serves_more a m b ts t before text reply after (rs, turns, is) did added = (
@@ -58,7 +58,7 @@ module _ {State Task : Type 0} (does : State → Task → List ℕ → State →
     added ∙ ap (λ (l : List ℕ). l ++ reply) is ∙ append_assoc before (text_of rs) reply ∙ ap (λ (l : List ℕ). before ++ l) (sym (text_more rs reply)),
   )
 
-  -- the reply to the next one is not there
+  -- there is no reply to the next task
   pub serves_first : (a m : State) (ts done : List Task) (t : Task) (rest : List Task) (before text : List ℕ) → ServesAll does a done before m text
       → ts ≡ done ++ t ∷ rest → ServesFirst does a ts before text
   serves_first a m ts done t rest before text all cut = (done, t ∷ rest, cut, omega arith, (m, all))
@@ -78,7 +78,7 @@ module _ {State Task : Type 0} (does : State → Task → Answer → State → T
         ap (λ (l : List ℕ). l ++ text_of rs) one.line ∙ ap (λ (l : List ℕ). reply_line one.answer ++ l) text,
       )
 
-  -- the tasks were done in turn, and the lines of their answers follow what was written before
+  -- the tasks were done in turn, and the lines of their answers follow the text written before
   pub all_served : (a b : State) (ts : List Task) (before text : List ℕ) → ServesAll (DoesWithLine does on) a ts before b text → Serves does a ts before b text
   all_served a b ts before text (rs, turns, is) =
       let (answers, done, lines) = with_answers a b ts rs turns in (answers, done, is ∙ ap (λ (l : List ℕ). before ++ l) lines)

@@ -10,12 +10,12 @@ use Rattle.ct_core.specs.Leaf.{Entry}
 use Rattle.ct_core.specs.Core.{Begins, CoreState, Extends, IsCovered, clock_of, last_moment}
 use Rattle.ct_house.specs.House.{HouseState, FrontView, FinalState, IsAllSettled, accepted_lists}
 
--- the clock refuses to close the log at now: leaves are newer, or the last head isn't older
+-- the clock refuses to close the log at now: the clock is later, or the last head is not older
 abbrev pub IsLate : CoreState → ℕ → Type 0
 IsLate core now = (now < clock_of core) ⊎ (now ≤ last_moment core.published.heads)
 
--- The house is the same and shut, all that the fronts with these ends had accepted is settled, and h is its last head, behind those that it
--- had, of the moment now, which the clock doesn't refuse, and covers all.
+-- The house is the same and shut, and everything that the fronts with these ends had accepted is settled. h is its last head, after those
+-- that it had: h has the timestamp now, which the clock accepts, and covers everything.
 pub record IsReady (old : HouseState) (ends : List FrontView) (now : ℕ) (h : Head) (new : HouseState) : Type 0 where
   pub house : new.house ≡ old.house
   pub shut : new.accepted ≢ None
@@ -25,17 +25,19 @@ pub record IsReady (old : HouseState) (ends : List FrontView) (now : ℕ) (h : H
   pub moment : h.timestamp ≡ now
   pub in_time : IsLate old.core now → ⊥
 
--- the refusal is the clock's, which refuses the moment, or memory's
+-- the refusal is the clock's, because now is too early, or memory's
 abbrev pub IsRefusedAtClosing : HouseState → ℕ → Refusal → Type 0
 IsRefusedAtClosing s now e = ((e ≡ ClockBack) × IsLate s.core now) ⊎ (e ≡ Memory)
 
--- the entries go on with leaves of the moment now
+-- the entries continue with leaves that have the timestamp now
 abbrev pub EntersAt : ℕ → List Entry → List Entry → Type 0
 EntersAt now old new = (late : List Entry) × (new ≡ old ++ late) × All (λ (e : Entry). e.timestamp ≡ now) late
 
--- The log goes on from what this sequencer had published and settled: its heads are those that were published so far, and
--- one more, of the moment now; its entries are those that were settled so far, and behind them leaves of the moment now; and
--- its settlement begins with the one so far.
+-- The log continues what this sequencer had published and settled:
+--
+-- - Its heads are those published so far, and one more with the timestamp now.
+-- - Its entries are those settled so far, followed by leaves with the timestamp now.
+-- - Its settlement begins with the one so far.
 pub record EndsAt (s : HouseState) (now : ℕ) (log : Log) : Type 0 where
   pub last : Head
   pub moment : last.timestamp ≡ now
@@ -43,21 +45,21 @@ pub record EndsAt (s : HouseState) (now : ℕ) (log : Log) : Type 0 where
   pub entries : EntersAt now s.core.entries log.entries
   pub settlement : Begins s.core.settlement log.settlement
 
--- a fault of the closing at now: the clock's, which refuses the moment, or memory's
+-- a fault of the closing at now: the clock's, because now is too early, or memory's
 abbrev pub IsClosingFault : CoreState → ℕ → Fault → Type 0
 IsClosingFault core now f = ((f ≡ fault.ClockBack) × IsLate core now) ⊎ (f ≡ fault.Memory)
 
--- all that was settled stays, in its order, and what settled behind it has leaves of the moment now
+-- all settled items remain, in their order, and the entries added after them have the timestamp now
 abbrev pub KeepsSettled : ℕ → CoreState → CoreState → Type 0
 KeepsSettled now old new = EntersAt now old.entries new.entries × Begins old.settlement new.settlement
 
--- a shutdown stays, with the number that it found
+-- a shutdown remains, with its count
 abbrev pub KeepsCount : HouseState → HouseState → Type 0
 KeepsCount old new = (n : ℕ) → old.accepted ≡ Some n → new.accepted ≡ Some n
 
--- What a house with these fronts leaves that was closed at now: the log is final for what they accepted, goes on from what the
--- sequencer left, and no front was shown another log: what each has seen begins it. Where the sequencer was
--- shut before, the number that its shutdown found is that of what was accepted.
+-- The result of closing a house with these fronts at now. The log is final for the items that they accepted, and continues the sequencer's.
+-- The clock accepts now. No front was shown another log: each state that a front has seen is a prefix of the log. If the sequencer was shut
+-- before, its shutdown's count is the number of accepted submissions.
 pub record Closes (s : HouseState) (fronts : List FrontView) (now : ℕ) (left : FinalState) : Type 0 where
   pub final : IsFinal (accepted_lists fronts) left.accepted left.log
   pub counted : (n : ℕ) → s.accepted ≡ Some n → left.accepted ≡ n

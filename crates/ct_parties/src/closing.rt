@@ -12,7 +12,7 @@ use std::alloc::{AllocError, Global};
 use std::sync::Wait;
 use std::thread::Threads;
 
-// The fronts, retired, in order.
+// Retires the fronts, and returns them in order.
 fn retire_all(alloc: Global, fronts: Vec<Front>) -> Result<Vec<Retired>, AllocError>
     ensures { IfOk result (λ ends. ends.items ≡ fronts.items) }
 {
@@ -23,8 +23,7 @@ fn retire_all(alloc: Global, fronts: Vec<Front>) -> Result<Vec<Retired>, AllocEr
     Ok(ends)
 }
 
-// Shuts the log, settles all that the fronts had accepted, and publishes the last head. A log that the operator shut
-// stays shut.
+// Shuts the log, settles all items that the fronts had accepted, and publishes the last head. A log that the operator shut remains shut.
 fn settle_and_publish<H: Threads + Wait + Sync>(
     rt: &H,
     alloc: Global,
@@ -45,7 +44,7 @@ fn settle_and_publish<H: Threads + Wait + Sync>(
     sequencer.publish(rt, alloc, now)
 }
 
-// Closes the log at the moment `now`, with the ends of all of its fronts in order.
+// Closes the log at the timestamp `now`, with the ends of all of its fronts in order.
 fn close_ends<H: Threads + Wait + Sync>(
     rt: &H,
     alloc: Global,
@@ -67,8 +66,8 @@ fn close_ends<H: Threads + Wait + Sync>(
     }
 }
 
-/// Closes the log at the moment `now`, in milliseconds, with all of its fronts in order. A fault is `ClockBack`, where
-/// the clock refuses the moment, or `Memory`, and gives the house up.
+/// Closes the log at the timestamp `now`, in milliseconds, with all of its fronts in order. A fault is `ClockBack`, if the clock refuses
+/// the timestamp, or `Memory`. After a fault the house is given up.
 pub fn close<H: Threads + Wait + Sync>(
     rt: &H,
     alloc: Global,

@@ -1,4 +1,4 @@
-//! What a front does for its lines.
+//! A front's tasks for its lines.
 
 ghost use Rattle.std.specs.Prelude.{◌≡◌, map, true, IfOk, IfErr};
 ghost use Rattle.ct_codec.specs.Submitted.{x509, precert};
@@ -20,7 +20,7 @@ use std::alloc::{AllocError, Global};
 use std::sync::Wait;
 use std::thread::Threads;
 
-// Hands in a submission against which nothing stands, and rings where it is accepted.
+// Hands in a submission that nothing refuses in advance, and rings the front's bell if it is accepted.
 fn hand_in(front: &mut Front, submission: Submission, waiting: &Waiting) -> Result<Reply, Refusal>
     ensures hands_in { HandsIn front.old.intake submission (answered result) front.new.intake }
     ensures same { SameIntake front.old.intake front.new.intake }
@@ -64,7 +64,7 @@ fn submit_precert(
     hand_in(front, submission, waiting)
 }
 
-// Asks the published log.
+// Queries the published log.
 fn ask(alloc: Global, front: &mut Front, query: &Query) -> Result<Reply, Refusal>
     ensures looks { Looks front.old front.new }
     ensures shows { Shows front.new.sight.seen query.now (answered result) }
@@ -72,7 +72,7 @@ fn ask(alloc: Global, front: &mut Front, query: &Query) -> Result<Reply, Refusal
     front.ask(alloc, query)
 }
 
-// The size of the published log. A head isn't refused, but where no state is shown.
+// Returns the size of the published log. A head is refused only if no state is shown.
 fn published_size(alloc: Global, front: &mut Front) -> Result<u64, Refusal>
     ensures looks { Looks front.old front.new }
     ensures size { IfOk result (λ n. (h : Head) × Shows front.new.sight.seen GetSth (a_head h) × (n ≡ h.tree_size)) }
@@ -108,7 +108,7 @@ fn await_size<R: Wait>(
     Err(Refusal::Late)
 }
 
-/// Does what a line asks for. A line that waits ends after `waiting.turns` turns.
+/// Serves the request of a line. A line that waits gives up after `waiting.turns` turns.
 #[tactic(auto, using(crate::proofs::FrontLemmas::looks_on, crate::proofs::FrontLemmas::submits_on))]
 pub fn do_front_task<R: Wait>(
     rt: &R,

@@ -1,8 +1,7 @@
-//! The workers of a log in memory, its parties: what each front, the operator, and then the closed log do for lines of requests.
+//! The workers of a log in memory, its parties: each front, the operator, and then the closed log serve lines of requests.
 //!
 //! - `serving` is the one loop of a party, over a list of tasks.
-//! - `front_work` and `operator_work` do the tasks of a front and of the operator, and `waiting` is how a task waits for
-//!   another party.
+//! - `front_work` and `operator_work` do the tasks of a front and of the operator. With `waiting`, a task waits for another party.
 //! - `closing` closes the log.
 #![tactic(auto)]
 

@@ -1,4 +1,4 @@
-//! What the operator does for its lines.
+//! The operator's tasks for its lines.
 
 ghost use Rattle.std.specs.Prelude.{◌≤◌, ◌<◌, length};
 ghost use Rattle.ct_lines.specs.ReplyText.{answered};
@@ -16,14 +16,14 @@ use std::alloc::{AllocError, Global};
 use std::sync::Wait;
 use std::thread::Threads;
 
-/// How many items are settled at once.
+/// The maximum number of items that are settled at once.
 pub const BATCH: u64 = 256;
 
-// For how many items the operator waits at most before it looks whether there are any: to sleep once more costs more than to settle
-// one.
+// The maximum number of items for which the operator waits before it checks whether there are any. Another sleep costs more than settling
+// an item.
 const ENOUGH: u64 = 16;
 
-// Settles items of a front, so many at most and one at least, as soon as there are any.
+// Settles at least one and at most `most` items of a front, as soon as there are any.
 fn settle_some<R: Threads + Wait + Sync>(
     rt: &R,
     alloc: Global,
@@ -56,7 +56,7 @@ fn settle_some<R: Threads + Wait + Sync>(
     Err(Refusal::Late)
 }
 
-// How many of the items that are left are settled at once.
+// Returns how many of the remaining items are settled at once.
 fn batch_of(left: u64) -> u32
     requires { 0 < left }
     ensures { (0 < result) × (result ≤ 256) × (result ≤ left) }
@@ -88,7 +88,7 @@ fn sequence<R: Threads + Wait + Sync>(
     Ok(Reply::Settled(count))
 }
 
-// Publishes a head, and rings.
+// Publishes a head, and rings the bell.
 fn publish<R: Wait>(
     rt: &R,
     alloc: Global,
@@ -111,7 +111,7 @@ fn shut(sequencer: &mut Sequencer) -> Result<Reply, Refusal>
     Ok(Reply::Accepted(accepted))
 }
 
-/// Does what a line asks for. A line that waits ends after `waiting.turns` turns in a row in which nothing came.
+/// Does the task of a line. A line that waits gives up after `waiting.turns` turns in a row in which no item arrived.
 pub fn do_operator_task<R: Threads + Wait + Sync>(
     rt: &R,
     alloc: Global,

@@ -1,4 +1,4 @@
-//! Tasks done in turn: a party does each task of a list, and its replies follow each other.
+//! Tasks done in turn: a party does each task of a list, and its replies follow one another.
 
 ghost use Rattle.std.specs.Prelude.{ℕ, List, IfOk, OnOk, OnErr};
 ghost use denote.Param.Send.{IsSync};
@@ -9,13 +9,13 @@ use std::alloc::{AllocError, Global};
 use std::sync::Wait;
 use std::thread::Threads;
 
-/// Who does tasks, and replies to each.
+/// Does tasks, and replies to each.
 pub trait Party<T> {
-    /// From the party before, a task and a reply to the party then: whether it may do so.
+    /// Relates the party before, a task, a reply and the party after: whether the party may do so.
     ghost does: { Self → T → List ℕ → Self → Type 0 };
 
-    /// Does a task. It answers the reply, or that a growth was refused. A task that waits ends after `waiting.turns` turns. What
-    /// it requires is its bound `R: Sync`, which an implementation's proof doesn't see otherwise.
+    /// Does a task, and returns the reply, or an error if memory was refused. A task that waits gives up after `waiting.turns` turns. Its
+    /// requirement is its bound `R: Sync`, which an implementation's proof does not see otherwise.
     fn reply<R: Threads + Wait + Sync>(
         &mut self,
         rt: &R,
@@ -27,11 +27,11 @@ pub trait Party<T> {
         ensures { IfOk result (λ r. does self.old task r.items self.new) };
 }
 
-/// Has a party do these tasks in their order. Its replies follow those that `replies` has.
+/// Has a party do these tasks in their order. Its replies are appended to `replies`.
 ///
 /// # Errors
 ///
-/// A growth was refused. Then `replies` has the replies to some first tasks, and the party was given at most one task more.
+/// Memory was refused. Then `replies` has the replies to some first tasks, and the party was given at most one more task.
 pub fn serve_all<T: Drop, P: Party<T>, R: Threads + Wait + Sync>(
     rt: &R,
     alloc: Global,

@@ -1,7 +1,7 @@
-//! How a line waits for another party: it glances at that party's bell some times in a row, and then sleeps until the
-//! bell was rung often enough. It looks again after that, and after each sleep that nobody ended. A turn of the line is a look at the
-//! bell, which says whether anything has happened since. Each front has a bell of its own: the operator waits for one front at a time,
-//! and the others do not wake it.
+//! A line waits for another party at that party's bell. It glances at the bell several times in a row, and then sleeps until the bell was
+//! rung often enough. It looks again after that, and after each sleep that ended by itself. A turn of the line is a look at the bell, which
+//! shows whether anything has happened since. Each front has a bell of its own: the operator waits for one front at a time, and the others
+//! do not wake it.
 
 ghost use Rattle.std.specs.Prelude.{◌≡◌, ◌<◌, ◌≤◌, ◌+◌, ◌-◌, ◌^◌};
 
@@ -11,37 +11,37 @@ use std::sync::Wait;
 use std::sync::atomic::{AtomicBool, AtomicU64, Ordering};
 use std::time::Duration;
 
-// So often a line that waits for a head glances at the bell, a load of a word, before it sleeps, and so many milliseconds it
-// sleeps at most. Before a head comes, the operator settles what all fronts have accepted: so it sleeps at once.
+// How often a line that waits for a head glances at the bell (each time a load of a word) before it sleeps, and the maximum number of
+// milliseconds that it sleeps. Before a head comes, the operator settles everything that all fronts have accepted, so the line sleeps at
+// once.
 const GLANCES_FOR_HEADS: u64 = 0;
 
 const MILLISECONDS_FOR_HEADS: u64 = 4;
 
-// The same of the operator, who waits for a front. One that is at work rings within microseconds.
+// The same for the operator, which waits for a front. A front that is working rings within microseconds.
 const GLANCES_FOR_FRONT: u64 = 64;
 
 const MILLISECONDS_FOR_FRONT: u64 = 1;
 
-// So often a line looks at the bell after a sleep that nobody ended, a load of a word each time.
+// The maximum number of looks at the bell after a sleep, each a load of a word. All of them are made only if nobody rang.
 const LOOKS: u64 = 16_384;
 
-// How many fronts have a bell.
+// The number of fronts that have a bell.
 const FRONTS: usize = 16;
 
 /// A bell that one party rings, and at which others wait until it was rung often enough.
 #[derive(Drop)]
 pub struct Bell {
-    // How often who waits glances before it sleeps, and for how many milliseconds.
+    // How often a waiting line glances before it sleeps, and for how many milliseconds it sleeps.
     glances: u64,
     milliseconds: u64,
     rung: AtomicU64,
-    // How often it has to have been rung for who sleeps to be woken, and 0 where nobody sleeps: the least number where these
-    // differ.
+    // The number of rings at which a sleeping line must be woken, or 0 if none sleeps. If these numbers differ, it is the least.
     awaited: AtomicU64,
 }
 
 impl Bell {
-    // A bell that wasn't rung.
+    // Returns a bell that was not rung.
     fn new(glances: u64, milliseconds: u64) -> Bell {
         Bell {
             glances,
@@ -51,13 +51,12 @@ impl Bell {
         }
     }
 
-    /// How often it was rung.
+    /// Returns how often it was rung.
     pub fn rung(&self) -> u64 {
         self.rung.load(Ordering::SeqCst)
     }
 
-    /// Rings, and wakes who sleeps until it was rung so often. Where nobody does, it is two steps on words, and no call of the
-    /// system.
+    /// Rings, and wakes the lines that sleep until it was rung this often. If none sleeps, this is two steps on words, and no system call.
     pub fn ring(&self) {
         let rung = self.rung.fetch_add(1, Ordering::SeqCst).wrapping_add(1);
         let awaited = self.awaited.load(Ordering::SeqCst);
@@ -67,8 +66,8 @@ impl Bell {
         }
     }
 
-    // Sleeps until the bell was rung so often, or for as long as one sleeps here. No ring is missed: who rings looks at what is
-    // awaited behind its ring, and the sleep ends where that isn't what it was.
+    // Sleeps until the bell was rung this often, or for the maximum time. No ring is missed: the ringing thread reads `awaited` after its
+    // ring, and the sleep ends if `awaited` has changed.
     fn sleep<R: Wait>(&self, rt: &R, until: u64) {
         let awaited = self.awaited.load(Ordering::SeqCst);
         let least = if awaited > 0 {
@@ -86,7 +85,7 @@ impl Bell {
         }
     }
 
-    // Whether it was rung so often at one of some glances in a row.
+    // Reports whether the bell had been rung this often at one of several glances in a row.
     fn is_rung(&self, until: u64) -> bool {
         for _ in 0..self.glances {
             if self.rung() >= until {
@@ -97,7 +96,7 @@ impl Bell {
         false
     }
 
-    // Looks at the bell until it was rung since, at most so many times, and answers how often it looked.
+    // Looks at the bell until it was rung since, at most `LOOKS` times, and returns how often it looked.
     fn looks(&self, seen: u64) -> u64
         ensures some { 0 < result }
         ensures few { result ≤ 16384 }
@@ -110,8 +109,8 @@ impl Bell {
         LOOKS
     }
 
-    /// Ends turns of a line that waits until the bell was rung `more` times, and answers the next turn's number. `seen` is how
-    /// often the bell was rung before the line looked. Each look at the bell is a turn.
+    /// Waits until the bell was rung `more` times, or for the maximum time, and returns the number of the next turn. `seen` is how often
+    /// the bell was rung before the line looked. Each look at the bell is a turn.
     pub fn wait_turn<R: Wait>(&self, rt: &R, turn: u64, seen: u64, more: u64) -> u64
         ensures later { turn < 2 ^ 64 - 1 → turn < result }
         ensures some { result ≤ turn + 16384 }
@@ -127,18 +126,18 @@ impl Bell {
 /// How the lines of a run wait for one another.
 #[derive(Drop)]
 pub struct Waiting {
-    /// How many turns a line waits at most.
+    /// The maximum number of turns that a line waits.
     pub turns: u64,
     /// Rung when a head was published.
     pub heads: Bell,
-    // A front's is rung when it accepted a submission.
+    // The bell of each front, rung when the front accepted a submission.
     accepted: [Bell; FRONTS],
-    // Whether a thread of the run didn't start, or had no memory: then no line waits any more.
+    // Whether a thread of the run could not be started, or had no memory: then no line waits any more.
     ended: AtomicBool,
 }
 
 impl Waiting {
-    /// Lines that wait so many turns, with bells that weren't rung.
+    /// Returns the state for lines that wait this many turns, with bells that were not rung.
     pub fn new(turns: u64) -> Waiting
         ensures { result.turns ≡ turns }
     {
@@ -150,17 +149,17 @@ impl Waiting {
         }
     }
 
-    /// The bell of the front with this number, rung when it accepted a submission.
+    /// Returns the bell of the front with this number, which is rung when the front accepted a submission.
     pub fn accepted(&self, front: u16) -> &Bell {
         &self.accepted[usize::from(front) % FRONTS]
     }
 
-    /// Has no line wait any more.
+    /// Stops all waiting: no line waits any more.
     pub fn end(&self) {
         self.ended.store(true, Ordering::SeqCst);
     }
 
-    /// Whether no line waits any more.
+    /// Reports whether waiting was stopped.
     pub fn is_over(&self) -> bool {
         self.ended.load(Ordering::SeqCst)
     }

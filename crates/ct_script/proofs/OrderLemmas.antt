@@ -7,11 +7,11 @@ use Rattle.std.specs.Prelude.{Some, slice_get}
 use Rattle.std.specs.Option.{option_map}
 use Rattle.ct_house.specs.House.{FrontView, AreInOrder, numbers_of}
 
--- fronts in order: their number
+-- the number of fronts that are in order
 pub order_count : (n : ℕ) (fronts : List FrontView) → AreInOrder n fronts → length fronts ≡ n
 order_count n fronts o = sym (length-map fronts (λ (f : FrontView). f.intake.number)) ∙ ap length o ∙ length-range_with_len 0 n
 
--- fronts in order: the number of each is its place
+-- if fronts are in order, the number of each is its index
 pub order_at : (n : ℕ) (fronts : List FrontView) (k : ℕ) (f : FrontView) → AreInOrder n fronts → slice_get fronts k ≡ Some f → f.intake.number ≡ k
 order_at n fronts k f o at =
     let below = slice_get_within fronts k f at in

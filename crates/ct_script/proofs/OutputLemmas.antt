@@ -1,4 +1,4 @@
--- What was written, piece by piece.
+-- The written output, piece by piece.
 use Rattle.std.proofs.Common.{◌≡◌, ◌<◌, ◌≤◌, ◌+◌, ℕ, List, [], ◌∷◌, ◌++◌, length, map, take, drop, get_or, refl, sym, ap, subst, ◌∙◌, append-nil, inl, inr, arith}
 use Rattle.std.proofs.Common.{append_assoc, length-append, take_all, take-append-drop}
 use Rattle.std.proofs.lemmas.List.{drop_at, map-append, take_at, take_more}
@@ -31,12 +31,12 @@ use Rattle.ct_tasks.specs.Tasks.{Step, does, ends_shift, for_front, for_frozen, 
 use Rattle.ct_tasks.specs.Steps.{frozen_line, frozen_lines, AreWhole, IsWholeLine}
 use Rattle.std.proofs.KnownBytes.{Appends-trans, Appends-kept}
 
--- what holds of the error, and in that case
+-- a fact about the error, together with a fact that holds if there is an error
 pub if_err_both : {T E : Type 0} (P : E → Type 0) (Q : Type 0) (R : E → Type 0) (r : Result T E) → ((e : E) → P e → Q → R e) → IfErr r P → OnErr r Q → IfErr r R
 if_err_both P Q R (Ok o) f p q = tt
 if_err_both P Q R (Err e) f p q = f e p q
 
--- all replies: the parties', and then those of the closed log
+-- all replies: the parties' replies, followed by those of the closed log
 pub writes_all : (start : Parties) (shifts : List Shift) (last : Work) (lines : List ℕ) (close_at : ℕ) (old mid new : Option (List ℕ))
     (sequencer : HouseState) (after : List FrontView)
     (text : List ℕ) (log : Log) → PartiesServe start shifts last sequencer after text → IsClosed sequencer after close_at log → Appends old mid text
@@ -98,7 +98,7 @@ pub frozen_whole : (log : Log) (lines : List ℕ) (old new : Option (List ℕ)) 
     × SomeReplies log lines written × Appends old new written
 frozen_whole log lines old new sent = (frozen_text log lines, inl refl, sent)
 
--- one reply more
+-- one more reply
 pub replies_more : (log : Log) (rs : List FrozenRequest) (i : ℕ) (r : FrozenRequest) (old mid new : Option (List ℕ)) → i < length rs → r ≡ get_or rs i r
     → Appends old mid (concat (map (request_reply log) (take i rs))) → Appends mid new (request_reply log r)
     → Appends old new (concat (map (request_reply log) (take (i + 1) rs)))
@@ -114,7 +114,7 @@ short_on : (next text : List ℕ) (texts : List (List ℕ)) → IsShort next (te
 short_on [] text texts short = tt
 short_on (b ∷ bs) text texts short = short
 
--- whole texts, and a proper beginning of the next
+-- whole texts, and a proper prefix of the next
 cut_at : (whole later : List (List ℕ)) (next : List ℕ) → IsShort next later → IsCutOff (whole ++ later) (concat whole ++ next) (length whole)
 cut_at whole later next short =
     let size = length-append whole later in

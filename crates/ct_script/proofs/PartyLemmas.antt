@@ -1,4 +1,4 @@
--- What the fronts and the operator leave of a shift, one front after the other.
+-- The results of a shift for the fronts and the operator, one front after the other.
 use Rattle.std.proofs.Common.{◌≡◌, ℕ, List, [], ◌∷◌, ◌++◌, length, map, sym, subst, reverse}
 use Rattle.std.specs.Global.{Global}
 use Rattle.std.specs.Prelude.{Vec, Result, Ok, OnOk}
@@ -12,11 +12,11 @@ use Rattle.ct_tasks.specs.declared.plan.Work.{Work}
 use Rattle.ct_tasks.proofs.PlanLemmas.{all_zip_more}
 use Rattle.ct_lines.specs.declared.request.FrontRequest.{FrontRequest}
 
--- what holds where a result is Ok holds of one that is
+-- a fact that holds if a result is Ok holds for a result that is Ok
 pub on_ok_is : {T E : Type 0} {P : Type 0} {r : Result T E} {x : T} → r ≡ Ok x → OnOk r P → P
 on_ok_is {P} is p = subst (λ (r : _). OnOk r P) is p
 
--- fronts that have their tasks with them did them
+-- fronts that were paired with their tasks did them
 pub did_shift : (shifts : List FrontShift) (after : List FrontParty) → FrontsDo shifts after
     → FrontsDoShift (map (λ (s : FrontShift). s.party) shifts) (map (λ (s : FrontShift). s.tasks) shifts) after
 did_shift [] [] all = tt
@@ -24,7 +24,7 @@ did_shift [] (b ∷ after) all = absurd all
 did_shift (s ∷ shifts) [] all = absurd all
 did_shift (s ∷ shifts) (b ∷ after) (first, rest) = (first, did_shift shifts after rest)
 
--- and went on
+-- these fronts continued
 pub shift_same : (before : List FrontParty) (work : List (Vec FrontRequest Global)) (after : List FrontParty) → FrontsDoShift before work after
     → AllGoOn (fronts_of before) (fronts_of after)
 shift_same [] [] [] all = tt
@@ -34,7 +34,7 @@ shift_same (a ∷ before) [] after all = absurd all
 shift_same (a ∷ before) (w ∷ work) [] all = absurd all
 shift_same (a ∷ before) (w ∷ work) (b ∷ after) (first, rest) = (first.goes_on, shift_same before work after rest)
 
--- where the threads of a shift left these fronts, all parties did their work
+-- if the threads of a shift returned these fronts, all parties did their work
 pub does_shift : (house after : HouseState) (told more : List ℕ) (parties : List FrontParty) (work : Work) (shifts : List FrontShift)
     (v : Vec FrontParty Global) → map (λ (s : FrontShift). s.party) shifts ≡ parties → map (λ (s : FrontShift). s.tasks) shifts ≡ work.fronts.items
     → FrontsDo shifts v.items → OperatorServes house work.operator.items told after more → GoesOn house after
@@ -46,7 +46,7 @@ does_shift house after told more parties work shifts v own tasks all serves on =
   goes_on = on;
 }
 
--- one front more
+-- one more front
 pub fronts_do_more : (shifts : List FrontShift) (after all : List FrontParty) (s : FrontShift) (b : FrontParty) → FrontsDo shifts after
     → FrontDoesShift s.party s.tasks.items b → all ≡ after ++ b ∷ []
     → FrontsDo (shifts ++ s ∷ []) all
@@ -54,7 +54,7 @@ fronts_do_more shifts after all s b done one is =
     subst (λ (l : List FrontParty). FrontsDo (shifts ++ s ∷ []) l) (sym is)
     (all_zip_more (λ (x : FrontShift) (y : FrontParty). FrontDoesShift x.party x.tasks.items y) shifts after s b done one)
 
--- the fronts and the tasks that are left, and those that were put together of the others, the last one first
+-- the fronts and tasks that are left, and the pairs made of the others, the last one first
 pub record Pairing (parties left : List FrontParty) (tasks own : List (Vec FrontRequest Global)) (shifts : List FrontShift) : Type 0 where
   pub all_parties : parties ≡ left ++ map (λ (s : FrontShift). s.party) (reverse shifts)
   pub all_tasks : tasks ≡ own ++ map (λ (s : FrontShift). s.tasks) (reverse shifts)

@@ -25,7 +25,7 @@ use Rattle.ct_script.proofs.PartyLemmas.{shift_same}
 
 -- ---- front after front
 
--- these fronts went on: all that they had accepted is settled
+-- these fronts were resumed: everything that they had accepted is settled
 pub record Going (old new : HouseState) (done : List FrontView) (now : ℕ) : Type 0 where
   pub more : (xs : List Item) × SettlesMore old new xs now
   pub drained : (k : ℕ) (f : FrontView) → slice_get done k ≡ Some f → slice_get new.lanes k ≡ Some (drained_lane f)
@@ -42,7 +42,7 @@ going_none s now = record {
   time = λ some. absurd (omega arith);
 }
 
--- an element of a list with one more
+-- an element of a list with one more element
 at_more : {A : Type 0} (xs : List A) (x : A) (k : ℕ) (y : A) → slice_get (xs ++ x ∷ []) k ≡ Some y → (slice_get xs k ≡ Some y) ⊎ ((k ≡ length xs) × (y ≡ x))
 at_more [] x zero y at = inr (refl, sym (same_Some x y at))
 at_more [] x (suc k) y at = absurd (let past : k < 0 = slice_get_within [] k y at in omega arith)
@@ -79,7 +79,7 @@ going_all old new fronts now g i = (
   g.in_time i.some,
 )
 
--- the front behind those that went on has the next number
+-- the front after those that were resumed has the next number
 pub next_number : (s : HouseState) (all done : List FrontParty) (p : FrontParty) (rest : List FrontParty) → AreFrontsOf s (fronts_of all)
     → all ≡ done ++ p ∷ rest → p.front.intake.number ≡ length (fronts_of done)
 next_number s all done p rest i e =
@@ -90,7 +90,7 @@ next_number s all done p rest i e =
     here [] = refl
     here (x ∷ xs) = here xs
 
--- what holds of all holds of one between others
+-- a fact about all elements holds for one between others
 pub all_between : {A : Type 0} (P : A → Type 0) (all before : List A) (x : A) (rest : List A) → All P all → all ≡ before ++ x ∷ rest → P x
 all_between {A = A} P all before x rest own e = go before (subst (All P) e own)
   where
@@ -116,7 +116,7 @@ successors_same published (a ∷ before) (b ∷ after) (first, rest) = (
   successors_same published before after rest,
 )
 
--- the fronts of the house stay its fronts
+-- the fronts of the house remain its fronts
 abbrev Stay : Parties → Parties → Type 0
 Stay a b = (AreFrontsOf a.house (fronts_of a.fronts) → AreFrontsOf b.house (fronts_of b.fronts)) × (length b.house.lanes ≡ length a.house.lanes)
 
@@ -148,7 +148,7 @@ shifts_stay number a b (s ∷ more) (m, n, work, ended, rest) =
 pub does_stay : (a b : Parties) (w : Work) → DoesShift a w b → AreFrontsOf a.house (fronts_of a.fronts) → AreFrontsOf b.house (fronts_of b.fronts)
 does_stay a b w d = (stay_shift a b w d).0
 
--- one shift more
+-- one more shift
 pub do_shifts_more : (number last : ℕ) (a b m n : Parties) (done : List Shift) (s : Shift) → DoShifts number a done b → DoesShift b s.work m
     → last ≡ number + length done → EndsShift last s.now m n
     → DoShifts number a (done ++ s ∷ []) n
@@ -159,11 +159,11 @@ do_shifts_more number last a b m n (t ∷ done) s (x, y, first, one, rest) work 
     let k : last ≡ (number + 1) + length done = omega (arith, is) in
     (x, y, first, one, do_shifts_more (number + 1) last y b m n done s rest work k ended)
 
--- as many fronts as lanes
+-- there are as many fronts as lanes
 pub lanes_count : (s : HouseState) (parties : List FrontParty) → AreFrontsOf s (fronts_of parties) → length parties ≡ length s.lanes
 lanes_count s parties i = sym (length-map parties (λ (p : FrontParty). p.front)) ∙ order_count (length s.lanes) (fronts_of parties) i.in_order
 
--- a shift that couldn't end
+-- a shift that could not end
 pub shift_refused : (start begun end : Parties) (shifts done : List Shift) (s : Shift) (rest : List Shift) (e : Fault) → DoShifts 1 start done begun
     → DoesShift begun s.work end → shifts ≡ done ++ s ∷ rest
     → IsEndRefused end.house s.now e → IsShiftFault start shifts e
@@ -182,14 +182,14 @@ shift_refused start begun end shifts done s rest e before work is (inr clock) = 
   },
 )
 
--- the next front is of the house
+-- the next front belongs to the house
 pub next_of_house : (s : HouseState) (all done : List FrontParty) (p : FrontParty) (rest : List FrontParty) → AreFrontsOf s (fronts_of all)
     → all ≡ done ++ p ∷ rest → IsOfHouse s.house p.front
 next_of_house s all done p rest i e =
     all_between (IsOfHouse s.house) (fronts_of all) (fronts_of done) p.front (fronts_of rest) i.of_house
     (ap fronts_of e ∙ map-append (λ (q : FrontParty). q.front) done (p ∷ rest))
 
--- as many fronts as the next shift has lists for
+-- there are as many fronts as lists in the next shift
 pub next_count : (n number : ℕ) (a b : Parties) (shifts done : List Shift) (s : Shift) (rest : List Shift) → AreFrontsOf a.house (fronts_of a.fronts)
     → DoShifts number a done b → All (λ (t : Shift). length t.work.fronts.items ≡ n) shifts
     → n ≡ length a.fronts → shifts ≡ done ++ s ∷ rest → length s.work.fronts.items ≡ length b.fronts

@@ -7,7 +7,7 @@ use Rattle.ct_script.specs.declared.party.FrontParty.{FrontParty}
 use Rattle.ct_script.specs.Parties.{Parties, fronts_of}
 use Rattle.ct_script.specs.Output.{AreNewParties}
 
--- a new house's fronts are all its fronts
+-- the fronts of a new house are all its fronts
 pub new_fronts : (n places open_at : ℕ) (start : Parties) → AreNewParties n places open_at start → 0 < n → AreFrontsOf start.house (fronts_of start.fronts)
 new_fronts n places open_at start i some = record {
   of_house = new_of_house start.house (fronts_of start.fronts) n places open_at i.fresh;
@@ -15,6 +15,6 @@ new_fronts n places open_at start i some = record {
   some = subst (λ (k : ℕ). 0 < k) (sym i.fresh.count) some;
 }
 
--- and as many
+-- the number of fronts of a new house
 pub new_count : (n places open_at : ℕ) (start : Parties) → AreNewParties n places open_at start → n ≡ length start.fronts
 new_count n places open_at start i = sym i.fresh.count ∙ length-map start.fronts (λ (p : FrontParty). p.front)

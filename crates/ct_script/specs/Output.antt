@@ -1,4 +1,4 @@
--- What is written for an input.
+-- The output for an input.
 use Rattle.std.specs.Prelude.{◌≡◌, ◌⊎◌, ℕ, List, [], ◌∷◌, ◌++◌, Option}
 use Rattle.std.specs.List.{AllByRecursion, AllZip, flat_map}
 use Rattle.std.specs.Io.KnownBytes.{Appends}
@@ -23,23 +23,23 @@ use Rattle.ct_script.specs.Parties.{Parties, IsPartyFault, all_replies, fronts_o
 use Rattle.ct_script.specs.Shifts.{IsShiftFault, PartiesServe}
 use Rattle.json_lines.specs.Sends.{SendsSome}
 
--- the parties of a new house with so many fronts, each with so many places, opened at this moment: nobody has replied to anything
+-- the parties of a new house with n fronts and rings of this capacity, opened at this timestamp: no party has replied to anything
 pub record AreNewParties (n places open_at : ℕ) (start : Parties) : Type 0 where
   pub fresh : IsNewHouse start.house (fronts_of start.fronts) n places open_at
   pub silent : all_replies start ≡ []
 
--- the log is what this sequencer and these fronts leave, closed at this moment, after so many submissions were accepted
+-- the log is the result of closing this sequencer and these fronts at this timestamp
 pub record IsClosed (sequencer : HouseState) (after : List FrontView) (close_at : ℕ) (log : Log) : Type 0 where
   pub accepted : ℕ
   pub closes : Closes sequencer after close_at (record { log = log; accepted = accepted })
 
--- some of the replies of the closed log to these lines: those to a beginning of the lines, and of these so many whole ones
--- and at most a proper beginning of the next; or all
+-- Some of the closed log's replies to these lines. Either all of them are written, or replies to a prefix of the lines: k whole ones, and
+-- at most a proper prefix of the next.
 abbrev pub SomeReplies : Log → List ℕ → List ℕ → Type 0
 SomeReplies log lines written =
     (written ≡ frozen_text log lines) ⊎ ((read : List ℕ) × (k : ℕ) × Begins read lines × IsCutOff (frozen_replies log read) written k)
 
--- the bytes are lines that are these requests to the frozen log, in order: each line has its end, and none is empty
+-- the bytes are lines that are these requests to the frozen log, in order: each line has its end byte, and none is empty
 abbrev pub AreFrozenLines : List FrozenRequest → List ℕ → Type 0
 AreFrozenLines requests bytes =
     (lines : List (List ℕ)) × AllZip IsFrozenLine requests lines × AllByRecursion IsWholeLine lines × (bytes ≡ flat_map (λ line. line ++ 10 ∷ []) lines)
@@ -48,12 +48,12 @@ AreFrozenLines requests bytes =
 abbrev pub request_reply : Log → FrozenRequest → List ℕ
 request_reply log r = reply_line (frozen_answer log (frozen_asked r))
 
--- a fault that may come while the closed log answers requests
+-- a fault that is possible while the closed log answers requests
 abbrev pub IsFrozenFault : Fault → Type 0
 IsFrozenFault f = (f ≡ Write) ⊎ (f ≡ Memory)
 
--- All replies were written. The parties did their tasks, shift after shift, whatever the order between them in a shift, and left
--- this sequencer and these fronts, and the text is of their replies; then the log was closed, and its replies were written.
+-- All replies were written. The parties did their tasks, shift after shift, in any order between them within a shift. This led to this
+-- sequencer and these fronts, and the text is that of their replies. Then the log was closed, and its replies were written.
 pub record WritesAll (start : Parties) (shifts : List Shift) (last : Work) (lines : List ℕ) (close_at : ℕ) (old new : Option (List ℕ)) : Type 0 where
   pub sequencer : HouseState
   pub after : List FrontView
@@ -63,8 +63,12 @@ pub record WritesAll (start : Parties) (shifts : List Shift) (last : Work) (line
   pub closed : IsClosed sequencer after close_at log
   pub written : Appends old new (text ++ frozen_text log lines)
 
--- What was written before this fault: nothing, where the parties didn't end, or the clock refused a shift's end; a beginning of their replies, where the writer
--- failed; all of these, where the log wasn't closed; or all of these, and some of the closed log's.
+-- The output before this fault:
+--
+-- - nothing, if the parties did not finish, or the clock refused a shift's end;
+-- - a prefix of the parties' replies, if the writer failed;
+-- - all of these, if the log was not closed;
+-- - all of these, and some of the closed log's replies.
 pub data WritesSome (start : Parties) (shifts : List Shift) (last : Work) (lines : List ℕ) (close_at : ℕ) (f : Fault) (old new : Option (List ℕ)) : Type 0 where
   nothing_written : IsShiftFault start shifts f → Appends old new [] → WritesSome start shifts last lines close_at f old new
   parties_begun : (sequencer : HouseState) (after : List FrontView) (text : List ℕ) → f ≡ Write → PartiesServe start shifts last sequencer after text
@@ -76,8 +80,8 @@ pub data WritesSome (start : Parties) (shifts : List Shift) (last : Work) (lines
       → PartiesServe start shifts last sequencer after text → IsClosed sequencer after close_at log → SomeReplies log lines written
       → Appends old new (text ++ written) → WritesSome start shifts last lines close_at f old new
 
--- All replies to the input were written, by a new house with so many fronts and places, opened and closed at these moments: the
--- steps that its lines ask for were given out, shift by shift.
+-- All replies to the input were written, by a new house with n fronts and rings of this capacity, opened and closed at these timestamps.
+-- The steps of the input's lines were assigned to the parties, shift by shift.
 pub record IsServed (n places open_at close_at : ℕ) (input old new : Option (List ℕ)) : Type 0 where
   pub steps : List Step
   pub shifts : List Shift
@@ -88,11 +92,11 @@ pub record IsServed (n places open_at close_at : ℕ) (input old new : Option (L
   pub of_house : AreNewParties n places open_at start
   pub written : WritesAll start shifts last (frozen_lines steps) close_at old new
 
--- a fault before the parties begin, or of theirs
+-- a fault before the parties start, or a fault of the parties
 abbrev pub IsEarlyFault : Fault → Type 0
 IsEarlyFault f = (f ≡ Read) ⊎ IsPartyFault f
 
--- what was written before this fault: nothing, or a beginning of all replies
+-- the output before this fault: nothing, or a prefix of all replies
 pub data IsBegun (n places open_at close_at : ℕ) (f : Fault) (input old new : Option (List ℕ)) : Type 0 where
   not_begun : IsEarlyFault f → Appends old new [] → IsBegun n places open_at close_at f input old new
   begun : (steps : List Step) (shifts : List Shift) (last : Work) (start : Parties) → AreStepsOf n input steps → AreShiftsOf n shifts last steps

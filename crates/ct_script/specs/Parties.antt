@@ -1,4 +1,4 @@
--- What the fronts and the operator do in a shift, and what they leave.
+-- The work of the fronts and the operator in a shift, and its result.
 use Rattle.std.specs.Prelude.{◌≡◌, ◌⊎◌, ℕ, List, [], ◌∷◌, ◌++◌, map, Vec}
 use Rattle.std.specs.Global.{Global}
 use Rattle.std.specs.List.{AllZip, flat_map}
@@ -22,11 +22,11 @@ pub record Parties : Type 0 where
 abbrev pub fronts_of : List FrontParty → List FrontView
 fronts_of parties = map (λ (p : FrontParty). p.front) parties
 
--- all replies so far: front by front, and then the operator's
+-- all replies so far: those of each front in order, and then the operator's
 abbrev pub all_replies : Parties → List ℕ
 all_replies p = flat_map (λ (f : FrontParty). f.replies.items) p.fronts ++ p.told
 
--- a front does its tasks in turn, with its replies behind those so far, and went on
+-- a front does its tasks in turn, appends its replies to those so far, and continues
 pub record FrontDoesShift (a : FrontParty) (tasks : List FrontRequest) (b : FrontParty) : Type 0 where
   pub serves : FrontServes a.front tasks a.replies.items b.front b.replies.items
   pub goes_on : FrontGoesOn a.front b.front
@@ -37,17 +37,17 @@ FrontsDoShift [] [] [] = Unit {0}
 FrontsDoShift (a ∷ before) (ts ∷ work) (b ∷ after) = FrontDoesShift a ts.items b × FrontsDoShift before work after
 FrontsDoShift _ _ _ = ⊥
 
--- the same of fronts that have their tasks with them
+-- the same for fronts that are paired with their tasks
 abbrev pub FrontsDo : List FrontShift → List FrontParty → Type 0
 FrontsDo shifts after = AllZip (λ (s : FrontShift) (b : FrontParty). FrontDoesShift s.party s.tasks.items b) shifts after
 
--- All parties do the work of a shift, whatever the order between them: each front its tasks, and the operator its own, over the
--- house, which went on.
+-- All parties do the work of a shift, in any order between them: each front does its tasks, and the operator its own, on the house, which
+-- continues.
 pub record DoesShift (a : Parties) (work : Work) (b : Parties) : Type 0 where
   pub fronts : FrontsDoShift a.fronts work.fronts.items b.fronts
   pub operated : OperatorServes a.house work.operator.items a.told b.house b.told
   pub goes_on : GoesOn a.house b.house
 
--- a thread didn't start, or there was no memory
+-- a thread could not be started, or there was no memory
 abbrev pub IsPartyFault : Fault → Type 0
 IsPartyFault f = (f ≡ Threads) ⊎ (f ≡ Memory)

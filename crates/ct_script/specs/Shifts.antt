@@ -1,5 +1,5 @@
--- What the fronts and the operator do over shifts. A shift ends when all have done what they had to do in it; then each front goes
--- on in a new holder, and the next shift begins.
+-- The work of the fronts and the operator over several shifts. A shift ends when all parties have done their tasks in it. Then each front
+-- is resumed by a new holder, and the next shift starts.
 use Rattle.std.specs.Prelude.{◌≡◌, ◌<◌, ◌≤◌, ◌⊎◌, ◌+◌, ℕ, List, [], ◌∷◌, ◌++◌}
 use Rattle.std.specs.List.{AllZip}
 use Rattle.ct_codec.specs.declared.item.Item.{Item}
@@ -17,18 +17,18 @@ use Rattle.ct_tasks.specs.declared.plan.Shift.{Shift}
 use Rattle.ct_tasks.specs.declared.plan.Work.{Work}
 use Rattle.ct_script.specs.Parties.{Parties, DoesShift, IsPartyFault, all_replies, fronts_of}
 
--- a front's successor, once this log is published: its end of the gate is the same, with all that was accepted there; it has seen what the
--- front had seen, and has learnt of that log
+-- a front's successor, after this log is published: its end of the gate is the same, with everything accepted there; it has seen the states
+-- that the front had seen, and has learned of that log
 pub record IsSuccessor (published : Log) (a b : FrontView) : Type 0 where
   pub intake : b.intake ≡ a.intake
   pub sight : Moves a.sight b.sight
   pub learnt : Extends published b.sight.seen
 
--- the front goes on in its successor, and keeps its replies
+-- the front is resumed as its successor, and keeps its replies
 abbrev pub Succeeds : Log → FrontParty → FrontParty → Type 0
 Succeeds published a b = IsSuccessor published a.front b.front × (b.replies ≡ a.replies)
 
--- The shift ends at now, and the one with this number begins: all that the fronts had accepted is settled, each front goes on,
+-- The shift ends at now, and the one with this number starts. Everything that the fronts had accepted is settled, each front is resumed,
 -- and the operator's reply is the number.
 pub record EndsShift (number now : ℕ) (a b : Parties) : Type 0 where
   pub settled : (xs : List Item) × SettlesMore a.house b.house xs now
@@ -37,13 +37,13 @@ pub record EndsShift (number now : ℕ) (a b : Parties) : Type 0 where
   pub fronts : AllZip (Succeeds a.house.core.published) a.fronts b.fronts
   pub told : b.told ≡ a.told ++ reply_line (a_shift number)
 
--- these shifts are done one after the other, and each ends; the first that begins has this number
+-- these shifts are done one after the other, and each ends; `number` is the number of the shift that starts after the first of them
 abbrev pub DoShifts : ℕ → Parties → List Shift → Parties → Type 0
 DoShifts number a [] b = b ≡ a
 DoShifts number a (s ∷ more) b = (m n : Parties) × DoesShift a s.work m × EndsShift number s.now m n × DoShifts (number + 1) n more b
 
--- These shifts are done, and then the last work. They leave this sequencer and these fronts, and the text is of all replies: front by
--- front, each front's over all shifts, and then the operator's.
+-- These shifts are done, and then the last work, which leads to this sequencer and these fronts. The text is that of all replies: those of
+-- each front in order, over all shifts, and then the operator's.
 pub record PartiesServe (start : Parties) (shifts : List Shift) (last : Work) (sequencer : HouseState) (after : List FrontView) (text : List ℕ) : Type 0 where
   pub begun : Parties
   pub end : Parties
@@ -57,11 +57,11 @@ pub record PartiesServe (start : Parties) (shifts : List Shift) (last : Work) (s
 abbrev pub start_of : House → Parties
 start_of h = record { house = h.sequencer; told = h.told.items; fronts = h.parties.items }
 
--- why a shift can't end at now: the clock refuses the moment, or there is no memory
+-- why a shift cannot end at now: the clock refuses the timestamp, or there is no memory
 abbrev pub IsEndRefused : HouseState → ℕ → Fault → Type 0
 IsEndRefused s now f = (f ≡ Memory) ⊎ ((f ≡ ClockBack) × (now < clock_of s.core))
 
--- the clock refuses the moment at which one of these shifts was to end, once all before it had ended, and its work was done
+-- the clock refuses the timestamp at which one of these shifts should end, after all shifts before it had ended and its work was done
 pub record IsShiftLate (start : Parties) (shifts : List Shift) : Type 0 where
   pub done : List Shift
   pub late : Shift
@@ -72,6 +72,6 @@ pub record IsShiftLate (start : Parties) (shifts : List Shift) : Type 0 where
   pub work : DoesShift begun late.work end
   pub refused : late.now < clock_of end.house.core
 
--- what ends the shifts: a fault of a party; or the clock, which refuses the moment at which one was to end
+-- a fault that ends the shifts: a fault of a party, or the clock's, which refuses the timestamp at which a shift should end
 abbrev pub IsShiftFault : Parties → List Shift → Fault → Type 0
 IsShiftFault start shifts f = IsPartyFault f ⊎ ((f ≡ ClockBack) × IsShiftLate start shifts)

@@ -1,4 +1,4 @@
-//! The fronts with their replies, and with what they do in a shift.
+//! The fronts with their replies, and with their tasks in a shift.
 
 ghost use Rattle.std.specs.Prelude.{◌≡◌, ◌<◌, vec_len, vec_capacity};
 
@@ -23,7 +23,7 @@ pub struct FrontShift {
     pub tasks: Vec<FrontRequest>,
 }
 
-/// A house that was opened, between two shifts. Its sequencer ends it, or gives it up.
+/// A house that was opened, between two shifts. It must be ended through its sequencer, which finishes the house or abandons it.
 pub struct House {
     /// The sequencer.
     pub sequencer: Sequencer,
@@ -31,7 +31,7 @@ pub struct House {
     pub told: Vec<u8>,
     /// The fronts, in order, with their replies so far.
     pub parties: Vec<FrontParty>,
-    /// Room for the retired front that can't go on.
+    /// Room for the retired front that cannot be resumed.
     pub ends: Vec<Retired>,
     ghost room: { (vec_len ends ≡ 0) × (vec_len ends < vec_capacity ends) },
 }

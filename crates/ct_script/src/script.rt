@@ -1,4 +1,4 @@
-//! A log over the lines of an input: opened, served by its parties, closed and asked.
+//! A log over the lines of an input: it is opened, served by its parties, closed and queried.
 
 ghost use Rattle.std.specs.Prelude.{◌≡◌, ◌∷◌, ℕ, List, [], length, IfOk, OnOk, OnErr, IfErr, IsErrOf};
 ghost use Rattle.std.specs.Io.KnownBytes.{Appends};
@@ -26,7 +26,7 @@ use std::io::{Read, Write};
 use std::sync::Wait;
 use std::thread::Threads;
 
-// The fronts of a new house, none of which has replied to anything.
+// Returns the fronts of a new house, none of which has replied to anything.
 fn new_parties(alloc: Global, fronts: Vec<Front>) -> Result<Vec<FrontParty>, AllocError>
     ensures fronts { IfOk result (λ v. fronts_of v.items ≡ fronts.items) }
     ensures silent { IfOk result (λ v. flat_map (λ (p : FrontPartyOf). p.replies.items) v.items ≡ []) }
@@ -65,8 +65,7 @@ fn open_house<H: Wait>(rt: &H, alloc: Global, options: Options) -> Result<House,
     }
 }
 
-// Writes the closed log's reply to a request. Of a reply that isn't whole a proper beginning is written, and none of it where
-// memory is refused.
+// Writes the closed log's reply to a request. If it fails, a proper prefix of the reply is written, and nothing if memory is refused.
 fn send_reply<W: Write>(
     alloc: Global,
     log: &Published,
@@ -108,8 +107,8 @@ fn send_frozen<W: Write>(
     }
 }
 
-// Has the parties do the shifts and then the last work, and writes their replies; then closes the log at the moment
-// `close_at`, and writes its replies to the requests.
+// Has the parties do the shifts and then the last work, and writes their replies. Then closes the log at the timestamp `close_at`, and
+// writes its replies to the requests.
 fn serve_parties_and_log<H: Threads + Wait + Sync, W: Write>(
     rt: &H,
     alloc: Global,
@@ -144,15 +143,16 @@ fn serve_parties_and_log<H: Threads + Wait + Sync, W: Write>(
     send_frozen(alloc, log.published(), requests, output)
 }
 
-/// Runs a log over the lines of the input, and writes the replies. A line that waits for another party looks `turns`
-/// times.
+/// Runs a log over the lines of the input, and writes the replies. A line that waits for another party looks `turns` times.
 ///
 /// # Errors
 ///
-/// The fault that ended the run: `Read`, `Threads`, `Memory`, or `ClockBack` where the clock refuses the moment at which a
-/// shift is to end, before any reply was written; `Write` after a beginning of the replies of the fronts and of the
-/// operator; `ClockBack`, where the clock refuses the moment of closing, or `Memory` after all of these; and `Write` or
-/// `Memory` after some of the closed log's.
+/// The fault that ended the run:
+///
+/// - `Read`, `Threads`, `Memory`, or `ClockBack` if the clock refuses the timestamp at which a shift should end: no reply was written.
+/// - `Write`: a prefix of the replies of the fronts and of the operator was written.
+/// - `ClockBack`, if the clock refuses the timestamp of closing, or `Memory`: all of these replies were written.
+/// - `Write` or `Memory`: all of these and some of the closed log's replies were written.
 pub fn serve<H: Threads + Wait + Sync, R: Read, W: Write>(
     rt: &H,
     alloc: Global,

@@ -22,7 +22,7 @@ use std::alloc::{AllocError, Global};
 use std::sync::Wait;
 use std::thread::Threads;
 
-// Lets a front go on at the moment `now`, with a new bulletin learnt. One that can't is put among the ends.
+// Resumes a front at the timestamp `now`, after it learned a new bulletin. A front that cannot be resumed is put into `ends`.
 fn go_on<R: Threads + Sync>(
     rt: &R,
     alloc: Global,
@@ -57,7 +57,7 @@ fn go_on<R: Threads + Sync>(
     }
 }
 
-// Lets all fronts go on at the moment `now`, in order.
+// Resumes all fronts at the timestamp `now`, in order.
 fn all_go_on<R: Threads + Sync>(
     rt: &R,
     alloc: Global,
@@ -84,7 +84,7 @@ fn all_go_on<R: Threads + Sync>(
     Ok(successors)
 }
 
-// Ends a shift over the sequencer that it is lent, at the moment `now`, so that the one with this number begins.
+// Ends a shift on a borrowed sequencer, at the timestamp `now`, so that the shift with this number starts.
 fn end_lent_shift<R: Threads + Sync>(
     rt: &R,
     alloc: Global,
@@ -107,7 +107,7 @@ fn end_lent_shift<R: Threads + Sync>(
     Ok(parties)
 }
 
-// The same over the house itself, which is given up where the shift can't end.
+// The same for the house itself, which is given up if the shift cannot end.
 fn end_shift<R: Threads + Wait + Sync>(
     rt: &R,
     alloc: Global,
@@ -172,7 +172,7 @@ fn serve_shifts<R: Threads + Wait + Sync>(
     Ok(house)
 }
 
-// The fronts without their replies, and all replies: front by front, and then those that were told.
+// Returns the fronts without their replies, and all replies: those of each front in order, and then `told`.
 fn join_replies(
     alloc: Global,
     parties: Vec<FrontParty>,
@@ -192,22 +192,22 @@ fn join_replies(
     Ok((fronts, all))
 }
 
-/// What the parties leave: the sequencer, the fronts in order, and all replies.
+/// The result of the parties' work: the sequencer, the fronts in order, and all replies.
 pub struct Served {
     pub sequencer: Sequencer,
     pub fronts: Vec<Front>,
     pub replies: Vec<u8>,
 }
 
-/// Does the shifts, one after the other, and then the last work. Each shift's lines are done by all parties, each front in a
-/// thread of its own, which are joined, and the operator in the thread that calls; then each front goes on at the moment at
-/// which the shift ends. It answers what the parties leave and all replies: the fronts' in order, each front's over all shifts,
-/// and then the operator's. A line that waits for another party looks `turns` times.
+/// Does the shifts, one after the other, and then the last work. All parties do each shift's lines: each front in a thread of its own,
+/// which is joined, and the operator in the calling thread. Then each front is resumed at the timestamp at which the shift ends. Returns
+/// the sequencer, the fronts and all replies: those of each front in order, over all shifts, and then the operator's. A line that waits for
+/// another party looks `turns` times.
 ///
 /// # Errors
 ///
-/// `Threads` where a thread doesn't start; `ClockBack` where the clock refuses the moment at which a shift is to end; and
-/// `Memory`. The house is given up.
+/// `Threads` if a thread cannot be started; `ClockBack` if the clock refuses the timestamp at which a shift should end; and `Memory`. The
+/// house is given up.
 pub fn serve_parties<R: Threads + Wait + Sync>(
     rt: &R,
     alloc: Global,

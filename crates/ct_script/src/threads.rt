@@ -1,4 +1,4 @@
-//! A shift: each front in a thread of its own, and the operator in the thread that calls.
+//! A shift: each front in a thread of its own, and the operator in the calling thread.
 
 ghost use Rattle.std.specs.Prelude.{◌≡◌, ◌≢◌, [], ◌∷◌, ◌++◌, length, map, IfOk, IfErr, OnOk, Some, None};
 ghost use Rattle.ct_house.specs.House.{HouseState};
@@ -17,7 +17,7 @@ use std::sync::Wait;
 use std::thread;
 use std::thread::{Promise, PromisedHandle, Scope, Threads};
 
-// Does a front's tasks. It answers the front, with its replies. Where a growth is refused no line waits any more.
+// Does a front's tasks, and returns the front with its replies. If memory is refused, no line waits any more.
 fn serve_front_shift<R: Threads + Wait + Sync>(
     rt: &R,
     alloc: Global,
@@ -61,7 +61,7 @@ fn front_shifts(
     Ok(shifts)
 }
 
-// What a front's thread promises.
+// The promise of a front's thread.
 #[derive(Drop)]
 struct FrontPromise(Snapshot<FrontShift>);
 
@@ -96,7 +96,7 @@ fn start_fronts<'e: 's, 's, R: Threads + Wait + Sync>(
     Ok(threads)
 }
 
-/// Keeps a front, with its replies.
+/// Appends a front, with its replies.
 pub fn keep_party(parties: &mut Vec<FrontParty>, party: FrontParty) -> Result<(), Fault>
     ensures kept { OnOk result (parties.new.items ≡ parties.old.items ++ party ∷ []) }
     ensures memory { IfErr result (λ f. f ≡ Fault.Memory) }
@@ -105,7 +105,7 @@ pub fn keep_party(parties: &mut Vec<FrontParty>, party: FrontParty) -> Result<()
     Ok(())
 }
 
-// Joins the fronts' threads. It answers the fronts in order, with their replies.
+// Joins the fronts' threads, and returns the fronts in order, with their replies.
 fn join_fronts<R: Threads>(
     rt: &R,
     alloc: Global,
@@ -122,9 +122,9 @@ fn join_fronts<R: Threads>(
     Ok(parties)
 }
 
-// Starts a thread for each front, does the operator's tasks here over the sequencer that it is lent, and joins the threads. It
-// adds the operator's replies to those told before, and answers the fronts in order, with their replies. Where a thread doesn't
-// start, no line waits any more, and the operator does nothing. Where the operator is refused a growth no line waits any more.
+// Starts a thread for each front, does the operator's tasks in this thread on a borrowed sequencer, and joins the threads. Appends the
+// operator's replies to `told`, and returns the fronts in order, with their replies. If a thread cannot be started, no line waits any more,
+// and the operator does nothing. If the operator is refused memory, no line waits any more.
 fn serve_in_threads<'e: 's, 's, R: Threads + Wait + Sync>(
     rt: &'e R,
     alloc: Global,
@@ -158,15 +158,15 @@ fn serve_in_threads<'e: 's, 's, R: Threads + Wait + Sync>(
     }
 }
 
-// What is there once all threads of a shift have ended: the sequencer, the operator's replies, and the fronts in order with
-// theirs, or what ended them.
+// The result after all threads of a shift have ended: the sequencer, the operator's replies, and the fronts in order with theirs, or the
+// fault that ended them.
 struct Done {
     sequencer: Sequencer,
     told: Vec<u8>,
     parties: Result<Vec<FrontParty>, Fault>,
 }
 
-// The same over the sequencer itself.
+// The same with an owned sequencer.
 fn serve_in<'e: 's, 's, R: Threads + Wait + Sync>(
     rt: &'e R,
     alloc: Global,
@@ -199,8 +199,8 @@ fn serve_in<'e: 's, 's, R: Threads + Wait + Sync>(
     }
 }
 
-// The same, with a scope for the threads, behind which all of them have ended. What the scope's part holds has to be `Drop`, which
-// the sequencer isn't: so that part takes it out of a place beside the scope.
+// The same, with a scope for the threads. When the scope returns, all of them have ended. Values that the scope's closure owns must be
+// `Drop`, which the sequencer is not. So the closure takes the sequencer out of a variable outside the scope.
 fn serve_beside<R: Threads + Wait + Sync>(
     rt: &R,
     alloc: Global,
@@ -240,13 +240,13 @@ fn serve_beside<R: Threads + Wait + Sync>(
     done
 }
 
-/// Does the work of a shift, each front's in a thread of its own, all of which are joined, and the operator's in the thread that
-/// calls. The operator's replies are added to those told before, and each front's to its own. A line that waits for another party
-/// looks `turns` times: what another shift's operator does comes too late for it, or was done before.
+/// Does the work of a shift: each front's in a thread of its own, all of which are joined, and the operator's in the calling thread.
+/// Appends the operator's replies to those so far, and each front's to its own. A line that waits for another party looks `turns` times:
+/// the operator's work of another shift comes too late for it, or was done before.
 ///
 /// # Errors
 ///
-/// `Threads` where a front's thread doesn't start, after those that did have ended; and `Memory`. The house is given up.
+/// `Threads` if a front's thread cannot be started, after those that were started have ended; and `Memory`. The house is given up.
 pub fn serve_shift<R: Threads + Wait + Sync>(
     rt: &R,
     alloc: Global,

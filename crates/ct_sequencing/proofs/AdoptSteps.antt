@@ -1,4 +1,4 @@
--- The steps of the core, over the lists of the fields.
+-- The steps of the core, as steps on the lists of the fields.
 use Rattle.std.proofs.Common.{◌≡◌, ℕ, ◌-◌, ◌<◌, List, [], ◌∷◌, ◌++◌, length, refl, ap, sym, ◌∙◌, subst, arith}
 use Rattle.std.proofs.lemmas.List.{append-nil, length_push}
 use Rattle.std.proofs.lemmas.Option.{same_Some}
@@ -12,7 +12,7 @@ use Rattle.ct_core.proofs.LawfulLemmas.{IsCore-publish, IsCore-open, no_items}
 use Rattle.ct_core.proofs.SettlementLemmas.{slice_get-end}
 use Rattle.ct_core.specs.Parts.{with_all, with_rest}
 
--- the core is its published state with what stands behind it
+-- the core is its published state together with the entries and records after it
 pub parted : (core : CoreState) (log inner : Log) (all more : List Entry) (ss records : List Settled) → with_all inner all ss ≡ core → log ≡ inner
     → core.published.entries ++ more ≡ core.entries → records ≡ ss → with_rest log more records ≡ core
 parted core log inner all more ss records is same entries settled =
@@ -23,7 +23,7 @@ parted core log inner all more ss records is same entries settled =
     ∙ ap (λ (es : List Entry). make inner es (inner.settlement ++ ss)) whole
     ∙ is
 
--- what the next state is to the published one
+-- the relation of the next state to the published one
 pub record Follows (older newer : Log) : Type 0 where
   pub extends : Extends older newer
   pub longer : length older.heads < length newer.heads
@@ -42,7 +42,7 @@ last-push hs h r at =
     let n : length (hs ++ h ∷ []) - 1 ≡ length hs = let l = length_push hs h in omega arith in
     same_Some h r (sym (slice_get-end hs h) ∙ ap (slice_get (hs ++ h ∷ [])) (sym n) ∙ at)
 
--- a state that was made at a moment, as one that the core may adopt
+-- a state that was made at now, in time, is one that the core may adopt
 pub adoptable : (core : CoreState) (now : ℕ) (made next : Log) → IsInTime core now → IsNextState core now made → next ≡ made
     → (h : Head) × IsNextHead core h.timestamp h × IsInTime core h.timestamp × (next ≡ published_with core h)
 adoptable core now made next time (h, is_next, e) same = (
@@ -53,7 +53,7 @@ adoptable core now made next time (h, is_next, e) same = (
       ∙ e,
 )
 
--- the head of the state that was made is the one that it was adopted with
+-- the head of the state that was made is the head with which it was adopted
 pub adopted_head : (core : CoreState) (now : ℕ) (made next : Log) (head : Head) → IsNextState core now made → next ≡ made → next ≡ published_with core head
     → IsNextHead core now head
 adopted_head core now made next head (h, is_next, e) same with_head =
@@ -64,13 +64,13 @@ adopted_head core now made next head (h, is_next, e) same with_head =
     let is : h ≡ head = last-push hs h head (ap (λ (ks : List Head). slice_get ks (length ks - 1)) heads ∙ end) in
     subst (IsNextHead core now) is is_next
 
--- what adopting a state does to the core
+-- the effect on the core of adopting a state
 pub record Adopts (old : CoreState) (next : Log) (ss : List Settled) (head : Head) : Type 0 where
   pub core : IsCore (with_all next old.entries ss)
   pub state : next ≡ published_with old head
   pub after : with_all next old.entries ss ≡ after_publishing old head
 
--- the core when it has adopted the state of a publication, and its records are cleared
+-- the core after it adopted the state of a publication and cleared its records
 pub adopted : (core : CoreState) (next : Log) (ss : List Settled) (head : Head) → IsCore core
     → ((h : Head) × IsNextHead core h.timestamp h × IsInTime core h.timestamp × (next ≡ published_with core h))
     → slice_get next.heads (length next.heads - 1) ≡ Some head → ss ≡ [] → Adopts core next ss head
@@ -87,7 +87,7 @@ adopted core next ss head is (h, is_next, time, e) last none =
       after = after;
     }
 
--- what the core over a new log is, before anything is settled
+-- the core of a new log, before anything is settled
 pub record Opens (now : ℕ) (opened : CoreState) : Type 0 where
   pub core : IsCore opened
   pub fresh : opened ≡ new_core now

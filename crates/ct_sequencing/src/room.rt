@@ -1,4 +1,4 @@
-//! Room that was made before, and what comes back where none could be made.
+//! Adding to room that was reserved before, and the value that comes back if none could be reserved.
 
 ghost use Rattle.std.specs.Prelude.{◌≡◌, ◌<◌, [], ◌∷◌, ◌++◌, not, if◌then◌else◌, vec_len, vec_capacity};
 ghost use Rattle.std.specs.List.{list_any, position_or_len};
@@ -11,7 +11,7 @@ use ct_core::StoredEntry;
 use indexmap::IndexSet;
 use std::alloc::AllocFailed;
 
-// A submission for which no owners could be made, and the refusal.
+// A submission for which no shared owner could be made, and the refusal.
 #[derive(Drop)]
 pub(crate) struct Unshared {
     pub(crate) refusal: Refusal,
@@ -29,7 +29,7 @@ impl From<AllocFailed<Submission>> for Unshared {
     }
 }
 
-// Adds a value where room was made for it.
+// Adds a value to a list that has reserved room for it.
 pub(crate) fn push_reserved<T: Drop>(list: &mut Vec<T>, value: T)
     requires { vec_len list.old < vec_capacity list.old }
     ensures { list.new.items ≡ list.old.items ++ value ∷ [] }
@@ -38,7 +38,8 @@ pub(crate) fn push_reserved<T: Drop>(list: &mut Vec<T>, value: T)
     prove!(done);
 }
 
-// The place of the entry with this one's identity. Where there is none, this one is added at the end, where room was made for it.
+// Returns the index of the entry with this one's identity, and whether this one was added. If there is no such entry, this one is added at
+// the end, in reserved room.
 pub(crate) fn place_reserved(known: &mut IndexSet<StoredEntry>, entry: StoredEntry) -> (usize, bool)
     requires { 0 < spare known.old }
     ensures place { result.0 ≡ position_or_len (same_identity entry) known.old.keys }

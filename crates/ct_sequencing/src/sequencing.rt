@@ -19,8 +19,8 @@ use std::alloc::Global;
 use std::marker::Model;
 use std::sync::Arc;
 
-/// The sequencing core: the published state, all entries so far, and the records settled after it. The entries stand in a table by
-/// their identities: an entry's index there is its leaf's index.
+/// The sequencing core: the published state, all entries so far, and the records settled after it. The entries are kept in a table by their
+/// identities: an entry's index there is its leaf's index.
 #[derive(Drop)]
 pub struct Core {
     published: Arc<Published>,
@@ -41,7 +41,7 @@ impl Model for Core {
 }
 
 impl Core {
-    /// A new log, with one head of size 0 that was made at the moment `now`, in milliseconds.
+    /// Returns a new log, with one head of size 0 and the timestamp `now`, in milliseconds.
     ///
     /// Refused with `Memory`.
     pub fn open(alloc: Global, now: u64) -> Result<Core, Refusal>
@@ -58,7 +58,7 @@ impl Core {
         })
     }
 
-    // The newest leaf's timestamp, or 0 where there is no leaf.
+    // Returns the newest leaf's timestamp, or 0 if there is no leaf.
     fn newest_leaf(&self) -> u64
         ensures { result ≡ newest_leaf self.now.entries }
     {
@@ -66,26 +66,26 @@ impl Core {
         entries.last().map_or(0, |e| e.timestamp())
     }
 
-    // The entries past the last head.
+    // Returns the entries that the last head does not cover.
     fn pending(&self) -> &[StoredEntry]
         ensures { self.now.published.entries ++ result.now ≡ self.now.entries }
     {
         self.published.rest(self.entries.as_slice())
     }
 
-    /// The clock: the greater of the last head's timestamp and the newest leaf's, in milliseconds.
+    /// Returns the clock: the greater of the last head's timestamp and the newest leaf's, in milliseconds.
     pub fn clock(&self) -> u64
         ensures { result ≡ clock_of self.now }
     {
         self.published.last_moment().max(self.newest_leaf())
     }
 
-    /// Settles an item at the moment `now`, in milliseconds, and answers its record. `hash` is the leaf hash (RFC 6962, section 2.1)
-    /// of the leaf that the item has at this moment (section 3.4). Where no item settled before has its identity, that leaf becomes
-    /// an entry; otherwise the record names the leaf of the first one.
+    /// Settles an item at the timestamp `now`, in milliseconds, and returns its record. `hash` is the leaf hash (RFC 6962, section 2.1) of
+    /// the leaf that the item has at this timestamp (section 3.4). If no item settled before has its identity, that leaf becomes an entry.
+    /// Otherwise the record names the leaf of the first one.
     ///
-    /// Refused, in this order, with `ClockBack` where `now` is before the clock, and with `Memory`. The item comes back as it was, and
-    /// the core stays as it was.
+    /// The refusals, in order: `ClockBack` if `now` is before the clock, and `Memory`. Then the item comes back unchanged, and the core is
+    /// unchanged.
     pub fn settle_one(
         &mut self,
         alloc: Global,
@@ -142,7 +142,7 @@ impl Core {
         Ok(record)
     }
 
-    /// Whether a publication at this moment is in time.
+    /// Reports whether a publication at this timestamp is in time.
     fn is_in_time(&self, now: u64) -> bool
         ensures yes { OnTrue result (IsInTime self.now now) }
         ensures refusal { publish_refusal self.now now ≡ (if result then Refusal.Memory else Refusal.ClockBack) }
@@ -150,7 +150,7 @@ impl Core {
         self.newest_leaf() <= now && self.published.last_moment() < now
     }
 
-    /// The state that a publication at the moment `now`, in milliseconds, would make. The core stays as it is.
+    /// Returns the state that a publication at the timestamp `now`, in milliseconds, would make. The core is unchanged.
     ///
     /// Refused as `publish` is.
     pub fn next(&self, alloc: Global, now: u64) -> Result<Published, Refusal>
@@ -168,8 +168,8 @@ impl Core {
             .extended(alloc, self.pending(), &self.settlement, now)
     }
 
-    /// Makes the publication of the state that `next` gave, with nothing settled or published since, and answers its last head.
-    /// It takes no memory.
+    /// Publishes the state that `next` returned, if nothing was settled or published since, and returns its last head. It allocates no
+    /// memory.
     pub fn adopt(&mut self, next: Arc<Published>) -> Head
         requires { (h : Head) × IsNextHead self.old h.timestamp h × IsInTime self.old h.timestamp × (arc_value next ≡ published_with self.old h) }
         ensures state { arc_value next ≡ published_with self.old result }
@@ -181,11 +181,11 @@ impl Core {
         head
     }
 
-    /// Publishes a tree head (RFC 6962, section 3.5) of all entries so far at the moment `now`, in milliseconds, with all records. There
-    /// may be nothing new.
+    /// Publishes a tree head (RFC 6962, section 3.5) of all entries so far at the timestamp `now`, in milliseconds, with all records. There
+    /// need not be anything new.
     ///
-    /// Refused, in this order, with `ClockBack` where `now` is before the newest leaf's timestamp or not after the last head's, and with
-    /// `Memory`. A refusal leaves the core as it was.
+    /// The refusals, in order: `ClockBack` if `now` is before the newest leaf's timestamp or not after the last head's, and `Memory`. A
+    /// refusal leaves the core unchanged.
     pub fn publish(&mut self, alloc: Global, now: u64) -> Result<Head, Refusal>
         ensures head { IfOk result (λ h. IsNextHead self.old now h × (self.new ≡ after_publishing self.old h)) }
         ensures in_time { OnOk result (IsInTime self.old now) }
@@ -199,14 +199,14 @@ impl Core {
         Ok(self.adopt(shared))
     }
 
-    /// Whether nothing stands past the last head: all entries and records so far are published.
+    /// Reports whether the last head covers everything: all entries and records so far are published.
     pub fn is_covered(&self) -> bool
         ensures { IsTrue result ↔ IsCovered self.now }
     {
         self.pending().is_empty() && self.settlement.is_empty()
     }
 
-    /// The published state, to be shared with others: nothing of it is copied.
+    /// Returns the published state, shared with the caller: nothing of it is copied.
     ///
     /// Refused with `Memory`.
     pub fn share(&self) -> Result<Arc<Published>, Refusal>
@@ -218,7 +218,7 @@ impl Core {
         Ok(published)
     }
 
-    /// The published state.
+    /// Returns the published state.
     pub fn published(&self) -> &Published
         ensures { result.now ≡ self.now.published }
     {

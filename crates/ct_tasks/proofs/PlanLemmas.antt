@@ -25,7 +25,7 @@ use Rattle.ct_tasks.specs.Plans.{AreForFronts, AreShiftsOf, IsPlanOf, IsShiftOf,
 use Rattle.ct_tasks.specs.Tasks.{IsFrozenLine, step}
 use Rattle.ct_tasks.proofs.TaskLemmas.{part_kept, part_grows}
 
--- what holds of each element, and of one more
+-- a property of each element of a list and of one more element
 pub each_more : {A : Type 0} (P : A → Type 0) (xs : List A) (x : A) → ((k : ℕ) (y : A) → slice_get xs k ≡ Some y → P y) → P x
     → (k : ℕ) (y : A) → slice_get (xs ++ x ∷ []) k ≡ Some y → P y
 each_more P [] x each one zero y at = subst P (same_Some x y at) one
@@ -33,7 +33,7 @@ each_more P [] x each one (suc k) y at = absurd (let past : k < 0 = slice_get_wi
 each_more P (z ∷ zs) x each one zero y at = each zero y at
 each_more P (z ∷ zs) x each one (suc k) y at = each_more P zs x (λ j w. each (suc j) w) one k y at
 
--- the front's own part of its task, and another front's
+-- a front's own part of its task; other fronts have no part of it
 own_part : (k : ℕ) (r : FrontAsked) → filter_map (front_part k) (for_front k r ∷ []) ≡ r ∷ []
 own_part k r = elim (eqb_tells k k) [
   | inl same ↦ (let e : nat_eq k k ≡ true = same.0 in rw e refl)
@@ -46,7 +46,7 @@ no_part n k r apart = elim (eqb_tells n k) [
   | inr other ↦ (let e : nat_eq n k ≡ false = other.0 in rw e refl)
 ]
 
--- the element that was put there, and the others
+-- the element that was set, and the other elements
 pub put_there : {A : Type 0} (xs : List A) (i : ℕ) (x y : A) → slice_get xs i ≡ Some x → slice_get (set xs i y) i ≡ Some y
 put_there {A = A} xs i x y at =
     let below = slice_get_within xs i x at in
@@ -61,7 +61,7 @@ put_elsewhere (z ∷ zs) zero (suc j) y apart = refl
 put_elsewhere (z ∷ zs) (suc i) zero y apart = refl
 put_elsewhere (z ∷ zs) (suc i) (suc j) y apart = put_elsewhere zs i j y (λ e. apart (ap (λ (n : ℕ). suc n) e))
 
--- the tasks of one front grow by one, and those of the others stay
+-- the tasks of one front grow by one, and those of the others are unchanged
 fronts_grow : (lists : List (Vec FrontRequest Global)) (ts : List PartyTask) (f : ℕ) (old new : Vec FrontRequest Global) (t : FrontRequest)
     → slice_get lists f ≡ Some old → new.items ≡ old.items ++ t ∷ []
     → ((k : ℕ) (v : Vec FrontRequest Global) → slice_get lists k ≡ Some v → map front_asked v.items ≡ front_parts k ts)
@@ -80,7 +80,7 @@ fronts_grow lists ts f old new t there grown each k v at = elim (eqb_tells k f) 
       (no_part f k (front_asked t) (λ e. apart.1 (sym e)))
 ]
 
--- a front has one task more to do
+-- a front has one more task
 pub front_added : (n : ℕ) (w : Work) (ts : List PartyTask) (f : ℕ) (old new : Vec FrontRequest Global) (t : FrontRequest) → f < length w.fronts.items
     → old ≡ get_or w.fronts.items f old
     → new.items ≡ old.items ++ t ∷ [] → IsWorkOf n w ts
@@ -91,7 +91,7 @@ front_added n w ts f old new t below at grown i = record {
   operator = part_kept operator_part ts (for_front f (front_asked t)) w.operator.items i.operator refl;
 }
 
--- the operator has one task more to do
+-- the operator has one more task
 pub operator_added : (n : ℕ) (w : Work) (ts : List PartyTask) (t : OperatorTask) (new : Vec OperatorTask Global)
     → new.items ≡ w.operator.items ++ t ∷ [] → IsWorkOf n w ts
     → IsWorkOf n record { fronts = w.fronts; operator = new } (ts ++ for_operator t ∷ [])
@@ -101,7 +101,7 @@ operator_added n w ts t new grown i = record {
   operator = grown ∙ part_grows operator_part ts (for_operator t) w.operator.items t i.operator refl;
 }
 
--- what is for the frozen log is no work
+-- a task for the frozen log does not change the work of fronts and operator
 pub frozen_beside : (n : ℕ) (w : Work) (ts : List PartyTask) (line : List ℕ) → IsWorkOf n w ts → IsWorkOf n w (ts ++ for_frozen line ∷ [])
 frozen_beside n w ts line i = record {
   count = i.count;
@@ -111,7 +111,7 @@ frozen_beside n w ts line i = record {
 
 -- ---- shift by shift
 
--- one pair more
+-- one more pair
 pub all_zip_more : {A B : Type 0} (R : A → B → Type 0) (xs : List A) (ys : List B) (x : A) (y : B) → AllZip R xs ys → R x y
     → AllZip R (xs ++ x ∷ []) (ys ++ y ∷ [])
 all_zip_more R [] [] x y all one = (one, tt)
@@ -119,7 +119,7 @@ all_zip_more R [] (b ∷ ys) x y all one = absurd all
 all_zip_more R (a ∷ xs) [] x y all one = absurd all
 all_zip_more R (a ∷ xs) (b ∷ ys) x y (first, rest) one = (first, all_zip_more R xs ys x y rest one)
 
--- the last work has one task more
+-- the last work has one more task
 task_added : (n : ℕ) (shifts : List Shift) (old new : Work) (ss : List Step) (t : PartyTask)
     → ((ts : List PartyTask) → IsWorkOf n old ts → IsWorkOf n new (ts ++ t ∷ [])) → AreShiftsOf n shifts old ss
     → AreShiftsOf n shifts new (ss ++ does t ∷ [])
@@ -140,7 +140,7 @@ plan_does n p new ss t none grows i = record {
   frozen = subst (AllZip IsFrozenLine p.frozen.items) (part_kept frozen_line ss (does t) (filter_map frozen_line ss) refl none) i.frozen;
 }
 
--- the frozen log has one request more to answer
+-- the frozen log has one more request to answer
 pub frozen_added : (n : ℕ) (p : Plan) (ss : List Step) (line : List ℕ) (r : FrozenRequest) (new : Vec FrozenRequest Global) → new.items ≡ p.frozen.items ++ r ∷ []
     → IsFrozenLine r line → IsPlanOf n p ss → IsPlanOf n record { shifts = p.shifts; last = p.last; frozen = new } (ss ++ does (for_frozen line) ∷ [])
 frozen_added n p ss line r new grown is i = record {
@@ -150,7 +150,7 @@ frozen_added n p ss line r new grown is i = record {
       (all_zip_more IsFrozenLine p.frozen.items (filter_map frozen_line ss) r line i.frozen is));
 }
 
--- the shift ends, and another begins
+-- the shift ends, and another starts
 shift_ended : (n : ℕ) (shifts : List Shift) (last next : Work) (ss : List Step) (s : Shift) → s.work ≡ last → IsWorkOf n next [] → AreShiftsOf n shifts last ss
     → AreShiftsOf n (shifts ++ s ∷ []) next (ss ++ ends_shift s.now ∷ [])
 shift_ended n shifts last next ss s is fresh a =
@@ -176,7 +176,7 @@ plan_ends_shift n m p next shifts ss s is many fresh grown i = record {
   frozen = subst (AllZip IsFrozenLine p.frozen.items) (part_kept frozen_line ss (ends_shift s.now) (filter_map frozen_line ss) refl refl) i.frozen;
 }
 
--- each shift, and the last work, is for so many fronts
+-- each shift, and the last work, is for n fronts
 pub for_fronts : (n : ℕ) (shifts : List Shift) (last : Work) (ss : List Step) → AreShiftsOf n shifts last ss → AreForFronts n shifts last
 for_fronts n shifts last ss a = (each shifts a.ended a.each, a.rest.count)
   where
@@ -186,14 +186,14 @@ for_fronts n shifts last ss a = (each shifts a.ended a.each, a.rest.count)
     each (x ∷ xs) [] all = absurd all
     each (x ∷ xs) (y ∷ ys) (first, rest) = All-cons (λ (s : Shift). length s.work.fronts.items ≡ n) x xs first.0.count (each xs ys rest)
 
--- nothing is to be done yet
+-- a new plan has no steps
 pub plan_new : (n : ℕ) (p : Plan) → p.shifts.items ≡ [] → p.frozen.items ≡ [] → IsWorkOf n p.last [] → IsPlanOf n p []
 plan_new n p none quiet work = record {
   given = record { ended = []; left = []; cut = refl; each = subst (λ (l : List Shift). AllZip (IsShiftOf n) l []) (sym none) tt; rest = work };
   frozen = subst (λ (l : List FrozenRequest). AllZip IsFrozenLine l []) (sym quiet) tt;
 }
 
--- who is there doesn't depend on the line
+-- whether the front of a task exists does not depend on the line
 pub there_anyway : (n : ℕ) (line other : List ℕ) (t : Task) → IsForThere n (step line t) → IsForThere n (step other t)
 there_anyway n line other (task_case.Front k r) there = there
 there_anyway n line other (task_case.Operator t) there = there

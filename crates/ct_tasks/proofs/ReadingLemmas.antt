@@ -1,4 +1,4 @@
--- What was given out of the lines that were read.
+-- The tasks assigned for the lines that were read.
 use Rattle.std.proofs.Common.{◌≡◌, ◌≢◌, ◌<◌, ℕ, List, [], ◌∷◌, ◌++◌, All, length, Option, Some, None, Bool, true, false, cond, inl, inr, refl, sym, ap, subst, ◌∙◌, arith, append_assoc, append-nil}
 use Rattle.std.proofs.lemmas.List.Elements.{filter_map-append, recursion_from_All}
 use Rattle.std.proofs.lemmas.Option.{same_Some, none-some}
@@ -16,11 +16,11 @@ use Rattle.ct_tasks.specs.declared.task.OperatorTask.TheVariants.{Sequence, BadL
 use Rattle.ct_tasks.specs.declared.plan.Plan.{Plan}
 use Rattle.json_lines.proofs.LinesOf.{first_line_cut}
 
--- the tasks so far, and what is left, are the input's
+-- the steps so far, followed by those of the rest, are the input's
 abbrev pub LeadsTo : ℕ → List ℕ → List Step → List ℕ → Type 0
 LeadsTo fronts input done rest = (left : List Step) → AllAskFor fronts (lines_of rest) left → AllAskFor fronts (lines_of input) (done ++ left)
 
--- what one line asks for, and then what the lines behind it ask for
+-- the steps of one line, followed by those of the lines after it
 ask_first : (fronts : ℕ) (line : List ℕ) (lines : List (List ℕ)) (one more : List Step) → AllAskFor fronts (line ∷ []) one → AllAskFor fronts lines more
     → AllAskFor fronts (line ∷ lines) (one ++ more)
 ask_first fronts [] lines [] more asks rest = rest
@@ -33,7 +33,7 @@ pub asked_once : (fronts : ℕ) (line : List ℕ) (s : Step) → 0 < length line
 asked_once fronts [] s some asks = absurd (omega arith)
 asked_once fronts (b ∷ bs) s some asks = (asks, tt)
 
--- a line that is too long for a request asks what any other such line asks
+-- two lines that are too long for a request have the same step
 asks_long : (fronts : ℕ) (a b : List ℕ) (s : Step) → 1048576 < length a → 1048576 < length b → AsksFor fronts a s → AsksFor fronts b s
 asks_long fronts a b s long_a long_b (inl (r, is, e)) = absurd (omega (arith, long_a, request_fits a r is))
 asks_long fronts a b s long_a long_b (inr (bad, none)) = inr (bad, λ r is. omega (arith, long_b, request_fits b r is))
@@ -45,14 +45,14 @@ asks_alike fronts (x ∷ a) [] ss long_a long_b p = absurd (omega (arith, long_b
 asks_alike fronts (x ∷ a) (y ∷ b) [] long_a long_b p = absurd p
 asks_alike fronts (x ∷ a) (y ∷ b) (s ∷ ss) long_a long_b p = (asks_long fronts (x ∷ a) (y ∷ b) s long_a long_b p.0, p.1)
 
--- what is kept of a line asks what the line asks
+-- the kept part of a line has the steps of the line
 asks_kept : (fronts : ℕ) (xs : List ℕ) (ss : List Step) → AllAskFor fronts (kept_line 1048578 xs ∷ []) ss → AllAskFor fronts (first_piece 10 xs ∷ []) ss
 asks_kept fronts xs ss p = elim (whole_or_long 1048576 xs) [
   | inl same ↦ subst (λ (l : List ℕ). AllAskFor fronts (l ∷ []) ss) same p
   | inr long ↦ asks_alike fronts (kept_line 1048578 xs) (first_piece 10 xs) ss long.0 long.1 p
 ]
 
--- what is done for a line that has no end in it
+-- the step of a line that contains no end byte
 step_whole : (fronts : ℕ) (line : List ℕ) (a : Asked) → IsWholeLine line → AreWhole (step_of fronts line a ∷ [])
 step_whole fronts line (by_front k r) whole = at (nat_lt k fronts)
   where
@@ -89,7 +89,7 @@ both_whole ss ts p q =
     go [] ys p q = q
     go (x ∷ xs) ys p q = (p.0, go xs ys p.1 q)
 
--- the line of which this was kept was read, and what it asks for was added
+-- the line with this kept part was read, and its step was added
 pub line_taken : (fronts : ℕ) (p q : Plan) (kept : List ℕ) (source source_next : Option (List ℕ)) → GivesOut fronts p q kept → All (λ x. x ≢ 10) kept
     → IsFirstLine 1048578 source source_next kept → LineTaken fronts p q source source_next false
 line_taken fronts p q kept None source_next gives one is = (
@@ -109,13 +109,13 @@ line_taken fronts p q kept (Some xs) source_next gives one is = (
   (is.0, refl, is.2),
 )
 
--- none was left
+-- no line was left
 pub none_taken : (fronts : ℕ) (p : Plan) (line : List ℕ) (source source_next : Option (List ℕ)) → TakesNext 1048578 source source_next line false
     → LineTaken fronts p p source source_next true
 none_taken fronts p line None source_next t = (tt, refl)
 none_taken fronts p line (Some xs) source_next t = (t.0, refl)
 
--- what the next line asks for is done as well
+-- the steps of the next line are added as well
 next_line : (fronts : ℕ) (input rest line : List ℕ) (done more : List Step) → 0 < length rest → line ≡ first_piece 10 rest
     → AllAskFor fronts (line ∷ []) more → LeadsTo fronts input done rest → LeadsTo fronts input (done ++ more) (drop_through 10 rest)
 next_line fronts input rest line done more some is asks before left behind =
@@ -126,8 +126,8 @@ next_line fronts input rest line done more some is asks before left behind =
     (ask_first fronts line (lines_of (drop_through 10 rest)) more left asks behind) in
     subst (λ (ts : List Step). AllAskFor fronts (lines_of input) ts) (sym (append_assoc done more left)) (before (more ++ left) all)
 
--- The plan gives out what was read so far: where the bytes are known, these steps are those of the lines that were read, and those
--- of the lines that are left come behind them.
+-- The plan assigns the steps of the lines read so far. If the input's bytes are known, these steps, followed by those of the lines that are
+-- left, are the input's.
 pub record HasRead (n : ℕ) (p : Plan) (input left : Option (List ℕ)) : Type 0 where
   pub done : List Step
   pub given : IsPlanOf n p done
@@ -138,7 +138,7 @@ pub nothing_read : (n : ℕ) (p : Plan) (input : Option (List ℕ)) → IsPlanOf
 nothing_read n p None i = record { done = []; given = i; whole = tt; leads = tt }
 nothing_read n p (Some xs) i = record { done = []; given = i; whole = tt; leads = (xs, refl, λ left all. all) }
 
--- one line more
+-- one more line
 pub line_read : (n : ℕ) (p q : Plan) (input source source_next : Option (List ℕ)) → LineTaken n p q source source_next false → HasRead n p input source
     → HasRead n q input source_next
 line_read n p q input source source_next taken before =
@@ -163,7 +163,7 @@ line_read n p q input source source_next taken before =
               (subst (λ (l : List ℕ). LeadsTo n xs before.done l) (sym same) leads.2),
         )
 
--- and the last
+-- the end of the input
 pub input_read : (n : ℕ) (p : Plan) (input source : Option (List ℕ)) → IfSome source (λ xs. xs ≡ []) → HasRead n p input source
     → (ss : List Step) × AreStepsOf n input ss × IsPlanOf n p ss × AreWhole ss
 input_read n p input source end h = (h.done, go input source end h.leads, h.given, h.whole)

@@ -15,12 +15,12 @@ fault_name Threads = codes "threads"
 fault_name Read = codes "read"
 fault_name Write = codes "write"
 
--- the fault that a refusal of the closing is
+-- the fault for a refusal of the closing
 pub record IsRefusalFault (r : Refusal) (f : Fault) : Type 0 where
   pub clock_back : r ≡ refusal.ClockBack → f ≡ ClockBack
   pub memory : r ≡ refusal.Memory → f ≡ Memory
 
--- the fault that an error of this kind is, where words or the input are read
+-- the fault for an error of this kind while arguments or the input are read
 pub record IsReadingFault (k : ErrorKind) (f : Fault) : Type 0 where
   pub memory : k ≡ OutOfMemory → f ≡ Memory
   pub other : k ≢ OutOfMemory → f ≡ Read

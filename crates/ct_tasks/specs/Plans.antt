@@ -1,4 +1,4 @@
--- The plan as the code has it, and what it gives out.
+-- The plan as the code has it, and the steps that it assigns.
 use Rattle.std.specs.Prelude.{◌≡◌, ◌<◌, ℕ, List, [], ◌∷◌, ◌++◌, length, map, All, slice_get, Bool, true, false, Option, Some, IfSome, Vec}
 use Rattle.std.specs.Global.{Global}
 use Rattle.std.specs.List.{AllZip, filter_map, flat_map}
@@ -11,27 +11,27 @@ use Rattle.ct_tasks.specs.declared.plan.Shift.{Shift}
 use Rattle.ct_tasks.specs.declared.plan.Work.{Work}
 use Rattle.ct_tasks.specs.declared.plan.Plan.{Plan}
 
--- the work gives these tasks of one shift out to so many fronts and to the operator, each in order
+-- the work assigns these tasks of one shift to n fronts and to the operator, each in order
 pub record IsWorkOf (n : ℕ) (w : Work) (ts : List PartyTask) : Type 0 where
   pub count : length w.fronts.items ≡ n
   pub fronts : (k : ℕ) (v : Vec FrontRequest Global) → slice_get w.fronts.items k ≡ Some v → map front_asked v.items ≡ front_parts k ts
   pub operator : w.operator.items ≡ operator_parts ts
 
--- the tasks of a shift, and the moment at which it ends
+-- the tasks of a shift, and the timestamp at which it ends
 pub record ShiftTasks : Type 0 where
   pub tasks : List PartyTask
   pub now : ℕ
 
--- its steps, the last of which ends it
+-- the shift's steps, the last of which ends it
 abbrev pub shift_steps : ShiftTasks → List Step
 shift_steps s = map does s.tasks ++ ends_shift s.now ∷ []
 
--- the shift gives these tasks out, and ends at this moment
+-- the shift assigns these tasks, and ends at this timestamp
 abbrev pub IsShiftOf : ℕ → Shift → ShiftTasks → Type 0
 IsShiftOf n s t = IsWorkOf n s.work t.tasks × (s.now ≡ t.now)
 
--- The shifts, and the last work, give these steps out to so many fronts and to the operator: cut at each step that ends a shift,
--- each shift has the tasks before its end, and the last work those behind the last end.
+-- The shifts and the last work assign these steps to n fronts and to the operator. The steps are cut at each step that ends a shift: each
+-- shift has the tasks before its end, and the last work has those after the last end.
 pub record AreShiftsOf (n : ℕ) (shifts : List Shift) (last : Work) (ss : List Step) : Type 0 where
   pub ended : List ShiftTasks
   pub left : List PartyTask
@@ -39,25 +39,25 @@ pub record AreShiftsOf (n : ℕ) (shifts : List Shift) (last : Work) (ss : List 
   pub each : AllZip (IsShiftOf n) shifts ended
   pub rest : IsWorkOf n last left
 
--- each shift, and the last work, has a list of tasks for each of so many fronts
+-- each shift, and the last work, has a list of tasks for each of n fronts
 abbrev pub AreForFronts : ℕ → List Shift → Work → Type 0
 AreForFronts n shifts last = All (λ (s : Shift). length s.work.fronts.items ≡ n) shifts × (length last.fronts.items ≡ n)
 
--- the plan gives these steps out to so many fronts, to the operator and to the frozen log
+-- the plan assigns these steps to n fronts, to the operator and to the frozen log
 pub record IsPlanOf (n : ℕ) (p : Plan) (ss : List Step) : Type 0 where
   pub given : AreShiftsOf n p.shifts.items p.last ss
   pub frozen : AllZip IsFrozenLine p.frozen.items (filter_map frozen_line ss)
 
--- what the line asks for was added to the plan: a step, or none where the line is empty
+-- the step of the line was added to the plan, or none if the line is empty
 abbrev pub GivesOut : ℕ → Plan → Plan → List ℕ → Type 0
 GivesOut n p q line = (ss : List Step) → IsPlanOf n p ss → (more : List Step) × AllAskFor n (line ∷ []) more × IsPlanOf n q (ss ++ more)
 
--- the same, and a line that is added for the frozen log isn't empty and has no end in it
+-- the same, and a line that is added for the frozen log is not empty and contains no end byte
 abbrev pub GivesOutWhole : ℕ → Plan → Plan → List ℕ → Type 0
 GivesOutWhole n p q line =
     (ss : List Step) → IsPlanOf n p ss → (more : List Step) × AllAskFor n (line ∷ []) more × IsPlanOf n q (ss ++ more) × AreWhole more
 
--- the next line was read, and what it asks for was added to the plan; or none was left (true), and the plan is the same
+-- the next line was read, and its step was added to the plan (false); or no line was left, and the plan is unchanged (true)
 abbrev pub LineTaken : ℕ → Plan → Plan → Option (List ℕ) → Option (List ℕ) → Bool → Type 0
 LineTaken n p q source source_next true = IfSome source (λ xs. xs ≡ []) × (q ≡ p)
 LineTaken n p q source source_next false =

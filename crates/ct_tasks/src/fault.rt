@@ -1,4 +1,4 @@
-//! What ends a run before all is written.
+//! The faults that end a run before all output is written.
 
 ghost use Rattle.std.specs.Prelude.{◌≡◌};
 ghost use Rattle.ct_tasks.specs.declared.fault.Fault.TheVariants.{Memory, Write};
@@ -10,28 +10,28 @@ use std::alloc::{AllocError, AllocFailed};
 use std::io;
 use thiserror::Error;
 
-/// What ended a run.
+/// The reason why a run ended early.
 #[derive(Clone, Copy, Debug, PartialEq, Eq, Error)]
 pub enum Fault {
-    /// A growth was refused.
+    /// Memory was refused.
     #[error("memory was refused")]
     Memory,
-    /// The clock refuses the moment at which the log is to be closed.
+    /// The clock refuses the timestamp for closing the log.
     #[error("the clock refuses the moment at which the log is to be closed")]
     ClockBack,
-    /// A thread didn't start.
+    /// A thread could not be started.
     #[error("a thread didn't start")]
     Threads,
-    /// The input couldn't be read.
+    /// The input could not be read.
     #[error("the input couldn't be read")]
     Read,
-    /// The output couldn't be written.
+    /// The output could not be written.
     #[error("the output couldn't be written")]
     Write,
 }
 
 impl Fault {
-    /// The fault's name, in small letters.
+    /// Returns the fault's name, in small letters.
     pub fn name(self) -> &'static str
         ensures { result.now ≡ fault_name self }
     {
@@ -61,7 +61,7 @@ impl<T: Drop> From<AllocFailed<T>> for Fault {
     }
 }
 
-// What ends the run where the opening or the closing is refused: by their contracts no other refusal comes.
+// The fault if the opening or the closing is refused: by their contracts there is no other refusal.
 impl From<Refusal> for Fault {
     ghost from_gives = { λ refusal f. IsRefusalFault refusal f };
 
@@ -73,7 +73,7 @@ impl From<Refusal> for Fault {
     }
 }
 
-// What ends the run where replies can't be written.
+// The fault if replies cannot be written.
 impl From<Unwritten> for Fault {
     ghost from_gives = { λ _ f. f ≡ Write };
 
@@ -82,7 +82,7 @@ impl From<Unwritten> for Fault {
     }
 }
 
-// What ends the run where words or the input can't be read.
+// The fault if arguments or the input cannot be read.
 impl From<io::ErrorKind> for Fault {
     ghost from_gives = { λ kind f. IsReadingFault kind f };
 

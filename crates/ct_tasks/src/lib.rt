@@ -1,8 +1,8 @@
-//! What the lines of an input have the parties of a log do, and what ends a run.
+//! The tasks of a log's parties for the lines of an input, and the faults that end a run.
 //!
-//! - `task` says what a line has a front, the operator or the frozen log do.
-//! - `plan` gives the lines of an input that is read to its end out, shift by shift, and `reading` reads it line by line.
-//! - `options` has the numbers of a log, and `fault` names what ends a run before all is written.
+//! - `task` defines the task of a front, the operator or the frozen log for a line.
+//! - `plan` assigns the lines of a whole input to the parties, shift by shift, and `reading` reads them line by line.
+//! - `options` has the numbers of a log, and `fault` names the faults that end a run before all output is written.
 #![tactic(auto)]
 
 mod fault;

@@ -7,11 +7,11 @@ ghost use Rattle.std.specs.Prelude.{◌<◌, ◌≤◌};
 pub struct Options {
     /// The number of fronts.
     pub fronts: u16,
-    /// The places of each front's ring.
+    /// The number of slots of each front's ring.
     pub ring: usize,
-    /// The moment at which the log opens, in milliseconds.
+    /// The timestamp at which the log opens, in milliseconds.
     pub open_at: u64,
-    /// The moment at which it is closed, in milliseconds.
+    /// The timestamp at which it is closed, in milliseconds.
     pub close_at: u64,
     ghost some_fronts: { 0 < fronts },
     ghost few_fronts: { fronts ≤ 16 },

@@ -1,4 +1,4 @@
-//! What the lines of an input ask for, given out to those who do it.
+//! Assigns the requests in the lines of an input to the parties that serve them.
 
 ghost use Rattle.std.specs.Prelude.{◌≡◌, ◌<◌, ◌++◌, ◌∷◌, ℕ, [], List, Vec, length, IfOk, IsOkUnless, OnOk, Some, slice_get};
 ghost use Rattle.std.specs.Global.{Global as GlobalOf};
@@ -13,36 +13,36 @@ use ct_lines::{FrontRequest, FrozenRequest};
 use std::alloc::{AllocError, Global};
 use std::mem;
 
-/// What the fronts and the operator do in a shift.
+/// The tasks of the fronts and of the operator in a shift.
 #[derive(Drop)]
 pub struct Work {
-    /// What each front does, in order.
+    /// The requests for each front, in order.
     pub fronts: Vec<Vec<FrontRequest>>,
-    /// What the operator does, in order.
+    /// The tasks of the operator, in order.
     pub operator: Vec<OperatorTask>,
 }
 
 /// A shift that ends.
 #[derive(Drop)]
 pub struct Shift {
-    /// What is done in it.
+    /// The tasks in it.
     pub work: Work,
-    /// The moment at which it ends, in milliseconds.
+    /// The timestamp at which it ends, in milliseconds.
     pub now: u64,
 }
 
-/// What the lines of an input ask for, given out to those who do it.
+/// The requests in the lines of an input, assigned to the parties that serve them.
 #[derive(Drop)]
 pub struct Plan {
     /// The shifts that end, in order.
     pub shifts: Vec<Shift>,
-    /// What is done behind the last shift that ends.
+    /// The tasks after the last shift that ends.
     pub last: Work,
     /// The requests that the frozen log answers, in order.
     pub frozen: Vec<FrozenRequest>,
 }
 
-// A list for each front, with nothing to do in it.
+// Returns an empty list of tasks for each front.
 fn no_tasks(alloc: Global, fronts: usize) -> Result<Vec<Vec<FrontRequest>>, AllocError>
     ensures count { IfOk result (λ lists. length lists.items ≡ fronts) }
     ensures empty { IfOk result (λ lists. (k : ℕ) (v : Vec FrontRequestOf GlobalOf) → slice_get lists.items k ≡ Some v → v.items ≡ []) }
@@ -55,7 +55,7 @@ fn no_tasks(alloc: Global, fronts: usize) -> Result<Vec<Vec<FrontRequest>>, Allo
 }
 
 impl Work {
-    // Work of so many fronts and of the operator, with nothing to do.
+    // Returns work for this many fronts and for the operator, with no tasks.
     fn new(alloc: Global, fronts: usize) -> Result<Work, AllocError>
         ensures { IfOk result (λ w. IsWorkOf fronts w []) }
     {
@@ -66,7 +66,7 @@ impl Work {
         })
     }
 
-    // Adds what a front does.
+    // Adds a task of a front.
     fn add_front_task(&mut self, number: u16, task: FrontRequest) -> Result<(), AllocError>
         requires { number < length self.old.fronts.items }
         ensures { OnOk result ((fronts : ℕ) (tasks : List PartyTask) → IsWorkOf fronts self.old tasks
@@ -77,7 +77,7 @@ impl Work {
         Ok(())
     }
 
-    // Adds what the operator does.
+    // Adds a task of the operator.
     fn add_operator_task(&mut self, task: OperatorTask) -> Result<(), AllocError>
         ensures { OnOk result ((fronts : ℕ) (tasks : List PartyTask) → IsWorkOf fronts self.old tasks
             → IsWorkOf fronts self.new (tasks ++ for_operator task ∷ [])) }
@@ -88,7 +88,7 @@ impl Work {
 }
 
 impl Plan {
-    /// A plan for so many fronts, with nothing to do.
+    /// Returns a plan for this many fronts, with no tasks.
     pub fn new(alloc: Global, fronts: u16) -> Result<Plan, AllocError>
         ensures { IfOk result (λ p. IsPlanOf fronts p []) }
     {
@@ -109,7 +109,7 @@ impl Plan {
         Ok(())
     }
 
-    // Ends the shift at this moment, so that another begins.
+    // Ends the shift at this timestamp, and starts another one.
     fn end_shift(&mut self, alloc: Global, now: u64) -> Result<(), AllocError>
         ensures { OnOk result ((fronts : ℕ) (steps : List Step) → IsPlanOf fronts self.old steps
             → IsPlanOf fronts self.new (steps ++ ends_shift now ∷ [])) }
@@ -120,7 +120,7 @@ impl Plan {
         Ok(())
     }
 
-    // Adds what a line asks for.
+    // Adds the task of a line.
     fn add(&mut self, alloc: Global, task: Task) -> Result<(), AllocError>
         requires { (line : List ℕ) → IsForThere (length self.old.last.fronts.items) (step line task) }
         ensures { OnOk result ((fronts : ℕ) (steps : List Step) (line : List ℕ) → IsFrozenTask line task → IsPlanOf fronts self.old steps
@@ -135,7 +135,7 @@ impl Plan {
         Ok(())
     }
 
-    /// Adds what the line asks for, which stands without its end. An empty line is nobody's.
+    /// Adds the task of the line, which is passed without its end byte. An empty line has none.
     pub fn add_line(&mut self, alloc: Global, fronts: u16, line: &[u8]) -> Result<(), Fault>
         requires { length self.old.last.fronts.items ≡ fronts }
         ensures taken { OnOk result (GivesOut fronts self.old self.new line.now) }

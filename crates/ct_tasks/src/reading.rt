@@ -1,4 +1,4 @@
-//! The lines of the input, read one by one and given out.
+//! Reads the lines of the input one by one, and assigns them.
 
 ghost use Rattle.std.specs.Prelude.{◌≡◌, ◌⊎◌, List, length, IfOk, IfErr};
 ghost use Rattle.ct_tasks.specs.Plans.{IsPlanOf, LineTaken};
@@ -11,10 +11,10 @@ use json_lines::{READS, REQUEST_KEPT, next_line};
 use std::alloc::Global;
 use std::io::{BufRead, BufReader, Read};
 
-// How many bytes are asked of the reader at a time.
+// The number of bytes that are requested from the reader at a time.
 const CAPACITY: usize = 65_536;
 
-// Reads the next line into the buffer, and adds what it asks for. It answers whether none was left.
+// Reads the next line into the buffer, and adds its task. Returns true if no line was left.
 fn take_line<R: BufRead>(
     alloc: Global,
     fronts: u16,
@@ -37,7 +37,7 @@ fn take_line<R: BufRead>(
     Ok(false)
 }
 
-// Gives the lines that are left out.
+// Assigns the lines that are left.
 fn give_out<R: BufRead>(alloc: Global, fronts: u16, input: &mut R) -> Result<Plan, Fault>
     ensures plan { IfOk result (λ p. (ss : List Step) × AreStepsOf fronts (R.remaining input.old) ss × IsPlanOf fronts p ss × AreWhole ss) }
     ensures faults { IfErr result (λ f. (f ≡ Fault.Read) ⊎ (f ≡ Fault.Memory)) }
@@ -53,13 +53,12 @@ fn give_out<R: BufRead>(alloc: Global, fronts: u16, input: &mut R) -> Result<Pla
     Err(Fault::Read)
 }
 
-/// Reads the input to its end, and gives its lines out to so many fronts, to the operator and to the closed log, shift by
-/// shift. No more than a line of it is held at a time, and of a line that is too long for a request no more than 1,048,578 bytes.
-/// An empty line is nobody's.
+/// Reads the input to its end, and assigns its lines to this many fronts, to the operator and to the closed log, shift by shift. At most
+/// one line is kept at a time, and at most 1,048,578 bytes of a line that is too long for a request. An empty line has no task.
 ///
 /// # Errors
 ///
-/// `Read` where the reader fails, or where there are more than 2^50 lines; `Memory` where a growth is refused.
+/// `Read` if the reader fails, or if there are more than 2^50 lines; `Memory` if memory is refused.
 pub fn read_plan<R: Read>(alloc: Global, fronts: u16, input: &mut R) -> Result<Plan, Fault>
     ensures plan { IfOk result (λ p. (ss : List Step) × AreStepsOf fronts (R.remaining input.old) ss × IsPlanOf fronts p ss × AreWhole ss) }
     ensures faults { IfErr result (λ f. (f ≡ Fault.Read) ⊎ (f ≡ Fault.Memory)) }

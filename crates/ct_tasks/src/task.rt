@@ -1,4 +1,4 @@
-//! What a line has a front, the operator or the frozen log do.
+//! The task of a front, the operator or the frozen log for a line.
 
 ghost use Rattle.std.specs.Prelude.{◌≡◌, ℕ, List, IfOk, IsOkUnless};
 ghost use Rattle.ct_lines.specs.Asked.{IsRequest};
@@ -10,33 +10,33 @@ use ct_codec::Refusal;
 use ct_lines::{FrontRequest, FrozenRequest, OperatorRequest, Request, read_line};
 use std::alloc::Global;
 
-/// What the operator does for a line.
+/// The operator's task for a line.
 #[derive(Clone, Copy, Debug, PartialEq, Eq)]
 pub enum OperatorTask {
-    /// `count` items that the front `from` accepts are settled at the moment `now`, in milliseconds.
+    /// Settles `count` items that the front `from` accepts, at the timestamp `now`, in milliseconds.
     Sequence { from: u16, count: u64, now: u64 },
-    /// A head is published at the moment `now`, in milliseconds.
+    /// Publishes a head at the timestamp `now`, in milliseconds.
     Publish { now: u64 },
-    /// The log is shut down.
+    /// Shuts the log down.
     Shutdown,
-    /// The line is no request that anyone here takes, and is replied to with bad-line.
+    /// Replies with bad-line: the line is no request, or one that no party here serves.
     BadLine,
 }
 
-/// What a line has the program do.
+/// The program's task for a line.
 #[derive(Debug, Drop)]
 pub enum Task {
-    /// The front with this number does this.
+    /// The front with this number serves this request.
     Front(u16, FrontRequest),
-    /// The operator does this.
+    /// The operator does this task.
     Operator(OperatorTask),
     /// The frozen log answers this request.
     Frozen(FrozenRequest),
-    /// The shift ends at this moment, in milliseconds.
+    /// The shift ends at this timestamp, in milliseconds.
     EndsShift(u64),
 }
 
-// What the front with this number does. One that isn't there leaves the operator a bad line.
+// Returns the task of the front with this number. If there is no such front, it is a bad line for the operator.
 fn front_request_task(fronts: u16, number: u64, request: FrontRequest) -> Task
     ensures { (line : List ℕ) → IsTaskFor fronts line (front_step fronts number (front_asked request)) result }
 {
@@ -46,7 +46,7 @@ fn front_request_task(fronts: u16, number: u64, request: FrontRequest) -> Task
     Task::Front(number as u16, request)
 }
 
-// What the operator does, or the end of a shift. To sequence a front that isn't there is a bad line.
+// Returns the operator's task, or the end of a shift. `sequence` of a front that does not exist is a bad line.
 fn operator_request_task(fronts: u16, request: OperatorRequest) -> Task
     ensures { (line : List ℕ) → IsTaskFor fronts line (operator_step fronts (operator_asked request)) result }
 {
@@ -64,7 +64,7 @@ fn operator_request_task(fronts: u16, request: OperatorRequest) -> Task
     }
 }
 
-// What the request that a line is asks for.
+// Returns the task for the request in a line.
 fn request_task(fronts: u16, request: Request) -> Task
     ensures { (line : List ℕ) → IsRequest line (asked request) → IsTaskFor fronts line (step_of fronts line (asked request)) result }
 {
@@ -75,12 +75,12 @@ fn request_task(fronts: u16, request: Request) -> Task
     }
 }
 
-/// What a line asks for, which stands without its end: a line that is no request is the operator's, to be replied to with
-/// bad-line.
+/// Returns the task for a line, which is passed without its end byte. A line that is no request becomes a task of the operator, which
+/// replies with bad-line.
 ///
 /// # Errors
 ///
-/// `Memory`, where a growth is refused.
+/// `Memory`, if memory is refused.
 pub fn line_task(alloc: Global, fronts: u16, line: &[u8]) -> Result<Task, Fault>
     ensures asked { IfOk result (λ t. AsksFor fronts line.now (step line.now t)) }
     ensures there { IfOk result (λ t. IsForThere fronts (step line.now t)) }

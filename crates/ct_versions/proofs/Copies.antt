@@ -1,4 +1,4 @@
--- The steps on the two copies keep the rule: what is shown is always of one line.
+-- The steps on the two copies keep the rule: all shown versions belong to one line.
 use Rattle.std.proofs.Common.{◌≡◌, ◌≢◌, ℕ, List, set, refl, ap, sym, ◌∙◌, subst, ⊎_elim}
 use Rattle.std.proofs.lemmas.Option.{same_Some, none-some}
 use Rattle.std.specs.Prelude.{Option, Some, None}

@@ -1,4 +1,4 @@
--- Lines of publications: what holds of them goes on to hold.
+-- Lines of publications: the properties of a line remain true.
 use Rattle.std.proofs.Common.{◌≡◌, ℕ, ◌-◌, ◌<◌, ◌≤◌, List, [], ◌∷◌, ◌++◌, length, ap, sym, ◌∙◌, subst, arith, append_assoc, inl, inr}
 use Rattle.std.proofs.lemmas.List.{append-nil, length_push}
 use Rattle.std.proofs.lemmas.Option.{slice_get_within, same_Some}
@@ -32,14 +32,14 @@ Extends-trans p q r a b = record {
 IsNewer-trans : (p q r : Log) → IsNewer p q → IsNewer q r → IsNewer p r
 IsNewer-trans p q r a b = record { extends = Extends-trans p q r a.extends b.extends; heads = let x = a.heads in let y = b.heads in omega arith }
 
--- a list ends with what was added last
+-- a list ends with the element added last
 pub ends_push : (all : List Publication) (x : Publication) → Ends (all ++ x ∷ []) x
 ends_push all x =
     let l = length_push all x in
     let e : length (all ++ x ∷ []) - 1 ≡ length all = omega arith in
     ap (slice_get (all ++ x ∷ [])) e ∙ slice_get-end all x
 
--- what stands in a list with one more is that one, or stood in the list
+-- an element of a list with one more element is that one, or is in the list
 data Stands (all : List Publication) (x : Publication) (i : ℕ) (p : Publication) : Type 0 where
   earlier : i < length all → slice_get all i ≡ Some p → Stands all x i p
   last : i ≡ length all → x ≡ p → Stands all x i p
@@ -54,7 +54,7 @@ stands all x i p at = elim (cases_lt i (length all)) [
       last (sym e) (same_Some x p (sym (slice_get-end all x) ∙ ap (slice_get (all ++ x ∷ [])) e ∙ at))
 ]
 
--- the rule holds with more words at home
+-- the rule holds if more words have no writer
 pub kept_more : (cs ds : List Cell) (all : List Publication) → ((k : ℕ) → IsHome cs k → IsHome ds k) → IsKept cs all → IsKept ds all
 kept_more cs ds all home kept = record {
   word = home 0 kept.word;
@@ -64,7 +64,7 @@ kept_more cs ds all home kept = record {
   over = λ i j p q below atp atq same. home p.turn (kept.over i j p q below atp atq same);
 }
 
--- the rule holds with a publication more, which is newer than those of its line, whose turns are over
+-- the rule holds with one more publication, if that is lawful, is newer than the earlier ones of its line, and the turns of those are over
 pub kept_add : (cs ds : List Cell) (all : List Publication) (x : Publication) → ((k : ℕ) → IsHome cs k → IsHome ds k) → IsKept cs all
     → ((i : ℕ) (p : Publication) → slice_get all i ≡ Some p → x.line ≡ p.line → IsNewer p.state x.state × IsHome ds p.turn) → IsHome ds x.line
     → Lawful x.state → IsKept ds (all ++ x ∷ [])
@@ -92,7 +92,7 @@ kept_add cs ds all x home kept before named law = record {
     both i j p q below same (last a d) (earlier b atq) = absurd (omega arith)
     both i j p q below same (last a d) (last b e) = absurd (omega arith)
 
--- where the last turn that was seen isn't over, all of the line was seen
+-- if the turn of the last publication seen is not over, all of its line was seen
 pub whole_seen : (cs : List Cell) (all v : List Publication) (p : Publication) → IsKept cs all → IsPrefix v all → Ends v p → (IsHome cs p.turn → ⊥)
     → (i : ℕ) (q : Publication) → slice_get all i ≡ Some q → q.line ≡ p.line → i ≤ length v - 1
 whole_seen cs all v p kept pre ends away i q at same = elim (cases_lt (length v - 1) i) [
@@ -100,7 +100,7 @@ whole_seen cs all v p kept pre ends away i q at same = elim (cases_lt (length v 
   | inr within ↦ within
 ]
 
--- and what is newer than the last is newer than all of the line, whose turns are over with that one
+-- a state newer than that last one is newer than all of the line, and with the last turn over, all turns of the line are over
 pub newer_than_all : (cs ds : List Cell) (all v : List Publication) (p x : Publication) → ((k : ℕ) → IsHome cs k → IsHome ds k) → IsKept cs all
     → IsPrefix v all → Ends v p → (IsHome cs p.turn → ⊥)
     → IsHome ds p.turn → x.line ≡ p.line → IsNewer p.state x.state → (i : ℕ) (q : Publication) → slice_get all i ≡ Some q → x.line ≡ q.line

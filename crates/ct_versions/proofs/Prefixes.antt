@@ -1,8 +1,8 @@
--- Beginnings of a list.
+-- Prefixes of a list.
 use Rattle.std.proofs.Common.{◌≡◌, ℕ, zero, suc, List, [], ◌∷◌, Some, slice_get}
 use mathlib.Core.List.{IsPrefix}
 
--- what stands in a beginning stands in the whole, at the same place
+-- an element of a prefix is in the whole list, at the same index
 pub prefix_get : {A : Type 0} (xs ys : List A) (k : ℕ) (x : A) → IsPrefix xs ys → slice_get xs k ≡ Some x → slice_get ys k ≡ Some x
 prefix_get [] ys k x p h = absurd cc
 prefix_get (y ∷ xs) [] k x p h = absurd (cc (p.1))

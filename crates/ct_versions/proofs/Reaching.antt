@@ -1,4 +1,4 @@
--- What two have seen of one line.
+-- Two observers of one line.
 use Rattle.std.proofs.Common.{◌≡◌, ℕ, ◌-◌, ◌<◌, ◌≤◌, List, length, ap, sym, ◌∙◌, subst, arith, inl, inr}
 use Rattle.std.proofs.lemmas.Bool.{cases_lt}
 use Rattle.std.proofs.lemmas.Option.{get_or_from_slice_get, same_Some}
@@ -11,7 +11,7 @@ use Rattle.ct_versions.specs.declared.publications.Publication.{Publication}
 use Rattle.ct_versions.proofs.Lines.{Extends-refl}
 use Rattle.ct_versions.proofs.Prefixes.{prefix_get}
 
--- of two publications of one line the one with fewer heads begins the other
+-- of two publications of one line, the state with fewer or as many heads is a prefix of the other
 pub two_seen : (xs ys zs : List Publication) → ((cs : List Cell) × IsKept cs zs) → Ends xs (newest xs) → Ends ys (newest ys) → IsPrefix xs zs
     → IsPrefix ys zs → (newest ys).line ≡ (newest xs).line
     → length (newest xs).state.heads ≤ length (newest ys).state.heads → Extends (newest xs).state (newest ys).state
@@ -31,7 +31,7 @@ two_seen xs ys zs (cs, kept) x y px py line heads =
       ]
     ]
 
--- what was seen of a line begins the publication that nothing comes behind
+-- a publication seen of a line is a prefix of the one that no publication of the line follows
 pub begun_by : (xs ys zs : List Publication) → ((cs : List Cell) × IsKept cs zs) → Ends xs (newest xs) → Ends ys (newest ys) → IsPrefix xs zs
     → IsPrefix ys zs → (newest ys).line ≡ (newest xs).line → (k : ℕ) → (newest xs).turn ≡ k
     → ((i j : ℕ) (p q : Publication) → i < j → slice_get zs i ≡ Some p → slice_get zs j ≡ Some q → q.line ≡ p.line → p.turn ≡ k → ⊥)
@@ -52,7 +52,7 @@ begun_by xs ys zs (cs, kept) x y px py line k turn behind =
       ]
     ]
 
--- the newest of a list is what it ends with
+-- the newest publication of a list is the one that the list ends with
 pub ends_as : (all : List Publication) (p : Publication) → Ends all p → newest all ≡ p
 ends_as all p ends = get_or_from_slice_get all (length all - 1) p no_publication ends
 
@@ -61,7 +61,7 @@ same_series a b book line =
     let made : Book → ℕ → Series = λ x n. record { book = x; line = n } in
     ap (λ (x : Book). made x a.last.line) book ∙ ap (made b.book) line
 
--- the same, of what two values stand for
+-- the same, for the models of two values
 pub same_line : (x y a b : Reach) → x ≡ a → y ≡ b → series_of b ≡ series_of a → y.last.line ≡ x.last.line
 same_line x y a b e f same = ap (λ (r : Reach). r.last.line) f ∙ ap (λ (s : Series). s.line) same ∙ sym (ap (λ (r : Reach). r.last.line) e)
 

@@ -11,7 +11,7 @@ use Rattle.ct_versions.specs.declared.publications.Publication.{Publication}
 use Rattle.ct_versions.proofs.Lines.{ends_push, kept_add, kept_more, newer_than_all}
 use Rattle.ct_versions.proofs.Prefixes.{prefix_get}
 
--- words at home
+-- words that nobody holds the right to write
 home_within : (cs : List Cell) (k : ℕ) → IsHome cs k → k < length cs
 home_within [] k h = absurd (false≢true h)
 home_within (c ∷ cs) zero h = omega arith
@@ -45,7 +45,7 @@ shown all = []
 abbrev pub moved : List Publication → List Publication → ℕ → Type 0
 moved before after answer = Unit {0}
 
--- the cells after the pen's word was brought home
+-- the cells after the right to write the pen's word was given up
 abbrev pub home_after : List Cell → (ℕ → ℕ) → Nib → List Cell
 home_after cs f n = slice_set (slice_set cs 0 (f (cell cs 0).0, true)) n.key (n.value, true)
 
@@ -57,7 +57,7 @@ comes_home cs f n below =
     let l = length_home cs 0 (f (cell cs 0).0, true) in
     home_here (slice_set cs 0 (f (cell cs 0).0, true)) n.key n.value (omega arith)
 
--- whatever the book is, a right can be made
+-- a right can be made in any book
 pub right_moves : (v : List Publication) (e : Publication) (f : ℕ → ℕ)
     → Moves IsKept shown moved 0 (v, (no_nib, None)) f (MakesRight (step 0 0 0 e) (v, (no_nib, None)))
 right_moves v e f cs all kept pre away =
@@ -77,7 +77,7 @@ right_moves v e f cs all kept pre away =
       ),
     )
 
--- a line can be opened by the word of a right
+-- a line can be opened with the word of a right
 pub open_moves : (v : List Publication) (e : Publication) (n : Nib) (f : ℕ → ℕ) → n.right ≡ may_write → Lawful e.state
     → Moves IsKept shown moved 0 (v, (n, None)) f (OpensLine (step 0 0 0 e) (v, (n, None)))
 open_moves v e n f right law cs all kept pre away =
@@ -98,7 +98,7 @@ open_moves v e n f right law cs all kept pre away =
       ),
     )
 
--- and whoever has the turn of a line can add to it
+-- the holder of the turn of a line can add to the line
 pub add_moves : (v : List Publication) (e : Publication) (n : Nib) (f : ℕ → ℕ) → Ends v (newest v) → IsRight n (newest v).turn
     → Extends (newest v).state e.state → length (newest v).state.heads < length e.state.heads → Lawful e.state
     → Moves IsKept shown moved 0 (v, (n, None)) f (AddsToLine (step 0 0 0 e) (v, (n, None)))
@@ -124,7 +124,7 @@ add_moves v e n f ends right extends heads law cs all kept pre away =
       ),
     )
 
--- whoever has the turn of a line sees that nothing in it comes behind
+-- the holder of the turn of a line sees that no publication follows in the line
 pub turn_holds : (v : List Publication) (e : Publication) (n : Nib) (f : ℕ → ℕ) → n.right ≡ may_write
     → Moves IsKept shown moved 0 (v, (n, None)) f (HoldsTurn (step 0 0 0 e) (v, (n, None)))
 turn_holds v e n f right cs all kept pre away =

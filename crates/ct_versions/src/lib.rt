@@ -1,17 +1,20 @@
-//! Snapshots of a log for its readers, the published states as each sees them: with no lock and no wait, and what a reader has seen begins all that
-//! it sees later.
+//! Snapshots of a log's published states: readers take no lock, never wait, and never go back to an older state. A state that a reader has
+//! seen is a prefix of each state that it sees later.
 //!
-//! - `Shelf` is where a log's published states are shown, one after another. It belongs to one thread, which makes publications
-//!   (`publish`) and tokens of all that is published so far (`bulletin`).
-//! - `Viewer` is one that looks there (`ask`). It may belong to another thread. It moves on to what is shown, or to what a bulletin
-//!   tells it (`learn`), and never back.
+//! - `Shelf` shows a log's published states, one after another. It belongs to one thread, which makes publications (`publish`) and tokens
+//!   of everything published so far (`bulletin`).
+//! - `Viewer` is a reader (`ask`). It may belong to another thread. It advances to the state shown, or to the state of a bulletin
+//!   (`learn`), and never goes back.
 //!
-//! Two things carry this. The publications stand in a book (`logbook`), which only grows: what a viewer has seen, a bulletin and a
-//! shown version each have a token of a beginning of that book, so that of two states that were seen one begins the other. The versions
-//! themselves lie in two copies (`left_right`): viewers read one, and the shelf changes the other. Both copies share one state.
+//! Two data structures ensure this:
 //!
-//! Contracts see a shelf, a viewer and a bulletin as a `Sight` (`specs/Sights.antt`): whose publications they are, and the newest state
-//! that was seen. `specs/Publications.antt` has the rule of the book.
+//! - The publications are in a book (`logbook`), which only grows. A viewer, a bulletin and a shown version each have a token of a prefix
+//!   of that book. So of two states that were seen, one is a prefix of the other.
+//! - The versions themselves are in two copies (`left_right`): viewers read one, and the shelf changes the other. Both copies share one
+//!   state.
+//!
+//! Contracts see a viewer and a bulletin as a `Sight` (`specs/Sights.antt`): whose publications they are, and the newest state that was
+//! seen. They see a shelf as a `ShelfView`, which also has the state shown. `specs/Publications.antt` defines the rule of the book.
 #![tactic(auto)]
 
 mod publications;

@@ -1,4 +1,4 @@
-//! The publications: a book of them that only grows, and what was seen of it.
+//! The publications: a book of them that only grows, and the part of it that was seen.
 
 ghost use Rattle.std.specs.Prelude.{◌≡◌, ◌⊎◌, ◌<◌, length, MatchBool};
 ghost use Rattle.std.specs.Arc.{arc_value};
@@ -11,8 +11,8 @@ use ct_core::Published;
 use logbook::{Gain, Pen, Plain, Play, Rule, Seen, Start, Word};
 use std::marker::Model;
 
-/// An entry of the book: a state, the line that it stands in, and the turn at which the line's next state is added. It stands for what
-/// the prover sees of the book: no value of it is made.
+/// An entry of the book: a state, the line that it belongs to, and the turn at which the line's next state is added. It models the book for
+/// the prover: no value of it is made.
 #[derive(Drop)]
 pub struct Publication {
     line: u64,
@@ -20,7 +20,7 @@ pub struct Publication {
     turn: u64,
 }
 
-/// The rule of the book: in each line, each state is lawful and begins the later ones, and only its announcer adds to it.
+/// The rule of the book: in each line, each state is lawful and a prefix of the later ones, and only the line's announcer adds to it.
 pub struct Law;
 
 impl Rule<Publication, u64> for Law {
@@ -41,7 +41,7 @@ impl Rule<Publication, u64> for Law {
     ghost moves = { λ ask before after answer. Unit {0} };
 }
 
-// Nothing is traded in a step.
+// Nothing is exchanged in a step.
 struct Nothing;
 
 impl Gain<Publication, u64> for Nothing {
@@ -68,14 +68,14 @@ impl Plain<(), Publication, u64> for MakeRight {
     ghost state = { λ about. None };
 }
 
-// A state to be added, and the right to add the next one.
+// A state that will be added, and the right to add the next one.
 #[derive(Drop)]
 struct Announced<'a> {
     state: &'a Published,
     turn: &'a Pen,
 }
 
-// The step that looks whether anything comes behind a turn.
+// The step that checks whether a publication follows a turn's.
 struct HoldTurn;
 
 impl Play<Publication, u64> for HoldTurn {
@@ -93,7 +93,7 @@ impl Plain<(), Publication, u64> for HoldTurn {
     ghost state = { λ about. None };
 }
 
-// The step that begins a line, and the one by which it goes on.
+// The step that opens a line, and the step that adds to it.
 struct Open;
 
 struct Add;
@@ -118,10 +118,10 @@ impl<'a> Plain<Announced<'a>, Publication, u64> for Add {
     ghost state = { λ about. None };
 }
 
-/// What was seen of a line. It owns no memory.
+/// The part of a line that was seen. It owns no memory.
 #[derive(Drop)]
 pub struct Reached {
-    // How many heads the newest state has.
+    // The number of heads of the newest state.
     heads: usize,
     seen: Seen<Publication, u64, Law>,
 }
@@ -157,7 +157,7 @@ impl Model for Announcer {
     ghost invariant = { λ a. (a.head ≡ head_of a.reached.book) × (a.turn.book ≡ a.reached.book) × IsRight a.turn.nib a.reached.last.turn };
 }
 
-// A right that nobody else has.
+// Returns a right that nobody else has.
 fn make_right(head: &Word<Publication, u64, Law>, seen: &Seen<Publication, u64, Law>) -> Pen
     requires { head.now ≡ head_of seen.now.book }
     ensures { (result.book ≡ seen.now.book) × (result.nib.right ≡ may_write) }
@@ -171,7 +171,7 @@ fn make_right(head: &Word<Publication, u64, Law>, seen: &Seen<Publication, u64, 
 }
 
 impl Reached {
-    /// A copy.
+    /// Returns a copy.
     pub fn again(&self) -> Reached
         ensures { result ≡ self.now }
     {
@@ -181,7 +181,7 @@ impl Reached {
         }
     }
 
-    /// The newest state that was seen is lawful.
+    /// Shows that the newest state that was seen is lawful.
     pub fn vouch(&self)
         ensures { Lawful self.now.last.state }
     {
@@ -189,7 +189,8 @@ impl Reached {
         let _ = &self.heads;
     }
 
-    /// Takes in what another has seen: of the two newest states one begins the other, and the later one is seen from now on.
+    /// Merges in the part that another has seen: of the two newest states one is a prefix of the other, and the later one is seen from now
+    /// on.
     pub fn learn(&mut self, other: &Reached)
         requires { series_of other.now ≡ series_of self.old }
         ensures series { series_of self.new ≡ series_of self.old }
@@ -205,7 +206,7 @@ impl Reached {
         }
     }
 
-    /// Moves on to what was reached elsewhere, unless that is behind. It says whether it did.
+    /// Advances to the other's newest state, unless that has fewer heads. Reports whether it did.
     pub fn follow(&mut self, other: &Reached) -> bool
         requires { series_of other.now ≡ series_of self.old }
         ensures { MatchBool result
@@ -222,7 +223,7 @@ impl Reached {
         true
     }
 
-    // What another has seen of the line begins the state whose turn this is: nobody else adds to the line.
+    // Shows that another's newest state of the line is a prefix of the state whose turn this is: nobody else adds to the line.
     fn vouch_for(&self, head: &Word<Publication, u64, Law>, turn: &mut Pen, other: &Reached)
         requires head { head.now ≡ head_of self.now.book }
         requires turn { (turn.old.book ≡ self.now.book) × IsRight turn.old.nib self.now.last.turn }
@@ -236,7 +237,7 @@ impl Reached {
         head.compare_exchange::<HoldTurn, Nothing>(0, 0, &mut both, &mut offer, turn);
     }
 
-    // Adds a state to the line at this turn, and makes the right to the next turn. It can't fail: nobody else has the turn.
+    // Adds a state to the line at this turn, and makes the right to the next turn. It cannot fail, because nobody else has the turn.
     fn announce(&mut self, head: &Word<Publication, u64, Law>, turn: &mut Pen, next: &Published)
         requires head { head.now ≡ head_of self.old.book }
         requires turn { (turn.old.book ≡ self.old.book) × IsRight turn.old.nib self.old.last.turn }
@@ -262,7 +263,7 @@ impl Reached {
 }
 
 impl Announcer {
-    /// A line with one state, in a book of its own.
+    /// Returns a line with one state, in a book of its own.
     pub fn open(first: &Published) -> Announcer
         requires { Lawful first.now }
         ensures { result.last.state ≡ first.now }
@@ -288,14 +289,14 @@ impl Announcer {
         }
     }
 
-    /// What was announced so far.
+    /// Returns the part of the line that was announced so far.
     pub fn reached(&self) -> Reached
         ensures { result ≡ self.now }
     {
         self.reached.again()
     }
 
-    /// What another has seen of the line begins the newest state: nobody else adds to it.
+    /// Shows that another's newest state of the line is a prefix of the newest state: nobody else adds to the line.
     pub fn vouch_for(&mut self, other: &Reached)
         requires { series_of other.now ≡ series_of self.old }
         ensures same { self.new ≡ self.old }
@@ -305,7 +306,7 @@ impl Announcer {
         self.reached.vouch_for(head, &mut self.turn, other);
     }
 
-    /// Adds a state.
+    /// Adds a state, which the newest one is a prefix of, with more heads.
     pub fn announce(&mut self, next: &Published)
         requires extends { Extends self.old.last.state next.now }
         requires newer { length self.old.last.state.heads < length next.now.heads }

@@ -1,4 +1,4 @@
-//! The writer: it announces what is published, and shows it.
+//! The writer: it announces published states, and shows them.
 
 ghost use Rattle.std.specs.Prelude.{◌≡◌, ◌<◌, ◌^◌, drop, length, IfOk, OnOk, OnErr, IsOkUnless, MatchResult, Some};
 ghost use Rattle.std.specs.Arc.{arc_value};
@@ -19,8 +19,8 @@ use std::alloc::{AllocError, Global};
 use std::marker::Model;
 use std::sync::{Arc, Wait};
 
-/// Where published states are shown. It can't be dropped: `close` ends it. Contracts see whose publications these are, the newest
-/// state, and the one that viewers find.
+/// Shows published states. It cannot be dropped: `close` ends it. Contracts see whose publications these are, the newest state, and the
+/// state that viewers find.
 pub struct Shelf {
     writer: VersionWriter,
     announcer: Announcer,
@@ -39,7 +39,7 @@ impl Model for Shelf {
     ghost invariant = { λ s. (series_of s.writer.desk.shown.value ≡ series_of s.announcer) × Knows (series_of s.announcer) (view_of s.writer.desk.place) };
 }
 
-// A version that the writer handed back: it does so exactly where there is no memory for it, and tells it in no other way.
+// A version that the writer handed back. The writer does so if and only if it is out of memory, and reports that in no other way.
 #[derive(Drop)]
 struct NotAppended {
     version: Version,
@@ -54,7 +54,7 @@ impl From<NotAppended> for Refusal {
     }
 }
 
-// Three versions of the state that was announced last.
+// Returns three versions of the state that was announced last.
 fn three_versions(
     state: Arc<Published>,
     reached: Reached,
@@ -68,7 +68,7 @@ fn three_versions(
     Ok((first, second, third))
 }
 
-// Shows what was taken in, unless memory is refused.
+// Shows the versions that were taken in, unless memory is refused.
 fn turn<R: Wait>(writer: VersionWriter, rt: &R) -> (VersionWriter, Result<(), AllocError>)
     requires { series_of (last_of writer.desk.shown.value (drop writer.behind writer.log.items)) ≡ series_of writer.desk.shown.value }
     ensures series { series_of result.0.desk.shown.value ≡ series_of writer.desk.shown.value }
@@ -81,7 +81,7 @@ fn turn<R: Wait>(writer: VersionWriter, rt: &R) -> (VersionWriter, Result<(), Al
 }
 
 impl Shelf {
-    /// Shows a first state, with room for so many viewers. It waits for nobody, since there is no viewer yet.
+    /// Shows a first state, with room for this many viewers. It never waits, since there is no viewer yet.
     ///
     /// Refused with `Memory`.
     pub fn open<R: Wait>(
@@ -99,7 +99,7 @@ impl Shelf {
         let announcer = Announcer::open(&state);
         let (first, second, again) = three_versions(state, announcer.reached())?;
         let mut writer = VersionWriter::new(alloc, first, second, viewers)?;
-        // This makes the room that later publications take.
+        // This makes the room that later publications use.
         if let Err(version) = writer.append(again) {
             writer.take(rt);
             return Err(Refusal::from(NotAppended { version }));
@@ -114,9 +114,9 @@ impl Shelf {
         }
     }
 
-    /// One more that looks, and has seen the newest state.
+    /// Returns another viewer, which has seen the newest state.
     ///
-    /// Refused with `Memory`, also where there are as many viewers as there is room for.
+    /// Refused with `Memory`, also if there are already as many viewers as there is room for.
     pub fn viewer(&mut self) -> Result<Viewer, Refusal>
         ensures same { self.new ≡ self.old }
         ensures viewer { IfOk result (λ v. v ≡ sight_at self.old) }
@@ -127,14 +127,14 @@ impl Shelf {
         Ok(Viewer::new(reader, self.announcer.reached()))
     }
 
-    /// A token of all publications so far.
+    /// Returns a token of all publications so far.
     pub fn bulletin(&self) -> Bulletin
         ensures { result ≡ sight_at self.now }
     {
         Bulletin::new(self.announcer.reached())
     }
 
-    // Shows a version of this line, in place of the one that is shown.
+    // Shows a version of this line, in place of the version shown now.
     fn show<R: Wait>(&mut self, rt: &R, version: Version) -> Result<(), Refusal>
         requires { series_of version ≡ self.old.series }
         ensures shown { OnOk result (self.new ≡ record self.old { shown = version.last.state }) }
@@ -159,11 +159,11 @@ impl Shelf {
         Ok(())
     }
 
-    /// Publishes a state that the newest one begins, with a head more, and shows it. It waits for those that still look at the state
-    /// before the newest one.
+    /// Publishes a state, which the newest one is a prefix of and which has more heads, and shows it. It waits for viewers that still read
+    /// the state before the newest one.
     ///
-    /// The state is published in any case. Refused with `Memory` where there is none for showing it: viewers find the state that they
-    /// found before, and this one is shown with the next. The room for it is there from `open` on.
+    /// The state is published in any case. Refused with `Memory` if there is none for showing it. Then viewers find the same state as
+    /// before, and this one is shown with the next. The room that it needs is reserved by `open`.
     pub fn publish<R: Wait>(&mut self, rt: &R, next: Arc<Published>) -> Result<(), Refusal>
         requires extends { Extends self.old.seen (arc_value next) }
         requires newer { length self.old.seen.heads < length (arc_value next).heads }
@@ -180,7 +180,8 @@ impl Shelf {
         self.show(rt, version)
     }
 
-    /// What a viewer of these publications has seen begins the newest state: nobody else publishes. It takes no memory and doesn't wait.
+    /// Shows that the state that a viewer of these publications has seen is a prefix of the newest state: nobody else publishes. It
+    /// allocates no memory and never waits.
     pub fn vouch_for(&mut self, viewer: &Viewer)
         requires { viewer.now.series ≡ self.old.series }
         ensures same { self.new ≡ self.old }
@@ -189,7 +190,7 @@ impl Shelf {
         self.announcer.vouch_for(viewer.reached());
     }
 
-    /// Waits until nobody looks, and ends it.
+    /// Waits until no viewer is reading, and ends the shelf.
     pub fn close<R: Wait>(self, rt: &R) {
         let Shelf {
             writer,

@@ -1,4 +1,4 @@
-//! What the two copies hold, and the rule over them.
+//! The contents of the two copies, and the rule that they keep.
 
 ghost use Rattle.std.specs.Prelude.{◌≡◌, ◌⊎◌, IfOk, IfErr, MatchResult, true};
 ghost use Rattle.std.specs.Arc.{arc_value};
@@ -17,7 +17,7 @@ use std::alloc::{AllocError, Global};
 use std::marker::Model;
 use std::sync::Arc;
 
-/// A published state, and that it was announced. Both copies and the core share the state.
+/// A published state, with the evidence that it was announced. Both copies and the core share the state.
 #[derive(Drop)]
 pub struct Version {
     state: Arc<Published>,
@@ -37,7 +37,7 @@ impl Model for Version {
 }
 
 impl Version {
-    // A version of the state that was announced last.
+    // Returns a version of the state that was announced last.
     pub(crate) fn new(state: Arc<Published>, reached: Reached) -> Version
         requires { reached.last.state ≡ arc_value state }
         ensures { result ≡ reached }
@@ -45,7 +45,7 @@ impl Version {
         Version { state, reached }
     }
 
-    // The same, sharing the state.
+    // Returns the same version, sharing the state.
     pub(crate) fn again(&self) -> Result<Version, AllocError>
         ensures { IfOk result (λ v. v ≡ self.now) }
     {
@@ -61,7 +61,7 @@ impl Version {
         &self.reached
     }
 
-    // The reply to a query.
+    // Returns the reply to a query.
     pub(crate) fn answer(&self, alloc: Global, query: &Query) -> Result<Reply, Refusal>
         ensures answer { MatchResult result
             (λ r. shown r ≡ answer self.now.last.state query.now)
@@ -86,7 +86,7 @@ impl Absorb<Version> for Version {
     }
 }
 
-/// The rule of the two copies: what is shown is always of one line.
+/// The rule of the two copies: all shown versions belong to one line.
 pub struct OfOneLine;
 
 impl Protocol<Version, Option<Reached>> for OfOneLine {
@@ -98,7 +98,7 @@ impl Protocol<Version, Option<Reached>> for OfOneLine {
     ghost first = { None };
 }
 
-/// What entering and showing tell: what is shown was seen.
+/// The result of entering and showing: the version shown was seen.
 pub struct Sees;
 
 impl Outcome<Version, Option<Reached>> for Sees {
@@ -107,7 +107,7 @@ impl Outcome<Version, Option<Reached>> for Sees {
     ghost then = { SeesIt };
 }
 
-/// A note tells all that its writer knows.
+/// A note says all that its writer knows.
 pub struct Notes;
 
 impl Split<Option<Reached>> for Notes {

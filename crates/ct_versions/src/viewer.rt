@@ -1,4 +1,4 @@
-//! Those that look at what is published.
+//! The readers of published states.
 
 ghost use Rattle.std.specs.Prelude.{◌≡◌, ◌⊎◌, IfErr, IfSome, Some, MatchResult, true};
 ghost use Rattle.left_right.specs.Sides.{view};
@@ -16,7 +16,7 @@ use ct_core::{Query, Reply};
 use std::alloc::Global;
 use std::marker::Model;
 
-/// A token of all that was published when it was made. It owns no memory.
+/// A token of everything that was published when it was made. It owns no memory.
 #[derive(Drop)]
 pub struct Bulletin {
     reached: Reached,
@@ -38,10 +38,10 @@ impl Bulletin {
     }
 }
 
-/// One that looks at what is published. Contracts see whose publications these are, and the newest state that it has seen.
+/// A reader of published states. Contracts see whose publications these are, and the newest state that it has seen.
 #[derive(Drop)]
 pub struct Viewer {
-    // It is away only while a query is answered.
+    // It is `None` only while a query is answered.
     reader: Option<VersionReader>,
     reached: Reached,
 }
@@ -59,7 +59,7 @@ impl Model for Viewer {
     ghost invariant = { λ v. IfSome v.reader (λ r. (q : Reach) × (view_of r.place ≡ Some q) × (series_of q ≡ series_of v.reached)) };
 }
 
-// The reply of a version, where it isn't older than what was seen. It is then seen.
+// Returns the reply of a version, unless the version is older than the state that was seen. The version's state is then seen.
 fn answer_at(
     reached: &mut Reached,
     alloc: Global,
@@ -97,11 +97,11 @@ impl Viewer {
         &self.reached
     }
 
-    /// The reply to a query (RFC 6962, sections 4.3 to 4.6 and 4.8) at the state that is shown, which is seen from then on. It takes no
-    /// lock and doesn't wait.
+    /// Returns the reply to a query (RFC 6962, sections 4.3 to 4.6 and 4.8) at the state that is shown, which counts as seen from then on.
+    /// It takes no lock and never waits.
     ///
-    /// Refused as `Published::answer` is, and with `Closed` where nothing is shown any more, or where the state that is shown is older
-    /// than what a bulletin told.
+    /// Refused as `Published::answer` is, and with `Closed` if no state is shown any more, or if the state that is shown is older than one
+    /// that a bulletin reported.
     pub fn ask(&mut self, alloc: Global, query: &Query) -> Result<Reply, Refusal>
         ensures moves { Moves self.old self.new }
         ensures answer { MatchResult result
@@ -125,7 +125,7 @@ impl Viewer {
         }
     }
 
-    /// Takes in a bulletin: from now on nothing older than its state is seen. It takes no memory and doesn't wait.
+    /// Takes in a bulletin: from now on no state older than the bulletin's is seen. It allocates no memory and never waits.
     pub fn learn(&mut self, bulletin: &Bulletin)
         requires { bulletin.now.series ≡ self.old.series }
         ensures moves { Moves self.old self.new }
@@ -136,7 +136,7 @@ impl Viewer {
         self.reached.learn(told);
     }
 
-    /// The newest state that was seen is lawful.
+    /// Shows that the newest state that was seen is lawful.
     pub fn vouch(&self)
         ensures { Lawful self.now.seen }
     {

@@ -1,4 +1,4 @@
--- What a run of the program writes.
+-- The output of a run of the program.
 use Rattle.std.specs.Prelude.{◌≡◌, ◌⊎◌, ℕ, List, [], Option}
 use Rattle.std.specs.Io.KnownBytes.{Appends}
 use Rattle.ct_script.specs.Output.{IsBegun, IsServed}
@@ -6,14 +6,14 @@ use Rattle.ct_tasks.specs.declared.fault.Fault.{Fault}
 use Rattle.ct_tasks.specs.declared.fault.Fault.TheVariants.{Memory, Write}
 use Rattle.ct_command.specs.CommandLine.{CommandLine, log_with, help, version, nothing}
 
--- what a run with status 0 wrote, by what its command line asks for: all replies; or the text of help or of the version
+-- the output of a run with status 0, by the request in its command line: all replies; or the text of help or of the version
 abbrev pub IsDone : CommandLine → Option (List ℕ) → Option (List ℕ) → Option (List ℕ) → Type 0
 IsDone (log_with n places open_at close_at) input old new = IsServed n places open_at close_at input old new
 IsDone help input old new = (text : List ℕ) × Appends old new text
 IsDone version input old new = (text : List ℕ) × Appends old new text
 IsDone nothing input old new = ⊥
 
--- what a run wrote that this fault broke off: a beginning of all replies; a beginning of the text that was asked for; or nothing
+-- the output of a run that this fault broke off: a prefix of all replies; a prefix of the requested text; or nothing
 abbrev pub IsBrokenOff : CommandLine → Fault → Option (List ℕ) → Option (List ℕ) → Option (List ℕ) → Type 0
 IsBrokenOff (log_with n places open_at close_at) f input old new = IsBegun n places open_at close_at f input old new
 IsBrokenOff help f input old new = ((f ≡ Write) ⊎ (f ≡ Memory)) × ((text : List ℕ) × Appends old new text)

@@ -1,13 +1,12 @@
 //! The program `ctlog`: a log with up to 16 fronts, run over a script of request lines.
 //!
-//! It reads standard input to its end, gives its lines out to the fronts, the operator and the frozen log, and writes a
-//! reply for each line that isn't empty: each front does its lines in a thread of its own, and the operator its own beside
-//! them; the replies of the fronts come first, in the order of their numbers, then the operator's, then, once the log is
-//! closed, those of the frozen log. A line that ends a shift has all lines before it done, and all fronts go on, before the lines
-//! behind it are begun.
+//! It reads standard input to its end, assigns its lines to the fronts, the operator and the frozen log, and writes a reply for each line
+//! that is not empty. Each front serves its lines in a thread of its own, and the operator serves its lines at the same time. The replies
+//! of the fronts come first, in the order of their numbers, then the operator's, and then, after the log is closed, those of the frozen
+//! log. At a line that ends a shift, all lines before it are done, and all fronts are resumed, before the lines after it are started.
 //!
-//! - `program` has `run`, which does all this over any reader and any two writers, by `serve` of `ct_script`; `ct_command`
-//!   reads the command line, and has the lines of faults: what ends the program before all is written.
+//! - `program` has `run`, which does all this over any reader and any two writers, with `serve` of `ct_script`. `ct_command` reads the
+//!   command line, and has the lines for faults, which end the program before all output is written.
 #![tactic(auto)]
 
 ghost use Rattle.std.specs.Prelude.{◌≡◌, ◌⊎◌, ◌≤◌};
@@ -29,13 +28,13 @@ use std::process::ExitCode;
 use std::sync::Wait;
 use std::thread::Threads;
 
-// The words of the command line. Std's contracts don't say which these are.
+// Returns the arguments of the command line. The contracts of `std` do not say which these are.
 fn collected(rt: &HostRuntime) -> io::Result<Vec<String>> {
     let words = std::env::args(rt)?.collect(rt.alloc())?;
     Ok(words)
 }
 
-// Runs the program over these words, and answers its exit status: it does what `run` promises.
+// Runs the program with these arguments, and returns its exit status. It has the promises of `run`.
 fn run_words<H: Threads + Wait + Sync, R: Read, W: Write, E: Write>(
     rt: &H,
     alloc: Global,

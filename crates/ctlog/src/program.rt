@@ -15,21 +15,21 @@ use std::io::{Read, Write};
 use std::sync::Wait;
 use std::thread::Threads;
 
-/// How many turns a line may wait in the process.
+/// The maximum number of turns that a line may wait in the process.
 pub const TURNS: u64 = 50_000_000;
 
-/// Runs the program over its command line, whose first word is its name, and answers its exit status. A line that waits
-/// for another party looks `turns` times.
+/// Runs the program with its command line, whose first argument is its name, and returns its exit status. A line that waits for another
+/// party looks `turns` times.
 ///
-/// - 0: the words ask for a log with these numbers, and all replies to the input were written; or they ask for help or
-///   for the version, which was written. Nothing was written among the faults.
-/// - 1: a fault broke it off, and its line was written among the faults, as far as it could be: a beginning of what is
-///   written at status 0 stands on the output. The fault is the one that happened as far as the library's contracts tell:
-///   which of its calls was refused memory, or whether the reader or the writer failed for good, no contract says.
-/// - 2: the words ask for nothing that there is. Nothing was written on the output.
+/// - 0: the arguments request a log with these numbers, and all replies to the input were written; or they request help or the version,
+///   which was written. Nothing was written to the faults.
+/// - 1: a fault broke it off, and its line was written to the faults, as far as possible. The output has a prefix of the output at status
+///   0. The reported fault is the one that happened, as far as the library's contracts say. No contract says which call was refused memory,
+///   or whether the reader or the writer failed permanently.
+/// - 2: the arguments request nothing that exists. Nothing was written to the output.
 ///
-/// Where no log is asked for, the input isn't read. Clap's contracts say nothing of texts, so that the texts of help and of the version, and what is
-/// written among the faults at status 2, are tested alone.
+/// If no log is requested, the input is not read. Clap's contracts do not cover texts. So only tests check the texts of help and of the
+/// version, and the text written to the faults at status 2.
 pub fn run<'a, H: Threads + Wait + Sync, R: Read, W: Write, E: Write>(
     rt: &H,
     alloc: Global,

@@ -9,14 +9,14 @@ use std::alloc::Global;
 use std::process::Abort;
 use std::sync::Wait;
 
-// The submission of a chain with one certificate.
+// Returns the submission of a chain with one certificate.
 pub(crate) fn submission(alloc: Global, certificate: &[u8]) -> Result<Submission, Refusal> {
     let mut chain = Vec::new(alloc);
     chain.push(Vec::from_slice(alloc, certificate)?)?;
     Submission::x509(chain)
 }
 
-// The final log of a house whose fronts have retired.
+// Returns the final log of a house whose fronts have retired.
 pub(crate) fn closed<R: Wait + Abort>(
     rt: &R,
     mut house: Sequencer,
@@ -36,7 +36,7 @@ pub(crate) fn closed<R: Wait + Abort>(
     house.finish(rt, ends)
 }
 
-// The head that was replied.
+// Returns the head in the reply.
 pub(crate) fn head_of(reply: Result<Reply, Refusal>) -> Result<Head, Refusal> {
     match reply? {
         Reply::Sth(head) => Ok(head),

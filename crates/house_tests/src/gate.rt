@@ -12,7 +12,7 @@ use std::test::Fail;
 use std::thread;
 use std::thread::Threads;
 
-// Whether it is this number, or `nothing`.
+// Reports whether `count` is this number, or whether it is `None` and `nothing` is expected.
 fn is_count(count: Option<u64>, wanted: &str) -> bool {
     match count {
         Some(count) => is_answer(Ok(count), wanted),
@@ -20,7 +20,7 @@ fn is_count(count: Option<u64>, wanted: &str) -> bool {
     }
 }
 
-// Whether it is the item of this front, this ticket and this identity, or `nothing`.
+// Reports whether the item has this front, this ticket and this identity, or whether there is none and `nothing` is expected.
 fn is_item(alloc: Global, item: Option<Item>, wanted: &str) -> bool {
     let mut words = Words::of(wanted);
     match item {
@@ -65,7 +65,8 @@ impl TwoFronts {
         }))
     }
 
-    // Whether the ticket is answered, or the refusal with the identity of the submission that came back.
+    // Sends a submission. Reports whether the result is the expected ticket, or the expected refusal with the identity of the submission
+    // that came back.
     fn sends(&mut self, alloc: Global, words: &mut Words<'_>, wanted: &str) -> bool {
         let front = words.front();
         let Ok(submission) = submission(alloc, &[words.byte()]) else {
@@ -102,7 +103,7 @@ impl TwoFronts {
         }
     }
 
-    // Whether the call of these words answers so.
+    // Makes the call in these words. Reports whether its result is as expected.
     fn answers(&mut self, alloc: Global, words: &mut Words<'_>, wanted: &str) -> bool {
         match words.word() {
             "number" => is_answer(Ok(u64::from(self.number(words.front()))), wanted),
@@ -115,7 +116,7 @@ impl TwoFronts {
         }
     }
 
-    // Whether the call of this row answers as the row says.
+    // Makes the call in this row. Reports whether its result is as the row says.
     fn is_row(&mut self, alloc: Global, row: &str) -> bool {
         let Some((text, wanted)) = row.split_once(" -> ") else {
             return false;
@@ -124,7 +125,7 @@ impl TwoFronts {
         self.answers(alloc, &mut words, wanted) && words.are_read()
     }
 
-    // Makes the calls of the rows, each of which has to answer as it says.
+    // Makes the calls in the rows. Each result must be as its row says.
     fn follow<R: Abort>(&mut self, rt: &R, alloc: Global, rows: &str) {
         for row in rows.lines() {
             expect_right(rt, self.is_row(alloc, row.trim_start()), row);
@@ -147,7 +148,7 @@ impl TwoFronts {
     }
 }
 
-// The two ends in a list that has room for them.
+// Returns the two ends in a list that has room for them.
 fn listed(room: Vec<Intake>, zero: Intake, one: Intake) -> Vec<Intake>
     requires { (room.items ≡ []) × (2 ≤ vec_capacity room) }
     ensures { result.items ≡ zero ∷ one ∷ [] }
@@ -158,7 +159,7 @@ fn listed(room: Vec<Intake>, zero: Intake, one: Intake) -> Vec<Intake>
     list
 }
 
-// Opens a gate with two fronts, makes the calls of the rows, and closes it: how many were accepted.
+// Opens a gate with two fronts, makes the calls in the rows, and closes it. Returns how many submissions were accepted.
 fn closed_after<R: Wait + Abort>(
     rt: &R,
     alloc: Global,
@@ -171,7 +172,7 @@ fn closed_after<R: Wait + Abort>(
     gate.close(rt, alloc)
 }
 
-// An identity is `00 00 00 00 01` and the certificate.
+// In these rows, an identity is `00 00 00 00 01` followed by the certificate.
 #[test]
 fn two_fronts_and_a_shutdown(rt: HostRuntime) -> Result<(), Fail> {
     let closed = closed_after(
@@ -202,7 +203,7 @@ fn two_fronts_and_a_shutdown(rt: HostRuntime) -> Result<(), Fail> {
     Ok(())
 }
 
-// Sends the certificate of this byte.
+// Sends the certificate that is this byte.
 fn send_byte(alloc: Global, intake: &mut Intake, byte: u8) -> Result<u64, Refusal> {
     match intake.send(submission(alloc, &[byte])?) {
         Ok(ticket) => Ok(ticket),
@@ -210,7 +211,7 @@ fn send_byte(alloc: Global, intake: &mut Intake, byte: u8) -> Result<u64, Refusa
     }
 }
 
-// Sends so many submissions, and answers how many were accepted. No refusal but `Shutdown` may come.
+// Sends this many submissions, and returns how many were accepted. The only refusal must be `Shutdown`.
 fn send_all(alloc: Global, mut intake: Intake, count: u32) -> Result<u64, Refusal> {
     let mut accepted = 0u64;
     for _ in 0..count {
@@ -223,7 +224,7 @@ fn send_all(alloc: Global, mut intake: Intake, count: u32) -> Result<u64, Refusa
     Ok(accepted)
 }
 
-// How many submissions are accepted before the first refusal, and which that is. At most so many are sent.
+// Sends at most this many submissions. Returns how many are accepted before the first refusal, and that refusal.
 fn fill(alloc: Global, intake: &mut Intake, most: u32) -> (u64, Option<Refusal>) {
     let mut accepted = 0u64;
     for _ in 0..most {
@@ -235,7 +236,7 @@ fn fill(alloc: Global, intake: &mut Intake, most: u32) -> (u64, Option<Refusal>)
     (accepted, None)
 }
 
-// How many of at most so many items the outlet gives. Their tickets rise and are below the bound.
+// Takes at most this many items from the outlet, and returns their number. Their tickets must rise and be below the bound.
 fn take_all(outlet: &mut Outlet, most: u32, bound: u64) -> Option<u64> {
     let mut taken = 0u64;
     let mut least = 0u64;
@@ -252,7 +253,7 @@ fn take_all(outlet: &mut Outlet, most: u32, bound: u64) -> Option<u64> {
     Some(taken)
 }
 
-// How many items the outlets give, each as `take_all` asks.
+// Takes the items of all outlets, with the conditions of `take_all`, and returns their number.
 fn take_from_all(outlets: &mut [Outlet], bound: u64) -> Option<u64> {
     let mut taken = 0u64;
     for outlet in outlets {
@@ -261,7 +262,8 @@ fn take_from_all(outlets: &mut [Outlet], bound: u64) -> Option<u64> {
     Some(taken)
 }
 
-// Two threads send 2,000 submissions each while the gate is shut. How many they were told are accepted, and whether that is what the gate tells.
+// Two threads send 2,000 submissions each while the gate is shut. Returns how many of them were accepted, and whether the gate reports the
+// same number.
 fn send_beside_shut<R: Threads>(
     rt: &R,
     alloc: Global,
@@ -279,7 +281,7 @@ fn send_beside_shut<R: Threads>(
     ))
 }
 
-// The two of them.
+// Returns the two intakes in the list.
 fn both_of(intakes: Vec<Intake>) -> Option<(Intake, Intake)> {
     let mut intakes = intakes;
     let one = intakes.pop()?;
@@ -287,7 +289,7 @@ fn both_of(intakes: Vec<Intake>) -> Option<(Intake, Intake)> {
     Some((zero, one))
 }
 
-// Whether the two threads are told what the gate tells, and the outlets give as much.
+// Reports whether the gate and the two threads agree on the number of accepted submissions, and the outlets have as many.
 fn two_threads_send<R: Threads>(rt: &R, alloc: Global) -> Result<bool, Fail> {
     let (mut shutter, intakes, mut outlets) = open_gate(alloc, 2, 4096)?;
     let (zero, one) = both_of(intakes).ok_or("two intakes")?;
@@ -301,7 +303,7 @@ fn two_threads_send_while_the_gate_is_shut(rt: HostRuntime) -> Result<(), Fail> 
     Ok(())
 }
 
-// Whether each of so many was told that a thousand are accepted.
+// Reports whether each front had a thousand submissions accepted.
 fn are_thousands(sent: &[Result<u64, Refusal>]) -> bool {
     for accepted in sent {
         if *accepted != Ok(1000) {
@@ -311,7 +313,7 @@ fn are_thousands(sent: &[Result<u64, Refusal>]) -> bool {
     sent.len() == 16
 }
 
-// Whether each outlet gives a thousand items.
+// Reports whether each outlet has a thousand items.
 fn give_thousands(outlets: &mut [Outlet]) -> bool {
     for outlet in outlets {
         if take_all(outlet, 4096, 16_000) != Some(1000) {
@@ -321,7 +323,7 @@ fn give_thousands(outlets: &mut [Outlet]) -> bool {
     true
 }
 
-// Whether each front, in a thread of its own, is told that a thousand are accepted.
+// Reports whether each front, in a thread of its own, has a thousand submissions accepted.
 fn send_thousands<R: Threads + Sync>(rt: &R, alloc: Global, intakes: Vec<Intake>) -> bool {
     match thread::map_vec(rt, intakes, &|intake| send_all(alloc, intake, 1000)) {
         Ok(sent) => are_thousands(&sent),
@@ -337,20 +339,20 @@ fn sixteen_threads_send(rt: HostRuntime) -> Result<(), Fail> {
     Ok(())
 }
 
-// One submission is sent in a thread: how many are accepted.
+// Sends one submission in a thread, and returns how many are accepted.
 fn send_one<R: Threads>(rt: &R, alloc: Global, intake: Intake) -> Result<u64, Fail> {
     let sender = thread::spawn(rt, move || send_all(alloc, intake, 1))?;
     Ok(sender.join(rt)?)
 }
 
-// The gate is shut in a thread: how many were accepted.
+// Shuts the gate in a thread, and returns how many submissions were accepted.
 fn shut_one<R: Threads>(rt: &R, shutter: Shutter) -> Result<u64, Fail> {
     let mut shutter = shutter;
     let closer = thread::spawn(rt, move || shutter.shut())?;
     Ok(closer.join(rt)?)
 }
 
-// An item is taken in a thread: its front and its ticket.
+// Takes an item in a thread, and returns its front and its ticket.
 fn take_one<R: Threads>(rt: &R, outlet: Outlet) -> Result<Option<(u16, u64)>, Fail> {
     let mut outlet = outlet;
     let taker = thread::spawn(
@@ -360,7 +362,7 @@ fn take_one<R: Threads>(rt: &R, outlet: Outlet) -> Result<Option<(u16, u64)>, Fa
     Ok(taker.join(rt))
 }
 
-// The ends of a gate with one front and a ring of so many places.
+// Returns the ends of a gate with one front and a ring with this many slots.
 fn open_one(alloc: Global, places: usize) -> Result<(Shutter, Intake, Outlet), Fail>
     requires { (1 ≤ places) × (places ≤ 4096) }
 {
@@ -385,7 +387,7 @@ fn take_ticket(outlet: &mut Outlet) -> Option<u64> {
     Some(outlet.take()?.ticket)
 }
 
-// Whether the ring of one place takes one, refuses another, and gives the one, with this ticket, and no other.
+// Reports whether the ring with one slot takes one item, refuses another, and returns only the first one, with this ticket.
 fn is_round(alloc: Global, intake: &mut Intake, outlet: &mut Outlet, ticket: u64) -> bool {
     send_byte(alloc, intake, 0x41) == Ok(ticket)
         && send_byte(alloc, intake, 0x42) == Err(Refusal::Full)
@@ -393,10 +395,10 @@ fn is_round(alloc: Global, intake: &mut Intake, outlet: &mut Outlet, ticket: u64
         && outlet.take().is_none()
 }
 
-// More tickets than a bound of a hundred thousand, or of 2^16 or 2^17, has.
+// More tickets than a limit of a hundred thousand, of 2^16 or of 2^17 would allow.
 const ROUNDS: u64 = 1 << 18;
 
-// How many of the rounds go so before the first that doesn't.
+// Returns how many of the rounds succeed before the first that does not.
 fn count_rounds(alloc: Global, intake: &mut Intake, outlet: &mut Outlet) -> u64 {
     for round in 0..ROUNDS {
         if !is_round(alloc, intake, outlet, round) {
@@ -413,13 +415,13 @@ fn a_full_ring_takes_again_after_a_take(rt: HostRuntime) -> Result<(), Fail> {
     Ok(())
 }
 
-// Fills the ring, and empties it: whether it takes 4,096, then none, and gives those with tickets below the bound.
+// Fills the ring, and empties it. Reports whether it takes 4,096 items and then none, and returns them with tickets below the bound.
 fn is_filled(alloc: Global, intake: &mut Intake, outlet: &mut Outlet, bound: u64) -> bool {
     fill(alloc, intake, 5000) == (4096, Some(Refusal::Full))
         && take_all(outlet, 5000, bound) == Some(4096)
 }
 
-// How many of seventeen fillings go so before the first that doesn't: 69,632 submissions, whose tickets pass 2^16.
+// Returns how many of seventeen fillings succeed before the first that does not. They are 69,632 submissions, whose tickets pass 2^16.
 fn seventeen_fillings(alloc: Global, intake: &mut Intake, outlet: &mut Outlet) -> u64 {
     for filling in 0..17u64 {
         if !is_filled(alloc, intake, outlet, 4096 * filling + 4096) {

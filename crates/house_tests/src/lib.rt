@@ -1,12 +1,15 @@
-//! Tests of `ct_gate` and `ct_house`, of how texts are written, and of what the log's calls answer where memory is refused, in a crate of their own so that each of those crates
-//! is proved once.
+//! Tests of `ct_gate` and `ct_house`, of how texts are written, and of the results of the log's calls if memory is refused. They have a
+//! crate of their own, so that each of those crates is proved once.
 //!
-//! `rows` reads rows of text, each a call and what it has to answer: most tests are such rows, so that their proofs are short. `gate` opens a gate
-//! of two fronts, and sends, receives and shuts. `two_fronts` makes the calls of small logs in one thread, step by step, and compares each
-//! answer. `readers` looks at what fronts see: at the opening, behind a bulletin, of a long log, and beside
-//! publications in another thread. `succession` lets a front go on, with a full ring, before the clock and after the shutdown. `shutdown_under_load` runs sixteen ends of a gate in threads of their own, and `sixteen_fronts`
-//! sixteen fronts beside a sequencer that takes and publishes: both are shut before the first submission, in the middle, and behind the last.
-//! `refused_growths` has one growth of memory refused in each run. `long_texts` writes texts of many lengths by `json_lines::send`.
+//! - `rows` reads rows of text, each a call and its expected result. Most tests are such rows, so that their proofs are short.
+//! - `gate` opens a gate of two fronts, and sends, receives and shuts.
+//! - `two_fronts` makes the calls of small logs in one thread, step by step, and compares each result.
+//! - `readers` checks which states fronts see: at the opening, after a bulletin, in a long log, and during publications in another thread.
+//! - `succession` resumes a front: with a full ring, before the clock, and after the shutdown.
+//! - `shutdown_under_load` runs sixteen ends of a gate in threads of their own, and `sixteen_fronts` runs sixteen fronts and a sequencer
+//!   that takes and publishes at the same time. Both are shut before the first submission, in the middle, and after the last one.
+//! - `refused_growths` has one allocation refused in each run.
+//! - `long_texts` writes texts of many lengths with `json_lines::send`.
 #![tactic(auto)]
 
 #[cfg(test)]

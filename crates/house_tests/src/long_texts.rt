@@ -1,4 +1,4 @@
-// What is sent is written whole, however long it is.
+// A text is sent whole, of any length.
 use json_lines::send;
 use std::test::Fail;
 

@@ -12,7 +12,7 @@ use std::sync::Wait;
 use std::test::Fail;
 use std::thread::{Threads, join_mut};
 
-// The root of no leaves: SHA-256 of nothing.
+// The root of no leaves: SHA-256 of the empty string.
 const EMPTY: [u8; 32] = [
     0xe3, 0xb0, 0xc4, 0x42, 0x98, 0xfc, 0x1c, 0x14, 0x9a, 0xfb, 0xf4, 0xc8, 0x99, 0x6f, 0xb9, 0x24,
     0x27, 0xae, 0x41, 0xe4, 0x64, 0x9b, 0x93, 0x4c, 0xa4, 0x95, 0x99, 0x1b, 0x78, 0x52, 0xb8, 0x55,
@@ -44,7 +44,7 @@ fn a_front_sees_what_it_learnt(rt: HostRuntime) -> Result<(), Fail> {
     )
 }
 
-// The moments that are seen in a new house after a publication, and again after an older bulletin.
+// Returns the timestamps of the heads that a front sees in a new house after a publication, and again after an older bulletin.
 fn moments_seen<R: Wait>(rt: &R, alloc: Global) -> Result<(u64, u64), Refusal> {
     let mut house = TwoFronts::open(rt, alloc, 4, 1)?;
     let seen = house.moments_behind(rt, 2);
@@ -58,7 +58,7 @@ fn an_older_bulletin_takes_nothing_away(rt: HostRuntime) -> Result<(), Fail> {
     Ok(())
 }
 
-// The root is that of 3,000 leaves: the certificates are the two bytes of 0, of 1 and so on, ten at each of the moments 1 to 300.
+// The root is that of 3,000 leaves. The certificates are the two bytes of 0, of 1 and so on, ten at each of the timestamps 1 to 300.
 #[test]
 fn three_thousand_leaves_and_three_hundred_heads(rt: HostRuntime) -> Result<(), Fail> {
     follows(
@@ -76,7 +76,7 @@ fn three_thousand_leaves_and_three_hundred_heads(rt: HostRuntime) -> Result<(), 
     )
 }
 
-// The root is that of 11,000 leaves: the certificates are the two bytes of 0, of 1 and so on, ten at each of the moments 1 to 1,100.
+// The root is that of 11,000 leaves. The certificates are the two bytes of 0, of 1 and so on, ten at each of the timestamps 1 to 1,100.
 #[test]
 fn eleven_thousand_leaves_and_eleven_hundred_heads(rt: HostRuntime) -> Result<(), Fail> {
     follows(
@@ -95,7 +95,7 @@ fn eleven_thousand_leaves_and_eleven_hundred_heads(rt: HostRuntime) -> Result<()
     )
 }
 
-// The head that each of these fronts sees.
+// Returns the head that each of these fronts sees.
 fn heads_seen(alloc: Global, fronts: &mut [Front]) -> Result<Vec<Head>, Refusal> {
     let mut heads = Vec::new(alloc);
     for place in 0..fronts.len() {
@@ -104,7 +104,7 @@ fn heads_seen(alloc: Global, fronts: &mut [Front]) -> Result<Vec<Head>, Refusal>
     Ok(heads)
 }
 
-// The heads that the fronts see before a publication, and after it.
+// Returns the heads that the fronts see before a publication, and after it.
 fn heads_around<R: Wait>(
     rt: &R,
     alloc: Global,
@@ -118,7 +118,7 @@ fn heads_around<R: Wait>(
     Ok((before, after))
 }
 
-// Whether sixteen heads were seen, each with no leaf and of this moment.
+// Reports whether sixteen heads were seen, each with no leaf and with this timestamp.
 fn are_empty_heads(heads: &[Head], moment: u64) -> bool {
     let empty = Head {
         tree_size: 0,
@@ -133,7 +133,7 @@ fn are_empty_heads(heads: &[Head], moment: u64) -> bool {
     heads.len() == 16
 }
 
-// Whether sixteen fronts of a house opened at 7 see that head, and the one published at 9.
+// Reports whether sixteen fronts of a house opened at 7 see that head, and the one published at 9.
 fn see_both_heads<R: Wait>(rt: &R, alloc: Global) -> Result<bool, Refusal> {
     let (mut house, mut fronts) = open(rt, alloc, 16, 4, 7)?;
     let seen = heads_around(rt, alloc, &mut house, &mut fronts, 9);
@@ -148,7 +148,8 @@ fn each_front_sees_the_opening_and_the_first_publication(rt: HostRuntime) -> Res
     Ok(())
 }
 
-// Publishes five times, once more after each refusal, and learns of it. It answers how often the head seen was the one published.
+// Publishes five times, repeating each refused call once, and learns of each publication. Returns how often the head seen was the one
+// published.
 fn publish_again<R: Wait>(rt: &R, house: &mut TwoFronts) -> Result<u64, Refusal> {
     let mut seen = 0u64;
     for now in 1..6u64 {
@@ -177,7 +178,7 @@ fn a_refused_publication_is_made_again(rt: HostRuntime) -> Result<(), Fail> {
     Ok(())
 }
 
-// Asks for the last head 10,000 times: no answer is a refusal, and the size never falls.
+// Asks for the last head 10,000 times. No result may be a refusal, and the size must never fall.
 fn expect_sizes_rise<R: Abort>(rt: &R, alloc: Global, front: &mut Front) {
     let mut last = 0;
     for _ in 0..10_000u32 {
@@ -191,7 +192,7 @@ fn expect_sizes_rise<R: Abort>(rt: &R, alloc: Global, front: &mut Front) {
     }
 }
 
-// Submits a hundred certificates, of which each is one byte.
+// Submits a hundred certificates, each of which is one byte.
 fn submit_hundred(alloc: Global, front: &mut Front) -> Result<(), Refusal> {
     for byte in 0..100u8 {
         match front.submit(submission(alloc, &[byte])?) {
@@ -202,7 +203,7 @@ fn submit_hundred(alloc: Global, front: &mut Front) -> Result<(), Refusal> {
     Ok(())
 }
 
-// Settles one item and publishes it, at each of the moments 1 to 100. The size of the last head.
+// Settles one item and publishes it, at each of the timestamps 1 to 100. Returns the size of the last head.
 fn publish_hundred<R: Threads + Wait + Sync>(
     rt: &R,
     alloc: Global,
@@ -218,7 +219,7 @@ fn publish_hundred<R: Threads + Wait + Sync>(
     Ok(size)
 }
 
-// Publishes a hundred heads in one thread beside 10,000 questions in another. The size of the last head.
+// Publishes a hundred heads in one thread during 10,000 queries in another. Returns the size of the last head.
 fn reads_beside_publications<R: Threads + Wait + Abort + Sync>(
     rt: &R,
     alloc: Global,
@@ -237,7 +238,7 @@ fn reads_beside_publications<R: Threads + Wait + Abort + Sync>(
     size
 }
 
-// Submits a hundred certificates to the one front, and asks the other beside the publications.
+// Submits a hundred certificates to one front, and queries the other during the publications.
 fn submit_and_read<R: Threads + Wait + Abort + Sync>(
     rt: &R,
     alloc: Global,

@@ -1,19 +1,19 @@
-// Rows of text, one a line: a call, ` -> `, and what it has to answer. A row that can't be read, or that has a word too few or too many, is no right row, so
-// its test fails.
+// Rows of text, one for each line: a call, ` -> `, and its expected result. A row that cannot be read, or that has a word too few or too
+// many, is wrong, so its test fails.
 use ct_codec::{Refusal, Submission, identity};
 use ct_core::{Query, Reply, ShownEntry};
 use ct_tree::Head;
 use std::alloc::Global;
 use std::process::Abort;
 
-// What a call answers: a ticket, a count or a size, or the refusal.
+// The result of a call: a ticket, a count or a size, or the refusal.
 pub(crate) type Answer = Result<u64, Refusal>;
 
-// The words of a text, one space apart.
+// The words of a text, separated by one space each.
 #[derive(Drop)]
 pub(crate) struct Words<'a> {
     rest: &'a str,
-    // Whether one of them was missing, or not what it was read as.
+    // Whether a word was missing, or could not be read as the expected kind.
     is_bad: bool,
 }
 
@@ -25,7 +25,7 @@ impl<'a> Words<'a> {
         }
     }
 
-    // The next word, which has no letter behind the last one.
+    // Returns the next word, or the empty word after the last one.
     pub(crate) fn word(&mut self) -> &'a str {
         let (word, rest) = self.rest.split_once(' ').unwrap_or((self.rest, ""));
         self.rest = rest;
@@ -38,14 +38,14 @@ impl<'a> Words<'a> {
         number.unwrap_or(0)
     }
 
-    // The number of one of two fronts.
+    // Reads the number of one of two fronts.
     pub(crate) fn front(&mut self) -> u16 {
         let word = self.word();
         self.is_bad = self.is_bad || (word != "0" && word != "1");
         u16::from(word == "1")
     }
 
-    // Two hexadecimal digits.
+    // Reads two hexadecimal digits.
     pub(crate) fn byte(&mut self) -> u8 {
         let byte = match self.word().as_bytes() {
             [high, low] => byte_of(*high, *low),
@@ -55,7 +55,7 @@ impl<'a> Words<'a> {
         byte.unwrap_or(0)
     }
 
-    // 64 hexadecimal digits.
+    // Reads 64 hexadecimal digits.
     pub(crate) fn hash(&mut self) -> [u8; 32] {
         let mut hash = [0; 32];
         let mut digits = self.word().as_bytes();
@@ -101,12 +101,12 @@ impl<'a> Words<'a> {
         }
     }
 
-    // Whether all words were read, each as what it is.
+    // Reports whether all words were read, each as the expected kind.
     pub(crate) fn are_read(&self) -> bool {
         self.rest.is_empty() && !self.is_bad
     }
 
-    // Whether these hashes come next.
+    // Reports whether these hashes come next.
     fn have_path(&mut self, path: &[[u8; 32]]) -> bool {
         for hash in path {
             if self.hash() != *hash {
@@ -116,7 +116,7 @@ impl<'a> Words<'a> {
         true
     }
 
-    // Whether the number of the entries comes next and, where there is another word, the leaf of the last one.
+    // Reports whether the number of the entries comes next and, if there is another word, the leaf of the last one.
     fn have_entries(&mut self, entries: &[ShownEntry]) -> bool {
         let count = self.number();
         if self.rest.is_empty() {
@@ -129,14 +129,14 @@ impl<'a> Words<'a> {
     }
 }
 
-// The byte of two hexadecimal digits.
+// Returns the byte of two hexadecimal digits.
 fn byte_of(high: u8, low: u8) -> Option<u8> {
     let high = char::from(high).to_digit(16)?;
     let low = char::from(low).to_digit(16)?;
     u8::try_from(16 * high + low).ok()
 }
 
-// The byte of the first two digits, and the other digits.
+// Returns the byte of the first two digits, and the other digits.
 fn first_byte(digits: &[u8]) -> (Option<u8>, &[u8]) {
     match digits {
         [high, low, rest @ ..] => (byte_of(*high, *low), rest),
@@ -144,7 +144,7 @@ fn first_byte(digits: &[u8]) -> (Option<u8>, &[u8]) {
     }
 }
 
-// Whether the bytes are written so.
+// Reports whether the word is the hexadecimal text of the bytes.
 pub(crate) fn is_hex(word: &str, bytes: &[u8]) -> bool {
     let mut digits = word.as_bytes();
     for byte in bytes {
@@ -157,7 +157,7 @@ pub(crate) fn is_hex(word: &str, bytes: &[u8]) -> bool {
     digits.is_empty()
 }
 
-// The refusal of this name.
+// Returns the refusal with this name.
 fn refusal_of(name: &str) -> Option<Refusal> {
     match name {
         "Full" => Some(Refusal::Full),
@@ -175,7 +175,7 @@ fn is_refusal(refusal: Refusal, wanted: &str) -> bool {
     refusal_of(wanted) == Some(refusal)
 }
 
-// Whether this number or this refusal is answered.
+// Reports whether the result is this number or this refusal.
 pub(crate) fn is_answer(answer: Answer, wanted: &str) -> bool {
     match answer {
         Ok(number) => wanted.parse::<u64>().ok() == Some(number),
@@ -183,8 +183,8 @@ pub(crate) fn is_answer(answer: Answer, wanted: &str) -> bool {
     }
 }
 
-// Whether this is replied: a head's size, moment and root; the hashes of a proof; a leaf's index and its path; how many entries; an index and a
-// moment; or a refusal.
+// Reports whether this is the reply: a head's size, timestamp and root; the hashes of a proof; a leaf's index and its path; the number of
+// entries; an index and a timestamp; or a refusal.
 pub(crate) fn is_reply(reply: &Result<Reply, Refusal>, wanted: &str) -> bool {
     let mut words = Words::of(wanted);
     let is_right = match reply {
@@ -209,7 +209,7 @@ pub(crate) fn is_reply(reply: &Result<Reply, Refusal>, wanted: &str) -> bool {
     is_right && words.are_read()
 }
 
-// Whether this is the submission with this identity.
+// Reports whether this is the submission with this identity.
 pub(crate) fn is_submission(alloc: Global, submission: &Submission, wanted: &str) -> bool {
     match identity(alloc, submission) {
         Ok(bytes) => is_hex(wanted, &bytes),
@@ -217,7 +217,7 @@ pub(crate) fn is_submission(alloc: Global, submission: &Submission, wanted: &str
     }
 }
 
-// Whether the submission is refused and comes back: the name of the refusal, and its identity.
+// Reports whether the submission is refused and comes back, given the name of the refusal and the submission's identity.
 pub(crate) fn is_handed_back(
     alloc: Global,
     sent: Result<u64, (Refusal, Submission)>,
@@ -234,7 +234,7 @@ pub(crate) fn is_handed_back(
     }
 }
 
-// The row has to be right.
+// Fails the test if the row is wrong.
 pub(crate) fn expect_right<R: Abort>(rt: &R, is_right: bool, row: &str) {
     assert!(rt; is_right, "{row}");
 }

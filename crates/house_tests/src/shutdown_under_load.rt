@@ -1,5 +1,5 @@
 // Sixteen fronts in threads of their own send a thousand submissions each, while another thread shuts the gate: before the first of them,
-// somewhere in the middle, and behind all.
+// somewhere in the middle, and after all.
 use crate::common::submission;
 use ct_codec::Refusal;
 use ct_gate::{Intake, Outlet, Shutter, open_gate};
@@ -16,7 +16,7 @@ enum When {
     BehindAll,
 }
 
-// What a front was told: its tickets, and whether it was told nothing but these, and from some time on that the gate is shut.
+// A front's results: its tickets, and whether there were only these, and from some time on only refusals because the gate is shut.
 #[derive(Drop)]
 struct Told {
     tickets: Vec<u64>,
@@ -43,7 +43,7 @@ fn send_all(alloc: Global, mut intake: Intake) -> Result<Told, Refusal> {
     Ok(Told { tickets, right })
 }
 
-// The gate once it was shut: what the shutdown answered, and the tickets that were taken before it.
+// The gate after it was shut: the result of the shutdown, and the tickets that were taken before it.
 #[derive(Drop)]
 struct Shut {
     shutter: Shutter,
@@ -52,7 +52,7 @@ struct Shut {
     answer: Result<u64, Refusal>,
 }
 
-// Takes so many items of a front, for some time, and shuts the gate.
+// Tries for some time to take `count` items of a front, and then shuts the gate.
 fn shut_after(
     alloc: Global,
     mut shutter: Shutter,
@@ -78,7 +78,7 @@ fn shut_after(
     })
 }
 
-// Adds the tickets of what is left in the outlet.
+// Adds the tickets of the items left in the outlet.
 fn take_rest(outlet: &mut Outlet, taken: &mut Vec<u64>) -> Result<(), AllocError> {
     for _ in 0..1001u32 {
         if let Some(item) = outlet.take() {
@@ -88,7 +88,7 @@ fn take_rest(outlet: &mut Outlet, taken: &mut Vec<u64>) -> Result<(), AllocError
     Ok(())
 }
 
-// Notes each ticket, and answers whether it is below their number and wasn't noted before.
+// Notes each ticket. Reports whether each is below their number and was not noted before.
 fn note_all(noted: &mut [bool], tickets: &[u64]) -> bool {
     for ticket in tickets {
         match noted.get_mut(*ticket as usize) {
@@ -99,7 +99,7 @@ fn note_all(noted: &mut [bool], tickets: &[u64]) -> bool {
     true
 }
 
-// Each front in a thread of its own.
+// Runs each front in a thread of its own.
 fn send_in_threads<R: Threads + Sync>(
     rt: &R,
     alloc: Global,
@@ -108,7 +108,7 @@ fn send_in_threads<R: Threads + Sync>(
     Ok(thread::map_vec(rt, intakes, &|intake| send_all(alloc, intake))?)
 }
 
-// What the fronts were told, and the gate.
+// The fronts' results, and the gate.
 #[derive(Drop)]
 struct Outcome {
     sent: Vec<Result<Told, Refusal>>,
@@ -168,7 +168,8 @@ fn send_and_shut<R: Threads + Sync>(
     }
 }
 
-// Whether the items of a front, of which some were taken, are those that it was told, in order, and no other front was told one of them.
+// Reports whether the items of a front, some of which were taken before, have the tickets of the front's results, in order, and no other
+// front got one of them.
 fn is_told(
     outlet: &mut Outlet,
     told: &Result<Told, Refusal>,
@@ -184,7 +185,7 @@ fn is_told(
     is_right
 }
 
-// The same of all these fronts. `taken` has what was taken of the first of them.
+// The same for all these fronts. `taken` has the tickets taken from the first of them.
 fn are_told(
     outlets: &mut [Outlet],
     sent: &[Result<Told, Refusal>],
@@ -199,7 +200,7 @@ fn are_told(
     true
 }
 
-// The same of the front whose items were taken and the other ones, and whether all tickets are 0 to n - 1.
+// The same for the front whose items were taken and the other ones. Also reports whether all tickets are 0 to n - 1.
 fn are_all_told(alloc: Global, outcome: &mut Outcome, others: &mut [Outlet], n: u64) -> bool {
     let Ok(mut noted) = vec![in alloc; false; n as usize] else {
         return false;
@@ -213,13 +214,13 @@ fn are_all_told(alloc: Global, outcome: &mut Outcome, others: &mut [Outlet], n: 
         && !noted.contains(&false)
 }
 
-// Whether a second shutdown is refused and changes nothing.
+// Reports whether a second shutdown is refused and changes nothing.
 fn stays_shut(gate: &mut Shut, n: u64) -> bool {
     gate.shutter.shut() == Err(Refusal::Shutdown) && gate.shutter.accepted() == Some(n)
 }
 
-// How many were accepted, where all is right: each front's items come in the order of its tickets, which rise; all tickets are 0 to n - 1; and a
-// second shutdown is refused and changes nothing.
+// Returns how many submissions were accepted, if everything is right: each front's items come in the order of its tickets, which rise; all
+// tickets are 0 to n - 1; and a second shutdown is refused and changes nothing.
 fn judged(alloc: Global, outcome: &mut Outcome, others: &mut [Outlet]) -> Option<u64> {
     let answer = outcome.gate.answer;
     match answer {
@@ -230,7 +231,7 @@ fn judged(alloc: Global, outcome: &mut Outcome, others: &mut [Outlet]) -> Option
     }
 }
 
-// The first one, and the others.
+// Returns the first outlet, and the others.
 fn split_first(outlets: Vec<Outlet>) -> Option<(Outlet, Vec<Outlet>)> {
     let mut outlets = outlets;
     outlets.reverse();

@@ -1,5 +1,5 @@
-// Sixteen fronts in threads of their own beside a sequencer, in a house that is shut before their first submission, in the middle, and behind the
-// last.
+// Sixteen fronts in threads of their own and a sequencer run at the same time, in a house that is shut before their first submission, in
+// the middle, and after the last one.
 ghost use Rattle.std.specs.Prelude.{◌≡◌, ◌≤◌, ◌<◌, ◌+◌, ℕ, length, All, IfOk, slice_index_or, vec_len, vec_capacity};
 ghost use Rattle.ct_house.specs.House.{IsOfHouse};
 ghost use Rattle.house_tests.specs.Fronts.{SameFront};
@@ -18,7 +18,7 @@ use std::test::Fail;
 use std::thread;
 use std::thread::{Threads, join_mut};
 
-// How often a submission that meets a full ring is made again, before it is given up.
+// How often a submission is repeated if the ring is full, before it is given up.
 const TRIES: u32 = 100_000;
 
 // When the house is shut.
@@ -30,13 +30,15 @@ enum When {
     BehindAll,
 }
 
-// After how many items the house is shut in the middle. Rings of 64 places hold 1,024 more, so it is before all 16,000 submissions were made.
+// The number of items after which the house is shut in the middle. Rings with 64 slots hold 1,024 more, so this is before all 16,000
+// submissions were made.
 const ENOUGH: u64 = 6_000;
 
-// The moment at which what is left settles, and the last head is made. The rounds before it, one moment each, end long before.
+// The timestamp at which the remaining items settle, and the last head is made. The rounds before it, one timestamp each, end long before.
 const LAST: u64 = u64::MAX;
 
-// A front, and what its thread saw: the tickets, each with the byte that is its certificate, the heads, and whether it was told the shutdown.
+// A front, and its thread's observations: the tickets, each with the byte that is its certificate, the heads, and whether it was refused
+// because of the shutdown.
 #[derive(Drop)]
 struct Party {
     front: Front,
@@ -59,7 +61,8 @@ impl Party {
         }
     }
 
-    // Submits once. Where the ring is full, the submission comes back. Behind the first shutdown that it is told, all but that is an error.
+    // Submits once. If the ring is full, the submission comes back. After the first refusal because of the shutdown, any other result is an
+    // error.
     fn attempt(
         &mut self,
         waiting: Submission,
@@ -89,7 +92,7 @@ impl Party {
         }
     }
 
-    // Submits a certificate until it is taken or given up.
+    // Submits a certificate until it is accepted or given up.
     fn submit(&mut self, alloc: Global, certificate: u8) -> Result<(), Refusal>
         ensures { SameFront self.old.front self.new.front }
     {
@@ -113,7 +116,7 @@ impl Party {
         Ok(())
     }
 
-    // Submits 1,000 certificates, of which 250 differ, and looks at the head now and then.
+    // Submits 1,000 certificates, 250 of which differ, and sometimes looks at the head.
     fn submit_all(&mut self, alloc: Global, first: usize) -> Result<(), Refusal>
         ensures { SameFront self.old.front self.new.front }
     {
@@ -133,7 +136,7 @@ impl Party {
     }
 }
 
-// Each front in a thread of its own.
+// Runs each front in a thread of its own.
 fn run_fronts<R: Threads + Sync>(rt: &R, alloc: Global, parties: &mut [Party])
     ensures count { length parties.new ≡ length parties.old }
     ensures same { (k : ℕ) (d : Party) → k < length parties.old
@@ -142,7 +145,7 @@ fn run_fronts<R: Threads + Sync>(rt: &R, alloc: Global, parties: &mut [Party])
     thread::for_each_mut(rt, parties, 16, &|first, party| party.run(alloc, first));
 }
 
-// Takes from each front, and answers how many items.
+// Takes from each front, and returns how many items.
 fn take_round<R: Threads + Sync>(
     rt: &R,
     alloc: Global,
@@ -160,7 +163,7 @@ fn take_round<R: Threads + Sync>(
     Ok(taken)
 }
 
-// Shuts the house, and shuts it once more, which is to be refused. The answer of the first shutdown.
+// Shuts the house, and shuts it again, which must be refused. Returns the result of the first shutdown.
 fn shut_twice(house: &mut Sequencer) -> Result<u64, Refusal>
     ensures same { (house.new.house ≡ house.old.house) × (length house.new.lanes ≡ length house.old.lanes) }
 {
@@ -171,7 +174,7 @@ fn shut_twice(house: &mut Sequencer) -> Result<u64, Refusal>
     }
 }
 
-// Takes until it is enough, publishes now and then, and shuts the house. The answer of the shutdown.
+// Takes until enough items were taken, sometimes publishes, and shuts the house. Returns the result of the shutdown.
 fn sequence<R: Threads + Wait + Sync>(
     rt: &R,
     alloc: Global,
@@ -197,7 +200,7 @@ fn sequence<R: Threads + Wait + Sync>(
     shut_twice(house)
 }
 
-// The fronts and the sequencer at once. The answer of the shutdown.
+// Runs the fronts and the sequencer at the same time. Returns the result of the shutdown.
 fn run_together<R: Threads + Wait + Sync>(
     rt: &R,
     alloc: Global,
@@ -224,7 +227,7 @@ fn run_together<R: Threads + Wait + Sync>(
     shut
 }
 
-// The fronts, and the shutdown. Its answer.
+// Runs the fronts and the shutdown. Returns the shutdown's result.
 fn run_and_shut<R: Threads + Wait + Sync>(
     rt: &R,
     alloc: Global,
@@ -252,7 +255,7 @@ fn run_and_shut<R: Threads + Wait + Sync>(
     }
 }
 
-// What a front's thread saw.
+// The observations of a front's thread.
 #[derive(Drop)]
 struct Seen {
     tickets: Vec<(u64, u8)>,
@@ -260,7 +263,7 @@ struct Seen {
     end: Result<(), Refusal>,
 }
 
-// The fronts with room for what their threads will see, the last one first.
+// Returns the fronts with room for their threads' observations, the last one first.
 fn parties_of(
     alloc: Global,
     _house: &Sequencer,
@@ -276,7 +279,7 @@ fn parties_of(
     Ok(parties)
 }
 
-// The fronts retire, the last one first. Each list has room for all.
+// Retires the fronts, the last one first. Each list has room for all.
 fn retire_all(
     _house: &Sequencer,
     mut parties: Vec<Party>,
@@ -305,7 +308,7 @@ fn retire_all(
     (ends, seen)
 }
 
-// The places of a ring: fewer than the submissions where others are taken meanwhile.
+// Returns the number of slots of a ring: fewer than the submissions, if items are taken at the same time.
 fn places(when: When) -> usize
     ensures { (0 < result) × (result ≤ 4096) }
 {
@@ -315,7 +318,7 @@ fn places(when: When) -> usize
     }
 }
 
-// A house with sixteen fronts, and when it is to be shut.
+// A house with sixteen fronts, and when it will be shut.
 struct Crowd {
     alloc: Global,
     house: Sequencer,
@@ -354,7 +357,7 @@ impl Crowd {
         )
     }
 
-    // The final log, and what the threads saw, front by front.
+    // Returns the final log, and the threads' observations, in the fronts' order.
     fn finish<R: Threads + Wait + Abort + Sync>(self, rt: &R) -> (FinalLog, Vec<Seen>) {
         let Crowd {
             alloc,
@@ -371,7 +374,7 @@ impl Crowd {
     }
 }
 
-// Whether the records of this front have its tickets, in order, and these rise.
+// Reports whether the records of this front have its tickets, in order, and these rise.
 fn are_recorded(settlement: &SharedList<Settled>, front: u16, tickets: &[(u64, u8)]) -> bool {
     let mut place = 0usize;
     let mut least = 0u64;
@@ -390,7 +393,7 @@ fn are_recorded(settlement: &SharedList<Settled>, front: u16, tickets: &[(u64, u
     place == tickets.len()
 }
 
-// The place of the head.
+// Returns the index of the head.
 fn place_of(heads: &SharedList<Head>, head: &Head) -> Option<usize> {
     for place in 0..heads.len() {
         if heads.at(place) == head {
@@ -400,7 +403,7 @@ fn place_of(heads: &SharedList<Head>, head: &Head) -> Option<usize> {
     None
 }
 
-// Whether the heads that were seen are heads of the log, in order.
+// Reports whether the heads that were seen are heads of the log, in order.
 fn are_published(heads: &SharedList<Head>, seen: &[Head]) -> bool {
     let mut least = 0usize;
     for head in seen {
@@ -412,7 +415,7 @@ fn are_published(heads: &SharedList<Head>, seen: &[Head]) -> bool {
     true
 }
 
-// Notes the certificate of each ticket. False where a ticket has another certificate already, or isn't below their number.
+// Notes the certificate of each ticket. Returns false if a ticket has another certificate already, or is not below their number.
 fn note_tickets(certificates: &mut [Option<u8>], tickets: &[(u64, u8)]) -> bool {
     for (ticket, certificate) in tickets {
         match certificates.get_mut(*ticket as usize) {
@@ -423,7 +426,7 @@ fn note_tickets(certificates: &mut [Option<u8>], tickets: &[(u64, u8)]) -> bool 
     true
 }
 
-// Whether the first record of each certificate got a leaf, and each later one that leaf.
+// Reports whether the first record of each certificate got a leaf, and each later one that leaf.
 fn are_first_occurrences(settlement: &SharedList<Settled>, certificates: &[Option<u8>]) -> bool {
     let mut leaves = [None; 256];
     let mut count = 0u64;
@@ -444,7 +447,7 @@ fn are_first_occurrences(settlement: &SharedList<Settled>, certificates: &[Optio
     true
 }
 
-// Whether the log has what this front's thread saw. It notes the front's certificates.
+// Reports whether the log agrees with this front's observations. It notes the front's certificates.
 fn is_in_log(log: &FinalLog, front: u16, seen: &Seen, certificates: &mut [Option<u8>]) -> bool {
     seen.end == Ok(())
         && are_recorded(log.settlement(), front, &seen.tickets)
@@ -452,7 +455,7 @@ fn is_in_log(log: &FinalLog, front: u16, seen: &Seen, certificates: &mut [Option
         && note_tickets(certificates, &seen.tickets)
 }
 
-// Whether the log has what the threads saw, front by front, and its records those certificates.
+// Reports whether the log agrees with the observations of all fronts, and its records with their certificates.
 fn are_in_log(alloc: Global, log: &FinalLog, seen: &[Seen]) -> bool {
     let Ok(mut certificates) = vec![in alloc; None; log.settlement().len()] else {
         return false;
@@ -465,7 +468,7 @@ fn are_in_log(alloc: Global, log: &FinalLog, seen: &[Seen]) -> bool {
     are_first_occurrences(log.settlement(), &certificates)
 }
 
-// How many submissions were accepted, where all is right.
+// Returns how many submissions were accepted, if everything is right.
 fn accepted<R: Threads + Wait + Abort + Sync>(
     rt: &R,
     alloc: Global,
@@ -481,7 +484,7 @@ fn accepted<R: Threads + Wait + Abort + Sync>(
     Ok(if is_right { Some(n) } else { None })
 }
 
-// Whether it is so many, at least and at most.
+// Reports whether the number accepted is within these limits.
 fn accepts<R: Threads + Wait + Abort + Sync>(
     rt: &R,
     alloc: Global,

@@ -1,4 +1,4 @@
-// Front 0 retires and goes on, shift after shift.
+// Front 0 retires and is resumed, shift after shift.
 use crate::two_fronts::{closes, follows};
 use std::test::Fail;
 

@@ -18,36 +18,42 @@ use std::thread::Threads;
 enum Call {
     // `submit 0 41`: the front, and the byte that is the certificate.
     Submit(u16, u8),
-    // `hand-back 0 41`: the front and the certificate of a submission that is refused. It answers the refusal, and the identity of what comes back.
+    // `hand-back 0 41`: the front and the certificate of a submission that is refused. The result is the refusal, and the identity of the
+    // submission that comes back.
     HandBack(u16, u8),
-    // `submit-numbers 300`: to front 0, so many certificates, which are the two bytes of 0, of 1 and so on: answers how many it accepts.
+    // `submit-numbers 300`: submits this many certificates to front 0, which are the two bytes of 0, of 1 and so on. The result is how many
+    // it accepts.
     SubmitNumbers(u64),
-    // `submit-large 40`: to front 0, so many certificates, which are 2,000 bytes 0, 2,000 bytes 1 and so on: answers how many it accepts.
+    // `submit-large 40`: submits this many certificates to front 0, which are 2,000 bytes 0, 2,000 bytes 1 and so on. The result is how
+    // many it accepts.
     SubmitLarge(u64),
-    // `grow-by-tens 300`: of front 0, so many rounds of ten certificates, each round settled and published a moment later: answers the size.
+    // `grow-by-tens 300`: submits this many rounds of ten certificates to front 0, and settles and publishes each round one timestamp
+    // later. The result is the size.
     GrowByTens(u64),
-    // `refill 1000`: so often a ring of two is filled, refuses a third certificate, and is taken whole: answers how often that went well.
+    // `refill 1000`: this many times, a ring with two slots is filled, refuses a third certificate, and is emptied. The result is how often
+    // that succeeded.
     Refill(u64),
-    // `take 0 256 1`: the front, the number of items at most, and the moment.
+    // `take 0 256 1`: the front, the maximum number of items, and the timestamp.
     Take(u16, u64, u64),
-    // `publish 1`: the moment.
+    // `publish 1`: the timestamp.
     Publish(u64),
     Shutdown,
-    // `take-all 1`: the moment. From front 0, until nothing is left: answers how many.
+    // `take-all 1`: the timestamp. It takes from front 0 until no item is left. The result is how many.
     TakeAll(u64),
-    // `learn 0`: the front, which learns of all publications so far. It answers 0.
+    // `learn 0`: the front, which learns of all publications so far. The result is 0.
     Learn(u16),
-    // `size 0`: the front. It answers the size of the head that the front sees.
+    // `size 0`: the front. The result is the size of the head that the front sees.
     Size(u16),
-    // `proof-length 2 5`: two sizes. It answers how many hashes the consistency proof has that front 0 shows.
+    // `proof-length 2 5`: two sizes. The result is the number of hashes in the consistency proof that front 0 shows.
     ProofLength(u64, u64),
-    // `ask 0 sth`: the front and the query. It answers the reply.
+    // `ask 0 sth`: the front and the query. The result is the reply.
     Ask(u16, Query),
-    // `succeed 3 5`: front 0 retires, and goes on at the first moment; where that is refused, at the second. It answers 0 or the refusal.
+    // `succeed 3 5`: front 0 retires, and is resumed at the first timestamp, or at the second if that is refused. The result is 0 or the
+    // refusal.
     Succeed(u64, u64),
 }
 
-// The call of this name whose words are numbers.
+// Returns the call with this name, whose words are numbers.
 fn numbers_of(name: &str, words: &mut Words<'_>) -> Option<Call> {
     Some(match name {
         "submit-numbers" => Call::SubmitNumbers(words.number()),
@@ -63,7 +69,7 @@ fn numbers_of(name: &str, words: &mut Words<'_>) -> Option<Call> {
     })
 }
 
-// The call of these words.
+// Returns the call in these words.
 fn call_in(words: &mut Words<'_>) -> Option<Call> {
     Some(match words.word() {
         "submit" => Call::Submit(words.front(), words.byte()),
@@ -76,7 +82,7 @@ fn call_in(words: &mut Words<'_>) -> Option<Call> {
     })
 }
 
-// The call of this row.
+// Returns the call in this row.
 fn call_of(row: &str) -> Option<Call> {
     let mut words = Words::of(row);
     let call = call_in(&mut words);
@@ -93,7 +99,8 @@ pub(crate) struct TwoFronts {
     ghost of_house: { IsOfHouse house.house zero × IsOfHouse house.house one },
 }
 
-// Lets a retired front go on at the moment `now`; where that is refused, at the moment `later`. It answers the successor, and 0 or the refusal.
+// Resumes a retired front at the timestamp `now`, or at the timestamp `later` if that is refused. Returns the successor, and 0 or the
+// refusal.
 fn go_on<R: Threads + Abort + Sync>(
     rt: &R,
     alloc: Global,
@@ -164,7 +171,7 @@ impl TwoFronts {
         }
     }
 
-    // Whether the submission is refused and handed back, as the words say.
+    // Reports whether the submission is refused and handed back, as expected.
     fn hands_back(&mut self, front: u16, certificate: u8, wanted: &str) -> bool {
         match submission(self.alloc, &[certificate]) {
             Ok(submission) => is_handed_back(self.alloc, self.submit(front, submission), wanted),
@@ -190,7 +197,7 @@ impl TwoFronts {
         256
     }
 
-    // Submits ten certificates, settles and publishes them at the moment `round`, round after round.
+    // Submits ten certificates, and settles and publishes them at the timestamp `round`, round after round.
     fn grow_by_tens<R: Threads + Wait + Sync>(&mut self, rt: &R, rounds: u64) -> Answer {
         let mut size = 0u64;
         for round in 0..rounds {
@@ -209,7 +216,7 @@ impl TwoFronts {
         self.publish(rt, now)
     }
 
-    // Whether a ring of two is filled from this ticket on, refuses a third certificate, and is taken whole.
+    // Reports whether a ring with two slots is filled from this ticket on, refuses a third certificate, and is emptied.
     fn refill<R: Threads + Sync>(&mut self, rt: &R, ticket: u64) -> bool {
         self.ticket(0, b"A") == Ok(ticket)
             && self.ticket(0, b"B") == Ok(ticket.wrapping_add(1))
@@ -234,7 +241,7 @@ impl TwoFronts {
         Ok(u64::from(count))
     }
 
-    // Takes all that front 0 has sent, 256 at a time, and answers how many.
+    // Takes all items that front 0 has sent, 256 at a time, and returns how many.
     fn take_all<R: Threads + Sync>(&mut self, rt: &R, now: u64) -> Answer {
         let mut taken = 0u64;
         for _ in 0..32u8 {
@@ -264,7 +271,7 @@ impl TwoFronts {
         }
     }
 
-    // The head that the front sees.
+    // Returns the head that the front sees.
     pub(crate) fn head(&mut self, front: u16) -> Result<Head, Refusal> {
         head_of(self.ask(front, Query::GetSth))
     }
@@ -276,7 +283,7 @@ impl TwoFronts {
         }
     }
 
-    // The moments that front 0 sees after a publication, and again after a bulletin that is older than it.
+    // Returns the timestamps that front 0 sees after a publication, and again after a bulletin that is older than it.
     pub(crate) fn moments_behind<R: Wait>(
         &mut self,
         rt: &R,
@@ -290,7 +297,7 @@ impl TwoFronts {
         Ok((first.timestamp, second.timestamp))
     }
 
-    // The answer of a call that answers a number.
+    // Makes a call whose result is a number, and returns the result.
     fn call<R: Threads + Wait + Sync>(&mut self, rt: &R, call: Call) -> Answer {
         match call {
             Call::Submit(front, certificate) => self.ticket(front, &[certificate]),
@@ -309,7 +316,7 @@ impl TwoFronts {
         }
     }
 
-    // Makes a call that leaves both fronts in place: whether it answers so.
+    // Makes a call that leaves both fronts in place. Reports whether the result is as expected.
     fn answers<R: Threads + Wait + Sync>(&mut self, rt: &R, call: Call, wanted: &str) -> bool {
         match call {
             Call::HandBack(front, certificate) => self.hands_back(front, certificate, wanted),
@@ -318,7 +325,7 @@ impl TwoFronts {
         }
     }
 
-    // Front 0 retires, and goes on at the moment `now`; where that is refused, it goes on at the moment `later`.
+    // Retires front 0, and resumes it at the timestamp `now`, or at the timestamp `later` if that is refused.
     fn succeed<R: Threads + Abort + Sync>(
         self,
         rt: &R,
@@ -341,7 +348,7 @@ impl TwoFronts {
         (fronts, answer)
     }
 
-    // Makes the call of a row, which has to answer as the row says.
+    // Makes the call in a row. Its result must be as the row says.
     fn step<R: Threads + Wait + Abort + Sync>(mut self, rt: &R, row: &str) -> TwoFronts {
         let (text, wanted) = row.split_once(" -> ").expect(rt, "a call and its answer");
         match call_of(text).expect(rt, "a call") {
@@ -357,7 +364,7 @@ impl TwoFronts {
         }
     }
 
-    // Makes the calls of the rows, each of which has to answer as it says.
+    // Makes the calls in the rows. Each result must be as its row says.
     fn follow<R: Threads + Wait + Abort + Sync>(self, rt: &R, rows: &str) -> TwoFronts {
         let mut house = self;
         for row in rows.lines() {
@@ -415,8 +422,12 @@ impl Closing {
         Ok(self.house.publish(rt, self.alloc, now)?.tree_size)
     }
 
-    // The answer of the call that the words name: `settle` at a moment, with the ends in the other order (`settle-swapped`) or with the end of front 0
-    // alone (`settle-alone`); `publish` at a moment; `shutdown`; and `is-settled`, which answers 1 for yes.
+    // Makes the call that the words name, and returns its result:
+    //
+    // - `settle` at a timestamp, `settle-swapped` with the ends in the other order, or `settle-alone` with only the end of front 0;
+    // - `publish` at a timestamp;
+    // - `shutdown`;
+    // - `is-settled`, whose result is 1 for yes.
     fn call<R: Threads + Wait + Sync>(&mut self, rt: &R, words: &mut Words<'_>) -> Answer {
         match words.word() {
             "shutdown" => self.house.shutdown(),
@@ -429,7 +440,7 @@ impl Closing {
         }
     }
 
-    // Makes the call of a row: whether it answers as the row says.
+    // Makes the call in a row. Reports whether its result is as the row says.
     fn answers<R: Threads + Wait + Sync>(&mut self, rt: &R, row: &str) -> bool {
         let Some((text, wanted)) = row.split_once(" -> ") else {
             return false;
@@ -438,7 +449,7 @@ impl Closing {
         is_answer(self.call(rt, &mut words), wanted) && words.are_read()
     }
 
-    // Makes the calls of the rows, each of which has to answer as it says.
+    // Makes the calls in the rows. Each result must be as its row says.
     fn follow<R: Threads + Wait + Abort + Sync>(&mut self, rt: &R, rows: &str) {
         for row in rows.lines() {
             expect_right(rt, self.answers(rt, row.trim_start()), row);
@@ -458,7 +469,7 @@ impl Closing {
     }
 }
 
-// Whether the record is of this front, this ticket and this index, and `first` or `again`.
+// Reports whether the record has this front, this ticket and this index, and `first` or `again`.
 fn is_record(record: Option<&Settled>, wanted: &str) -> bool {
     let mut words = Words::of(wanted);
     match record {
@@ -474,8 +485,8 @@ fn is_record(record: Option<&Settled>, wanted: &str) -> bool {
     }
 }
 
-// Whether the final log answers so: how many were accepted and have records (`accepted`, `records`), the record at a place (`record 0`), the
-// receipt of a ticket (`receipt 0`), and the last head's root (`root`).
+// Reports whether the final log has this result: how many submissions were accepted and have records (`accepted`, `records`), the record at
+// an index (`record 0`), the receipt of a ticket (`receipt 0`), or the last head's root (`root`).
 fn log_answers(alloc: Global, log: &FinalLog, words: &mut Words<'_>, wanted: &str) -> bool {
     match words.word() {
         "accepted" => is_answer(Ok(log.accepted()), wanted),
@@ -492,7 +503,7 @@ fn log_answers(alloc: Global, log: &FinalLog, words: &mut Words<'_>, wanted: &st
     }
 }
 
-// Whether the final log answers as the row says.
+// Reports whether the final log has the result in the row.
 fn is_log_row(alloc: Global, log: &FinalLog, row: &str) -> bool {
     let Some((text, wanted)) = row.split_once(" -> ") else {
         return false;
@@ -501,14 +512,14 @@ fn is_log_row(alloc: Global, log: &FinalLog, row: &str) -> bool {
     log_answers(alloc, log, &mut words, wanted) && words.are_read()
 }
 
-// The final log has to answer as each row says.
+// The final log must have the result in each row.
 fn expect_log<R: Abort>(rt: &R, alloc: Global, log: &FinalLog, rows: &str) {
     for row in rows.lines() {
         expect_right(rt, is_log_row(alloc, log, row.trim_start()), row);
     }
 }
 
-// Opens a house with rings of this size at this moment, and makes the calls of the rows.
+// Opens a house with rings of this size at this timestamp, and makes the calls in the rows.
 pub(crate) fn follows<R: Threads + Wait + Abort + Sync>(
     rt: &R,
     alloc: Global,
@@ -522,7 +533,7 @@ pub(crate) fn follows<R: Threads + Wait + Abort + Sync>(
     Ok(())
 }
 
-// The same, and then the fronts retire, the calls of the `endings` are made, the house is closed, and its log is asked.
+// The same, and then the fronts retire, the calls of the `endings` are made, the house is closed, and its log is queried.
 pub(crate) fn closes<R: Threads + Wait + Abort + Sync>(
     rt: &R,
     alloc: Global,
@@ -540,11 +551,11 @@ pub(crate) fn closes<R: Threads + Wait + Abort + Sync>(
     Ok(())
 }
 
-// The hashes below come from Python's hashlib, over the bytes of the leaves. A leaf is the bytes 00 00, the moment in eight bytes,
-// 00 00, the length of the certificate in three bytes, the certificate, and 00 00. The hash of a leaf is SHA-256 of 00 and its
-// bytes, and that of a node SHA-256 of 01 and the two hashes below it.
+// The hashes below were computed with Python's hashlib over the bytes of the leaves. A leaf is the bytes 00 00, the timestamp in eight
+// bytes, 00 00, the length of the certificate in three bytes, the certificate, and 00 00. The hash of a leaf is SHA-256 of 00 and its
+// bytes. The hash of a node is SHA-256 of 01 and the two hashes below it.
 
-// The root of the leaves of the certificates 41 and 42 at the moment 10.
+// The root of the leaves of the certificates 41 and 42 at the timestamp 10.
 #[test]
 fn repeats_in_one_take(rt: HostRuntime) -> Result<(), Fail> {
     closes(
@@ -630,7 +641,7 @@ const THREE_HEADS: &str = "submit 0 41 -> 0
     take 1 256 3 -> 3
     publish 4 -> 5";
 
-// A house with heads of the sizes 0, 2 and 5, and these rows.
+// Opens a house with heads of the sizes 0, 2 and 5, and makes the calls in these rows.
 fn follows_three_heads<R: Threads + Wait + Abort + Sync>(
     rt: &R,
     alloc: Global,
@@ -642,7 +653,8 @@ fn follows_three_heads<R: Threads + Wait + Abort + Sync>(
     Ok(())
 }
 
-// Of the leaves of the certificates 41 and 42 at the moment 1, and 43, 44 and 45 at the moment 3: the node over the leaves 2 and 3, and the leaf 4.
+// The leaves are those of the certificates 41 and 42 at the timestamp 1, and 43, 44 and 45 at the timestamp 3. The hashes are the node over
+// the leaves 2 and 3, and the leaf 4.
 #[test]
 fn consistency_between_published_sizes(rt: HostRuntime) -> Result<(), Fail> {
     follows_three_heads(
@@ -676,7 +688,7 @@ fn proofs_that_are_refused(rt: HostRuntime) -> Result<(), Fail> {
     )
 }
 
-// The last row has the leaf of the certificate that is the two bytes of 255, at the moment 1.
+// The last row has the leaf of the certificate that is the two bytes of 255, at the timestamp 1.
 #[test]
 fn entries_of_three_hundred(rt: HostRuntime) -> Result<(), Fail> {
     follows(
@@ -716,7 +728,7 @@ fn moments_that_the_clock_refuses(rt: HostRuntime) -> Result<(), Fail> {
     )
 }
 
-// The root is that of the leaf of the certificate 41 at the moment 3.
+// The root is that of the leaf of the certificate 41 at the timestamp 3.
 #[test]
 fn a_front_sees_what_was_published(rt: HostRuntime) -> Result<(), Fail> {
     follows(
@@ -733,7 +745,7 @@ fn a_front_sees_what_was_published(rt: HostRuntime) -> Result<(), Fail> {
     )
 }
 
-// The root is that of 40 leaves at the moment 1, whose certificates are 2,000 bytes 0, 2,000 bytes 1 and so on.
+// The root is that of 40 leaves at the timestamp 1, whose certificates are 2,000 bytes 0, 2,000 bytes 1 and so on.
 #[test]
 fn many_workers_hash_a_large_batch(rt: HostRuntime) -> Result<(), Fail> {
     follows(

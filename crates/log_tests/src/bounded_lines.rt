@@ -1,10 +1,11 @@
-// Lines of which no more than 6 bytes are kept, their ends among them. What is read was worked out by hand.
+// Reading lines of which at most 6 bytes are kept, the end byte included. The expected lines were worked out by hand.
 use json_lines::next_line;
 use std::alloc::Global;
 use std::io::BufReader;
 use std::test::Fail;
 
-// The lines that are read of an input, 6 bytes of each at most, with '|' behind each. The reader asks for so many bytes at a time.
+// Returns the lines that are read from an input, at most 6 bytes of each, with '|' after each. The reader requests `capacity` bytes at a
+// time.
 fn lines(alloc: Global, input: &str, capacity: usize) -> Result<Vec<u8>, Fail> {
     let mut reader = BufReader::with_capacity(alloc, capacity, input.as_bytes())?;
     let mut line = Vec::new(alloc);
@@ -19,19 +20,19 @@ fn lines(alloc: Global, input: &str, capacity: usize) -> Result<Vec<u8>, Fail> {
     Ok(all)
 }
 
-// Inputs, and the lines that are read.
+// Inputs, and the lines that are read from them.
 const LINES: [(&str, &str); 16] = [
     ("", ""),
     ("\n", "|"),
     ("\n\n", "||"),
     ("ab\ncd\n", "ab|cd|"),
     ("ab\ncd", "ab|cd|"),
-    // As many bytes as are kept with the end, one less, one more.
+    // As many bytes as are kept with the end byte, one less, one more.
     ("abcde\nfg\n", "abcde|fg|"),
     ("abcd\nfg\n", "abcd|fg|"),
     ("abcdef\ngh\n", "abcdef|gh|"),
     ("abcdef", "abcdef|"),
-    // Longer lines, the last one with no end.
+    // Longer lines, the last one without an end byte.
     ("abcdefghijklmnopq\nok\n", "abcdef|ok|"),
     ("abcdefghijklmnopq\n\nok", "abcdef||ok|"),
     ("ok\nabcdefghijklmnopq", "ok|abcdef|"),
@@ -42,7 +43,7 @@ const LINES: [(&str, &str); 16] = [
     ("ab\rcd\n", "ab\rcd|"),
 ];
 
-// Whether these lines are read of an input, however many bytes the reader asks for.
+// Reports whether these lines are read from an input, for any number of bytes that the reader requests at a time.
 fn are_lines(alloc: Global, input: &str, wanted: &str) -> Result<bool, Fail> {
     for capacity in &[1, 2, 5, 6, 7, 64] {
         let read = lines(alloc, input, *capacity)?;

@@ -6,10 +6,10 @@ use ct_core::{Query, Reply, ShownEntry};
 use ct_sequencing::Core;
 use std::test::Fail;
 
-// The hashes of five leaves by Python's hashlib: the certificates 41 and 42 at the moment 1, and 43 to 45 at 2. The
-// hash of a leaf is sha256(00, 00 00, its moment in eight bytes, 00 00, 00 00 01, its certificate, 00 00) and that of
-// a node sha256(01, left, right), the strings joined. `ROOT` is over all five leaves. In the rows
-// below they and the node over leaves 2 and 3, 91 56 ed 9c to 4d aa 2e b7, stand in decimal.
+// The hashes of five leaves, computed with Python's hashlib: the certificates 41 and 42 at the timestamp 1, and 43 to 45 at 2. The hash of
+// a leaf is sha256(00, 00 00, its timestamp in eight bytes, 00 00, 00 00 01, its certificate, 00 00). The hash of a node is sha256(01,
+// left, right). The strings are joined. `ROOT` is the root of all five leaves. In the rows below, these hashes and the node over the leaves
+// 2 and 3 (91 56 ed 9c to 4d aa 2e b7) are written in decimal.
 const LEAF_0: [u8; 32] = [
     0x20, 0x0a, 0x76, 0x64, 0xe4, 0x32, 0x80, 0x58, 0x30, 0x1c, 0xda, 0xdf, 0xf3, 0xe6, 0x2a, 0x0f,
     0x91, 0x2f, 0x80, 0x7c, 0xa1, 0xd4, 0x51, 0x3f, 0x8a, 0x10, 0xa7, 0x4c, 0x4c, 0x87, 0x35, 0x69,
@@ -38,7 +38,7 @@ fn fill(rt: &HostRuntime, core: &mut Core, certificates: &[u8], now: u64) -> Res
     Ok(())
 }
 
-// Heads of sizes 2 and 5.
+// Publishes heads of the sizes 2 and 5.
 fn grow(rt: &HostRuntime, core: &mut Core) -> Result<(), Refusal> {
     fill(rt, core, b"AB", 1)?;
     publish(rt, core, 1)?;
@@ -47,7 +47,7 @@ fn grow(rt: &HostRuntime, core: &mut Core) -> Result<(), Refusal> {
     Ok(())
 }
 
-// The hash of this name.
+// Returns the hash with this name.
 fn named(name: &str) -> Option<[u8; 32]> {
     match name {
         "LEAF_0" => Some(LEAF_0),
@@ -58,7 +58,7 @@ fn named(name: &str) -> Option<[u8; 32]> {
     }
 }
 
-// The query of a row.
+// Returns the query in a row.
 fn query(row: &mut Row<'_>) -> Option<Query> {
     Some(match row.word() {
         "head" => Query::GetSth,
@@ -85,14 +85,14 @@ fn entry_at(row: &mut Row<'_>) -> Query {
     }
 }
 
-// A log that is asked.
+// A log that is queried.
 #[derive(Drop)]
 struct Questions<'a> {
     core: &'a Core,
 }
 
 impl Shown for Questions<'_> {
-    // A row of a query.
+    // A row has a query.
     fn is_right(&mut self, rt: &HostRuntime, mut row: Row<'_>) -> bool {
         match query(&mut row) {
             Some(query) => row.says(rt, &asked(rt, self.core, query)),
@@ -101,7 +101,7 @@ impl Shown for Questions<'_> {
     }
 }
 
-// How many rows a core with heads of sizes 0, 2 and 5 answers rightly, before the first that it doesn't.
+// Returns how many rows a core with heads of the sizes 0, 2 and 5 answers correctly, before the first that it does not.
 fn answered(rt: &HostRuntime, rows: &str) -> u32 {
     let Ok(mut core) = Core::open(rt.alloc(), 0) else {
         return 0;
@@ -133,7 +133,7 @@ fn a_leaf_found_by_its_hash(rt: HostRuntime) {
     assert!(rt; answered(&rt, row) == 1);
 }
 
-// The moment of the leaf as which the entry is read, and whether it is read as an empty chain.
+// Decodes an entry. Returns the timestamp of its leaf, and whether its chain is empty.
 fn as_read(rt: &HostRuntime, entry: &ShownEntry) -> Option<(u64, bool)> {
     shown_entries_are_read();
     let moment = decode_leaf(rt.alloc(), &entry.leaf_input).ok()?.timestamp;
@@ -141,7 +141,7 @@ fn as_read(rt: &HostRuntime, entry: &ShownEntry) -> Option<(u64, bool)> {
     Some((moment, chain.is_empty()))
 }
 
-// The same of the entry that a reply shows.
+// The same for the entry in a reply.
 fn reply_as_read(rt: &HostRuntime, reply: &Result<Reply, Refusal>) -> Option<(u64, bool)> {
     match reply {
         Ok(Reply::EntryAndProof { entry, .. }) => as_read(rt, entry),
@@ -149,21 +149,21 @@ fn reply_as_read(rt: &HostRuntime, reply: &Result<Reply, Refusal>) -> Option<(u6
     }
 }
 
-// A log that is asked for entries, which are read.
+// A log that is queried for entries, which are decoded.
 #[derive(Drop)]
 struct Reading<'a> {
     core: &'a Core,
 }
 
 impl Shown for Reading<'_> {
-    // A row of an entry's index and a size.
+    // A row has an entry's index and a size.
     fn is_right(&mut self, rt: &HostRuntime, mut row: Row<'_>) -> bool {
         let query = entry_at(&mut row);
         row.says(rt, &reply_as_read(rt, &asked(rt, self.core, query)))
     }
 }
 
-// How many rows such a core answers rightly with entries that are read, before the first that it doesn't.
+// Returns how many rows such a core answers correctly with entries that can be decoded, before the first that it does not.
 fn read_back(rt: &HostRuntime, rows: &str) -> u32 {
     let Ok(mut core) = Core::open(rt.alloc(), 0) else {
         return 0;
@@ -202,7 +202,7 @@ ticket 7 => Err(NotYet)";
     assert!(rt; answered(&rt, rows) == 14);
 }
 
-// Settles so many certificates of two bytes, from 00 00 on, at the moment 1. The first of them has this ticket.
+// Settles this many certificates of two bytes, from 00 00 on, at the timestamp 1. The first of them has this ticket.
 fn count_up(rt: &HostRuntime, core: &mut Core, ticket: u64, count: u16) -> Result<(), Refusal> {
     for number in 0..count {
         let by = (0, ticket.saturating_add(u64::from(number)));
@@ -211,7 +211,7 @@ fn count_up(rt: &HostRuntime, core: &mut Core, ticket: u64, count: u16) -> Resul
     Ok(())
 }
 
-// The number that is the certificate of an entry, which has two bytes.
+// Returns the number that is the certificate of an entry, if that has two bytes.
 fn number_of(entry: &ShownEntry) -> Option<u16> {
     match entry.leaf_input.as_slice() {
         [_, _, _, _, _, _, _, _, _, _, _, _, 0, 0, 2, high, low, 0, 0] => {
@@ -221,7 +221,7 @@ fn number_of(entry: &ShownEntry) -> Option<u16> {
     }
 }
 
-// How many entries a reply has, and the numbers of the first and the last, or the refusal.
+// The number of entries in a reply, and the numbers of the first and the last one, or the refusal.
 type Window = Result<(usize, Option<u16>, Option<u16>), Refusal>;
 
 fn window(rt: &HostRuntime, core: &Core, start: u64, end: u64) -> Window {
@@ -235,14 +235,14 @@ fn window(rt: &HostRuntime, core: &Core, start: u64, end: u64) -> Window {
     }
 }
 
-// A log that is asked for windows and tickets.
+// A log that is queried for windows of entries and for tickets.
 #[derive(Drop)]
 struct Windows<'a> {
     core: &'a Core,
 }
 
 impl Shown for Windows<'_> {
-    // A row of the first and the last index, or of a ticket.
+    // A row has the first and the last index, or a ticket.
     fn is_right(&mut self, rt: &HostRuntime, mut row: Row<'_>) -> bool {
         match row.word() {
             "window" => {
@@ -258,7 +258,7 @@ impl Shown for Windows<'_> {
     }
 }
 
-// Settles so many certificates and publishes a head of them.
+// Settles 300 certificates, and publishes a head of them.
 fn count_to_300(rt: &HostRuntime, core: &mut Core) -> Result<(), Refusal> {
     count_up(rt, core, 0, 300)?;
     publish(rt, core, 1)?;
@@ -280,7 +280,7 @@ window 2 1 => Err(BadRange)";
     Ok(())
 }
 
-// Settles 5,000 items, of which the last 1,000 are repeats of the first ones, and publishes a head.
+// Settles 5,000 items, the last 1,000 of which are repeats of the first ones, and publishes a head.
 fn five_thousand(rt: &HostRuntime, core: &mut Core) -> Result<(), Refusal> {
     count_up(rt, core, 0, 4000)?;
     count_up(rt, core, 4000, 1000)?;

@@ -6,12 +6,12 @@ use ct_sequencing::Core;
 use std::sync::Arc;
 use std::test::Fail;
 
-// The leaves of the certificates 41 and 42 at the moment 10 (RFC 6962, section 3.4).
+// The leaves of the certificates 41 and 42 at the timestamp 10 (RFC 6962, section 3.4).
 const LEAF_OF_A: [u8; 18] = [0, 0, 0, 0, 0, 0, 0, 0, 0, 10, 0, 0, 0, 0, 1, 0x41, 0, 0];
 
 const LEAF_OF_B: [u8; 18] = [0, 0, 0, 0, 0, 0, 0, 0, 0, 10, 0, 0, 0, 0, 1, 0x42, 0, 0];
 
-// Settles the certificates A, B and A again at the moment 10, and publishes a head of them.
+// Settles the certificates A, B and again A at the timestamp 10, and publishes a head of them.
 fn repeat(rt: &HostRuntime, core: &mut Core) -> Result<(), Refusal> {
     settle(rt, core, (0, 0), b"A", 10)?;
     settle(rt, core, (0, 1), b"B", 10)?;
@@ -20,7 +20,7 @@ fn repeat(rt: &HostRuntime, core: &mut Core) -> Result<(), Refusal> {
     Ok(())
 }
 
-// A row of a front, a ticket, a certificate of one byte and a moment.
+// A row has a front, a ticket, a certificate of one byte and a timestamp.
 fn is_settled(rt: &HostRuntime, core: &mut Core, mut row: Row<'_>) -> bool {
     let (front, ticket) = (row.short(), row.number());
     let certificate = row.bytes(rt);
@@ -28,7 +28,7 @@ fn is_settled(rt: &HostRuntime, core: &mut Core, mut row: Row<'_>) -> bool {
     row.says(rt, &settle(rt, core, (front, ticket), &certificate, now))
 }
 
-// A row of a moment: the size and the moment of the head.
+// A row has a timestamp. The result is the size and the timestamp of the head.
 fn is_published(rt: &HostRuntime, core: &mut Core, mut row: Row<'_>) -> bool {
     let now = row.number();
     let head = publish(rt, core, now);
@@ -36,7 +36,7 @@ fn is_published(rt: &HostRuntime, core: &mut Core, mut row: Row<'_>) -> bool {
 }
 
 impl Shown for Core {
-    // A step of a core, or what it is like.
+    // A row has a step of a core, or a question about its state.
     fn is_right(&mut self, rt: &HostRuntime, mut row: Row<'_>) -> bool {
         match row.word() {
             "settles" => is_settled(rt, self, row),
@@ -54,7 +54,7 @@ impl Shown for Core {
     }
 }
 
-// How many steps a core that is opened at this moment answers rightly, before the first that it doesn't.
+// Returns how many steps a core that is opened at this timestamp answers correctly, before the first that it does not.
 fn steps(rt: &HostRuntime, now: u64, rows: &str) -> u32 {
     match Core::open(rt.alloc(), now) {
         Ok(mut core) => right_rows(rt, &mut core, rows),
@@ -62,7 +62,7 @@ fn steps(rt: &HostRuntime, now: u64, rows: &str) -> u32 {
     }
 }
 
-// The root is that of the leaves of A and B, by Python's hashlib: sha256(01, sha256(00, LEAF_OF_A), sha256(00, LEAF_OF_B)),
+// The root is that of the leaves of A and B, computed with Python's hashlib: sha256(01, sha256(00, LEAF_OF_A), sha256(00, LEAF_OF_B)), with
 // the strings joined.
 #[test]
 fn a_repeat_has_the_first_ones_leaf(rt: HostRuntime) {
@@ -116,7 +116,7 @@ publishes 9 => Ok((1, 9))";
     assert!(rt; steps(&rt, 5, rows) == 7);
 }
 
-// Whether the next state of a core with two heads has three, and is that of the core when it is adopted.
+// Reports whether the next state of a core with two heads has three, and is that of the core after it is adopted.
 fn is_adopted(rt: &HostRuntime, core: &mut Core) -> Result<bool, Refusal> {
     let next = Arc::new(rt.alloc(), core.next(rt.alloc(), 11)?)?;
     let counts = (next.heads().len(), core.published().heads().len());
@@ -136,14 +136,14 @@ fn the_next_state_is_adopted(rt: HostRuntime) -> Result<(), Fail> {
     Ok(())
 }
 
-// Whether these are the leaves of A and B.
+// Reports whether these are the leaves of A and B.
 fn are_both_leaves(leaves: &[Vec<u8>]) -> bool {
     leaves.len() == 2
         && leaves[0].as_slice() == LEAF_OF_A.as_slice()
         && leaves[1].as_slice() == LEAF_OF_B.as_slice()
 }
 
-// Whether the leaves of a state are those of A and B.
+// Reports whether the leaves of a state are those of A and B.
 fn has_both_leaves(rt: &HostRuntime, state: &Published) -> bool {
     if state.last_head().tree_size != 2 {
         return false;
@@ -154,14 +154,14 @@ fn has_both_leaves(rt: &HostRuntime, state: &Published) -> bool {
     }
 }
 
-// Whether two states have the same heads, and the same three records.
+// Reports whether two states have the same heads, and the same three records.
 fn are_equal(copy: &Published, state: &Published) -> bool {
     copy.heads().iter().eq(state.heads())
         && copy.settlement().iter().eq(state.settlement())
         && copy.settlement().len() == 3
 }
 
-// Whether a copy of a state is equal to it.
+// Reports whether a copy of a state is equal to it.
 fn is_copied(rt: &HostRuntime, state: &Published) -> bool {
     match state.copy(rt.alloc()) {
         Ok(copy) => {
@@ -179,7 +179,7 @@ fn a_copied_state_is_equal(rt: HostRuntime) -> Result<(), Fail> {
     Ok(())
 }
 
-// The chain of the certificates A and B.
+// Returns the chain of the certificates A and B.
 fn chain_of_two(rt: &HostRuntime) -> Result<Submission, Refusal> {
     let mut chain = Vec::new(rt.alloc());
     chain.push(Vec::from_slice(rt.alloc(), b"A")?)?;
@@ -187,13 +187,13 @@ fn chain_of_two(rt: &HostRuntime) -> Result<Submission, Refusal> {
     Ok(Submission::x509(chain)?)
 }
 
-// Whether a submission has the identity of A and the extra data of the chain of B.
+// Reports whether a submission has the identity of A and the extra data of the chain of B.
 fn is_written(rt: &HostRuntime, submission: &Submission) -> bool {
     is_text(identity(rt.alloc(), submission), b"\0\0\0\0\x01A")
         && is_text(extra_data(rt.alloc(), submission), b"\0\0\x04\0\0\x01B")
 }
 
-// Whether a copy settles at the index 0, and the submission itself behind it as its repeat.
+// Reports whether a copy settles at the index 0, and then the submission itself as its repeat.
 fn settle_both(
     rt: &HostRuntime,
     core: &mut Core,
@@ -205,7 +205,7 @@ fn settle_both(
     first == record(0, 0, 0, true) && second == record(0, 1, 0, false)
 }
 
-// Whether a copy of the chain of A and B is written so, and settles as the chain does.
+// Reports whether a copy of the chain of A and B has the same bytes, and settles as the chain does.
 fn is_submission_copied(rt: &HostRuntime, core: &mut Core) -> Result<bool, Refusal> {
     let submission = chain_of_two(rt)?;
     let copy = submission.copy(rt.alloc())?;
@@ -226,7 +226,7 @@ fn push_all(table: &mut LeafTable, hashes: &[[u8; 32]]) -> Result<(), Refusal> {
     Ok(())
 }
 
-// Where these three hashes stand in the table.
+// Returns the indexes of these three hashes in the table.
 fn places(table: &LeafTable) -> [Option<u64>; 3] {
     [
         table.index_of(&[1; 32]),

@@ -1,4 +1,4 @@
-// The frozen log over a reader and a writer that fail at one of their calls, for each of them in turn.
+// The frozen log over a reader and a writer that fail at one of their calls, for each call in turn.
 use crate::settled_log::publish;
 use ct_core::Published;
 use ct_lines::{ServeFault, serve_frozen};
@@ -7,13 +7,13 @@ use std::io;
 use std::io::{ErrorKind, Read, Write};
 use std::test::*;
 
-// Two lines that are no request around an empty line and a question for the head.
+// Two lines that are no request, and between them an empty line and a query for the head.
 const LINES: &[u8] = b"{}\n\n{\"who\":\"frozen\",\"op\":\"get-sth\"}\n[]";
 
 const REPLIES: &[u8] =
     b"{\"error\":\"bad-line\"}\n{\"sha256_root_hash\":\"47DEQpj8HBSa+/TImW+5JCeuQeRkm5NMpJWZG3hSuFU=\",\"timestamp\":7,\"tree_size\":0}\n{\"error\":\"bad-line\"}\n";
 
-// What a call that fails does.
+// The result of a call that fails.
 #[derive(Clone, Copy)]
 enum Failure {
     Error(ErrorKind),
@@ -21,7 +21,7 @@ enum Failure {
     Nothing,
 }
 
-// Counts calls: which one fails, and how many have failed.
+// Counts calls: the call that fails, and how many have failed.
 #[derive(Clone, Copy)]
 struct Calls {
     made: u32,
@@ -40,7 +40,7 @@ impl Calls {
         }
     }
 
-    // Counts a call, which is to move so many bytes: how many it moves.
+    // Counts a call that should move `most` bytes, and returns how many it moves.
     fn next(&mut self, most: usize) -> io::Result<usize> {
         self.made = self.made.saturating_add(1);
         if self.made != self.failing {
@@ -54,7 +54,7 @@ impl Calls {
     }
 }
 
-// A reader that gives 7 bytes a call.
+// A reader that returns 7 bytes for each call.
 #[derive(Drop)]
 struct Source<'a> {
     text: &'a [u8],
@@ -74,7 +74,7 @@ impl Read for Source<'_> {
     }
 }
 
-// A writer that takes 10 bytes a call at most.
+// A writer that accepts at most 10 bytes for each call.
 #[derive(Drop)]
 struct Sink {
     taken: Vec<u8>,
@@ -96,7 +96,7 @@ impl Write for Sink {
     }
 }
 
-// How a run ended, over a reader and a writer that count their calls so, and what it wrote.
+// Returns the result of a run over a reader and a writer that count their calls, and the bytes written.
 fn served(
     rt: &HostRuntime,
     log: &Published,
@@ -118,7 +118,7 @@ fn served(
     (end, taken)
 }
 
-// How many lines end in the text.
+// Returns how many lines end in the text.
 fn ends_in(text: &[u8]) -> u64 {
     let mut count = 0u64;
     for byte in text {
@@ -129,7 +129,8 @@ fn ends_in(text: &[u8]) -> u64 {
     count
 }
 
-// The replies to the lines that end in the first `given` bytes of the input: the ends stand at 2, 3 and 35.
+// Returns the number of replies to the lines that end in the first `given` bytes of the input. The end bytes are at the indexes 2, 3 and
+// 35.
 fn replies_to(given: u32) -> u64 {
     match given {
         0..=2 => 0,
@@ -138,7 +139,7 @@ fn replies_to(given: u32) -> u64 {
     }
 }
 
-// Whether the run with a read that fails so ends as it should.
+// Reports whether the run with this failing read ends as it should.
 fn ends_at_read(rt: &HostRuntime, log: &Published, failing: u32, kind: ErrorKind) -> bool {
     let mut read = Calls::new(failing, Failure::Error(kind));
     let mut write = Calls::new(0, Failure::Nothing);
@@ -155,12 +156,12 @@ fn ends_at_read(rt: &HostRuntime, log: &Published, failing: u32, kind: ErrorKind
         && calls == (1, 0)
 }
 
-// Whether so many whole replies, of which there are at most three, were written.
+// Reports whether this many whole replies, of at most three, were written.
 fn is_cut_off(taken: &[u8], count: u64) -> bool {
     REPLIES.starts_with(taken) && taken.ends_with(b"\n") == (count > 0)
 }
 
-// How many calls end so, before the first that doesn't.
+// Returns for how many failing calls the run ends as it should, before the first for which it does not.
 fn ends_at_reads(rt: &HostRuntime, log: &Published) -> u32 {
     for failing in 1..=8 {
         for kind in [ErrorKind::BrokenPipe, ErrorKind::Interrupted] {
@@ -172,7 +173,7 @@ fn ends_at_reads(rt: &HostRuntime, log: &Published) -> u32 {
     8
 }
 
-// A closed log of no leaves.
+// Turns the core into a closed log of no leaves. Reports whether that succeeded.
 fn is_closed(rt: &HostRuntime, core: &mut Core) -> bool {
     publish(rt, core, 7).is_ok()
 }
@@ -184,7 +185,7 @@ fn a_reader_that_fails_at_each_call(rt: HostRuntime) -> Result<(), Fail> {
     Ok(())
 }
 
-// Whether the run with a write that fails so ends as it should.
+// Reports whether the run with this failing write ends as it should.
 fn ends_at_write(rt: &HostRuntime, log: &Published, failing: u32, failure: Failure) -> bool {
     let mut read = Calls::new(0, Failure::Nothing);
     let mut write = Calls::new(failing, failure);
@@ -199,7 +200,7 @@ fn ends_at_write(rt: &HostRuntime, log: &Published, failing: u32, failure: Failu
         && calls == (0, 1)
 }
 
-// How many calls end so, before the first that doesn't.
+// Returns for how many failing calls the run ends as it should, before the first for which it does not.
 fn ends_at_writes(rt: &HostRuntime, log: &Published) -> u32 {
     for failing in 1..=17 {
         for failure in [

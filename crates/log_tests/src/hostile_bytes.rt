@@ -1,9 +1,10 @@
-// Leaves and chains cut off, changed and made longer. What each is answered was worked out by hand from RFC 6962, sections 3.4 and 4.6.
+// Leaves and chains that are cut off, changed and made longer. The expected results were worked out by hand from RFC 6962, sections 3.4 and
+// 4.6.
 use crate::rows::{Row, Shown, right_rows};
 use ct_codec::{DecodeFault, decode_chain, decode_leaf, decode_pre_chain};
 use std::alloc::AllocError;
 
-// What is read from the bytes.
+// The kind of value that is read from the bytes.
 #[derive(Clone, Copy)]
 enum Kind {
     Leaf,
@@ -11,7 +12,7 @@ enum Kind {
     PreChain,
 }
 
-// One sign for what reading the bytes answers.
+// Returns one character for the result of reading the bytes.
 fn sign(rt: &HostRuntime, kind: Kind, bytes: &[u8]) -> char {
     let fault = match kind {
         Kind::Leaf => decode_leaf(rt.alloc(), bytes).err(),
@@ -30,7 +31,7 @@ fn sign(rt: &HostRuntime, kind: Kind, bytes: &[u8]) -> char {
     }
 }
 
-// The signs of each beginning of the bytes, and of one byte 00 more.
+// Returns the characters for each prefix of the bytes, and for the bytes followed by one byte 00.
 fn cut(rt: &HostRuntime, kind: Kind, bytes: &[u8]) -> Result<String, AllocError> {
     let mut signs = String::new(rt.alloc());
     let mut longer = Vec::from_slice(rt.alloc(), bytes)?;
@@ -41,7 +42,7 @@ fn cut(rt: &HostRuntime, kind: Kind, bytes: &[u8]) -> Result<String, AllocError>
     Ok(signs)
 }
 
-// The signs of the bytes with each of them in turn made this one.
+// Returns the characters for the bytes with each of them in turn replaced by this byte.
 fn changed(rt: &HostRuntime, kind: Kind, bytes: &[u8], byte: u8) -> Result<String, AllocError> {
     let mut signs = String::new(rt.alloc());
     for place in 0..bytes.len() {
@@ -67,7 +68,7 @@ fn kind_of(word: &str) -> Option<Kind> {
     }
 }
 
-// The signs of the bytes cut off, and with each byte made 00 and ff, or none.
+// Returns the characters for the bytes cut off, or with each byte replaced by 00 and by ff, or nothing.
 fn signs(rt: &HostRuntime, how: &str, kind: Kind, bytes: &[u8]) -> Result<String, AllocError> {
     match how {
         "cut" => cut(rt, kind, bytes),
@@ -78,7 +79,7 @@ fn signs(rt: &HostRuntime, how: &str, kind: Kind, bytes: &[u8]) -> Result<String
 }
 
 impl Shown for Hostile {
-    // A row of what is done to bytes, as what they are read, and the bytes: the signs.
+    // A row has the change, the kind of value that is read, and the bytes. The result is the characters.
     fn is_right(&mut self, rt: &HostRuntime, mut row: Row<'_>) -> bool {
         let how = row.word();
         let kind = kind_of(row.word());
@@ -97,9 +98,12 @@ fn is_signed(rt: &HostRuntime, signs: &Result<String, AllocError>, row: Row<'_>)
     }
 }
 
-// A leaf of the certificate 41 at moment 1; the leaf of a precertificate at moment 0: a key's hash of 32 bytes 11, the
-// TBSCertificate 41, the extensions aa bb; the chain of the certificates 42 and 41 42; the precertificate 42, and behind it
-// that chain.
+// The values, in order:
+//
+// - a leaf of the certificate 41 at the timestamp 1;
+// - the leaf of a precertificate at the timestamp 0, with a key's hash of 32 bytes 11, the TBSCertificate 41, and the extensions aa bb;
+// - the chain of the certificates 42 and 41 42;
+// - the precertificate 42 followed by that chain.
 #[test]
 fn leaves_and_chains_cut_off_and_changed(rt: HostRuntime) {
     let rows = "\

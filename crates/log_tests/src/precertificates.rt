@@ -1,5 +1,5 @@
-//! Precertificates, written out by hand from RFC 6962, sections 3.1, 3.2, 3.4 and 4.6; the root is of Python's hashlib. The key's
-//! hash is 32 bytes 11, the TBSCertificate 41.
+//! Precertificates, written by hand from RFC 6962, sections 3.1, 3.2, 3.4 and 4.6. The root was computed with Python's hashlib. The key's
+//! hash is 32 bytes 11, and the TBSCertificate is 41.
 
 use crate::rows::{Row, Shown, right_rows};
 use crate::settled_log::{asked, publish, settle, settle_submission};
@@ -54,7 +54,7 @@ struct Settling<'a> {
     core: &'a mut Core,
 }
 
-// Settles the submission of a row at moment 1.
+// Settles the submission in a row at the timestamp 1.
 fn settled(
     rt: &HostRuntime,
     core: &mut Core,
@@ -65,7 +65,7 @@ fn settled(
     settle_submission(rt, core, (0, ticket), submission, 1)
 }
 
-// Settles the certificate of a row at moment 1.
+// Settles the certificate in a row at the timestamp 1.
 fn certified(
     rt: &HostRuntime,
     core: &mut Core,
@@ -77,7 +77,7 @@ fn certified(
 }
 
 impl Shown for Settling<'_> {
-    // A row of a ticket, and of a certificate or a submission; or of a moment: the root of the head.
+    // A row has a ticket, and a certificate or a submission. Or it has a timestamp, and the result is the root of the head.
     fn is_right(&mut self, rt: &HostRuntime, mut row: Row<'_>) -> bool {
         let kind = row.word();
         let number = row.number();
@@ -96,7 +96,7 @@ impl Shown for Settling<'_> {
     }
 }
 
-// Whether the bytes that go with leaf 0 are the precertificate B and no chain.
+// Reports whether the extra data of leaf 0 is the precertificate B and no chain.
 fn is_extra_of_the_first(rt: &HostRuntime, core: &Core) -> bool {
     let query = Query::EntryAndProof {
         leaf_index: 0,
@@ -112,14 +112,14 @@ fn is_extra_of_the_first(rt: &HostRuntime, core: &Core) -> bool {
     }
 }
 
-// How many rows a core answers rightly, before the first that it doesn't.
+// Returns how many rows a core answers correctly, before the first that it does not.
 fn settles(rt: &HostRuntime, core: &mut Core, rows: &str) -> u32 {
     right_rows(rt, &mut Settling { core }, rows)
 }
 
-// The root is over the leaf of the precertificate, the leaf of the certificate 41, and that of the TBSCertificate 41 under the
-// key's hash of 32 bytes 22, all at moment 1: sha256(01, sha256(01, sha256(00, leaf), sha256(00, leaf)), sha256(00, leaf)),
-// the strings joined.
+// The root is that of three leaves at the timestamp 1: the leaf of the precertificate, the leaf of the certificate 41, and that of the
+// TBSCertificate 41 under the key's hash of 32 bytes 22. It is sha256(01, sha256(01, sha256(00, leaf), sha256(00, leaf)), sha256(00,
+// leaf)), with the strings joined.
 #[test]
 fn a_precertificate_beside_certificates(rt: HostRuntime) -> Result<(), Fail> {
     let rows = "\

@@ -12,7 +12,7 @@ const HASH: [u8; 32] = [
     26, 27, 28, 29, 30, 31,
 ];
 
-// Whether `read_line` answers so, by its `Debug` text.
+// Reports whether `read_line` returns this request, given as its `Debug` text.
 fn is_read(rt: &HostRuntime, line: &[u8], request: &str) -> bool {
     let answer = read_line(rt.alloc(), line);
     match format!(in rt.alloc(); "{answer:?}") {
@@ -26,7 +26,7 @@ fn is_read(rt: &HostRuntime, line: &[u8], request: &str) -> bool {
 struct Lines;
 
 impl Shown for Lines {
-    // A row of a line, and the request.
+    // A row has a line, and the request.
     fn is_right(&mut self, rt: &HostRuntime, row: Row<'_>) -> bool {
         !row.is_bad() && is_read(rt, row.rest().as_bytes(), row.answer())
     }
@@ -59,7 +59,7 @@ fn each_request_is_read(rt: HostRuntime) {
     assert!(rt; right_rows(&rt, &mut Lines, line) == 1);
 }
 
-// Whether a line is refused as a bad one.
+// Reports whether a line is refused as a bad line.
 fn is_bad(rt: &HostRuntime, line: &[u8]) -> bool {
     matches!(read_line(rt.alloc(), line), Err(Refusal::BadLine))
 }
@@ -147,7 +147,7 @@ null => Err(BadLine)";
     );
 }
 
-// A shutdown with an ignored key under which so many arrays nest.
+// Returns a shutdown with an ignored key that contains this many nested arrays.
 fn nested(rt: &HostRuntime, arrays: usize) -> Result<Vec<u8>, AllocError> {
     let mut line = Vec::new(rt.alloc());
     line.extend_from_slice(b"{\"who\":\"operator\",\"op\":\"shutdown\",\"ignored\":")?;
@@ -157,14 +157,14 @@ fn nested(rt: &HostRuntime, arrays: usize) -> Result<Vec<u8>, AllocError> {
     Ok(line)
 }
 
-// A shutdown of so many bytes, with blanks at the end.
+// Returns a shutdown of this many bytes, with spaces at the end.
 fn padded(rt: &HostRuntime, len: usize) -> Result<Vec<u8>, AllocError> {
     let mut line = Vec::from_slice(rt.alloc(), b"{\"who\":\"operator\",\"op\":\"shutdown\"}")?;
     line.resize(len, b' ')?;
     Ok(line)
 }
 
-// Whether a line that is made so is read so.
+// Reports whether the line was made, and is read as this request.
 fn is_made_read(rt: &HostRuntime, line: Result<Vec<u8>, AllocError>, request: &str) -> bool {
     match line {
         Ok(line) => is_read(rt, &line, request),
@@ -219,7 +219,7 @@ fn proof(rt: &HostRuntime, path: &[[u8; 32]]) -> Result<Reply, AllocError> {
     Ok(Reply::Consistency(Vec::from_slice(rt.alloc(), path)?))
 }
 
-// Whether the line of a reply or a refusal is this text and the end of a line.
+// Reports whether the line of a reply or a refusal is this text followed by an end byte.
 fn is_line(rt: &HostRuntime, reply: Result<Reply, Refusal>, text: &str) -> bool {
     match reply_text(rt.alloc(), &reply) {
         Ok(bytes) => bytes.strip_suffix(b"\n") == Some(text.as_bytes()),
@@ -227,7 +227,7 @@ fn is_line(rt: &HostRuntime, reply: Result<Reply, Refusal>, text: &str) -> bool 
     }
 }
 
-// The hash is the one of no leaves.
+// The hash is that of no leaves.
 const HEAD: Head = Head {
     tree_size: 0,
     timestamp: 7,
@@ -244,7 +244,7 @@ const PUBLISHED: Head = Head {
     root: HASH,
 };
 
-// The reply of a number, by its name.
+// Returns the reply with a number, by its name.
 fn numbered(name: &str, number: u64) -> Option<Reply> {
     match name {
         "ticket" => Some(Reply::Ticket(number)),
@@ -256,7 +256,7 @@ fn numbered(name: &str, number: u64) -> Option<Reply> {
     }
 }
 
-// The reply that has a proof or entries, by its name.
+// Returns the reply that has a proof or entries, by its name.
 fn long_reply(rt: &HostRuntime, name: &str) -> Option<Reply> {
     match name {
         "empty-proof" => proof(rt, &[]).ok(),
@@ -269,7 +269,7 @@ fn long_reply(rt: &HostRuntime, name: &str) -> Option<Reply> {
     }
 }
 
-// The reply of this name.
+// Returns the reply with this name.
 fn reply(rt: &HostRuntime, name: &str, number: u64) -> Option<Reply> {
     match name {
         "head" => Some(Reply::Sth(HEAD)),
@@ -289,7 +289,7 @@ fn reply(rt: &HostRuntime, name: &str, number: u64) -> Option<Reply> {
 struct Replies;
 
 impl Shown for Replies {
-    // A row of a reply's name and number, and its line.
+    // A row has a reply's name and number, and its line.
     fn is_right(&mut self, rt: &HostRuntime, mut row: Row<'_>) -> bool {
         let name = row.word();
         let number = row.number();
@@ -338,7 +338,7 @@ collision 0 => {"left":"AEI=","right":"AEE=","verdict":"collision"}"#;
 struct Refusals;
 
 impl Shown for Refusals {
-    // A row of a refusal's number, and its line.
+    // A row has a refusal's number, and its line.
     fn is_right(&mut self, rt: &HostRuntime, mut row: Row<'_>) -> bool {
         match REFUSALS.get(row.short() as usize) {
             Some(refusal) => !row.is_bad() && is_line(rt, Err(*refusal), row.answer()),

@@ -1,5 +1,5 @@
-// Tables of rows, a line each: what is done or asked, in words with one blank between them, then ` => ` and the answer that
-// has to be given, mostly by its `Debug`. Lists have commas between, lists of lists semicolons, and `-` is an empty one.
+// Tables of rows, one for each line: a call or a question, in words separated by one space, then ` => ` and the expected answer, mostly as
+// its `Debug` text. The elements of a list are separated by commas, lists of lists by semicolons, and `-` is an empty list.
 use std::fmt::Debug;
 
 fn numbers_of(rt: &HostRuntime, word: &str) -> Option<Vec<u64>> {
@@ -35,7 +35,7 @@ fn all_bytes_of(rt: &HostRuntime, words: &str) -> Option<Vec<Vec<u8>>> {
     Some(all)
 }
 
-// What is left of a row, and its answer. One of which a word can't be read is wrong, whatever is answered.
+// The unread part of a row, and its expected answer. A row with a word that cannot be read is wrong, for any answer.
 #[derive(Clone, Copy)]
 pub(crate) struct Row<'a> {
     rest: &'a str,
@@ -58,7 +58,7 @@ impl<'a> Row<'a> {
         self.is_bad
     }
 
-    // All that is left before the answer.
+    // Returns the whole unread part before the answer.
     pub(crate) fn rest(&self) -> &'a str {
         self.rest
     }
@@ -73,7 +73,7 @@ impl<'a> Row<'a> {
         word
     }
 
-    // The value, if the word was read.
+    // Returns the value, if the word was read. Otherwise the row is marked as bad.
     fn read<T: Drop>(&mut self, read: Option<T>, other: T) -> T {
         self.is_bad = self.is_bad || read.is_none();
         read.unwrap_or(other)
@@ -104,7 +104,7 @@ impl<'a> Row<'a> {
         self.read(all, Vec::new(rt.alloc()))
     }
 
-    // Whether this is the row's answer.
+    // Reports whether this is the row's answer.
     pub(crate) fn says<T: Debug>(&self, rt: &HostRuntime, answer: &T) -> bool {
         match format!(in rt.alloc(); "{answer:?}") {
             Ok(text) => !self.is_bad && text.as_str() == self.answer,
@@ -113,13 +113,13 @@ impl<'a> Row<'a> {
     }
 }
 
-// What rows are shown to.
+// Answers rows.
 pub(crate) trait Shown {
-    // Whether it answers as the row says.
+    // Reports whether the answer is as the row says.
     fn is_right(&mut self, rt: &HostRuntime, row: Row<'_>) -> bool;
 }
 
-// How many rows are right, before the first that isn't.
+// Returns how many rows are right, before the first that is not.
 pub(crate) fn right_rows<T: Shown>(rt: &HostRuntime, shown: &mut T, rows: &str) -> u32 {
     let mut count = 0u32;
     for line in rows.lines() {

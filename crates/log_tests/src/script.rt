@@ -1,4 +1,4 @@
-// A script over a reader and a writer of which calls fail, and lines that look few times.
+// A script over a reader and a writer whose calls fail, and lines that look only a few times.
 use ct_script::serve;
 use ct_tasks::{Fault, Options};
 use std::alloc::Global;
@@ -15,7 +15,7 @@ const ONE_FRONT: Options = Options {
     close_at: 7,
 };
 
-// One that closes as it opens, which the clock refuses.
+// A log that is closed at the timestamp at which it opens, which the clock refuses.
 const LATE: Options = Options {
     fronts: 1,
     ring: 4,
@@ -23,7 +23,7 @@ const LATE: Options = Options {
     close_at: 0,
 };
 
-// Whether a script over these lines writes this, where a line that waits looks so many times.
+// Reports whether a script over these lines writes this, if a line that waits looks this many times.
 fn replies<H: Threads + Wait + Sync>(
     rt: &H,
     alloc: Global,
@@ -37,7 +37,7 @@ fn replies<H: Threads + Wait + Sync>(
         && output.as_slice() == wanted
 }
 
-// Waits that are too long. With one turn to wait: what is there at once is answered, and what never comes is late.
+// Waits that are too long. With one turn to wait, a line is answered if its condition holds at once, and is late if it never holds.
 const LONG_WAITS: &[u8] = br#"{"who":0,"op":"await-size","tree_size":0}
 {"who":0,"op":"await-size","tree_size":1}
 {"who":"operator","op":"sequence","from":0,"count":0,"now":0}
@@ -61,7 +61,7 @@ fn waits_that_are_too_long(rt: HostRuntime) {
     assert!(rt; replies(&rt, rt.alloc(), (options, 1), LONG_WAITS, TOLD_LATE));
 }
 
-// Lines that look three times for what another shift's lines do, and come too late, or find it at once.
+// Lines that look three times for the results of another shift's lines. They give up too early, or find the results at once.
 const OVER_SHIFTS: &[u8] = br#"{"who":0,"op":"await-size","tree_size":1}
 {"who":"operator","op":"sequence","from":0,"count":1,"now":1}
 {"who":"operator","op":"shift","now":2}
@@ -93,7 +93,7 @@ fn lines_that_wait_for_another_shift(rt: HostRuntime) {
     assert!(rt; replies(&rt, rt.alloc(), (options, 3), OVER_SHIFTS, TOLD_OVER_SHIFTS));
 }
 
-// A head of the frozen log, and a submission before it. The input has 76 bytes, and the replies 13 and 96.
+// A query for the head of the frozen log, and a submission, whose reply comes first. The input has 76 bytes, and the replies 13 and 96.
 const TWO_LINES: &[u8] = br#"{"who":"frozen","op":"get-sth"}
 {"who":0,"op":"add-chain","chain":["QQ=="]}
 "#;
@@ -102,7 +102,7 @@ const WHOLE: &[u8] = br#"{"ticket":0}
 {"sha256_root_hash":"fV9+kfNWc6WhrBC4FWQ8cnZ9Z8PW7wGOv6AnRvHlwco=","timestamp":7,"tree_size":1}
 "#;
 
-// A reader that gives 7 bytes a call, and fails so behind so many calls.
+// A reader that returns 7 bytes for each call, and fails with this error after this many calls.
 #[derive(Drop)]
 struct Source<'a> {
     text: &'a [u8],
@@ -124,7 +124,8 @@ impl Read for Source<'_> {
     }
 }
 
-// A writer that takes 10 bytes a call, as far as it has room, and fails behind so many calls, to write or to flush. It hands on at `flush` alone.
+// A writer that accepts 10 bytes for each call, as far as it has room. It fails after this many calls, whether to write or to flush. It
+// hands bytes on only at `flush`.
 #[derive(Drop)]
 struct Sink {
     taken: Vec<u8>,
@@ -171,7 +172,7 @@ impl Write for Sink {
     }
 }
 
-// Whether a script over the two lines ends so, and what it wrote is a beginning of the replies, and all of them where it ended well.
+// Reports whether a script over the two lines has this result, and its output is a prefix of the replies, and all of them if it succeeded.
 fn ends<H: Threads + Wait + Sync>(
     rt: &H,
     alloc: Global,
@@ -190,10 +191,10 @@ fn ends<H: Threads + Wait + Sync>(
         && (end.is_err() || output.taken.len() == WHOLE.len())
 }
 
-// More calls than there are.
+// More calls than are made.
 const ENOUGH: usize = 99;
 
-// Whether one whose reader fails so behind so many calls ends so, with nothing on the output where it fails.
+// Reports whether a script whose reader fails with this error after this many calls ends as it should, with no output if it fails.
 fn ends_at_read<H: Threads + Wait + Sync>(
     rt: &H,
     alloc: Global,
@@ -207,7 +208,8 @@ fn ends_at_read<H: Threads + Wait + Sync>(
         && output.taken.is_empty() == end.is_err()
 }
 
-// The input takes 11 calls, and one that finds its end. Each of these fails in turn, and behind the last of them nothing does.
+// Reading the input takes 11 calls, and one that finds its end. Each of these calls fails in turn. A failure after the last of them has no
+// effect.
 #[test]
 fn an_input_that_fails_at_each_call(rt: HostRuntime) {
     for calls in 0..=14usize {
@@ -218,7 +220,7 @@ fn an_input_that_fails_at_each_call(rt: HostRuntime) {
     }
 }
 
-// Whether one whose writer has this room, and so many calls, ends so. Where no call succeeds nothing is written.
+// Reports whether a script whose writer has this room, and this many calls, has this result. If no call succeeds, nothing is written.
 fn ends_at_write<H: Threads + Wait + Sync>(
     rt: &H,
     alloc: Global,
@@ -232,7 +234,8 @@ fn ends_at_write<H: Threads + Wait + Sync>(
         && output.taken.is_empty() == (room == 0 || calls == 0)
 }
 
-// The replies take 2 calls and 10, and each has a flush behind it. Each of these calls fails in turn, and behind the last of them nothing does.
+// Writing the replies takes 2 calls and 10 calls, each group followed by a flush. Each of these calls fails in turn. A failure after the
+// last of them has no effect.
 #[test]
 fn an_output_that_fails_at_each_call(rt: HostRuntime) {
     for calls in 0..=14usize {
@@ -248,7 +251,7 @@ fn an_output_that_fails_at_each_call(rt: HostRuntime) {
     }
 }
 
-// An output that is full in the middle.
+// An output that becomes full in the middle.
 #[test]
 fn an_output_without_room(rt: HostRuntime) {
     for room in [0usize, 12, 13, 100, 13 + 96] {
@@ -264,7 +267,7 @@ fn an_output_without_room(rt: HostRuntime) {
     }
 }
 
-// How a log's script ends where the writer has so many calls, how many bytes were written then, and how many of these handed on.
+// The result of a log's script if the writer has this many calls, the number of bytes written, and the number of those that were handed on.
 struct HandedOn {
     options: Options,
     calls: usize,
@@ -273,7 +276,7 @@ struct HandedOn {
     handed_on: usize,
 }
 
-// The replies are handed on where the log is closed, and where the clock refuses to close it. Where the writer can't hand on, that is a fault.
+// The replies are handed on when the log is closed, and when the clock refuses to close it. If the writer cannot hand on, that is a fault.
 const HANDED_ON: [HandedOn; 4] = [
     HandedOn {
         options: ONE_FRONT,

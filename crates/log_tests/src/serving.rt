@@ -8,8 +8,8 @@ use std::io;
 use std::io::{ErrorKind, Read, Write};
 use std::test::*;
 
-// A log opened at 0, in which the certificate of the one byte 41 was settled so often at one moment, and which was closed
-// at another.
+// Returns a log opened at 0, in which the certificate 41 (one byte) was settled this many times at one timestamp, and which was closed at
+// another.
 fn closed_log(rt: &HostRuntime, count: u64, now: u64, close_at: u64) -> Result<Core, Refusal> {
     let mut core = Core::open(rt.alloc(), 0)?;
     settle_often(rt, &mut core, count, now)?;
@@ -24,14 +24,14 @@ fn settle_often(rt: &HostRuntime, core: &mut Core, count: u64, now: u64) -> Resu
     Ok(())
 }
 
-// Whether the log writes this text for this input.
+// Reports whether the log writes this text for this input.
 fn writes(rt: &HostRuntime, log: &Published, mut input: &[u8], text: &[u8]) -> bool {
     let mut output: Vec<u8> = Vec::new(rt.alloc());
     let end = serve_frozen(rt.alloc(), log, &mut input, &mut output);
     end.is_ok() && output.as_slice() == text
 }
 
-// The text with an end of line for each bar. A hyphen alone is no text.
+// Returns the text with an end byte in place of each bar. A text that is only a hyphen is empty.
 fn unfolded(rt: &HostRuntime, text: &str) -> Result<Vec<u8>, Refusal> {
     let mut bytes = Vec::new(rt.alloc());
     if text == "-" {
@@ -43,12 +43,12 @@ fn unfolded(rt: &HostRuntime, text: &str) -> Result<Vec<u8>, Refusal> {
     Ok(bytes)
 }
 
-// What logs write for their input.
+// The output of logs for their input.
 #[derive(Clone, Copy)]
 struct Logs;
 
 impl Shown for Logs {
-    // A row of how often the certificate was settled and when, when the log was closed, the lines, and the replies.
+    // A row has how often the certificate was settled and when, when the log was closed, the lines, and the replies.
     fn is_right(&mut self, rt: &HostRuntime, mut row: Row<'_>) -> bool {
         let (count, now, close_at) = (row.number(), row.number(), row.number());
         match (unfolded(rt, row.rest()), unfolded(rt, row.answer())) {
@@ -60,7 +60,7 @@ impl Shown for Logs {
     }
 }
 
-// Whether such a log writes these replies.
+// Reports whether such a log writes these replies.
 fn is_written(
     rt: &HostRuntime,
     (count, now, close_at): (u64, u64, u64),
@@ -73,8 +73,8 @@ fn is_written(
     }
 }
 
-// A head; receipts of a repeat and of no ticket; an entry and an audit of its proof; audits at another index, of another
-// leaf, at a size that no head has, and at size 0; no line, and lines that are not of the log.
+// The inputs: a head; receipts of a repeat and of no ticket; an entry and an audit of its proof; audits at another index, of another leaf,
+// at a size that no head has, and at size 0; no line, and lines that are not for the log.
 #[test]
 fn what_the_frozen_log_writes(rt: HostRuntime) {
     let rows =
@@ -91,7 +91,7 @@ fn what_the_frozen_log_writes(rt: HostRuntime) {
     assert!(rt; right_rows(&rt, &mut Logs, row) == 1);
 }
 
-// Whether the log refuses a line by this name, and answers a question behind it.
+// Reports whether the log refuses a line with this name, and answers a query after it.
 fn refuses(rt: &HostRuntime, log: &Published, line: &str, name: &str) -> Result<bool, Refusal> {
     let question = r#"{"who":"frozen","op":"receipt","ticket":0}"#;
     let answer = r#"{"extensions":"","leaf_index":0,"sct_version":0,"timestamp":1}"#;
@@ -100,21 +100,21 @@ fn refuses(rt: &HostRuntime, log: &Published, line: &str, name: &str) -> Result<
     Ok(writes(rt, log, lines.as_bytes(), replies.as_bytes()))
 }
 
-// A log of one leaf, with a question that is answered behind each line.
+// A log of one leaf, with a query after each line, which is answered.
 #[derive(Drop)]
 struct Refusing<'a> {
     log: &'a Published,
 }
 
 impl Shown for Refusing<'_> {
-    // A row of a line, and the name of its refusal.
+    // A row has a line, and the name of its refusal.
     fn is_right(&mut self, rt: &HostRuntime, row: Row<'_>) -> bool {
         let is_refused = refuses(rt, self.log, row.rest(), row.answer());
         !row.is_bad() && matches!(&is_refused, Ok(true))
     }
 }
 
-// Each refusal of the frozen log, with a question that is answered behind it.
+// Each refusal of the frozen log, with a query after it, which is answered.
 #[test]
 fn a_refusal_and_then_an_answer(rt: HostRuntime) -> Result<(), Fail> {
     let rows = r#"{"who":"frozen","op":"get-sth-consistency","first":1,"second":2} => unknown-size
@@ -135,7 +135,7 @@ fn a_refusal_and_then_an_answer(rt: HostRuntime) -> Result<(), Fail> {
     Ok(())
 }
 
-// A line that begins so, of so many bytes with blanks at the end, and then these bytes.
+// Returns a line that starts with `start`, padded to this many bytes with spaces at the end, and followed by `behind`.
 fn padded(rt: &HostRuntime, start: &[u8], len: usize, behind: &[u8]) -> Result<Vec<u8>, Refusal> {
     let mut line = Vec::from_slice(rt.alloc(), start)?;
     line.resize(len, b' ')?;
@@ -149,7 +149,7 @@ struct Padding<'a> {
     log: &'a Published,
 }
 
-// A row of how long the line is, what comes behind it and how it begins, and the replies.
+// A row has the length of the line, the bytes after it, its start, and the replies.
 fn is_padded_answered(
     rt: &HostRuntime,
     log: &Published,
@@ -168,7 +168,7 @@ impl Shown for Padding<'_> {
     }
 }
 
-// The longest line that is a request, the longest one that is no JSON and a question behind it, and longer ones, one of 9 MB.
+// The longest line that is a request; the longest line that is no JSON, with a query after it; and longer ones, one of them of 9 MB.
 #[test]
 fn long_lines(rt: HostRuntime) -> Result<(), Fail> {
     let rows =
@@ -185,7 +185,7 @@ fn long_lines(rt: HostRuntime) -> Result<(), Fail> {
     Ok(())
 }
 
-// This line so often, and another behind it.
+// Returns this line `count` times, and another one after that.
 fn repeated(rt: &HostRuntime, line: &[u8], count: u32, last: &[u8]) -> Result<Vec<u8>, Refusal> {
     let mut bytes = Vec::new(rt.alloc());
     for _ in 0..count {
@@ -195,7 +195,7 @@ fn repeated(rt: &HostRuntime, line: &[u8], count: u32, last: &[u8]) -> Result<Ve
     Ok(bytes)
 }
 
-// Whether a log of no leaves answers each of so many questions of a thousand bytes, and a line behind them.
+// Reports whether a log of no leaves answers each of this many queries of a thousand bytes, and a line after them.
 fn are_questions_answered(rt: &HostRuntime, count: u32) -> Result<bool, Refusal> {
     let question = padded(
         rt,
@@ -210,14 +210,14 @@ fn are_questions_answered(rt: &HostRuntime, count: u32) -> Result<bool, Refusal>
     Ok(writes(rt, log.published(), &lines, &replies))
 }
 
-// 9,000,003 bytes of input.
+// The input has 9,000,003 bytes.
 #[test]
 fn nine_thousand_questions(rt: HostRuntime) -> Result<(), Fail> {
     assert!(rt; are_questions_answered(&rt, 9_000)?);
     Ok(())
 }
 
-// A reader that gives so many bytes of a text a call, and fails at its end.
+// A reader that returns this many bytes of a text for each call, and fails at its end.
 #[derive(Drop)]
 struct Breaking<'a> {
     text: &'a [u8],
@@ -237,7 +237,7 @@ impl Read for Breaking<'_> {
     }
 }
 
-// How serving ends over such a reader, where it writes this text.
+// Returns how serving ends over such a reader, if it writes this text.
 fn broken_end(
     rt: &HostRuntime,
     log: &Published,
@@ -253,7 +253,7 @@ fn broken_end(
     }
 }
 
-// 8,192 empty lines and one that is no request.
+// Returns 8,192 empty lines and one that is no request.
 fn long_text(rt: &HostRuntime) -> Result<Vec<u8>, Refusal> {
     let mut long = vec![in rt.alloc(); b'\n'; 8_192]?;
     long.extend_from_slice(b"{}\n")?;
@@ -266,7 +266,7 @@ struct Failing<'a> {
     log: &'a Published,
 }
 
-// A row of the bytes a call, the count of replies and the text, and the replies.
+// A row has the bytes for each call, the count of replies, the text, and the replies.
 fn is_read_fault(rt: &HostRuntime, log: &Published, mut row: Row<'_>) -> Result<bool, Refusal> {
     let step = row.number() as usize;
     let count = row.number();
@@ -279,7 +279,7 @@ fn is_read_fault(rt: &HostRuntime, log: &Published, mut row: Row<'_>) -> Result<
     Ok(!row.is_bad() && end == Some(ServeFault::Read(count)))
 }
 
-// A row of the room, whether the writer fails there, and the count of replies, and what is written.
+// A row has the room, whether the writer fails there, the count of replies, and the output.
 fn is_write_fault(rt: &HostRuntime, log: &Published, mut row: Row<'_>) -> Result<bool, Refusal> {
     let left = row.number() as usize;
     let fails = row.word();
@@ -304,7 +304,7 @@ impl Shown for Failing<'_> {
     }
 }
 
-// How many rows a log of no leaves answers rightly, before the first that it doesn't.
+// Returns how many rows a log of no leaves answers correctly, before the first that it does not.
 fn failed(rt: &HostRuntime, rows: &str) -> u32 {
     match closed_log(rt, 0, 0, 9) {
         Ok(log) => {
@@ -317,7 +317,7 @@ fn failed(rt: &HostRuntime, rows: &str) -> u32 {
     }
 }
 
-// A writer that takes at most 10 bytes a call, and none past its room: there it fails, or writes no bytes.
+// A writer that accepts at most 10 bytes for each call, and none past its room: there it fails, or accepts no bytes.
 #[derive(Drop)]
 struct Room {
     taken: Vec<u8>,
@@ -341,7 +341,7 @@ impl Write for Room {
     }
 }
 
-// How serving a bad line and a question for the head ends with so much room, where this text is written.
+// Returns how serving a bad line and a query for the head ends with this much room, if this text is written.
 fn cramped_end(
     rt: &HostRuntime,
     log: &Published,
@@ -363,7 +363,7 @@ fn cramped_end(
     }
 }
 
-// One of them fails after 8,195 reads of one byte.
+// One of the readers fails after 8,195 reads of one byte.
 #[test]
 fn a_reader_that_fails(rt: HostRuntime) {
     let rows = r#"reader 9 1 {}| => {"error":"bad-line"}|

@@ -1,4 +1,4 @@
-// What the tests do to a core and ask of it.
+// Calls of the tests to a core.
 
 ghost use Rattle.std.specs.Prelude.{◌≡◌, IfOk};
 ghost use Rattle.ct_core.specs.Leaf.{leaf_at};
@@ -10,14 +10,14 @@ use ct_sequencing::Core;
 use ct_tree::{Head, Sha256Hash, leaf_hash};
 use std::alloc::Global;
 
-// A chain of one certificate.
+// Returns a chain of one certificate.
 pub(crate) fn submission(heap: Global, certificate: &[u8]) -> Result<Submission, Refusal> {
     let mut chain = Vec::new(heap);
     chain.push(Vec::from_slice(heap, certificate)?)?;
     Submission::x509(chain)
 }
 
-// The hash of the submission's leaf at that moment.
+// Returns the hash of the submission's leaf at that timestamp.
 #[tactic(auto, unfolding(ct_core::specs::Leaf::leaf_at, ct_core::specs::Tree::sha256_leaf))]
 fn hashed(rt: &HostRuntime, submission: &Submission, now: u64) -> Result<[u8; 32], Refusal>
     ensures { IfOk result (λ h. h ≡ sha256_leaf (leaf_at submission.now now)) }
@@ -26,7 +26,7 @@ fn hashed(rt: &HostRuntime, submission: &Submission, now: u64) -> Result<[u8; 32
     Ok(leaf_hash(&Sha256Hash, &leaf))
 }
 
-// Settles a submission. Where memory is refused, the item that came back is tried once more.
+// Settles a submission. If memory is refused, it tries the item that came back once more.
 pub(crate) fn settle_submission(
     rt: &HostRuntime,
     core: &mut Core,
@@ -62,7 +62,7 @@ pub(crate) fn settle(
     settle_submission(rt, core, by, submission, now)
 }
 
-// Publishes a head. Where memory is refused, it is tried once more.
+// Publishes a head. If memory is refused, it tries once more.
 pub(crate) fn publish(rt: &HostRuntime, core: &mut Core, now: u64) -> Result<Head, Refusal> {
     match core.publish(rt.alloc(), now) {
         Err(Refusal::Memory) => core.publish(rt.alloc(), now),
@@ -83,7 +83,7 @@ pub(crate) fn asked(rt: &HostRuntime, core: &Core, query: Query) -> Result<Reply
     core.published().answer(rt.alloc(), &query)
 }
 
-// Where a ticket settled, and its leaf's timestamp.
+// Returns the index at which a ticket settled, and its leaf's timestamp.
 pub(crate) fn receipt(
     rt: &HostRuntime,
     core: &Core,
@@ -98,7 +98,7 @@ pub(crate) fn receipt(
     })
 }
 
-// Whether these bytes were made, and are the text.
+// Reports whether these bytes were made, and are the text.
 pub(crate) fn is_text(made: Result<Vec<u8>, Refusal>, text: &[u8]) -> bool {
     match made {
         Ok(bytes) => bytes.as_slice() == text,

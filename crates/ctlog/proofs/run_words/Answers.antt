@@ -11,7 +11,7 @@ use Rattle.ct_tasks.specs.declared.fault.Fault.{Fault}
 use Rattle.ctlog.proofs.RunLemmas.{none_written}
 use Rattle.ctlog.proofs.run_words.Goals as goal
 
--- the texts of the words ask for what the words do
+-- the texts of the arguments have the same request as the arguments
 same_words : (texts shown : List (Bor (List ℕ))) (words : List (String Global)) → shown ≡ texts
     → map (λ (w : Bor (List ℕ)). w.now) texts ≡ map string_bytes words
     → asked_for (name_of Ctlog) shown ≡ asked_of (name_of Ctlog) words

@@ -52,7 +52,7 @@ impl ClosedHouse {
         }
     }
 
-    // The final log, once `is_settled`, `is_shut` and `is_covered` say so, and what was refused.
+    // Returns the final log, after `is_settled`, `is_shut` and `is_covered` report true, and the refused calls.
     pub(crate) fn finish<R: Wait + Abort>(self, rt: &R) -> (FinalLog, Refused) {
         let ClosedHouse {
             alloc,
@@ -65,7 +65,7 @@ impl ClosedHouse {
     }
 }
 
-// The two ends as a list. Its growth is the test's own.
+// Returns the two ends as a list. Its allocation is the test's own.
 fn listed<R: Abort>(
     rt: &R,
     alloc: Global,
@@ -87,7 +87,7 @@ fn listed<R: Abort>(
     list
 }
 
-// The final log of a house whose fronts have retired.
+// Returns the final log of a house whose fronts have retired.
 fn closed<R: Wait + Abort>(rt: &R, mut house: Sequencer, mut ends: Vec<Retired>) -> FinalLog
     requires { All (IsOfHouse house.house) ends.items }
 {
@@ -103,7 +103,7 @@ fn closed<R: Wait + Abort>(rt: &R, mut house: Sequencer, mut ends: Vec<Retired>)
     house.finish(rt, ends)
 }
 
-// The answer of the closed log.
+// Returns the answer of the closed log.
 pub(crate) fn ask_log(
     alloc: Global,
     log: &Published,
@@ -119,7 +119,7 @@ pub(crate) fn ask_log(
     }
 }
 
-// How many lines end in the text.
+// Returns how many lines end in the text.
 fn ends_in(text: &[u8]) -> u64 {
     let mut count = 0u64;
     for byte in text {
@@ -130,7 +130,7 @@ fn ends_in(text: &[u8]) -> u64 {
     count
 }
 
-// Whether the first replies were written, so many, each of them whole.
+// Reports whether the first `count` replies were written, each of them whole.
 fn are_first(page: &Page<'_>, count: u64) -> bool {
     match page.written() {
         Some(written) => {
@@ -140,19 +140,19 @@ fn are_first(page: &Page<'_>, count: u64) -> bool {
     }
 }
 
-// Whether its last line is ended.
+// Reports whether the last line of the text is ended.
 fn is_ended(text: &[u8]) -> bool {
     text.is_empty() || text.ends_with(b"\n")
 }
 
-// Whether the lines are served so, over a new reader and writer.
+// Reports whether the lines get these replies, over a new reader and writer.
 fn is_served(alloc: Global, log: &Published, lines: &[u8], replies: &[u8]) -> bool {
     let mut page = Page::of(replies);
     let mut reader = lines;
     serve_frozen(alloc, log, &mut reader, &mut page).is_ok() && page.is_whole()
 }
 
-// Serves the lines, and once more over a new reader and writer where it is refused memory. The replies have to be these.
+// Serves the lines, and repeats it over a new reader and writer if it is refused memory. The replies must be these.
 pub(crate) fn is_served_again(
     alloc: Global,
     log: &Published,

@@ -1,4 +1,4 @@
-// A house with two fronts, whose calls are made again where they are refused memory.
+// A house with two fronts, whose calls are repeated if they are refused memory.
 ghost use Rattle.std.specs.Prelude.{◌≡◌, ◌<◌, ◌≤◌, length, IfOk, IfErr};
 ghost use Rattle.ct_house.specs.House.{IsNewHouse, IsOfHouse};
 
@@ -24,14 +24,14 @@ pub(crate) struct House {
     ghost of_house: { IsOfHouse house.house zero × IsOfHouse house.house one },
 }
 
-// A chain of one certificate.
+// Returns a chain of one certificate.
 fn chain_of(alloc: Global, certificate: &[u8]) -> Result<Submission, Refusal> {
     let mut chain = Vec::new(alloc);
     chain.push(Vec::from_slice(alloc, certificate)?)?;
     Submission::x509(chain)
 }
 
-// A house opened at 0.
+// Returns a house opened at 0.
 fn opened<R: Wait>(
     rt: &R,
     alloc: Global,
@@ -51,7 +51,7 @@ fn opened<R: Wait>(
     }
 }
 
-// Lets a retired front go on.
+// Resumes a retired front.
 fn go_on<R: Threads + Abort + Sync>(
     rt: &R,
     alloc: Global,
@@ -106,7 +106,7 @@ impl House {
         }
     }
 
-    // The ticket. `submit` isn't made again.
+    // Returns the ticket. `submit` is not repeated.
     pub(crate) fn ticket(&mut self, front: u16, certificate: &[u8]) -> Result<u64, Refusal> {
         let submission = self.submission(certificate)?;
         let answer = match front {
@@ -125,7 +125,7 @@ impl House {
         self.house.take(rt, self.alloc, 0, max, now)
     }
 
-    // Takes two items of front 0 at most, and answers how many were told.
+    // Takes at most two items of front 0, and returns the reported number.
     pub(crate) fn take_two<R: Threads + Sync>(&mut self, rt: &R, now: u64) -> Result<u32, Refusal> {
         match self.take_once(rt, 2, now) {
             Err(Refusal::Memory) => {
@@ -136,7 +136,8 @@ impl House {
         }
     }
 
-    // Takes the items of front 0 until none is left, and counts those that were told. A refused call tells none of those that it settled.
+    // Takes the items of front 0 until none is left, and counts those that were reported. A refused call reports none of those that it
+    // settled.
     pub(crate) fn take_all<R: Threads + Sync>(&mut self, rt: &R, now: u64) -> Result<u32, Refusal> {
         let mut told = 0u32;
         for _ in 0..4u32 {
@@ -199,7 +200,7 @@ impl House {
         }
     }
 
-    // Front 0 retires and goes on.
+    // Retires front 0 and resumes it.
     pub(crate) fn succeed<R: Threads + Abort + Sync>(self, rt: &R, now: u64) -> House {
         let House {
             alloc,
@@ -218,7 +219,7 @@ impl House {
         }
     }
 
-    // Gives the house up. It answers what was refused.
+    // Gives the house up, and returns the refused calls.
     pub(crate) fn abandon<R: Wait>(self, rt: &R) -> Refused {
         let House {
             alloc,

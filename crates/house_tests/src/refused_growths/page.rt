@@ -1,13 +1,13 @@
 use std::io;
 use std::io::Write;
 
-// A writer that takes no memory: it compares what is written with what has to be.
+// A writer that allocates no memory: it compares the bytes written with the expected ones.
 #[derive(Drop)]
 pub(crate) struct Page<'a> {
     wanted: &'a [u8],
-    // What has to come still.
+    // The bytes that must still be written.
     rest: &'a [u8],
-    // Whether nothing else was written so far.
+    // Whether only expected bytes were written so far.
     is_same: bool,
 }
 
@@ -20,12 +20,12 @@ impl<'a> Page<'a> {
         }
     }
 
-    // Whether just that was written.
+    // Reports whether exactly the expected bytes were written.
     pub(crate) fn is_whole(&self) -> bool {
         self.is_same && self.rest.is_empty()
     }
 
-    // What was written of it. Nothing where something else was written.
+    // Returns the part of them that was written, or `None` if other bytes were written.
     pub(crate) fn written(&self) -> Option<&'a [u8]> {
         if !self.is_same {
             return None;

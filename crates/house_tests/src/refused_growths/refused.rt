@@ -15,13 +15,13 @@ impl Refused {
         }
     }
 
-    // Counts this call as refused.
+    // Records this call as refused.
     pub(crate) fn tell(&mut self, call: &'static str) {
         self.count = self.count.saturating_add(1);
         self.call = call;
     }
 
-    // The call that was refused, where there is at most one.
+    // Returns the call that was refused, if there is at most one.
     fn at_most_one(&self) -> Option<&'static str> {
         if self.count <= 1 {
             Some(self.call)
@@ -30,7 +30,7 @@ impl Refused {
         }
     }
 
-    // Says which call was refused.
+    // Prints which call was refused.
     pub(crate) fn say<R: Print>(&self, rt: &R) -> Result<(), Fail> {
         let call = self.at_most_one().ok_or("two calls were refused")?;
         println!(rt; "refused: {call}")?;

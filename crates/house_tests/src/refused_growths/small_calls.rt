@@ -9,25 +9,25 @@ use ct_verify::{Evidence, EvidenceFault, ProofFault, explain_consistency, explai
 use std::alloc::{AllocError, Global};
 use std::test::Fail;
 
-// The SHA-256 tree of the leaves 41, 42, 43 (bytes, hexadecimal): roots of its first leaves, and two leaf hashes.
+// The SHA-256 tree of the leaves 41, 42, 43 (bytes in hexadecimal): the roots of its first leaves, and two leaf hashes.
 const ROOT_1: [u8; 32] = [
     0xc0, 0x0b, 0x4d, 0x3c, 0x92, 0x9c, 0xb5, 0xcc, 0x31, 0x66, 0x91, 0xed, 0x46, 0x36, 0xf6, 0x34,
     0x57, 0x6f, 0x2c, 0x9b, 0x29, 0x54, 0x76, 0x72, 0x34, 0xc5, 0x27, 0x4e, 0x9d, 0xde, 0x18, 0x5d,
 ];
 
-// Of 41 and 42.
+// The root of 41 and 42.
 const ROOT_2: [u8; 32] = [
     0xed, 0x69, 0x2f, 0x01, 0xf7, 0xf6, 0xc4, 0x69, 0x30, 0xd7, 0xad, 0x8f, 0x9a, 0xda, 0xd3, 0xf9,
     0xf3, 0x8b, 0x73, 0x79, 0xcf, 0x6a, 0x8d, 0x2f, 0x39, 0x9a, 0x0b, 0xa1, 0xe9, 0x14, 0xfe, 0x25,
 ];
 
-// Of all three.
+// The root of all three.
 const ROOT_3: [u8; 32] = [
     0x96, 0x1d, 0x2e, 0x2b, 0xe2, 0x0f, 0x53, 0x8f, 0xfd, 0xf5, 0x69, 0x62, 0xa8, 0x6d, 0x1b, 0xd1,
     0x65, 0x49, 0x8f, 0x22, 0x26, 0x84, 0xee, 0x4c, 0x5e, 0x02, 0xc1, 0xe9, 0xf8, 0x52, 0xad, 0xc5,
 ];
 
-// A leaf of one byte for each byte.
+// Returns a leaf of one byte for each byte.
 fn leaves_once(alloc: Global, bytes: &[u8]) -> Result<Vec<Vec<u8>>, AllocError> {
     let mut leaves = Vec::new(alloc);
     for byte in bytes {
@@ -50,7 +50,7 @@ fn leaves_of(
     }
 }
 
-// Whether the monitor keeps a leaf of one byte for each byte, and this is its last head.
+// Reports whether the monitor keeps a leaf of one byte for each byte, and this is its last head.
 fn is_at(monitor: &Monitor<Sha256Hash>, bytes: &[u8], last: Option<Head>) -> bool {
     let leaves = monitor.leaves();
     if leaves.len() != bytes.len() || monitor.last_head() != last {
@@ -64,7 +64,7 @@ fn is_at(monitor: &Monitor<Sha256Hash>, bytes: &[u8], last: Option<Head>) -> boo
     true
 }
 
-// Shows the monitor a head, with the new leaves. The outer error is of the test's own growth.
+// Shows the monitor a head, with the new leaves. The outer error is that of the test's own allocation.
 fn observe_once(
     alloc: Global,
     monitor: &mut Monitor<Sha256Hash>,
@@ -76,7 +76,7 @@ fn observe_once(
     Ok(monitor.observe(head, leaves))
 }
 
-// Shows it the head once more, where it refused it for memory: whether it is unchanged, and takes the head now.
+// Shows it the head again, after it refused it for memory. Reports whether it is unchanged, and accepts the head now.
 fn takes_again(
     alloc: Global,
     monitor: &mut Monitor<Sha256Hash>,
@@ -89,7 +89,8 @@ fn takes_again(
     is_at(monitor, old, last) && observe_once(alloc, monitor, new, head, refused) == Ok(Ok(()))
 }
 
-// Shows the monitor a head of the leaves so far and one more. It is unchanged where it is refused, and takes the head the next time.
+// Shows the monitor a head of the leaves so far and one more. If the head is refused, the monitor must be unchanged, and must accept the
+// head the next time.
 fn is_taken(
     alloc: Global,
     monitor: &mut Monitor<Sha256Hash>,
@@ -115,7 +116,7 @@ fn head(tree_size: u64, timestamp: u64, root: [u8; 32]) -> Head {
     }
 }
 
-// Whether the monitor takes the head, and keeps all leaves then.
+// Reports whether the monitor accepts the head, and then keeps all leaves.
 fn takes(
     alloc: Global,
     monitor: &mut Monitor<Sha256Hash>,
@@ -126,7 +127,7 @@ fn takes(
     is_taken(alloc, monitor, (old, new), head, refused) && is_at(monitor, all, Some(head))
 }
 
-// Whether a monitor takes the three heads.
+// Reports whether a monitor accepts the three heads.
 fn takes_three(alloc: Global, refused: &mut Refused) -> bool {
     let mut monitor = Monitor::new(alloc, Sha256Hash);
     takes(
@@ -157,7 +158,8 @@ fn a_monitor_takes_three_heads(rt: HostRuntime) -> Result<(), Fail> {
     refused.say(&rt)
 }
 
-// Whether these two strings are the answer. Another answer to compare it with would take memory, which is refused here in turn.
+// Reports whether these two strings are the result. Building another result for a comparison would take memory, which is refused here in
+// turn.
 fn is_collision_of(answer: &Result<Evidence, EvidenceFault>, first: &[u8], second: &[u8]) -> bool {
     match answer {
         Ok(Evidence::Collision(a, b)) => a.as_slice() == first && b.as_slice() == second,
@@ -165,7 +167,7 @@ fn is_collision_of(answer: &Result<Evidence, EvidenceFault>, first: &[u8], secon
     }
 }
 
-// Whether the audit path of the leaf 0 is explained so.
+// Reports whether this is the explanation of the audit path of the leaf 0.
 fn explains_path(
     heap: Global,
     leaves: &[Vec<u8>],
@@ -175,7 +177,7 @@ fn explains_path(
     explain_inclusion(heap, &ZeroHash, leaves, b"A", 0, path) == wanted
 }
 
-// The explanation of the audit path of another leaf.
+// Returns the explanation of the audit path of another leaf.
 fn explained_path(
     heap: Global,
     leaves: &[Vec<u8>],
@@ -190,7 +192,7 @@ fn explained_path(
     }
 }
 
-// `Memory` comes in place of a collision alone: what holds and what is refused is answered at once.
+// `Memory` can only come in place of a collision: a path that holds or is refused needs no memory.
 fn explains_paths(heap: Global, refused: &mut Refused) -> Result<bool, AllocError> {
     let two = leaves_of(heap, b"AB", refused)?;
     let short = EvidenceFault::ProofRefused(ProofFault::PathTooShort);
@@ -208,7 +210,7 @@ fn explaining_an_audit_path(rt: HostRuntime) -> Result<(), Fail> {
     refused.say(&rt)
 }
 
-// Whether the consistency proof is explained so.
+// Reports whether this is the explanation of the consistency proof.
 fn explains_proof(
     heap: Global,
     old: &[Vec<u8>],
@@ -219,7 +221,7 @@ fn explains_proof(
     explain_consistency(heap, &ZeroHash, old, new, path) == wanted
 }
 
-// The explanation of the consistency proof of other leaves.
+// Returns the explanation of the consistency proof of other leaves.
 fn explained_proof(
     heap: Global,
     old: &[Vec<u8>],
@@ -235,7 +237,7 @@ fn explained_proof(
     }
 }
 
-// Whether the leaves of A and B have the proof, and none without a hash.
+// Reports whether the proof of the leaves of A and B is accepted, and one without a hash is not.
 fn explains_two(heap: Global, old: &[Vec<u8>], refused: &mut Refused) -> Result<bool, AllocError> {
     let new = leaves_of(heap, b"AB", refused)?;
     let empty = EvidenceFault::ProofRefused(ProofFault::EmptyPath);
@@ -245,7 +247,7 @@ fn explains_two(heap: Global, old: &[Vec<u8>], refused: &mut Refused) -> Result<
     )
 }
 
-// Whether the leaves of B and C collide with the leaf of A.
+// Reports whether the leaves of B and C collide with the leaf of A.
 fn explains_other(
     heap: Global,
     old: &[Vec<u8>],
@@ -271,7 +273,7 @@ fn explaining_a_consistency_proof(rt: HostRuntime) -> Result<(), Fail> {
     refused.say(&rt)
 }
 
-// The leaf of the certificate 41 at the moment 1, with the extensions aa bb.
+// The leaf of the certificate 41 at the timestamp 1, with the extensions aa bb.
 const LEAF: [u8; 20] = [
     0, 0, 0, 0, 0, 0, 0, 0, 0, 1, 0, 0, 0, 0, 1, 0x41, 0, 2, 0xaa, 0xbb,
 ];
@@ -294,7 +296,7 @@ fn decode_again(alloc: Global, refused: &mut Refused) -> Result<Leaf, DecodeFaul
     }
 }
 
-// Whether the bytes are no leaf, for this reason.
+// Reports whether the bytes are no leaf, for this reason.
 fn is_no_leaf(alloc: Global, bytes: &[u8], fault: DecodeFault) -> bool {
     decode_leaf(alloc, bytes).err() == Some(fault)
 }
@@ -314,7 +316,7 @@ fn decoding_a_leaf(rt: HostRuntime) -> Result<(), Fail> {
 // The chain of the certificates 42 and 41 42.
 const CHAIN: [u8; 12] = [0, 0, 9, 0, 0, 1, 0x42, 0, 0, 2, 0x41, 0x42];
 
-// Whether the bytes are no chain, for this reason.
+// Reports whether the bytes are no chain, for this reason.
 fn is_no_chain(alloc: Global, bytes: &[u8], fault: DecodeFault) -> bool {
     decode_chain(alloc, bytes).err() == Some(fault)
 }
@@ -360,7 +362,7 @@ fn read_again(alloc: Global, line: &[u8], refused: &mut Refused) -> Result<Reque
 const AUDIT: &[u8] =
     b"{\"who\":\"frozen\",\"op\":\"audit\",\"leaf_input\":\"QUI=\",\"leaf_index\":1,\"tree_size\":3,\"audit_path\":[\"AAAAAAAAAAAAAAAAAAAAAAAAAAAAAAAAAAAAAAAAAAA=\"]}";
 
-// Whether it is the request of that line.
+// Reports whether this is the request in that line.
 fn is_that_audit(request: &Result<Request, Refusal>) -> bool {
     match request {
         Ok(Request::Frozen(FrozenRequest::Audit(audit))) => {
@@ -373,7 +375,7 @@ fn is_that_audit(request: &Result<Request, Refusal>) -> bool {
     }
 }
 
-// Whether it is no request.
+// Reports whether this is no request.
 fn is_bad_line(request: &Result<Request, Refusal>) -> bool {
     matches!(request, Err(Refusal::BadLine))
 }

@@ -1,4 +1,4 @@
-// A hash function that fails.
+// A hash function that has collisions.
 ghost use Rattle.std.specs.Prelude.{ℕ, replicate};
 ghost use Rattle.std.proofs.lemmas.List.{length-replicate};
 

@@ -1,4 +1,4 @@
-// A log from `open` to `finish`, and what it answers. What is expected comes from Python's hashlib and `tests/expected.py`.
+// A log from `open` to `finish`, and its answers. The expected values come from Python's hashlib and `tests/expected.py`.
 use crate::refused_growths::closed_log::{ClosedHouse, ask_log, is_served_again};
 use crate::refused_growths::house::House;
 use crate::refused_growths::refused::Refused;
@@ -12,7 +12,7 @@ use std::sync::Wait;
 use std::test::Fail;
 use std::thread::Threads;
 
-// The leaves of the certificates A and B at the moment 3, and of C at the moment 5 (RFC 6962, section 3.4).
+// The leaves of the certificates A and B at the timestamp 3, and of C at the timestamp 5 (RFC 6962, section 3.4).
 const LEAF_A: [u8; 18] = [0, 0, 0, 0, 0, 0, 0, 0, 0, 3, 0, 0, 0, 0, 1, 0x41, 0, 0];
 
 const LEAF_B: [u8; 18] = [0, 0, 0, 0, 0, 0, 0, 0, 0, 3, 0, 0, 0, 0, 1, 0x42, 0, 0];
@@ -80,7 +80,7 @@ fn is_head(reply: &Result<Reply, Refusal>) -> bool {
     }
 }
 
-// Whether it is the path of the leaf 1.
+// Reports whether this is the path of the leaf 1.
 fn is_path(reply: &Result<Reply, Refusal>) -> bool {
     match reply {
         Ok(
@@ -93,7 +93,7 @@ fn is_path(reply: &Result<Reply, Refusal>) -> bool {
     }
 }
 
-// Whether it is the entry of the leaf 1 with its path.
+// Reports whether this is the entry of the leaf 1 with its path.
 fn is_entry_and_path(reply: &Result<Reply, Refusal>) -> bool {
     match reply {
         Ok(Reply::EntryAndProof { entry, audit_path }) => {
@@ -103,7 +103,7 @@ fn is_entry_and_path(reply: &Result<Reply, Refusal>) -> bool {
     }
 }
 
-// Whether it is the receipt of an index and a moment.
+// Reports whether this is the receipt with this index and timestamp.
 fn is_receipt(reply: &Result<Reply, Refusal>, index: u64, moment: u64) -> bool {
     match reply {
         Ok(
@@ -130,14 +130,14 @@ fn is_refused(reply: &Result<Reply, Refusal>, wanted: Refusal) -> bool {
     }
 }
 
-// Whether the front shows the first published head, and proofs to it.
+// Reports whether the front shows the first published head, and proofs for it.
 fn shows_proofs(house: &mut House, front: u16) -> bool {
     is_head(&house.ask(front, &Query::GetSth))
         && is_refused(&house.ask(front, &consistency(1, 2)), Refusal::UnknownSize)
         && is_path(&house.ask(front, &proof_by_hash(HASH_B, 2)))
 }
 
-// Whether the front shows that head's entries and receipts.
+// Reports whether the front shows that head's entries and receipts.
 fn shows_entries(house: &mut House, front: u16) -> bool {
     are_entries(&house.ask(front, &Query::Entries { start: 0, end: 9 }))
         && is_entry_and_path(&house.ask(front, &entry_and_proof(1, 2)))
@@ -163,7 +163,7 @@ fn entry_and_proof(leaf_index: u64, tree_size: u64) -> Query {
     }
 }
 
-// Whether the five certificates get the five tickets.
+// Reports whether the five certificates get the five tickets.
 fn gets_tickets(house: &mut House) -> bool {
     house.ticket(0, b"A") == Ok(0)
         && house.ticket(0, b"B") == Ok(1)
@@ -172,7 +172,7 @@ fn gets_tickets(house: &mut House) -> bool {
         && house.ticket(1, b"C") == Ok(4)
 }
 
-// Whether this is the record at that place.
+// Reports whether this is the record at that index.
 fn has_record(log: &Published, place: usize, record: Settled) -> bool {
     log.settlement().get(place).copied() == Some(record)
 }
@@ -208,7 +208,7 @@ fn has_proof(alloc: Global, log: &Published, refused: &mut Refused) -> bool {
     }
 }
 
-// A house that has taken two of five submissions at most, and settled those of front 0.
+// Returns a house with five submissions, which took at most two of them, and then settled those of front 0.
 fn settled<R: Threads + Wait + Abort + Sync>(rt: &R, alloc: Global) -> Result<House, Refusal> {
     let mut house = House::open(rt, alloc, 4)?;
     assert!(rt; gets_tickets(&mut house));
@@ -216,45 +216,45 @@ fn settled<R: Threads + Wait + Abort + Sync>(rt: &R, alloc: Global) -> Result<Ho
     Ok(house.succeed(rt, 3))
 }
 
-// Whether the first head is published, and both fronts learn of it.
+// Reports whether the first head is published, and both fronts learn of it.
 fn is_published<R: Wait>(rt: &R, house: &mut House) -> bool {
     house.publish(rt, 4) == Ok(HEAD_2) && house.learn() == Ok(())
 }
 
-// Whether the house is shut, and the rest is settled and published.
+// Reports whether the house is shut, and the rest is settled and published.
 fn is_closed<R: Threads + Wait + Sync>(rt: &R, house: &mut ClosedHouse) -> bool {
     house.house.shutdown() == Ok(5)
         && house.settle(rt, 5) == Ok(())
         && house.publish(rt, 6) == Ok(HEAD_3)
 }
 
-// The fronts retire, and the house is closed.
+// Retires the fronts, and closes the house.
 fn closed<R: Threads + Wait + Abort + Sync>(rt: &R, house: House) -> (FinalLog, Refused) {
     let mut house = house.retire();
     assert!(rt; is_closed(rt, &mut house));
     house.finish(rt)
 }
 
-// Whether the front shows the first published head, its entries and its receipts.
+// Reports whether the front shows the first published head, its entries and its receipts.
 fn shows(house: &mut House, front: u16) -> bool {
     shows_proofs(house, front) && shows_entries(house, front)
 }
 
-// What the log has to be, and what is served of it.
+// Checks the contents of the log, and the replies that it serves.
 fn expect_log<R: Abort>(rt: &R, alloc: Global, log: &Published, refused: &mut Refused) {
     assert!(rt; has_records(log) && has_heads(log));
     assert!(rt; has_proof(alloc, log, refused));
     assert!(rt; is_served_again(alloc, log, LINES, REPLIES, refused));
 }
 
-// A house whose first head is published and shown.
+// Returns a house whose first head is published and shown.
 fn shown<R: Threads + Wait + Abort + Sync>(rt: &R, alloc: Global) -> Result<House, Refusal> {
     let mut house = settled(rt, alloc)?;
     assert!(rt; is_published(rt, &mut house) && shows(&mut house, 0) && shows(&mut house, 1));
     Ok(house)
 }
 
-// What was refused.
+// Returns the refused calls.
 fn refused_in_whole_log<R: Threads + Wait + Abort + Sync>(
     rt: &R,
     alloc: Global,

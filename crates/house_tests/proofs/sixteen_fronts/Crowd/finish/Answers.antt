@@ -5,7 +5,7 @@ use Rattle.std.proofs.lemmas.List.{with_items_is}
 use Rattle.ct_house.specs.House.{HouseName, HouseState, FrontView, IsOfHouse}
 use Rattle.house_tests.proofs.sixteen_fronts.Crowd.finish.Goals as goal
 
--- what follows from a call's answer, whichever it is
+-- a fact that follows from a call's result, whether it succeeded or not
 either : {T E : Type 0} (r : Result T E) (P : T → Type 0) (Q : E → Type 0) (X : Type 0) → ((x : T) → P x → X) → ((e : E) → Q e → X) → IfOk r P → IfErr r Q → X
 either (Ok x) P Q X f g p q = f x p
 either (Err e) P Q X f g p q = g e q
