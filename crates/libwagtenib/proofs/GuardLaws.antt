@@ -51,13 +51,13 @@ above_0-leaf BadEntryType = omega arith
 above_0-leaf EmptyVector = omega arith
 above_0-leaf Trailing = omega arith
 
-above_0-head : (r : HeadRefusal) → 0 < head_code r
+pub above_0-head : (r : HeadRefusal) → 0 < head_code r
 above_0-head SizeFalls = omega arith
 above_0-head MomentNotLater = omega arith
 above_0-head Fork = omega arith
 above_0-head (Inconsistent f) = above_0-proof f
 
-above_0-receipt : (r : ReceiptRefusal) → 0 < receipt_code r
+pub above_0-receipt : (r : ReceiptRefusal) → 0 < receipt_code r
 above_0-receipt NoHead = omega arith
 above_0-receipt (NoLeaf f) = above_0-leaf f
 above_0-receipt (NotThere f) = above_0-proof f

@@ -1,12 +1,13 @@
-use Rattle.std.proofs.Common.{◌≡◌, ℕ, List, ◌∷◌, length, arith, subst, ap, Vec, Global}
+use Rattle.std.specs.Borrow.{Bor}
+use Rattle.std.proofs.Common.{◌≡◌, ℕ, List, ◌∷◌, length, arith, subst, ap}
 use Rattle.std.proofs.lemmas.List.{nil_from_length}
 use Rattle.ct_guard.specs.Guarded.{IsLeafOf}
 use Rattle.ct_step_receipts.specs.StepReceipts.{StopsLeaf}
 use Rattle.ct_step_receipts.proofs.StepBodies.{none_left, first_and_rest, stops_first, stops_later}
 use Rattle.ct_step_receipts.proofs.receipts.pass_leaves.Goals as goal
 
-abbrev bytes : Vec ℕ Global → List ℕ
-bytes leaf = leaf.items
+abbrev bytes : Bor (List ℕ) → List ℕ
+bytes leaf = leaf.now
 
 pub returns-in-Err : goal.returns-in-Err
 returns-in-Err c =
