@@ -1,13 +1,13 @@
 //! Whether the receipts of all leaves of a step may be signed.
 ghost use Rattle.std.specs.Prelude.{◌≡◌, ◌+◌, ◌<◌, ◌^◌, length, map, MatchResult, Some, true};
 ghost use Rattle.std.specs.Bool.{MatchBool};
-ghost use Rattle.ct_guard.specs.Guarded.{IsLeafOf, IsOwnIndex};
+ghost use Rattle.ct_guard.specs.Guarded.{IsLeafOf};
 ghost use Rattle.ct_step_receipts.specs.StepReceipts.{AreLeavesOf, EndsWithTree, PassesReceipts, root_after as root_of_step};
 ghost use Rattle.ct_step_receipts.specs.StepReceipts.{StopsLeaf, StopsLeaves, StopsReceipts};
 ghost use Rattle.ct_tree.specs.Tree.{mth_of_leaves};
 
-use ct_codec::{index_extension, lend_leaf};
-use ct_guard::{Guard, ReceiptRefusal};
+use ct_codec::lend_leaf;
+use ct_guard::{Guard, ReceiptRefusal, is_own_index};
 use ct_tree::{Head, NodeHash, is_same_digest, largest_power_below, leaf_hash, node_hash};
 use ct_verify::ProofFault;
 
@@ -91,16 +91,6 @@ fn give_root<H: NodeHash>(
     }
 }
 
-// Whether the extensions of a leaf are empty or contain only this index.
-fn is_own_index(index: u64, extensions: &[u8]) -> bool
-    ensures { MatchBool result (IsOwnIndex index extensions.now) (IsOwnIndex index extensions.now → ⊥) }
-{
-    if extensions.is_empty() {
-        return true;
-    }
-    index < 1 << 40 && extensions == index_extension(index).as_slice()
-}
-
 // Whether the receipt of a leaf that the tree has at this index may be signed, or why not.
 fn pass_leaf(last: &Head, leaf: &[u8], index: u64) -> Result<(), ReceiptRefusal>
     ensures { MatchResult result (λ _. IsLeafOf last.now leaf.now index) (StopsLeaf last.now leaf.now index) }
@@ -119,19 +109,18 @@ fn pass_leaf(last: &Head, leaf: &[u8], index: u64) -> Result<(), ReceiptRefusal>
 }
 
 // Whether the receipts of leaves that the tree has from this index on may be signed, or the first reason why not.
-fn pass_leaves(last: &Head, first: u64, mut leaves: &[&[u8]]) -> Result<(), ReceiptRefusal>
+fn pass_leaves(last: &Head, first: u64, leaves: &[&[u8]]) -> Result<(), ReceiptRefusal>
     requires fits { first + length leaves.now < 2 ^ 64 }
     ensures { MatchResult result (λ _. AreLeavesOf last.now first (map (λ leaf. leaf.now) leaves.now))
         (StopsLeaves last.now first (map (λ leaf. leaf.now) leaves.now)) }
 {
-    let mut index = first;
-    while let Some((leaf, more)) = leaves.split_first() {
-        match pass_leaf(last, leaf, index) {
+    let mut place = 0;
+    'place: while place < leaves.len() {
+        match pass_leaf(last, leaves[place], first + place as u64) {
             Ok(()) => {}
             Err(refusal) => return Err(refusal),
         }
-        index += 1;
-        leaves = more;
+        place += 1;
     }
     Ok(())
 }

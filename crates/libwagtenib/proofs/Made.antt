@@ -1,4 +1,4 @@
--- What paths and proofs out of tiles tell, and why tiles give none.
+-- Lemmas about paths and proofs that are made out of tiles, and about the reasons for which tiles give none.
 use Rattle.std.proofs.Common.{◌≡◌, ◌∙◌, ◌<◌, ◌≤◌, ◌⊎◌, ◌++◌, ℕ, suc, List, [], ◌∷◌, length, map, take, drop, None, Result, Ok, Err, inl, inr, refl, sym, ap, arith, append_assoc, Vec, Global}
 use Rattle.std.specs.Prelude.{MatchResult}
 use Rattle.std.proofs.lemmas.List.{append-nil, map_push}
@@ -78,7 +78,7 @@ unfolding pieces
 pieces_all f all contents [] bytes before none = sym (before ∙ append-nil (map f contents))
 pieces_all f all contents (n ∷ lengths) bytes before none = absurd (omega (arith, none))
 
--- what is handed over for a reading, by the number of its tiles
+-- the contents that are handed over for a reading, by the number of its tiles
 pub handed_for : (reading : Reading) (contents : List (List ℕ)) (count : ℕ) (r : Result (Vec (Vec ℕ Global) Global) ℕ) → HasReading reading
     → count ≡ length (tiles_of_reading reading)
     → MatchResult r (λ v. (contents_in v.items ≡ contents) × (length contents ≤ count)) (λ code. ((code ≡ 65) × (count < length contents)) ⊎ (code ≡ 8))

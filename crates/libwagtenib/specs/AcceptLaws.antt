@@ -23,7 +23,7 @@ pub record ReceiptsCall (H : List ℕ → List ℕ) : Type 0 where
   pub leaves : List (List ℕ)
   pub returned : GuardsReceipts H 0 state first subtrees leaves
 
--- What a node does. Accepts: it accepts the head of a text that it read from the lock, or of a step that it made. Signs: it has a head signed. Promises: it has the
+-- An act of a node. Accepts: it accepts the head of a text that it read from the lock, or of a step that it made. Signs: it has a head signed. Promises: it has the
 -- receipts of a step signed.
 pub data NodeAct (H : List ℕ → List ℕ) : Type 0 where
   Accepts : AcceptCall H → NodeAct H
@@ -89,7 +89,7 @@ AcceptedAreSteps =
     (H : List ℕ → List ℕ) (accepted : Head) (acts : List (NodeAct H)) → AreActs H accepted acts → AreHeadSteps H None (seen_steps accepted acts)
 
 -- Take the acts of one node, over any lock, of which the newest accepted head is that of the list D. Each head that the node accepted or had signed is that of a
--- beginning of D, and so is the head that it accepted before; the leaves of each receipt that it had signed are in D; or two of the strings that are hashed collide.
+-- beginning of D; the head that it accepted before is one, too; the leaves of each receipt that it had signed are in D; or two of the strings that are hashed collide.
 abbrev pub ActsAreOfOneLog : Type 0
 ActsAreOfOneLog =
     (H : List ℕ → List ℕ) → ((x : List ℕ) → length (H x) ≡ 32)

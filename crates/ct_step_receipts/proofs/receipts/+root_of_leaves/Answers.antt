@@ -10,8 +10,7 @@ bytes leaf = leaf.now
 pub returns-then-leaves-eq1 : goal.returns-then-leaves-eq1
 returns-then-leaves-eq1 g t c =
     let H = g.H.NodeHash.digest in
-    c.leaf_hash.ensures ∙ ap (hash_leaf H) c.deref.ensures.value
-    ∙ root_of_one H bytes c.args.leaves.now c.index-leaves-0.result c.if-leaves-eq1.true c.index-leaves-0.is
+    c.leaf_hash.ensures ∙ root_of_one H bytes c.args.leaves.now _ c.if-leaves-eq1.true
 
 pub returns : goal.returns
 returns g t c =
