@@ -3,7 +3,7 @@
  *
  * A hash is 32 bytes (SHA-256). A list of hashes is given by a pointer to its first byte and the number of hashes, which
  * stand one after the other. No call keeps a pointer or has any state, so every call may run in any thread at any time.
- * wagtenib_root, wagtenib_lock_text, and the functions over steps, certificates, tiles and texts and those of the witness and of the monitor take memory (malloc), and
+ * wagtenib_root, wagtenib_guard_receipts, wagtenib_lock_text, and the functions over steps, certificates, tiles and texts and those of the witness and of the monitor take memory (malloc), and
  * give it back before they return. All other memory is the caller's. A length is a number of bytes.
  *
  * What the caller owes, and nothing checks: each pointer points to as many bytes as is said, readable, and writable where
@@ -16,6 +16,7 @@
  * are not named here take none.
  *
  *   wagtenib_root                            0 bytes and 4 KB
+ *   wagtenib_guard_receipts                  8 bytes and 1 KB
  *   wagtenib_lock_text                       2 bytes and 1 KB
  *   wagtenib_step                            8 bytes and 2 MB
  *   wagtenib_step_*                          3 bytes and 1 KB
