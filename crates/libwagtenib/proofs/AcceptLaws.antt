@@ -21,14 +21,14 @@ use Rattle.libwagtenib.specs.AcceptLaws.{AreLeavesFrom, AreActsOf, IsHashedForPr
 -- a call that returned 0 accepted the head
 accepts : (H : List ℕ → List ℕ) (accepted head : Head) (proof : List (List ℕ)) → AcceptsHead H 0 accepted head proof
     → PassesHead H (Some accepted) head proof × AreHashes proof
-accepts H accepted head proof (inl z) = z.1
+accepts H accepted head proof (inl z) = (z.1, z.2)
 accepts H accepted head proof (inr (r, code, stops)) = absurd (omega (arith, code, above_0-head r))
 
 -- a call that returned 0 let the receipts through
 lets : (H : List ℕ → List ℕ) (state : List ℕ) (first : ℕ) (subtrees leaves : List (List ℕ)) → GuardsReceipts H 0 state first subtrees leaves
     → (last : Head) × IsStateOf last state × PassesReceipts H (Some last) first subtrees leaves × AreHashes subtrees
 lets H state first subtrees leaves (inl z) = absurd (omega (arith, z.0))
-lets H state first subtrees leaves (inr (last, is, inl z)) = (last, is, z.1)
+lets H state first subtrees leaves (inr (last, is, inl z)) = (last, is, z.1, z.2)
 lets H state first subtrees leaves (inr (last, is, inr (inl (r, code, stops)))) = absurd (omega (arith, code, above_0-receipt r))
 lets H state first subtrees leaves (inr (last, is, inr (inr none))) = absurd (omega (arith, none))
 
