@@ -6,8 +6,7 @@ import (
 	"fmt"
 	"time"
 
-	"golang.org/x/mod/sumdb/tlog"
-
+	"wagtenib/bindings/go/wagtenib"
 	"wagtenib/internal/signer"
 	"wagtenib/internal/step"
 	"wagtenib/internal/stores"
@@ -69,19 +68,17 @@ func (l *Loop) descends(ctx context.Context, k *state, objects []step.Object) er
 
 func (l *Loop) compare(ctx context.Context, k *state, objects []step.Object) error {
 	accepted := l.seen.accepted
+	// This is decided again below, after the store was read. Here the refusal says in which way the state is older.
 	if k.head() != accepted.head() && !follows(k.Size, k.Moment, accepted.head()) {
 		return isOlder(k, accepted.head())
 	}
 	isNext := accepted.line != "" && k.Before == step.Digest(accepted.line)
 	between, err := l.headsUpTo(ctx, k, isNext)
-	if err != nil || isNext {
+	if err != nil {
 		return err
 	}
-	if err := l.extends(ctx, k, accepted.head(), objects); err != nil {
+	if err := l.extends(ctx, k, accepted.head(), objects); err != nil || between == "" {
 		return err
-	}
-	if between == "" {
-		return nil
 	}
 	head, err := l.readHead(ctx, between)
 	if errors.Is(err, ErrDamaged) || errors.Is(err, stores.ErrAbsent) {
@@ -154,27 +151,24 @@ func (l *Loop) isLater(ctx context.Context, k *state, name string) error {
 	return foreign(k, name)
 }
 
-// extends checks by a consistency proof that a state's tree continues a head's (RFC 6962, section 2.1.2).
+// extends returns ErrRolledBack unless the proved decision accepts a state's head after another head, by a consistency proof (docs/NODE.md, "A lock that falls").
 func (l *Loop) extends(ctx context.Context, k *state, head signer.Head, objects []step.Object) error {
-	if head.Size == 0 || head == k.head() {
-		return nil
-	}
-	goesOn := head.Size == k.Size && head.Root == k.Root
+	var proof [][32]byte
 	if head.Size < k.Size {
-		hashes, err := l.consistency(ctx, head.Size, k.head(), l.reading(objects))
-		if err != nil {
+		var err error
+		if proof, err = l.consistency(ctx, head.Size, k.head(), l.reading(objects)); err != nil {
 			return err
 		}
-		proof := make(tlog.TreeProof, len(hashes))
-		for i := range hashes {
-			proof[i] = hashes[i]
-		}
-		goesOn = tlog.CheckTree(proof, int64(k.Size), tlog.Hash(k.Root), int64(head.Size), tlog.Hash(head.Root)) == nil
 	}
-	if !goesOn {
-		return fmt.Errorf("%w: its %d entries at %d ms do not begin with the %d at %d ms that the log had", ErrRolledBack, k.Size, k.Moment, head.Size, head.Moment)
+	if err := wagtenib.NodeAccept(treeHead(head), treeHead(k.head()), proof); err != nil {
+		return fmt.Errorf("%w: its %d entries at %d ms do not continue the %d at %d ms that the log had: %v", ErrRolledBack, k.Size, k.Moment, head.Size, head.Moment, err)
 	}
 	return nil
+}
+
+// treeHead returns a head as the library has it.
+func treeHead(head signer.Head) wagtenib.TreeHead {
+	return wagtenib.TreeHead{TreeSize: head.Size, Timestamp: head.Moment, Root: head.Root}
 }
 
 // looksBack checks that neither the store nor the lock knows a later head than the state of the lock's text. This node could not read the lock for a while, so

@@ -2,7 +2,7 @@
 
 A head is its number of leaves, its timestamp and its root.
 """
-from merkle import fault_of_path, fault_of_proof
+from merkle import fault_of_path, fault_of_proof, leaf_hash, node_hash, split
 
 
 class Refused(Exception):
@@ -51,6 +51,31 @@ def index_extension(index):
     return b"\0\0\5" + index.to_bytes(5, "big") if index < 1 << 40 else None
 
 
+def perfect_sizes(count):
+    """The sizes of the perfect subtrees of so many leaves, largest first."""
+    return [1 << bit for bit in reversed(range(count.bit_length())) if count >> bit & 1]
+
+
+def root_after(first, subtrees, leaves):
+    """The root of a tree (RFC 6962, section 2.1): of so many leaves, given by the roots of their perfect subtrees, and of the leaves after them. None if these are too few or too many."""
+    sizes = perfect_sizes(first)
+    if len(sizes) != len(subtrees):
+        return None
+    known = {(first + at, first + at + 1): leaf_hash(leaf) for at, leaf in enumerate(leaves)}
+    begin = 0
+    for size, subtree in zip(sizes, subtrees):
+        known[begin, begin + size] = subtree
+        begin += size
+
+    def root(begin, end):
+        if (begin, end) in known:
+            return known[begin, end]
+        middle = begin + split(end - begin)
+        return node_hash(root(begin, middle), root(middle, end))
+
+    return root(0, first + len(leaves))
+
+
 class Guard:
     """A guard after a head."""
 
@@ -84,7 +109,23 @@ class Guard:
         fault = fault_of_path(leaf, index, self.last[0], path, self.last[2])
         if fault:
             raise Refused("not-there", fault)
+        self.pass_leaf(leaf, index)
+
+    def pass_leaf(self, leaf, index):
+        """Approves a leaf that the tree has at an index."""
         if int.from_bytes(leaf[2:10], "big") > self.last[1]:
             raise Refused("later-leaf")
         if extensions_of(leaf) not in (b"", index_extension(index)):
             raise Refused("other-index")
+
+    def pass_receipts(self, first, subtrees, leaves):
+        """Approves the receipts of all leaves of a step, which are the last ones of the head's tree."""
+        if not leaves or first + len(leaves) != self.last[0]:
+            raise Refused("not-there", "index-out-of-range")
+        if root_after(first, subtrees, leaves) != self.last[2]:
+            raise Refused("not-there", "root-mismatch")
+        for index, leaf in enumerate(leaves, first):
+            fault = leaf_fault(leaf)
+            if fault:
+                raise Refused("no-leaf", fault)
+            self.pass_leaf(leaf, index)

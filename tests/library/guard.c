@@ -5,6 +5,8 @@
  *   first SIZE TIMESTAMP ROOT SIZE TIMESTAMP ROOT           wagtenib_guard_first_head: the head, the named head
  *   head STATE SIZE TIMESTAMP ROOT PROOF MAX_AHEAD          wagtenib_guard_head
  *   receipt STATE LEAF INDEX PATH                           wagtenib_guard_receipt
+ *   receipts STATE FIRST SUBTREES LEAVES LENGTHS            wagtenib_guard_receipts: the lengths of the leaves, with commas between them
+ *   accept SIZE TIMESTAMP ROOT SIZE TIMESTAMP ROOT PROOF    wagtenib_node_accept: the accepted head, the head
  *   state SEEN STATE                                        wagtenib_guard_state
  *
  * Before a call the memory for what is written has the byte 5A everywhere. A line of another form ends the program with status 2. */
@@ -95,6 +97,34 @@ static void receipt(void) {
     free(path.at);
 }
 
+/* The numbers of a word, with commas between them. */
+static uint64_t *numbers_of(char *text, size_t *count) {
+    uint64_t *numbers = malloc((strlen(text) + 1) * sizeof *numbers);
+    if (numbers == NULL) refuse("no memory");
+    *count = 0;
+    if (strcmp(text, "-") == 0) return numbers;
+    for (char *at = strtok(text, ","); at != NULL; at = strtok(NULL, ",")) numbers[(*count)++] = number_of(at);
+    return numbers;
+}
+
+static void receipts(void) {
+    size_t count;
+    struct bytes state = bytes_of(word[1]), subtrees = bytes_of(word[3]), leaves = bytes_of(word[4]);
+    uint64_t *lengths = numbers_of(word[5], &count);
+    print(wagtenib_guard_receipts(state.at, state.length, number_of(word[2]), subtrees.at, subtrees.length / 32, leaves.at, leaves.length, lengths, count), NULL, 0);
+    free(state.at);
+    free(subtrees.at);
+    free(leaves.at);
+    free(lengths);
+}
+
+static void accept(void) {
+    struct wagtenib_head accepted = head_of(word + 1), head = head_of(word + 4);
+    struct bytes proof = bytes_of(word[7]);
+    print(wagtenib_node_accept(&accepted, &head, proof.at, proof.length / 32), NULL, 0);
+    free(proof.at);
+}
+
 static void state(void) {
     struct wagtenib_head head;
     memset(&head, FILL, sizeof head);
@@ -113,6 +143,8 @@ int main(void) {
         if (words == 7 && strcmp(word[0], "first") == 0) first();
         else if (words == 7 && strcmp(word[0], "head") == 0) next();
         else if (words == 5 && strcmp(word[0], "receipt") == 0) receipt();
+        else if (words == 6 && strcmp(word[0], "receipts") == 0) receipts();
+        else if (words == 8 && strcmp(word[0], "accept") == 0) accept();
         else if (words == 3 && strcmp(word[0], "state") == 0) state();
         else refuse("a line is no call");
     }

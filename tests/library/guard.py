@@ -157,6 +157,32 @@ class History:
         code = code_of(lambda: guard.pass_receipt(entry, index, path)) if guard else int(CODES["BAD_STATE"])
         return f"receipt {shown(state)} {shown(entry)} {index} {shown(b''.join(path))}", reply(code, b"", 0)
 
+    def receipts(self):
+        """A call for the receipts of a step after the state."""
+        state, size = self.handed(), head_in(self.state)[0]
+        log, first = self.chance.choice((self.log, self.log, self.log, self.other)), self.chance.choice([0, max(size - 1, 0), *range(size)])
+        leaves = log.leaves[first:size]
+        sizes = model.perfect_sizes(first)
+        subtrees = self.damaged([log.root(sum(sizes[:at]), sum(sizes[: at + 1])) for at in range(len(sizes))])
+        how = self.chance.randrange(10)
+        if how < 3 and leaves:
+            at = self.chance.randrange(len(leaves))
+            leaves[at : at + 1] = {0: [], 1: [leaves[at], leaves[at]], 2: [self.chance.choice((b"", leaves[at][:-1], leaves[at] + b"\0"))]}[how]
+        first += self.chance.choice((0, 0, 0, 0, 0, 0, 0, 0, 1, MOST - first))
+        guard = guard_at(state)
+        code = code_of(lambda: guard.pass_receipts(first, subtrees, leaves)) if guard else int(CODES["BAD_STATE"])
+        lengths = ",".join(str(len(leaf)) for leaf in leaves) or "-"
+        return f"receipts {shown(state)} {first} {shown(b''.join(subtrees))} {shown(b''.join(leaves))} {lengths}", reply(code, b"", 0)
+
+    def accept(self):
+        """A call for a head that a node is to accept after the state's."""
+        line, _ = self.head()
+        words, accepted = line.split(), head_in(self.state)
+        head = (int(words[2]), int(words[3]), bytes.fromhex(words[4]))
+        proof = bytes.fromhex(words[5].replace("-", ""))
+        code = code_of(lambda: model.Guard(accepted).pass_head(head, [proof[at : at + 32] for at in range(0, len(proof), 32)], MOST))
+        return f"accept {words_of(accepted)} {words_of(head)} {words[5]}", reply(code, b"", 0)
+
     def read(self):
         """A call that reads a state."""
         size, timestamp, root = head_in(self.state)
@@ -168,7 +194,7 @@ class History:
 
     def call(self):
         """A line for guard.c, and the line that it must print."""
-        return self.chance.choices((self.head, self.receipt, self.read, self.first), (5, 4, 1, 1))[0]()
+        return self.chance.choices((self.head, self.receipt, self.receipts, self.accept, self.read, self.first), (5, 4, 4, 2, 1, 1))[0]()
 
 
 def main():

@@ -8,6 +8,8 @@ package wagtenib
 // #cgo noescape wagtenib_guard_head
 // #cgo nocallback wagtenib_guard_receipt
 // #cgo noescape wagtenib_guard_receipt
+// #cgo nocallback wagtenib_guard_receipts
+// #cgo noescape wagtenib_guard_receipts
 // #cgo nocallback wagtenib_guard_state
 // #cgo noescape wagtenib_guard_state
 // #include "wagtenib.h"
@@ -69,6 +71,18 @@ func GuardHead(last []byte, head TreeHead, proof []Hash, maxAhead uint64) (signe
 // those of VerifyInclusion, ErrLaterLeaf and ErrOtherIndex.
 func GuardReceipt(last, leaf []byte, index uint64, path []Hash) error {
 	return result(C.wagtenib_guard_receipt(ofBytes(last), C.size_t(len(last)), ofBytes(leaf), C.size_t(len(leaf)), C.uint64_t(index), ofHashes(path), C.size_t(len(path))))
+}
+
+// GuardReceipts decides whether SCTs of all leaves of a step may be signed after the head whose signed bytes are last. The leaves have the indexes from first
+// on, and subtrees are the roots of the perfect subtrees of the leaves before them, largest first.
+//
+// It returns nil exactly if the leaves end where the tree of that head ends, they and the subtrees give its root, and each leaf's timestamp is not later than the
+// head's, and its extensions are empty or contain only its index. Otherwise it returns the first reason of ErrState, ErrMemory, ErrIndexOutOfRange (there
+// are no leaves, or they end elsewhere), ErrRootMismatch, and those of DecodeLeaf, ErrLaterLeaf and ErrOtherIndex of the first leaf that may have no SCT.
+func GuardReceipts(last []byte, first uint64, subtrees []Hash, leaves [][]byte) error {
+	contents, lengths, count := joined(leaves)
+	return result(C.wagtenib_guard_receipts(ofBytes(last), C.size_t(len(last)), C.uint64_t(first), ofHashes(subtrees), C.size_t(len(subtrees)),
+		ofBytes(contents), C.size_t(len(contents)), lengths, count))
 }
 
 // GuardState reads a state, the signed bytes of a head. It returns the head exactly if it is that of the state seen, or has a later timestamp and

@@ -6,6 +6,8 @@ package wagtenib
 // #cgo noescape wagtenib_node_next
 // #cgo nocallback wagtenib_node_start
 // #cgo noescape wagtenib_node_start
+// #cgo nocallback wagtenib_node_accept
+// #cgo noescape wagtenib_node_accept
 // #cgo nocallback wagtenib_lock_text
 // #cgo noescape wagtenib_lock_text
 // #cgo nocallback wagtenib_lock_state
@@ -141,6 +143,18 @@ func (f NodeFound) inC() (found C.struct_wagtenib_node_found) {
 func NodeStart(lock []byte, found NodeFound) error {
 	all := found.inC()
 	return result(C.wagtenib_node_start(ofBytes(lock), C.size_t(len(lock)), &all))
+}
+
+// NodeAccept decides whether a node may go on from head, if accepted is the newest head that it accepted. The proof is the consistency proof between them (RFC 6962,
+// section 2.1.2), and is not read if their sizes are equal or the size of accepted is 0.
+//
+// It returns nil exactly if head is the accepted head again, or its timestamp is later, and its tree contains that of accepted by the proof. Otherwise it returns the
+// first reason of ErrSizeFalls, ErrTimestampNotLater, ErrFork, ErrEmptyPath, ErrPathTooLong, ErrPathTooShort, ErrFirstMismatch and ErrRootMismatch.
+//
+// A node must sign and publish nothing of a lock's text before its head is accepted, since the lock may hold an older text again, or that of another list.
+func NodeAccept(accepted, head TreeHead, proof []Hash) error {
+	before, next := accepted.inC(), head.inC()
+	return result(C.wagtenib_node_accept(&before, &next, ofHashes(proof), C.size_t(len(proof))))
 }
 
 // LockText returns a lock's text: line is the state's line that a step gave, node the address of this node, previousTimestamp that of the state from which the step

@@ -6,11 +6,11 @@ Each function says in include/wagtenib.h what it does. It returns a value, or ra
 from ._certificates import Promise, check_promise, precertificate_entry, promised_leaf
 from ._data_tiles import TileEntry, data_tile_leaves
 from ._errors import CertificateError, Code, Error, Field, TileError
-from ._guard import TreeHead, guard_first_head, guard_head, guard_receipt, guard_state
+from ._guard import TreeHead, guard_first_head, guard_head, guard_receipt, guard_receipts, guard_state
 from ._library import Unavailable
 from ._monitor import EntryReport, Judgement, Verdict, monitor_begin, monitor_entries, monitor_head, monitor_proof, monitor_start
 from ._names import Name, NameKind, Place, certificate_names, watch_list, watched_names
-from ._node import NodeCommand, NodeDoes, NodeFound, NodeOutcome, NodeState, NodeTold, batch_name, batch_state, lock_state, lock_text, node_next, node_start
+from ._node import NodeCommand, NodeDoes, NodeFound, NodeOutcome, NodeState, NodeTold, batch_name, batch_state, lock_state, lock_text, node_accept, node_next, node_start
 from ._step import Object, Published, Receipt, Step, Submission, step, step_begin, step_claim, step_needs, step_resume
 from ._texts import Checkpoint, checkpoint_text, cosignature_message, log_id, note_key_id, read_checkpoint, tree_head_signature, version
 from ._tiles import path_of_tiles, path_tiles, proof_of_tiles, proof_tiles, root_of_tiles, root_tiles
@@ -59,6 +59,7 @@ __all__ = [
     "guard_first_head",
     "guard_head",
     "guard_receipt",
+    "guard_receipts",
     "guard_state",
     "leaf_hash",
     "lock_state",
@@ -69,6 +70,7 @@ __all__ = [
     "monitor_head",
     "monitor_proof",
     "monitor_start",
+    "node_accept",
     "node_next",
     "node_start",
     "note_key_id",

@@ -8,7 +8,7 @@ from collections.abc import Sequence
 
 from ._errors import check
 from ._library import load
-from ._memory import hash_of, hashes, number, text
+from ._memory import hash_of, hashes, number, pieces, text
 
 STATE = 50
 
@@ -46,6 +46,14 @@ def guard_head(last: bytes, head: TreeHead, proof: Sequence[bytes], max_ahead: i
 def guard_receipt(last: bytes, leaf: bytes, leaf_index: int, path: Sequence[bytes]) -> None:
     """Returns exactly if an SCT of the leaf may be signed after the head whose TreeHeadSignature is `last`."""
     check(load().wagtenib_guard_receipt(*text(last), *text(leaf), number(leaf_index), *hashes(path)))
+
+
+def guard_receipts(last: bytes, first_index: int, subtrees: Sequence[bytes], leaves: Sequence[bytes]) -> None:
+    """Returns exactly if SCTs of all leaves of a step may be signed after the head whose TreeHeadSignature is `last`.
+
+    The leaves have the indexes from first_index on. `subtrees` are the roots of the perfect subtrees of the leaves before them, largest first.
+    """
+    check(load().wagtenib_guard_receipts(*text(last), number(first_index), *hashes(subtrees), *pieces(leaves)))
 
 
 def guard_state(seen: bytes, state: bytes) -> TreeHead:

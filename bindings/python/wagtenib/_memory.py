@@ -33,6 +33,11 @@ def text(given: bytes) -> tuple[bytes, int]:
     return bytes(given), len(given)
 
 
+def pieces(given: Sequence[bytes]) -> tuple[Any, ...]:
+    """Byte strings, one after the other, their lengths, and how many there are."""
+    return *text(b"".join(given)), (ctypes.c_uint64 * max(len(given), 1))(*map(len, given)), len(given)
+
+
 def one_hash(call: Callable[[Any], int | None]) -> tuple[int, bytes]:
     """The answer of a call that writes a hash, and the hash."""
     out = ctypes.create_string_buffer(HASH)

@@ -11,7 +11,7 @@ from typing import Any
 from ._errors import Code, check
 from ._guard import TreeHead, _Head
 from ._library import load
-from ._memory import hashes, number, output, text
+from ._memory import hashes, number, output, pieces, text
 
 # Every state has room in so many bytes.
 _ROOM = 4259
@@ -118,11 +118,10 @@ def monitor_head(state: bytes, head: TreeHead) -> Judgement:
 def monitor_entries(state: bytes, start: int, leaves: Sequence[bytes]) -> tuple[Judgement, EntryReport]:
     """Judges the leaves (MerkleTreeLeaf, RFC 6962, section 3.4) from the index start on. As many are read and reported on as the waiting head has."""
     reported = _Report()
-    lengths = (ctypes.c_uint64 * max(len(leaves), 1))(*map(len, leaves))
-    contents = text(b"".join(leaves))
+    contents = pieces(leaves)
 
     def call(verdict: Any, *out: Any) -> int:
-        return load().wagtenib_monitor_entries(*text(state), number(start), *contents, lengths, len(leaves), verdict, ctypes.byref(reported), *out)
+        return load().wagtenib_monitor_entries(*text(state), number(start), *contents, verdict, ctypes.byref(reported), *out)
 
     judged = _judged(call)
     later = (reported.later_index, reported.later_timestamp) if reported.later_timestamp else None

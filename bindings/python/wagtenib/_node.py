@@ -5,11 +5,12 @@ from __future__ import annotations
 import ctypes
 import dataclasses
 import enum
+from collections.abc import Sequence
 
 from ._errors import Code, Error, check
 from ._guard import TreeHead, _Head
 from ._library import load
-from ._memory import number, output, text
+from ._memory import hashes, number, output, text
 
 NAME = 56
 
@@ -131,6 +132,14 @@ def node_start(lock: bytes, found: NodeFound) -> bool:
     if code not in (0, Code.CREATES_LOCK):
         raise Error(code)
     return code != 0
+
+
+def node_accept(accepted: TreeHead, head: TreeHead, proof: Sequence[bytes]) -> None:
+    """Returns exactly if a node may go on from `head`, if `accepted` is the newest head that it accepted.
+
+    The proof is the consistency proof between them (RFC 6962, section 2.1.2).
+    """
+    check(load().wagtenib_node_accept(ctypes.byref(accepted.in_c()), ctypes.byref(head.in_c()), *hashes(proof)))
 
 
 def lock_text(line: bytes, node: bytes, previous_timestamp: int, salt: int) -> bytes:

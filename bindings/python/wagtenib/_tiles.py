@@ -2,13 +2,11 @@
 
 from __future__ import annotations
 
-import ctypes
 from collections.abc import Callable, Sequence
-from typing import Any
 
 from ._errors import check
 from ._library import load
-from ._memory import HASH, number, one_hash, output, text
+from ._memory import HASH, number, one_hash, output, pieces
 
 _NAMES, _HASHES = 16 * 48, 65
 
@@ -17,11 +15,6 @@ def _names(call: Callable[..., int]) -> list[str]:
     code, names = output(_NAMES, 1, call)
     check(code)
     return names.decode().splitlines()
-
-
-def _handed(tiles: Sequence[bytes]) -> tuple[Any, ...]:
-    """Tiles, one after the other, and their lengths."""
-    return *text(b"".join(tiles)), (ctypes.c_uint64 * max(len(tiles), 1))(*map(len, tiles)), len(tiles)
 
 
 def _hashes(call: Callable[..., int]) -> list[bytes]:
@@ -47,16 +40,16 @@ def proof_tiles(first: int, second: int) -> list[str]:
 
 def root_of_tiles(tree_size: int, tiles: Sequence[bytes]) -> bytes:
     """Returns the root of the first tree_size leaves, from the tiles that root_tiles names, in this order."""
-    code, found = one_hash(lambda out: load().wagtenib_root_of_tiles(number(tree_size), *_handed(tiles), out))
+    code, found = one_hash(lambda out: load().wagtenib_root_of_tiles(number(tree_size), *pieces(tiles), out))
     check(code)
     return found
 
 
 def path_of_tiles(leaf_index: int, tree_size: int, tiles: Sequence[bytes]) -> list[bytes]:
     """Returns the audit path, from the tiles that path_tiles names. verify_inclusion decides whether it leads to a root."""
-    return _hashes(lambda *out: load().wagtenib_path_of_tiles(number(leaf_index), number(tree_size), *_handed(tiles), *out))
+    return _hashes(lambda *out: load().wagtenib_path_of_tiles(number(leaf_index), number(tree_size), *pieces(tiles), *out))
 
 
 def proof_of_tiles(first: int, second: int, tiles: Sequence[bytes]) -> list[bytes]:
     """Returns the consistency proof, from the tiles that proof_tiles names. verify_consistency decides whether it leads to two roots."""
-    return _hashes(lambda *out: load().wagtenib_proof_of_tiles(number(first), number(second), *_handed(tiles), *out))
+    return _hashes(lambda *out: load().wagtenib_proof_of_tiles(number(first), number(second), *pieces(tiles), *out))

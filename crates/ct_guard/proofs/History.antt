@@ -1,4 +1,4 @@
--- What follows over many heads and receipts that were let through.
+-- Proofs of the laws of many heads and receipts.
 use Rattle.std.proofs.Common.{refl, subst, ◌⊎◌, inl, inr, ⊎_elim, ◌≡◌, ℕ, ◌<◌, sym, ◌∙◌, ap, arith, List, [], ◌∷◌, ◌++◌, length, take, drop, get_or}
 use Rattle.std.proofs.Common.{Option, Some, None, true}
 use Rattle.std.specs.Prelude.{All, Contains}
@@ -44,7 +44,7 @@ module _ (H : List ℕ → List ℕ) (hash_length : (x : List ℕ) → length (H
   abbrev Logged : List (List ℕ) → Type 0
   Logged D = HasLog H hash_length S D
 
-  -- ---- two heads, one behind the other
+  -- ---- two heads, one after the other
   one_root : (last head : Head) (E D : List (List ℕ)) → Logged E → Logged D → IsHeadOfAll H E last → IsHeadOfAll H D head → last.tree_size ≡ head.tree_size
       → head.root ≡ last.root → IsBeginning E D ⊎ CollideAmong H S
   one_root last head E D log_E log_D a b sizes roots =

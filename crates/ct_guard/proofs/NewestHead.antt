@@ -1,4 +1,4 @@
--- What follows over many heads that were let through, of which the newest is that of a list.
+-- Proof of the law of many heads, if the newest is that of a list.
 use Rattle.std.proofs.Common.{subst, ◌⊎◌, inl, inr, ⊎_elim, ◌≡◌, ℕ, ◌≤◌, sym, ◌∙◌, ap, arith, List, [], ◌∷◌, length, take, Some}
 use Rattle.std.specs.Prelude.{true, ◌++◌, All, Contains}
 use Rattle.std.specs.declared.option.Option.{Option}

@@ -1,4 +1,4 @@
--- What a guard lets through, and why it refuses. H is any hash function on byte lists.
+-- The heads and receipts that a guard lets through, and the reasons for which it refuses. H is any hash function on byte lists.
 use Rattle.std.specs.Prelude.{◌≡◌, ◌⊎◌, ◌<◌, ◌≤◌, ◌^◌, ⊤, ℕ, List, [], Some, None}
 use Rattle.std.specs.declared.option.Option.{Option}
 use Rattle.ct_codec.specs.Leaf.{LeafText, SignedEntry, index_extension}
@@ -11,15 +11,15 @@ use Rattle.ct_guard.specs.declared.refusal.HeadRefusal.TheVariants.{SizeFalls, M
 use Rattle.ct_guard.specs.declared.refusal.ReceiptRefusal.{ReceiptRefusal}
 use Rattle.ct_guard.specs.declared.refusal.ReceiptRefusal.TheVariants.{NoHead, NoLeaf, NotThere, LaterLeaf, OtherIndex}
 
--- the tree of the head goes on that of the last one by the proof p: both have one size and one root; or the last has no leaves, and
--- this one has some; or the consistency proof is accepted
+-- The tree of the head continues that of the last one by the proof p: both have the same size and the same root; or the last one has no leaves, and
+-- this one has some; or the consistency proof is accepted.
 abbrev pub IsLater : (List ℕ → List ℕ) → Head → Head → List (List ℕ) → Type 0
 IsLater H last head p =
     ((last.tree_size ≡ head.tree_size) × (head.root ≡ last.root)) ⊎ (((last.tree_size ≡ 0) × (0 < head.tree_size))
     ⊎ AcceptsConsistency H last.tree_size head.tree_size last.root head.root p)
 
--- why the tree of a head with as many leaves or more doesn't go on that of the last one. Fork: one size, and another root.
--- Inconsistent: more leaves, and the consistency proof is refused
+-- The reason for which the tree of a head with as many leaves or more does not continue that of the last one. Fork: it has the same size and another
+-- root. Inconsistent: it has more leaves, and the consistency proof is refused.
 abbrev pub StopsLater : (List ℕ → List ℕ) → Head → Head → List (List ℕ) → HeadRefusal → Type 0
 StopsLater H last head p SizeFalls = ⊥
 StopsLater H last head p MomentNotLater = ⊥
@@ -28,14 +28,14 @@ StopsLater H last head p (Inconsistent fault) =
     (0 < last.tree_size) × (last.tree_size < head.tree_size)
     × RefusesConsistency H last.tree_size head.tree_size last.root head.root p fault
 
--- a head is let through behind the last one by the proof p: it is the first; or the last one once more; or it is later, and its tree
--- goes on the last one's
+-- A head is let through after the last one by the proof p: it is the first; or it is the last one again; or it is later, and its tree continues the
+-- last one's.
 abbrev pub PassesHead : (List ℕ → List ℕ) → Option Head → Head → List (List ℕ) → Type 0
 PassesHead H None head p = ⊤
 PassesHead H (Some last) head p = (head ≡ last) ⊎ ((last.timestamp < head.timestamp) × IsLater H last head p)
 
--- why a head is refused behind the last one: it is another one with fewer leaves (SizeFalls); it has as many leaves or more, and isn't
--- later (MomentNotLater); it is later, and its tree doesn't go on (Fork, Inconsistent)
+-- The reason for which a head is refused after the last one. SizeFalls: it is another one with fewer leaves. MomentNotLater: it has as many leaves or
+-- more, and is not later. Fork, Inconsistent: it is later, and its tree does not continue the last one's.
 abbrev pub StopsHead : (List ℕ → List ℕ) → Option Head → Head → List (List ℕ) → HeadRefusal → Type 0
 StopsHead H None head p refusal = ⊥
 StopsHead H (Some last) head p SizeFalls = head.tree_size < last.tree_size
@@ -48,24 +48,24 @@ StopsHead H (Some last) head p (Inconsistent fault) = (last.timestamp < head.tim
 abbrev pub IsLeafBytes : List ℕ → Type 0
 IsLeafBytes b = (t : ℕ) × (e : SignedEntry) × (x : List ℕ) × LeafText t e x b
 
--- the extensions of a leaf name no other index in its log than m: there are none (RFC 6962), or they are the index m and nothing else
--- (leaf_index, C2SP static-ct-api)
+-- The extensions of a leaf name no other index in its log than m: they are empty (RFC 6962), or contain only the index m (leaf_index, C2SP
+-- static-ct-api).
 abbrev pub IsOwnIndex : ℕ → List ℕ → Type 0
 IsOwnIndex m x = (x ≡ []) ⊎ ((m < 2 ^ 40) × (x ≡ index_extension m))
 
--- the bytes are those of a leaf that isn't later than the head, and that names no other index than m
+-- the bytes are those of a leaf that is not later than the head, and that names no other index than m
 abbrev pub IsLeafOf : Head → List ℕ → ℕ → Type 0
 IsLeafOf last b m = (t : ℕ) × (e : SignedEntry) × (x : List ℕ) × LeafText t e x b × (t ≤ last.timestamp) × IsOwnIndex m x
 
--- a receipt over these bytes is let through: they are a leaf, which isn't later than the last head (RFC 6962, section 3.5) and names no other
--- index than m, and the path p leads from it at index m to that head's root
+-- A receipt over these bytes is let through: they are a leaf that is not later than the last head (RFC 6962, section 3.5) and names no other index
+-- than m, and the path p leads from it at index m to that head's root.
 abbrev pub PassesReceipt : (List ℕ → List ℕ) → Option Head → List ℕ → ℕ → List (List ℕ) → Type 0
 PassesReceipt H None b m p = ⊥
 PassesReceipt H (Some last) b m p = IsLeafOf last b m × AcceptsInclusion H (hash_leaf H b) m last.tree_size p last.root
 
--- why a receipt is refused: there is no head yet (NoHead); the bytes are no leaf, with the first fault (NoLeaf); they are one, and the
--- path is refused (NotThere); the path is accepted, and the leaf is later than the head (LaterLeaf); it isn't, and its extensions are some, and not the
--- index alone (OtherIndex)
+-- The reason for which a receipt is refused. NoHead: there is no head yet. NoLeaf: the bytes are no leaf; this is the first fault. NotThere: they are a
+-- leaf, and the path is refused. LaterLeaf: the path is accepted, and the leaf is later than the head. OtherIndex: the path is accepted, the leaf is not
+-- later, and it has extensions that are not only the index.
 abbrev pub StopsReceipt : (List ℕ → List ℕ) → Option Head → List ℕ → ℕ → List (List ℕ) → ReceiptRefusal → Type 0
 StopsReceipt H None b m p NoHead = ⊤
 StopsReceipt H None b m p (NoLeaf fault) = ⊥

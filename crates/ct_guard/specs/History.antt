@@ -1,4 +1,4 @@
--- What follows over many heads and receipts that were let through. H is any hash function on byte lists with hashes of 32 bytes.
+-- The laws of many heads and receipts that were let through. H is any hash function on byte lists with hashes of 32 bytes.
 use Rattle.std.specs.Prelude.{◌≡◌, ◌⊎◌, ◌<◌, ⊤, ℕ, true, List, [], ◌∷◌, ◌++◌, length, get_or, None, Some, Contains}
 use Rattle.std.specs.declared.option.Option.{Option}
 use Rattle.ct_tree.specs.Tree.{hash_leaf}
@@ -11,14 +11,14 @@ use Rattle.ct_verify.specs.Laws.{AreHashes}
 use Rattle.ct_verify.specs.Verdict.{AcceptsInclusion}
 use Rattle.ct_guard.specs.Guarded.{PassesHead}
 
--- A head that was let through: the head, the proof that was handed in with it (elements of 32 bytes), and the leaves of the list whose
--- head it is, which nobody need have.
+-- A head that was let through: the head, the proof that was handed in with it (elements of 32 bytes), and the leaves of the list whose head it is.
+-- Nobody needs to have this list.
 pub record Passed : Type 0 where
   pub head : Head
   pub proof : List (List ℕ)
   pub leaves : List (List ℕ)
 
--- heads that were let through one after the other, the first of them behind the head `last`
+-- heads that were let through one after the other, the first of them after the head `last`
 unfoldable pub ArePassed : (List ℕ → List ℕ) → Option Head → List Passed → Type 0
 ArePassed H last [] = ⊤
 ArePassed H last (s ∷ steps) =
@@ -29,7 +29,7 @@ unfoldable pub BeginsAll : List (List ℕ) → List Passed → Type 0
 BeginsAll D [] = ⊤
 BeginsAll D (s ∷ steps) = IsBeginning D s.leaves × BeginsAll D steps
 
--- of every two of these heads the earlier one's list begins the later one's
+-- for every two of these heads, the earlier one's list begins the later one's
 unfoldable pub AreBeginnings : List Passed → Type 0
 AreBeginnings [] = ⊤
 AreBeginnings (s ∷ steps) = BeginsAll s.leaves steps × AreBeginnings steps
@@ -53,14 +53,14 @@ IsHashedInLists H (s ∷ steps) x = IsHashedInLog H s.leaves x ⊎ IsHashedInLis
 abbrev pub IsHashedForPassed : (List ℕ → List ℕ) → Option Head → List Passed → List ℕ → Type 0
 IsHashedForPassed H last steps x = Contains (passed_strings H last steps) x ⊎ IsHashedInLists H steps x
 
--- of every two heads that were let through the earlier one's list begins the later one's; or two of the strings that are hashed collide
+-- For every two heads that were let through, the earlier one's list begins the later one's, or two of the strings that are hashed collide.
 abbrev pub PassedHeadsAgree : Type 0
 PassedHeadsAgree =
     (H : List ℕ → List ℕ) → ((x : List ℕ) → length (H x) ≡ 32) → (last : Option Head) (steps : List Passed) → ArePassed H last steps
     → AreBeginnings steps ⊎ CollideAmong H (IsHashedForPassed H last steps)
 
--- a leaf whose audit path leads to the last head's root, as that of each receipt that is let through does, is at its index in the list D
--- of that head; or two of the strings that are hashed collide
+-- A leaf whose audit path leads to the last head's root is at its index in the list D of that head, or two of the strings that are hashed collide. The
+-- audit path of each receipt that is let through leads there.
 abbrev pub PassedReceiptsStand : Type 0
 PassedReceiptsStand =
     (H : List ℕ → List ℕ) → ((x : List ℕ) → length (H x) ≡ 32) → (last : Head) (D : List (List ℕ)) (b : List ℕ) (m : ℕ) (p : List (List ℕ))

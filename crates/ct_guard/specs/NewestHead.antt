@@ -1,5 +1,4 @@
--- What follows over many heads that were let through, of which the newest alone is that of a list. H is any hash function on byte lists
--- with hashes of 32 bytes.
+-- The law of many heads that were let through, if the newest is that of a list. H is any hash function on byte lists with hashes of 32 bytes.
 use Rattle.std.specs.Prelude.{◌≡◌, ◌⊎◌, ◌<◌, ◌≤◌, ⊤, ℕ, List, [], ◌∷◌, ◌++◌, length, take, Some, All, Contains}
 use Rattle.std.specs.declared.option.Option.{Option}
 use Rattle.ct_tree.specs.Tree.{mth_of_leaves}
@@ -15,18 +14,18 @@ pub record HeadStep : Type 0 where
   pub head : Head
   pub proof : List (List ℕ)
 
--- heads that were let through one after the other, the first of them behind the head `last`
+-- heads that were let through one after the other, the first of them after the head `last`
 unfoldable pub AreHeadSteps : (List ℕ → List ℕ) → Option Head → List HeadStep → Type 0
 AreHeadSteps H last [] = ⊤
 AreHeadSteps H last (s ∷ steps) = PassesHead H last s.head s.proof × AreHashes s.proof × AreHeadSteps H (Some s.head) steps
 
--- the newest of them, where there is one, is the head of the leaves D
+-- the newest of them, if there is one, is the head of the leaves D
 unfoldable pub NewestIsOf : (List ℕ → List ℕ) → List (List ℕ) → List HeadStep → Type 0
 NewestIsOf H D [] = ⊤
 NewestIsOf H D (s ∷ []) = IsHeadOfAll H D s.head
 NewestIsOf H D (s ∷ t ∷ steps) = NewestIsOf H D (t ∷ steps)
 
--- the head, where it has leaves, is that of the first leaves of D
+-- if the head has leaves, it is that of the first leaves of D
 abbrev pub IsHeadOfFirst : (List ℕ → List ℕ) → List (List ℕ) → Head → Type 0
 IsHeadOfFirst H D head = 0 < head.tree_size → (head.tree_size ≤ length D) × (head.root ≡ mth_of_leaves H (take head.tree_size D))
 
@@ -39,8 +38,8 @@ step_strings H last (s ∷ steps) = head_strings H last s.head s.proof ++ step_s
 abbrev pub IsHashedForHeads : (List ℕ → List ℕ) → Option Head → List HeadStep → List (List ℕ) → List ℕ → Type 0
 IsHashedForHeads H last steps D x = Contains (step_strings H last steps) x ⊎ IsHashedInLog H D x
 
--- if the newest of the heads that were let through is that of a list, each of them that has leaves is that of a beginning of it; or two of the
--- strings that are hashed collide
+-- If the newest of the heads that were let through is that of a list, each of them that has leaves is that of a beginning of it, or two of the strings
+-- that are hashed collide.
 abbrev pub HeadsGoBack : Type 0
 HeadsGoBack =
     (H : List ℕ → List ℕ) → ((x : List ℕ) → length (H x) ≡ 32) → (last : Option Head) (steps : List HeadStep) (D : List (List ℕ))

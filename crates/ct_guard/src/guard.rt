@@ -1,4 +1,4 @@
-//! What may be signed.
+//! Decides what a log's key may sign.
 ghost use Rattle.std.specs.Prelude.{◌≡◌, ◌≤◌, Some, None, MatchResult, OnOk, OnErr};
 ghost use Rattle.std.specs.Bool.{MatchBool};
 ghost use Rattle.ct_guard.specs.Guarded.{PassesHead, PassesReceipt, StopsHead, StopsLater, StopsReceipt, IsLater, IsOwnIndex};
@@ -8,13 +8,13 @@ use ct_codec::{index_extension, lend_leaf};
 use ct_tree::{Head, NodeHash, is_same_digest, leaf_hash};
 use ct_verify::{verify_consistency, verify_inclusion};
 
-/// The head that was let through last, if one was. One that was saved is handed in as it is.
+/// The head that was let through last, if there was one. A head that was saved is handed in as it is.
 #[derive(Clone, Copy, Debug, PartialEq, Eq)]
 pub struct Guard {
     pub last: Option<Head>,
 }
 
-// A later head with as many leaves or more.
+// Decides whether the tree of a later head, with as many leaves or more, contains that of the last one.
 fn goes_on<H: NodeHash>(
     h: &H,
     last: &Head,
@@ -56,13 +56,13 @@ impl Guard {
     }
 
     /// Lets a tree head through, or refuses it. The proof is a consistency proof (RFC 6962, section 2.1.2) from the last head to
-    /// this one; where the two have one size, or the last has none, there is no such proof, and what is handed in isn't looked at.
-    /// The first head is let through as it is, and so is the last head once more.
+    /// this one. If both heads have the same size, or the last one has no leaves, there is no such proof, and `proof` is not read.
+    /// The first head is let through without a check. The last head is let through again.
     ///
-    /// What may be signed then is `tree_head_signature_input` of `ct_codec` for this head (RFC 6962, section 3.5).
+    /// The bytes that may be signed are then `tree_head_signature_input` of `ct_codec` for this head (RFC 6962, section 3.5).
     ///
     /// # Errors
-    /// In this order: `SizeFalls`, `MomentNotLater`, `Fork`, `Inconsistent`. The guard is then as it was.
+    /// In this order: `SizeFalls`, `MomentNotLater`, `Fork`, `Inconsistent`. The guard is then unchanged.
     pub fn pass_head<H: NodeHash>(
         &mut self,
         h: &H,
@@ -90,8 +90,9 @@ impl Guard {
     }
 }
 
-// Whether the extensions of a leaf name no other index in its log than this one: there are none, or they are the index and nothing else.
-fn is_own_index(index: u64, extensions: &[u8]) -> bool
+/// Reports whether the extensions of a leaf (CtExtensions, without their length) name no other index in its log than this one: they are empty, or contain
+/// only this index (leaf_index, C2SP static-ct-api).
+pub fn is_own_index(index: u64, extensions: &[u8]) -> bool
     ensures { MatchBool result (IsOwnIndex index extensions.now) (IsOwnIndex index extensions.now → ⊥) }
 {
     if extensions.is_empty() {
@@ -103,10 +104,15 @@ fn is_own_index(index: u64, extensions: &[u8]) -> bool
     extensions == index_extension(index).as_slice()
 }
 
-/// Lets a receipt through, or refuses it: the bytes are a leaf (MerkleTreeLeaf, RFC 6962, section 3.4), the audit path leads
-/// from it at this leaf index to the root of the last head, its moment isn't later than that head's (RFC 6962, section 3.5), and it has no
-/// extensions, or its index alone (leaf_index, C2SP static-ct-api). What may be signed then is the leaf's own bytes, which are those of its
-/// signed certificate timestamp ([`ct_codec::laws::signed_timestamps_are_leaves`]).
+/// Lets a receipt through, or refuses it. It is let through if
+///
+/// - the bytes are a leaf (MerkleTreeLeaf, RFC 6962, section 3.4);
+/// - the audit path leads from the leaf at this leaf index to the root of the last head;
+/// - the leaf's timestamp is not later than that head's (RFC 6962, section 3.5);
+/// - the leaf has no extensions, or only its index (leaf_index, C2SP static-ct-api).
+///
+/// The bytes that may be signed are then the leaf's own, which are those that its signed certificate timestamp signs
+/// ([`ct_codec::laws::signed_timestamps_are_leaves`]).
 ///
 /// # Errors
 /// In this order: `NoHead`, `NoLeaf`, `NotThere`, `LaterLeaf`, `OtherIndex`.

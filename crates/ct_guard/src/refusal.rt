@@ -1,10 +1,10 @@
-//! Why a guard refuses.
+//! The reasons for which a guard refuses.
 
 use ct_codec::DecodeFault;
 use ct_verify::ProofFault;
 use thiserror::Error;
 
-/// Why a tree head isn't let through.
+/// The reason for which a tree head is not let through.
 #[derive(Clone, Copy, PartialEq, Eq, Debug, Error)]
 pub enum HeadRefusal {
     /// The head has fewer leaves than the last one.
@@ -21,7 +21,7 @@ pub enum HeadRefusal {
     Inconsistent(ProofFault),
 }
 
-/// Why a receipt isn't let through.
+/// The reason for which a receipt is not let through.
 #[derive(Clone, Copy, PartialEq, Eq, Debug, Error)]
 pub enum ReceiptRefusal {
     /// No head was let through yet.
@@ -33,10 +33,10 @@ pub enum ReceiptRefusal {
     /// No audit path leads from the leaf to the last head's root: the path is refused for this reason.
     #[error("the audit path is refused: {0}")]
     NotThere(ProofFault),
-    /// The leaf's moment is later than the last head's.
+    /// The leaf's timestamp is later than the last head's.
     #[error("the leaf is later than the last head")]
     LaterLeaf,
-    /// The leaf has extensions, and they aren't its index alone.
+    /// The leaf has extensions that are not only its index.
     #[error("the leaf's extensions are not its index alone")]
     OtherIndex,
 }

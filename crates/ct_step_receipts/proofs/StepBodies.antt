@@ -1,9 +1,9 @@
 -- The steps of the functions that look at the leaves of a step. f gives the bytes of a leaf.
 use Rattle.std.proofs.Common.{refl, inl, inr, ◌≡◌, ℕ, ◌+◌, ◌-◌, ◌<◌, ◌≤◌, sym, ◌∙◌, ap, arith, false, nat_eq, List}
-use Rattle.std.proofs.Common.{[], ◌∷◌, length, take, drop, map, get_or}
+use Rattle.std.proofs.Common.{[], ◌∷◌, length, length-drop, take, drop, map, get_or, subst}
 use Rattle.std.proofs.Common.{Option, Some, None}
 use Rattle.std.proofs.lemmas.Bool.{both_ways}
-use Rattle.std.proofs.lemmas.List.{length-map, take-map, drop-map}
+use Rattle.std.proofs.lemmas.List.{at_drop_more, length-map, nil_from_length, take-map, drop-map}
 use Rattle.ct_tree.specs.Tree.{split, hash_leaf, hash_node, mth_of_leaves}
 use Rattle.ct_tree.specs.declared.head.Head.{Head}
 use Rattle.ct_verify.proofs.Shown.{leaves_one, leaves_split}
@@ -33,13 +33,39 @@ module _ {X : Type 0} (f : X → List ℕ) (last : Head) (m : ℕ) (x : X) (rest
   unfolding StopsLeaves
   stops_later r a s = rw e (inr (a, s))
 
+-- the leaves from a place on, whose indexes begin with m
+module _ {X : Type 0} (f : X → List ℕ) (last : Head) (m : ℕ) (leaves : List X) (i : ℕ) (d : X) (below : i < length leaves) where
+  cut : drop i leaves ≡ get_or leaves i d ∷ drop (i + 1) leaves
+  cut = at_drop_more (λ l. l) leaves i d below
+
+  next : m + (i + 1) ≡ m + i + 1
+  next = omega arith
+
+  pub passes_at : IsLeafOf last (f (get_or leaves i d)) (m + i) → AreLeavesOf last (m + (i + 1)) (map f (drop (i + 1) leaves))
+      → AreLeavesOf last (m + i) (map f (drop i leaves))
+  passes_at a b =
+      first_and_rest f last (m + i) (get_or leaves i d) (drop (i + 1) leaves) (drop i leaves) cut a
+      (subst (λ (k : ℕ). AreLeavesOf last k (map f (drop (i + 1) leaves))) next b)
+
+  pub stops_at : (r : ReceiptRefusal) → StopsLeaf last (f (get_or leaves i d)) (m + i) r → StopsLeaves last (m + i) (map f (drop i leaves)) r
+  stops_at r s = stops_first f last (m + i) (get_or leaves i d) (drop (i + 1) leaves) (drop i leaves) cut r s
+
+  pub stops_after : (r : ReceiptRefusal) → IsLeafOf last (f (get_or leaves i d)) (m + i)
+      → StopsLeaves last (m + (i + 1)) (map f (drop (i + 1) leaves)) r → StopsLeaves last (m + i) (map f (drop i leaves)) r
+  stops_after r a s =
+      stops_later f last (m + i) (get_or leaves i d) (drop (i + 1) leaves) (drop i leaves) cut r a
+      (subst (λ (k : ℕ). StopsLeaves last k (map f (drop (i + 1) leaves)) r) next s)
+
+pub none_after : {X : Type 0} (f : X → List ℕ) (last : Head) (m : ℕ) (leaves : List X) (i : ℕ) → length leaves ≤ i
+    → AreLeavesOf last (m + i) (map f (drop i leaves))
+none_after f last m leaves i end = none_left f last (m + i) (drop i leaves) (nil_from_length (drop i leaves) (omega (arith, length-drop i leaves, end)))
+
 -- ---- the root of some leaves
-pub root_of_one : {X : Type 0} (H : List ℕ → List ℕ) (f : X → List ℕ) (leaves : List X) (x : X) → length leaves ≡ 1
-    → x ≡ get_or leaves 0 x
-    → hash_leaf H (f x) ≡ mth_of_leaves H (map f leaves)
-root_of_one H f [] x l e = absurd (omega (arith, l))
-root_of_one H f (y ∷ []) x l e = ap (λ v. hash_leaf H (f v)) e ∙ sym (leaves_one H (f y))
-root_of_one H f (y ∷ z ∷ leaves) x l e = absurd (omega (arith, l))
+pub root_of_one : {X : Type 0} (H : List ℕ → List ℕ) (f : X → List ℕ) (leaves : List X) (d : X) → length leaves ≡ 1
+    → hash_leaf H (f (get_or leaves 0 d)) ≡ mth_of_leaves H (map f leaves)
+root_of_one H f [] d l = absurd (omega (arith, l))
+root_of_one H f (y ∷ []) d l = sym (leaves_one H (f y))
+root_of_one H f (y ∷ z ∷ leaves) d l = absurd (omega (arith, l))
 
 module _ {X : Type 0} (H : List ℕ → List ℕ) (f : X → List ℕ) (leaves low high : List X) where
   pub root_of_both : (k : ℕ) (a b r : List ℕ) → 1 < length leaves → k ≡ split (length leaves) → low ≡ take k leaves

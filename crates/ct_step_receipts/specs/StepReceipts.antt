@@ -1,6 +1,6 @@
 -- When the receipts of a step are let through. The leaves of the step are the last ones of the last head's tree. H
--- is any hash function on byte lists. There are m leaves before the step. The hashes q stand for the roots of
--- their perfect subtrees, largest first. E has the leaves of the step. k is the largest power of two below the
+-- is any hash function on byte lists. There are m leaves before the step. The hashes q are taken for the
+-- roots of their perfect subtrees, largest first. E has the leaves of the step. k is the largest power of two below the
 -- number of all leaves.
 use Rattle.std.specs.Prelude.{◌≡◌, ◌⊎◌, ◌+◌, ◌-◌, ◌<◌, ◌≤◌, ⊤, ℕ, zero, suc, nat_lt, if◌then◌else◌, List, [], ◌∷◌}
 use Rattle.std.specs.Prelude.{◌++◌, length, take, drop, None, Some}
@@ -23,7 +23,7 @@ node_of H None right = None
 node_of H (Some left) None = None
 node_of H (Some left) (Some right) = Some (hash_node H left right)
 
--- what the first of these hashes and the others give, if there is a first one
+-- a function of the first of these hashes and the others, if there is a first one
 abbrev pub with_first : List (List ℕ) → (List ℕ → List (List ℕ) → Option (List ℕ)) → Option (List ℕ)
 with_first [] given = None
 with_first (x ∷ q) given = given x q

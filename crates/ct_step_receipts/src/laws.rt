@@ -1,4 +1,4 @@
-//! What follows from the definitions. The law is the contract of a function that does nothing.
+//! The law of the receipts of a step. It is the contract of a function that does nothing.
 
 ghost use Rattle.ct_step_receipts.specs.StepReceipts.{StepReceiptsStand};
 

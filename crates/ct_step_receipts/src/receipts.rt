@@ -1,23 +1,23 @@
 //! Whether the receipts of all leaves of a step may be signed.
 ghost use Rattle.std.specs.Prelude.{◌≡◌, ◌+◌, ◌<◌, ◌^◌, length, map, MatchResult, Some, true};
 ghost use Rattle.std.specs.Bool.{MatchBool};
-ghost use Rattle.ct_guard.specs.Guarded.{IsLeafOf, IsOwnIndex};
+ghost use Rattle.ct_guard.specs.Guarded.{IsLeafOf};
 ghost use Rattle.ct_step_receipts.specs.StepReceipts.{AreLeavesOf, EndsWithTree, PassesReceipts, root_after as root_of_step};
 ghost use Rattle.ct_step_receipts.specs.StepReceipts.{StopsLeaf, StopsLeaves, StopsReceipts};
 ghost use Rattle.ct_tree.specs.Tree.{mth_of_leaves};
 
-use ct_codec::{index_extension, lend_leaf};
-use ct_guard::{Guard, ReceiptRefusal};
+use ct_codec::lend_leaf;
+use ct_guard::{Guard, ReceiptRefusal, is_own_index};
 use ct_tree::{Head, NodeHash, is_same_digest, largest_power_below, leaf_hash, node_hash};
 use ct_verify::ProofFault;
 
 // MTH of some leaves (RFC 6962, section 2.1).
-fn root_of_leaves<H: NodeHash>(h: &H, leaves: &[Vec<u8>]) -> [u8; 32]
+fn root_of_leaves<H: NodeHash>(h: &H, leaves: &[&[u8]]) -> [u8; 32]
     requires { 0 < length leaves.now }
-    ensures { result ≡ mth_of_leaves H.digest (map (λ leaf. leaf.items) leaves.now) }
+    ensures { result ≡ mth_of_leaves H.digest (map (λ leaf. leaf.now) leaves.now) }
 {
     if leaves.len() == 1 {
-        return leaf_hash(h, &leaves[0]);
+        return leaf_hash(h, leaves[0]);
     }
     let k = largest_power_below(leaves.len());
     let (low, high) = leaves.split_at(k);
@@ -31,11 +31,11 @@ fn root_after<H: NodeHash>(
     h: &H,
     before: usize,
     subtrees: &[[u8; 32]],
-    leaves: &[Vec<u8>],
+    leaves: &[&[u8]],
 ) -> Option<[u8; 32]>
     requires some { 0 < length leaves.now }
     requires fits { before + length leaves.now < 2 ^ 64 }
-    ensures { result ≡ root_of_step H.digest before subtrees.now (map (λ leaf. leaf.items) leaves.now) }
+    ensures { result ≡ root_of_step H.digest before subtrees.now (map (λ leaf. leaf.now) leaves.now) }
 {
     if before == 0 {
         return if subtrees.is_empty() {
@@ -63,9 +63,9 @@ fn root_after<H: NodeHash>(
 }
 
 // Whether there are leaves, and they end where the head's tree ends.
-fn ends_at(last: &Head, first: u64, leaves: &[Vec<u8>]) -> bool
-    ensures ends { MatchBool result (EndsWithTree last.now first (map (λ leaf. leaf.items) leaves.now))
-        (EndsWithTree last.now first (map (λ leaf. leaf.items) leaves.now) → ⊥) }
+fn ends_at(last: &Head, first: u64, leaves: &[&[u8]]) -> bool
+    ensures ends { MatchBool result (EndsWithTree last.now first (map (λ leaf. leaf.now) leaves.now))
+        (EndsWithTree last.now first (map (λ leaf. leaf.now) leaves.now) → ⊥) }
     ensures fits { result ≡ true → first + length leaves.now < 2 ^ 64 }
 {
     first < last.tree_size && last.tree_size - first == leaves.len() as u64
@@ -77,28 +77,18 @@ fn give_root<H: NodeHash>(
     root: &[u8; 32],
     first: u64,
     subtrees: &[[u8; 32]],
-    leaves: &[Vec<u8>],
+    leaves: &[&[u8]],
 ) -> bool
     requires some { 0 < length leaves.now }
     requires fits { first + length leaves.now < 2 ^ 64 }
     ensures { MatchBool result
-        (root_of_step H.digest first subtrees.now (map (λ leaf. leaf.items) leaves.now) ≡ Some root.now)
-        (root_of_step H.digest first subtrees.now (map (λ leaf. leaf.items) leaves.now) ≡ Some root.now → ⊥) }
+        (root_of_step H.digest first subtrees.now (map (λ leaf. leaf.now) leaves.now) ≡ Some root.now)
+        (root_of_step H.digest first subtrees.now (map (λ leaf. leaf.now) leaves.now) ≡ Some root.now → ⊥) }
 {
     match root_after(h, first as usize, subtrees, leaves) {
         Some(found) => is_same_digest(&found, root),
         None => false,
     }
-}
-
-// Whether the extensions of a leaf are empty or contain only this index.
-fn is_own_index(index: u64, extensions: &[u8]) -> bool
-    ensures { MatchBool result (IsOwnIndex index extensions.now) (IsOwnIndex index extensions.now → ⊥) }
-{
-    if extensions.is_empty() {
-        return true;
-    }
-    index < 1 << 40 && extensions == index_extension(index).as_slice()
 }
 
 // Whether the receipt of a leaf that the tree has at this index may be signed, or why not.
@@ -119,19 +109,18 @@ fn pass_leaf(last: &Head, leaf: &[u8], index: u64) -> Result<(), ReceiptRefusal>
 }
 
 // Whether the receipts of leaves that the tree has from this index on may be signed, or the first reason why not.
-fn pass_leaves(last: &Head, first: u64, mut leaves: &[Vec<u8>]) -> Result<(), ReceiptRefusal>
+fn pass_leaves(last: &Head, first: u64, leaves: &[&[u8]]) -> Result<(), ReceiptRefusal>
     requires fits { first + length leaves.now < 2 ^ 64 }
-    ensures { MatchResult result (λ _. AreLeavesOf last.now first (map (λ leaf. leaf.items) leaves.now))
-        (StopsLeaves last.now first (map (λ leaf. leaf.items) leaves.now)) }
+    ensures { MatchResult result (λ _. AreLeavesOf last.now first (map (λ leaf. leaf.now) leaves.now))
+        (StopsLeaves last.now first (map (λ leaf. leaf.now) leaves.now)) }
 {
-    let mut index = first;
-    while let Some((leaf, more)) = leaves.split_first() {
-        match pass_leaf(last, leaf, index) {
+    let mut place = 0;
+    'place: while place < leaves.len() {
+        match pass_leaf(last, leaves[place], first + place as u64) {
             Ok(()) => {}
             Err(refusal) => return Err(refusal),
         }
-        index += 1;
-        leaves = more;
+        place += 1;
     }
     Ok(())
 }
@@ -151,11 +140,11 @@ pub fn pass_receipts<H: NodeHash>(
     guard: &Guard,
     first: u64,
     subtrees: &[[u8; 32]],
-    leaves: &[Vec<u8>],
+    leaves: &[&[u8]],
 ) -> Result<(), ReceiptRefusal>
     ensures { MatchResult result
-        (λ _. PassesReceipts H.digest guard.now.last first subtrees.now (map (λ leaf. leaf.items) leaves.now))
-        (StopsReceipts H.digest guard.now.last first subtrees.now (map (λ leaf. leaf.items) leaves.now)) }
+        (λ _. PassesReceipts H.digest guard.now.last first subtrees.now (map (λ leaf. leaf.now) leaves.now))
+        (StopsReceipts H.digest guard.now.last first subtrees.now (map (λ leaf. leaf.now) leaves.now)) }
 {
     let Some(last) = guard.last else {
         return Err(ReceiptRefusal::NoHead);

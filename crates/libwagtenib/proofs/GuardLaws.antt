@@ -1,7 +1,7 @@
 -- The laws of many calls of the guard.
 use Rattle.std.proofs.Common.{◌≡◌, ◌∙◌, ◌⊎◌, ◌<◌, ◌≤◌, ◌^◌, ℕ, List, [], ◌∷◌, length, map, take, get_or, Option, Some, None, All, sym, subst, ap, refl, inl, inr, ⊎_elim, arith}
 use Rattle.std.specs.Prelude.{Contains}
-use Rattle.std.proofs.lemmas.List.{get_or-take, length-take-le}
+use Rattle.std.proofs.lemmas.List.{get_or-take, get_or_default, length-take-le}
 use Rattle.std.proofs.lemmas.List.Elements.{All-nil, All-cons, All-head, All-tail, All-contains}
 use Rattle.std.proofs.lemmas.Option.{same_Some, none-some}
 use Rattle.ct_codec.proofs.Signed.{signed_texts_stand_apart}
@@ -51,18 +51,22 @@ above_0-leaf BadEntryType = omega arith
 above_0-leaf EmptyVector = omega arith
 above_0-leaf Trailing = omega arith
 
-above_0-head : (r : HeadRefusal) → 0 < head_code r
+pub above_0-head : (r : HeadRefusal) → 0 < head_code r
 above_0-head SizeFalls = omega arith
 above_0-head MomentNotLater = omega arith
 above_0-head Fork = omega arith
 above_0-head (Inconsistent f) = above_0-proof f
 
-above_0-receipt : (r : ReceiptRefusal) → 0 < receipt_code r
+pub above_0-receipt : (r : ReceiptRefusal) → 0 < receipt_code r
 above_0-receipt NoHead = omega arith
 above_0-receipt (NoLeaf f) = above_0-leaf f
 above_0-receipt (NotThere f) = above_0-proof f
 above_0-receipt LaterLeaf = omega arith
 above_0-receipt OtherIndex = omega arith
+
+-- ---- hashes of an argument, by its type
+pub hashes_by_type : (hashes : List (List ℕ)) → ((k : ℕ) → k < length hashes → length (get_or hashes k []) ≡ 32) → AreHashes hashes
+hashes_by_type hashes told k d below = ap length (get_or_default hashes k d [] below) ∙ told k below
 
 -- ---- one state is that of one head
 one_head : (a b : Head) → a.tree_size ≡ b.tree_size → a.timestamp ≡ b.timestamp → a.root ≡ b.root → a ≡ b

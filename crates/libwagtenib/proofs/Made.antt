@@ -1,5 +1,5 @@
--- What paths and proofs out of tiles tell, and why tiles give none.
-use Rattle.std.proofs.Common.{◌≡◌, ◌∙◌, ◌<◌, ◌≤◌, ◌⊎◌, ◌++◌, ℕ, suc, List, [], ◌∷◌, length, take, drop, None, Result, Ok, Err, inl, inr, refl, sym, ap, arith, append_assoc, Vec, Global}
+-- Lemmas about paths and proofs that are made out of tiles, and about the reasons for which tiles give none.
+use Rattle.std.proofs.Common.{◌≡◌, ◌∙◌, ◌<◌, ◌≤◌, ◌⊎◌, ◌++◌, ℕ, suc, List, [], ◌∷◌, length, map, take, drop, None, Result, Ok, Err, inl, inr, refl, sym, ap, arith, append_assoc, Vec, Global}
 use Rattle.std.specs.Prelude.{MatchResult}
 use Rattle.std.proofs.lemmas.List.{append-nil, map_push}
 use Rattle.sha2.specs.Sha256.{sha256}
@@ -59,26 +59,26 @@ names_all all text [] before none = sym (before ∙ append-nil text)
 names_all all text (tile ∷ tiles) before none = absurd (omega (arith, none))
 
 -- one piece more is there
-pub pieces_more : (all : List (List ℕ)) (contents new : List (Vec ℕ Global)) (v : Vec ℕ Global) (n : ℕ) (lengths more bytes rest : List ℕ)
-    → all ≡ contents_in contents ++ pieces lengths bytes → lengths ≡ n ∷ more → v.items ≡ take n bytes → rest ≡ drop n bytes → new ≡ contents ++ (v ∷ [])
-    → all ≡ contents_in new ++ pieces more rest
+pub pieces_more : {X : Type 0} (f : X → List ℕ) (all : List (List ℕ)) (contents new : List X) (v : X) (n : ℕ) (lengths more bytes rest : List ℕ)
+    → all ≡ map f contents ++ pieces lengths bytes → lengths ≡ n ∷ more → f v ≡ take n bytes → rest ≡ drop n bytes → new ≡ contents ++ (v ∷ [])
+    → all ≡ map f new ++ pieces more rest
 unfolding pieces
-pieces_more all contents new v n lengths more bytes rest before split first after is =
-    before ∙ ap (λ (l : List ℕ). contents_in contents ++ pieces l bytes) split
-    ∙ ap (λ (x : List ℕ). contents_in contents ++ (x ∷ pieces more (drop n bytes))) (sym first)
-    ∙ ap (λ (r : List ℕ). contents_in contents ++ (v.items ∷ pieces more r)) (sym after)
-    ∙ sym (append_assoc (contents_in contents) (v.items ∷ []) (pieces more rest))
-    ∙ ap (λ (x : List (List ℕ)). x ++ pieces more rest) (sym (map_push (λ (c : Vec ℕ Global). c.items) contents v))
-    ∙ ap (λ (c : List (Vec ℕ Global)). contents_in c ++ pieces more rest) (sym is)
+pieces_more f all contents new v n lengths more bytes rest before split first after is =
+    before ∙ ap (λ (l : List ℕ). map f contents ++ pieces l bytes) split
+    ∙ ap (λ (x : List ℕ). map f contents ++ (x ∷ pieces more (drop n bytes))) (sym first)
+    ∙ ap (λ (r : List ℕ). map f contents ++ (f v ∷ pieces more r)) (sym after)
+    ∙ sym (append_assoc (map f contents) (f v ∷ []) (pieces more rest))
+    ∙ ap (λ (x : List (List ℕ)). x ++ pieces more rest) (sym (map_push f contents v))
+    ∙ ap (λ c. map f c ++ pieces more rest) (sym is)
 
 -- all pieces are there
-pub pieces_all : (all : List (List ℕ)) (contents : List (Vec ℕ Global)) (lengths bytes : List ℕ) → all ≡ contents_in contents ++ pieces lengths bytes
-    → length lengths ≡ 0 → contents_in contents ≡ all
+pub pieces_all : {X : Type 0} (f : X → List ℕ) (all : List (List ℕ)) (contents : List X) (lengths bytes : List ℕ)
+    → all ≡ map f contents ++ pieces lengths bytes → length lengths ≡ 0 → map f contents ≡ all
 unfolding pieces
-pieces_all all contents [] bytes before none = sym (before ∙ append-nil (contents_in contents))
-pieces_all all contents (n ∷ lengths) bytes before none = absurd (omega (arith, none))
+pieces_all f all contents [] bytes before none = sym (before ∙ append-nil (map f contents))
+pieces_all f all contents (n ∷ lengths) bytes before none = absurd (omega (arith, none))
 
--- what is handed over for a reading, by the number of its tiles
+-- the contents that are handed over for a reading, by the number of its tiles
 pub handed_for : (reading : Reading) (contents : List (List ℕ)) (count : ℕ) (r : Result (Vec (Vec ℕ Global) Global) ℕ) → HasReading reading
     → count ≡ length (tiles_of_reading reading)
     → MatchResult r (λ v. (contents_in v.items ≡ contents) × (length contents ≤ count)) (λ code. ((code ≡ 65) × (count < length contents)) ⊎ (code ≡ 8))

@@ -15,12 +15,12 @@ use Rattle.ct_checkpoint.specs.Message.{cosignature_message}
 use Rattle.ct_witness.specs.declared.tree.Tree.{Tree}
 use Rattle.libwagtenib.specs.Witness.{Cosigned, IsMessageOf}
 
--- a message is longer than what stands before its time
+-- a message is longer than the part before its time
 pub is_long : (n : ℕ) (t bytes : List ℕ) → bytes ≡ cosignature_message n t → 20 ≤ length bytes
 unfolding cosignature_message
 is_long n t bytes e = omega (arith, ap length e, length-append (codes "cosignature/v1\ntime ") (decimal n ++ (10 ∷ t)))
 
--- what stands behind that
+-- the part from the time on
 pub behind : (n : ℕ) (t bytes : List ℕ) → bytes ≡ cosignature_message n t → drop 20 bytes ≡ decimal n ++ (10 ∷ t)
 unfolding cosignature_message
 behind n t bytes e = ap (drop 20) e ∙ drop-append_seam (codes "cosignature/v1\ntime ") (decimal n ++ (10 ∷ t))

@@ -23,7 +23,7 @@ use Rattle.libwagtenib.specs.Tiles.{pieces}
 use Rattle.libwagtenib.specs.Output.{WritesOutput}
 use Rattle.libwagtenib.specs.declared.monitor.MonitorVerdict.{MonitorVerdict}
 
--- what a call wrote that returned 0
+-- the state that a call wrote if it returned 0
 written : (text before after : List ℕ) (count : ℕ) → WritesOutput text 0 before after count → take count after ≡ text
 written text before after count (n, inl w) =
     ap (λ (k : ℕ). take k after) n ∙ ap (take (length text)) w.1 ∙ take-append_seam text (drop (length text) before)

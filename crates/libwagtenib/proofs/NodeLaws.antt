@@ -38,7 +38,7 @@ read_back (Placing s) m e = same_Some (Placing s) m e
 read_back (Heading s) m e = same_Some (Heading s) m e
 read_back (Answering s) m e = same_Some (Answering s) m e
 
--- what a call of 0 wrote
+-- the command that a call wrote if it returned 0
 written : (c : NextCall) → c.next ≡ c_of_node (after c.node c.outcome)
 written c =
     ⊎_elim
@@ -71,7 +71,7 @@ beside_sent w (Puts l n i) b = refl
 beside_sent w (GoesAway k l left) b = refl
 beside_sent w (Told s o) b = absurd b
 
--- what happened, as ct_node has it
+-- the same happenings, as ct_node has them
 as_node : CallHappening → Happening
 as_node (Beside h) = h
 as_node (Called c) = Told c.node c.outcome
@@ -138,7 +138,7 @@ unfolding LeadTo
 lead_more count [] w v h l m = (subst (λ (z : World). MayHappen count z h) (sym l) m, ap (λ (z : World). happens z h) l)
 lead_more count (x ∷ hs) w v h l m = (l.0, lead_more count hs (happens w x) v h l.1 m)
 
--- If a node was to answer a state's submissions, the head of that state is in the store: otherwise to answer them would leave a world that is not sound.
+-- If a node has the command to answer a state's submissions, the head of that state is in the store: otherwise an answer would lead to a world that is not sound.
 answered_head : WorldsAreSound → (count : State → ℕ) (b : State) (hs : List Happening) (w : World) → IsFirstState count b → LeadTo count (beginning b) hs w
     → (l : State) → Has (Answering l) w.sent → Has l w.heads
 answered_head sound count b hs w first leads l h =

@@ -1,4 +1,4 @@
--- An answer that is told is a reply.
+-- An answer that is reported is a reply.
 use Rattle.std.proofs.Common.{◌≡◌, ◌⊎◌, ℕ, List, inl, inr, subst}
 use Rattle.std.specs.Prelude.{Result, Ok, Err, IfOk}
 use Rattle.ct_step_calls.specs.StepReplies.{IsReplyText}

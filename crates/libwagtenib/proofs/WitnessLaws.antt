@@ -43,7 +43,7 @@ above_0-tree (Unproved f) = above_0-proof f
 
 -- ---- calls that returned 0
 
--- what is known of a call that returned 0 after the cosignature `last`
+-- the facts about a call that returned 0 after the cosignature `last`
 record Cosigning (H : List ℕ → List ℕ) (last : Cosigned) (old : ℕ) (proof : List (List ℕ)) (time : ℕ) (bytes : List ℕ) : Type 0 where
   now : Cosigned
   is : IsMessageOf now bytes

@@ -79,7 +79,7 @@ unfit_field unfit.TooLong = 2
 abbrev pub TellsUnfit : Result (List ℕ) Unfit → ℕ → ℕ → Type 0
 TellsUnfit read code field = (u : Unfit) × (read ≡ Err u) × (code ≡ unfit_code u) × (field ≡ unfit_field u)
 
--- What a call writes of a text for which `Is` holds, or why reading gives none. 0 or 9: as WritesOutput says. 8: an allocation was refused. Only the number of
+-- A call writes a text for which `Is` holds, or says why reading gives none. 0 or 9: as WritesOutput says. 8: an allocation was refused. Only the number of
 -- the field is written if reading gives none, and it is not written otherwise.
 abbrev pub WritesRead : (List ℕ → Type 0) → Result (List ℕ) Unfit → ℕ → List ℕ → List ℕ → ℕ → ℕ → ℕ → ℕ → Type 0
 WritesRead Is read code before after count_before count field_before field =

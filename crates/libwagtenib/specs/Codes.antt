@@ -15,7 +15,7 @@ use Rattle.ct_witness.specs.declared.refusal.WitnessRefusal.{WitnessRefusal}
 use Rattle.ct_witness.specs.declared.refusal.WitnessRefusal.TheVariants.{OldAbove, NotLast, Fork as ForkedTree, ProofNotEmpty, Inconsistent as Unproved}
 use Rattle.libwagtenib.specs.declared.leaf.LeafInfo.{LeafInfo}
 
--- the number by which a proof's fault is told in C; include/wagtenib.h has the same
+-- the number that a proof's fault has in C; include/wagtenib.h has the same
 abbrev pub proof_code : ProofFault → ℕ
 proof_code IndexOutOfRange = 1
 proof_code PathTooLong = 2
@@ -25,11 +25,11 @@ proof_code EmptyPath = 5
 proof_code FirstMismatch = 6
 proof_code SizesOutOfRange = 7
 
--- 0 and the proof is accepted, or the number of the fault that stands against it
+-- 0 and the proof is accepted, or the number of its fault
 abbrev pub Judges : ℕ → Type 0 → (ProofFault → Type 0) → Type 0
 Judges code accepts refuses = ((code ≡ 0) × accepts) ⊎ ((f : ProofFault) × (code ≡ proof_code f) × refuses f)
 
--- the number by which a leaf's fault is told in C; include/wagtenib.h has the same
+-- the number that a leaf's fault has in C; include/wagtenib.h has the same
 abbrev pub leaf_code : DecodeFault → ℕ
 leaf_code Memory = 8
 leaf_code Truncated = 17
@@ -39,14 +39,14 @@ leaf_code BadEntryType = 20
 leaf_code EmptyVector = 21
 leaf_code Trailing = 22
 
--- the number by which the refusal of a tree head is told in C; include/wagtenib.h has the same
+-- the number that the refusal of a tree head has in C; include/wagtenib.h has the same
 abbrev pub head_code : HeadRefusal → ℕ
 head_code SizeFalls = 32
 head_code MomentNotLater = 33
 head_code Fork = 34
 head_code (Inconsistent f) = proof_code f
 
--- the number by which the refusal of a receipt is told in C; include/wagtenib.h has the same
+-- the number that the refusal of a receipt has in C; include/wagtenib.h has the same
 abbrev pub receipt_code : ReceiptRefusal → ℕ
 receipt_code NoHead = 36
 receipt_code (NoLeaf f) = leaf_code f
@@ -54,7 +54,7 @@ receipt_code (NotThere f) = proof_code f
 receipt_code LaterLeaf = 38
 receipt_code OtherIndex = 39
 
--- the number by which the refusal of a tree by a witness is told in C; include/wagtenib.h has the same
+-- the number that the refusal of a tree by a witness has in C; include/wagtenib.h has the same
 abbrev pub tree_code : WitnessRefusal → ℕ
 tree_code OldAbove = 98
 tree_code NotLast = 99

@@ -4,6 +4,7 @@ use Rattle.ct_codec.specs.Signed.{tree_head_text}
 use Rattle.ct_guard.specs.Guarded.{PassesHead, StopsHead, PassesReceipt, StopsReceipt}
 use Rattle.ct_guard.specs.declared.refusal.HeadRefusal.{HeadRefusal}
 use Rattle.ct_guard.specs.declared.refusal.ReceiptRefusal.{ReceiptRefusal}
+use Rattle.ct_step_receipts.specs.StepReceipts.{PassesReceipts, StopsReceipts}
 use Rattle.ct_tree.specs.declared.head.Head.{Head}
 use Rattle.ct_verify.specs.Laws.{AreHashes}
 use Rattle.libwagtenib.specs.Codes.{head_code, receipt_code}
@@ -68,6 +69,22 @@ GuardsReceipt H code state leaf index path =
     ⊎ ((last : Head) × IsStateOf last state
     × (((code ≡ 0) × PassesReceipt H (Some last) leaf index path)
     ⊎ ((r : ReceiptRefusal) × (code ≡ receipt_code r) × StopsReceipt H (Some last) leaf index path r)))
+
+-- 36: the bytes that were handed in as the last TreeHeadSignature are none. 0: they are that of a head whose tree ends with the leaves E, from this index on, by
+-- these roots of the subtrees before, and each leaf may have a receipt. Otherwise the number of the first reason why not, or memory was refused (8).
+abbrev pub GuardsReceipts : (List ℕ → List ℕ) → ℕ → List ℕ → ℕ → List (List ℕ) → List (List ℕ) → Type 0
+GuardsReceipts H code state first subtrees E =
+    ((code ≡ 36) × IsOfNoHead state)
+    ⊎ ((last : Head) × IsStateOf last state
+    × (((code ≡ 0) × PassesReceipts H (Some last) first subtrees E × AreHashes subtrees)
+    ⊎ (((r : ReceiptRefusal) × (code ≡ receipt_code r) × StopsReceipts H (Some last) first subtrees E r) ⊎ (code ≡ 8))))
+
+-- 0: the head is the one that was accepted, or it is later and its tree contains that one's by this proof, whose elements have 32 bytes. Otherwise the number of
+-- the reason why not.
+abbrev pub AcceptsHead : (List ℕ → List ℕ) → ℕ → Head → Head → List (List ℕ) → Type 0
+AcceptsHead H code accepted head proof =
+    ((code ≡ 0) × PassesHead H (Some accepted) head proof × AreHashes proof)
+    ⊎ ((r : HeadRefusal) × (code ≡ head_code r) × StopsHead H (Some accepted) head proof r)
 
 -- a head is the one that was seen before, or a later one with as many leaves or more
 abbrev pub IsAtOrAfter : Head → Head → Type 0

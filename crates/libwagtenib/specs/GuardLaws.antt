@@ -65,7 +65,7 @@ TakenAreSteps =
     (H : List ℕ → List ℕ) (last : Option Head) (held : Option (List ℕ)) → HoldsStateOf last held → (calls : List (HeadCall H)) → AreTaken H held calls
     → AreHeadSteps H last (head_steps_of calls)
 
--- Take any such heads, each of which is that of some list of leaves (passed). Of every two of them the earlier one's list begins the later one's, or two
+-- Take any such heads, each of which is that of some list of leaves (passed). For every two of them, the earlier one's list begins the later one's, or two
 -- of the strings that are hashed collide.
 abbrev pub TakenAgree : Type 0
 TakenAgree =

@@ -1,4 +1,4 @@
--- What a call returns and writes of a lock's text and of the name of a staged batch.
+-- The codes and the bytes that the calls over a lock's text and the name of a staged batch return and write.
 use Rattle.std.specs.Prelude.{◌≡◌, ◌⊎◌, ℕ, List, Some, None}
 use Rattle.ct_lock_text.specs.LockText.{text_said, next_text, name_state}
 use Rattle.ct_lock_text.specs.declared.reading.Said.{Said}
@@ -12,7 +12,7 @@ abbrev pub WritesLockText : ℕ → List ℕ → List ℕ → ℕ → ℕ → Li
 WritesLockText code line node before salt memory next count_before count =
     WritesOutput (next_text line node before salt) code memory next count ⊎ ((code ≡ 8) × (next ≡ memory) × (count ≡ count_before))
 
--- 0: what the text says is written. 114: the bytes are no lock's text, and nothing has changed.
+-- 0: the state and the size in the text are written. 114: the bytes are no lock's text, and nothing has changed.
 abbrev pub ReadsLockText : ℕ → List ℕ → NodeState → NodeState → ℕ → ℕ → Type 0
 ReadsLockText code text before next size_before size =
     ((code ≡ 0) × ((said : Said) × (text_said text ≡ Some said) × (next ≡ c_of_state said.state) × (size ≡ said.size)))

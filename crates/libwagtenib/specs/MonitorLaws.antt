@@ -82,7 +82,7 @@ JudgingCallsAgree =
     → (w : Watched) × (others : List MonitorCall) × AreCallsOf calls others × CallsHandOut sha256 (take count after) others nothing_seen w
     × IsNeverRefused sha256 (last_written (take count after) calls)
 
--- The same over the state that a call of `wagtenib_monitor_start` wrote. Let the head that it was told to trust be that of the leaves D. Then the leaves of w that are
+-- The same over the state that a call of `wagtenib_monitor_start` wrote. Let the head that the caller trusts be that of the leaves D. Then the leaves of w that are
 -- accepted begin with D; or two of the strings collide that are hashed when the start's subtrees are joined, and when those of D are. Nothing is said of a head
 -- that is the head of no leaves.
 abbrev pub StartedCallsAgree : Type 0

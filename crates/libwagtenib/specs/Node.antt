@@ -98,7 +98,7 @@ other_of_c lock flags flag h =
     then Some (record { at = record { size = h.tree_size; moment = h.timestamp }; same = says_root lock h.root })
     else None
 
--- what a node finds, if the lock has this head: 1 if the machine saw a head, 2 if a head was signed, 4 if one is published, 8 if the store lists one, 16 if a
+-- the facts that a node finds, if the lock has this head; the flags are 1 if the machine saw a head, 2 if a head was signed, 4 if one is published, 8 if the store lists one, 16 if a
 -- guard decides what is signed, 32 if the store has an object of a log, 64 if the operator asks for a new log
 abbrev pub found_of_c : List ℕ → Option Point → NodeFound → Found
 found_of_c lock head f =
@@ -113,7 +113,7 @@ found_of_c lock head f =
       creates = has_flag f.flags 64;
     }
 
--- the number of what a node does when it starts
+-- the number of the action of a node when it starts
 abbrev pub start_code : Beginning → ℕ
 start_code Goes = 0
 start_code Creates = 116

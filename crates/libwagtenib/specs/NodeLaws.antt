@@ -1,4 +1,4 @@
--- What calls of `wagtenib_node_next` and `wagtenib_node_start` make of a log, whichever processes make them. H is any hash function on byte lists.
+-- The laws of calls of `wagtenib_node_next` and `wagtenib_node_start`, whichever processes make them. H is any hash function on byte lists.
 use Rattle.std.specs.Prelude.{◌≡◌, ◌↔◌, ◌⊎◌, ⊤, ℕ, ◌<◌, List, [], ◌∷◌, length, take, Some}
 use Rattle.ct_data_tiles.specs.TileLeaf.{Tiled}
 use Rattle.ct_growth.specs.Identities.{AreNewFrom}
@@ -43,13 +43,13 @@ pub record NextCall : Type 0 where
   pub is_outcome : outcome_of_c told ≡ Some outcome
   pub returned : GivesNext 0 command told before next
 
--- What may happen. Beside: what is no call, as ct_node has it. Called: a call that returned 0, of a command that an earlier call gave, or the first one. A call
+-- What may happen. Beside: a happening of ct_node that is no call. Called: a call that returned 0, of a command that an earlier call gave, or the first one. A call
 -- that never came back gives nothing.
 pub data CallHappening : Type 0 where
   Beside : Happening → CallHappening
   Called : NextCall → CallHappening
 
--- no node is told an outcome
+-- no node gets an outcome
 abbrev pub IsNoTelling : Happening → Type 0
 IsNoTelling (Told s o) = ⊥
 IsNoTelling h = ⊤
@@ -59,7 +59,7 @@ abbrev pub happens_by_calls : CallsWorld → CallHappening → CallsWorld
 happens_by_calls w (Beside h) = record w { world = happens w.world h }
 happens_by_calls w (Called c) = record { world = happens w.world (Told c.node c.outcome); given = c.next ∷ w.given }
 
--- what an honest lock and store owe, as ct_node has it: nobody is told an outcome that is not so
+-- the duties of an honest lock and store, as ct_node has them: no node gets an outcome that is false
 abbrev pub MayHappenByCalls : (State → ℕ) → CallsWorld → CallHappening → Type 0
 MayHappenByCalls count w (Beside h) = IsNoTelling h × MayHappen count w.world h
 MayHappenByCalls count w (Called c) = Has c.command w.given × MayBeTold count w.world c.node c.outcome
@@ -97,7 +97,7 @@ CallsWriteOneLog =
     → AreStepsMade H S line step count plan w.world.made → (E : List Tiled) → E ≡ log_of_past step known w.world.past
     → ((known ≡ take (length known) E) × StandsOf H line step b plan E w.world × AnswersAreOf H line step b E w) ⊎ CollideAmong H (IsHashedBySteps H S E)
 
--- Of any two objects that calls say to put, and that have one name, the content is one; or two strings collide that S has (the strings that nodes hashed when
+-- Any two objects that calls say to put, and that have the same name, have the same content; or two strings collide that S has (the strings that nodes hashed when
 -- they made steps and resumed them), or that are hashed for the log's lines.
 abbrev pub CallsNameOneContent : Type 0
 CallsNameOneContent =

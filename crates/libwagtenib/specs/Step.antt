@@ -1,4 +1,4 @@
--- What the calls of a tiled log's step return and write.
+-- The codes and the bytes that the calls of a tiled log's step return and write.
 use Rattle.std.specs.Prelude.{◌≡◌, ◌⊎◌, ◌&&◌, ◌==◌, ℕ, Bool, true, not, nat_eq, List, [], length, Result, Ok, Err}
 use Rattle.std.specs.List.{list_any}
 use Rattle.std.specs.Str.{IsUtf8}
@@ -13,7 +13,7 @@ use Rattle.ct_step_calls.specs.declared.answer.StepRefusal.{StepRefusal}
 use Rattle.ct_step_calls.specs.declared.answer.StepRefusal.TheVariants.{BadBatch, BadState, TooMany, TooFar, Edge, Entries, ClockBack, Full, TooLong, Bundle, Claim as NoClaim}
 use Rattle.libwagtenib.specs.Output.{WritesOutput}
 
--- the number by which a refusal is told in C; include/wagtenib.h has the same
+-- the number that a refusal has in C; include/wagtenib.h has the same
 abbrev pub step_code : StepRefusal → ℕ
 step_code TooFar = 35
 step_code BadState = 36
@@ -27,17 +27,17 @@ step_code NoClaim = 54
 step_code BadBatch = 55
 step_code TooMany = 56
 
--- a refusal is told by its number, and nothing is written; or the bytes of a reply are written, or have no room
+-- The number of a refusal is returned, and nothing is written; or the bytes of a reply are written, or have no room.
 abbrev pub IsToldIn : Result (List ℕ) StepRefusal → ℕ → List ℕ → List ℕ → ℕ → ℕ → Type 0
 IsToldIn (Err refusal) code before after count_before count = (code ≡ step_code refusal) × (after ≡ before) × (count ≡ count_before)
 IsToldIn (Ok text) code before after count_before count = WritesOutput text code before after count
 
--- An answer is told, or that an allocation was refused (8), and then nothing has changed.
+-- An answer is returned; or 8, if an allocation was refused, and then nothing has changed.
 abbrev pub IsAnswerTold : {F : Type 0} → Result Answer F → ℕ → List ℕ → List ℕ → ℕ → ℕ → Type 0
 IsAnswerTold (Ok answer) code before after count_before count = IsToldIn (answer_parts answer) code before after count_before count
 IsAnswerTold (Err _) code before after count_before count = (code ≡ 8) × (after ≡ before) × (count ≡ count_before)
 
--- A reply of which this holds is told, of a log with this origin. 8: an allocation was refused, and nothing has changed.
+-- A reply for which this holds is returned, for a log with this origin. 8: an allocation was refused, and nothing has changed.
 abbrev pub AnswersIn : List ℕ → (StepReply → Type 0) → ℕ → List ℕ → List ℕ → ℕ → ℕ → Type 0
 AnswersIn origin P code before after count_before count =
     ((reply : StepReply) × P reply × IsToldIn (reply_parts origin reply) code before after count_before count)
@@ -61,7 +61,7 @@ AnswersOrigin origin P code before after count_before count =
 abbrev pub BeginsLog : ℕ → ℕ → List ℕ → List ℕ → ℕ → ℕ → Type 0
 BeginsLog timestamp code before after count_before count = AnswersIn [] (IsReplyTo (for_begin timestamp)) code before after count_before count
 
--- the names of what a step from a state has to be handed
+-- the names of the objects that a step from a state needs
 abbrev pub NamesEdge : List ℕ → ℕ → List ℕ → List ℕ → ℕ → ℕ → Type 0
 NamesEdge state code before after count_before count = AnswersIn [] (IsReplyTo (for_needs state)) code before after count_before count
 
@@ -70,7 +70,7 @@ abbrev pub MakesStep : List ℕ → List ℕ → List ℕ → List ℕ → ℕ �
 MakesStep origin state edge batch now ahead code before after count_before count =
     AnswersOrigin origin (IsReplyToStep batch edge now state ahead) code before after count_before count
 
--- what is signed at the place that is claimed for a submission
+-- the bytes to sign for a submission that is claimed to be at an index
 abbrev pub AnswersClaim : List ℕ → Claim → List (List ℕ) → List ℕ → ℕ → List ℕ → List ℕ → ℕ → ℕ → Type 0
 AnswersClaim state claim path submission code before after count_before count =
     AnswersIn [] (IsReplyToClaim submission claim path state) code before after count_before count

@@ -17,7 +17,7 @@ use Rattle.ct_tile_reader.specs.declared.handed.HandedFault.TheVariants.{Missing
 use Rattle.ct_tile_reader.specs.declared.needed.NeededTile.{NeededTile}
 use Rattle.libwagtenib.specs.Output.{WritesOutput}
 
--- what is read out of tiles: the root of the first n leaves, the audit path of the leaf m in the tree of n, or the consistency proof from m leaves to n
+-- a value that is read out of tiles: the root of the first n leaves, the audit path of the leaf m in the tree of n, or the consistency proof from m leaves to n
 pub data Reading : Type 0 where
   root_of : ℕ → Reading
   path_of : ℕ → ℕ → Reading
@@ -104,13 +104,13 @@ ByEveryHash Holds = ((H : List ℕ → List ℕ) → ((x : List ℕ) → length 
 abbrev pub IsRootOf : ℕ → List (List ℕ) → List ℕ → Type 0
 IsRootOf n contents root = (D : List (List ℕ)) → AreTilesOf sha256 D (root_tiles n) contents → n ≤ length D → root ≡ mth sha256 (take n D)
 
--- the path out of the contents of tiles: PATH(m, D[n]) of each list whose tiles they are; whatever they are, it tells a leaf
+-- the path out of the contents of tiles: PATH(m, D[n]) of each list whose tiles they are; whatever they are, it shows a leaf
 abbrev pub IsPathOf : ℕ → ℕ → List (List ℕ) → List (List ℕ) → Type 0
 IsPathOf m n contents hashes =
     ((D : List (List ℕ)) → AreTilesOf sha256 D (path_tiles m n) contents → n ≤ length D → hashes ≡ path sha256 m (take n D))
     × ByEveryHash (PathTellsLeaf m hashes)
 
--- the proof out of the contents of tiles: PROOF(m, D[n]) of each list whose tiles they are; whatever they are, it tells a beginning
+-- the proof out of the contents of tiles: PROOF(m, D[n]) of each list whose tiles they are; whatever they are, it shows a beginning
 abbrev pub IsProofOf : ℕ → ℕ → List (List ℕ) → List (List ℕ) → Type 0
 IsProofOf m n contents hashes =
     ((D : List (List ℕ)) → AreTilesOf sha256 D (proof_tiles m n) contents → n ≤ length D → hashes ≡ proof sha256 m (take n D))
@@ -122,7 +122,7 @@ WritesRoot n contents code before after =
     ((code ≡ 0) × AreHanded (root_of n) contents × IsRootOf n contents after)
     ⊎ ((RefusesContents (root_of n) contents code × (after ≡ before)) ⊎ ((code ≡ 8) × (after ≡ before)))
 
--- What a call writes of hashes for which `Is` holds. 0 or 9: as WritesOutput says, and each tile has right bytes. Otherwise nothing is written: the first
+-- A call writes hashes for which `Is` holds. 0 or 9: as WritesOutput says, and each tile has right bytes. Otherwise nothing is written: the first
 -- reason why the contents give nothing, or 8, an allocation was refused.
 abbrev pub WritesMade : Reading → List (List ℕ) → (List (List ℕ) → Type 0) → ℕ → List (List ℕ) → List (List ℕ) → ℕ → ℕ → Type 0
 WritesMade reading contents Is code before after count_before count =

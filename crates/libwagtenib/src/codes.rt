@@ -106,7 +106,7 @@ pub const BAD_LOCK_TEXT: u32 = 114;
 pub const BAD_BATCH_NAME: u32 = 115;
 /// The node must create the lock of a new log.
 pub const CREATES_LOCK: u32 = 116;
-/// There is no lock, and none is to be created, or there is something of a log.
+/// There is no lock, and the node must not create one, or the store has objects of a log.
 pub const LOCK_GONE: u32 = 117;
 /// This machine saw a later head, or another one with this size and timestamp.
 pub const BEHIND_SEEN: u32 = 118;

@@ -1,15 +1,19 @@
 //! The guard decides what a log's key may sign. Its state is the TreeHeadSignature that was signed last (RFC 6962, section 3.5), and belongs to the caller.
 
-ghost use Rattle.std.specs.Prelude.{◌≡◌, MatchResult};
+ghost use Rattle.std.specs.Prelude.{◌≡◌, IfOk, MatchResult, map};
 ghost use Rattle.std.specs.Bool.{MatchBool};
 ghost use Rattle.sha2.specs.Sha256.{sha256};
 ghost use Rattle.libwagtenib.specs.Codes.{head_code, receipt_code};
-ghost use Rattle.libwagtenib.specs.Guard.{head_of_c, GuardsFirstHead, GuardsHead, GuardsReceipt, IsAtOrAfter, MayBeFirst, MayFollow, MayNotFollow, ReadsGuardState};
+ghost use Rattle.libwagtenib.specs.Guard.{head_of_c, AcceptsHead, GuardsFirstHead, GuardsHead, GuardsReceipt, GuardsReceipts, IsAtOrAfter, MayBeFirst, MayFollow, MayNotFollow, ReadsGuardState};
+ghost use Rattle.libwagtenib.specs.Tiles.{pieces};
 
 use crate::head::{TreeHead, head_of, of_head, read_state, write_state};
+use crate::tiles::slices_of;
 use crate::{codes, leaf, proofs};
 use ct_guard::{Guard, HeadRefusal, ReceiptRefusal, pass_receipt};
+use ct_step_receipts::pass_receipts;
 use ct_tree::{Head, NodeHash, Sha256Hash, is_same_digest};
+use std::alloc::{AllocError, Global};
 
 // The number of the refusal of a head.
 fn number_of_head(refusal: HeadRefusal) -> u32
@@ -132,6 +136,54 @@ pub extern "C" fn wagtenib_guard_receipt(
     match pass_receipt(&Sha256Hash, &guard, leaf, leaf_index, path) {
         Ok(()) => codes::OK,
         Err(refusal) => number_of_receipt(refusal),
+    }
+}
+
+/// Whether the receipts of all leaves of a step may be signed after the head whose TreeHeadSignature is `last`. The leaves have the indexes from `first_index`
+/// on. `subtrees` are the roots of the perfect subtrees of the leaves before, largest first. The bytes of the leaves are in `leaves`, one after the other, and
+/// `lengths` says how many each leaf has. 0: the leaves end where the head's tree ends, they and the subtrees give its root, and each leaf may have a receipt.
+/// Otherwise the number of the first reason why not, in this order: 36, 8, 1, 4, and then 17 to 22, 38 or 39 of the first leaf that may have none.
+#[unsafe(no_mangle)]
+pub extern "C" fn wagtenib_guard_receipts(
+    alloc: Global,
+    last: &[u8],
+    first_index: u64,
+    subtrees: &[[u8; 32]],
+    leaves: &[u8],
+    lengths: &[u64],
+) -> u32
+    ensures { GuardsReceipts sha256 result last.now first_index subtrees.now (pieces lengths.now leaves.now) }
+{
+    let Some(last) = read_state(last) else {
+        return codes::BAD_STATE;
+    };
+    let leaves = match slices_of(alloc, leaves, lengths) {
+        Ok(leaves) => leaves,
+        Err(AllocError) => return codes::OUT_OF_MEMORY,
+    };
+    let guard = Guard { last: Some(last) };
+    match pass_receipts(&Sha256Hash, &guard, first_index, subtrees, &leaves) {
+        Ok(()) => codes::OK,
+        Err(refusal) => number_of_receipt(refusal),
+    }
+}
+
+/// Whether a node may go on from a head, if `accepted` is the newest head that it accepted: 0 if it is this head again, or a later one whose tree contains that
+/// of `accepted` by the consistency proof. Otherwise the number of the first reason why not, in this order: 32, 33, 34, and those of the proof.
+#[unsafe(no_mangle)]
+pub extern "C" fn wagtenib_node_accept(
+    accepted: &TreeHead,
+    head: &TreeHead,
+    proof: &[[u8; 32]],
+) -> u32
+    ensures { AcceptsHead sha256 result (head_of_c accepted.now) (head_of_c head.now) proof.now }
+{
+    let mut guard = Guard {
+        last: Some(head_of(accepted)),
+    };
+    match guard.pass_head(&Sha256Hash, &head_of(head), proof) {
+        Ok(()) => codes::OK,
+        Err(refusal) => number_of_head(refusal),
     }
 }
 

@@ -8,7 +8,7 @@ ghost use Rattle.libwagtenib.specs.Codes.{leaf_code, DecodesLeaf};
 use ct_codec::{DecodeFault, LentEntry, lend_leaf};
 use ct_tree::{Sha256Hash, leaf_hash};
 
-/// What stands in a leaf. Its certificate or TBSCertificate begins at byte 15 (entry type 0) or 47 (entry type 1), and its
+/// The fields of a leaf. Its certificate or TBSCertificate begins at byte 15 (entry type 0) or 47 (entry type 1), and its
 /// extensions end the leaf. The timestamp is in milliseconds, the lengths are in bytes.
 #[repr(C)]
 #[derive(Clone, Copy)]
@@ -42,8 +42,8 @@ pub extern "C" fn wagtenib_leaf_hash(leaf: &[u8], out: &mut [u8; 32])
     *out = leaf_hash(&Sha256Hash, leaf);
 }
 
-/// Reads a leaf (MerkleTreeLeaf, v1). 0 where the bytes are one, which `out` then describes; else 17 to 22, the first fault
-/// from the left, and `out` is as it was.
+/// Reads a leaf (MerkleTreeLeaf, v1). 0: the bytes are one, and `out` describes it. Otherwise 17 to 22, the first fault from the
+/// left, and `out` is unchanged.
 #[unsafe(no_mangle)]
 pub extern "C" fn wagtenib_decode_leaf(leaf: &[u8], out: &mut LeafInfo) -> u32
     ensures { DecodesLeaf result out.old out.new leaf.now }

@@ -29,7 +29,7 @@ pub struct Last<'a> {
     pub time: u64,
 }
 
-// How many bytes stand before the time: "cosignature/v1", a line end, and "time ".
+// The number of bytes before the time: "cosignature/v1", a line end, and "time ".
 const BEFORE_TIME: usize = 20;
 
 // The bytes from the time on, if there are so many. The bytes before are not looked at.
@@ -95,7 +95,7 @@ fn is_message(alloc: Global, bytes: &[u8], time: u64, text: &str) -> Result<bool
     Ok(written.as_bytes() == bytes)
 }
 
-// Of a text that is not read as a checkpoint: it is none, unless a growth was refused.
+// The reason for which a text was not read as a checkpoint: it is none, or an allocation was refused.
 #[derive(Drop)]
 struct Unread {
     told: Result<(), AllocError>,

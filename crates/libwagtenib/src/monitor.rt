@@ -161,7 +161,7 @@ fn number_of_start(fault: StartFault) -> u32
     }
 }
 
-/// The state of a monitor that accepted this head, of which it is told, and goes on from the leaf after its last one. `subtrees` are the roots of the perfect
+/// Writes the state of a monitor that trusts this head, and continues with the leaf after its last one. `subtrees` are the roots of the perfect
 /// subtrees of the head's leaves, largest first. 140 or 4: they are not those of this head. 0, 8 or 9.
 #[unsafe(no_mangle)]
 pub extern "C" fn wagtenib_monitor_start(

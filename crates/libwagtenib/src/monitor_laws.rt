@@ -11,7 +11,7 @@ pub fn calls_agree()
     ensures { JudgingCallsAgree }
 {}
 
-/// The same from a head on that `wagtenib_monitor_start` was told to trust. The list begins with the leaves of that head, if it has any.
+/// The same from a head on that the caller of `wagtenib_monitor_start` trusts. The list begins with the leaves of that head, if it has any.
 #[tactic(auto, using(crate::proofs::MonitorLaws::started_calls_agree))]
 pub fn started_calls_agree()
     ensures { StartedCallsAgree }

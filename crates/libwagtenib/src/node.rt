@@ -1,4 +1,4 @@
-//! What a node of a log does next (`ct_node`): the command that follows a command, by its outcome; and whether a node may start.
+//! The next command of a node of a log (`ct_node`): the command that follows a command, by its outcome; and whether a node may start.
 
 ghost use Rattle.std.specs.Prelude.{◌≡◌, ◌<◌};
 ghost use Rattle.libwagtenib.specs.Node.{state_of_c, c_of_state, node_of_c, c_of_node, outcome_of_c, GivesNext, has_flag, point_of_c, other_of_c, found_of_c, start_code, lock_of, StartsNode};
@@ -36,7 +36,7 @@ pub struct NodeOutcome {
     pub outcome: u32,
 }
 
-/// What a node finds of a log when it starts, beside the lock's text.
+/// The facts about a log that a node finds when it starts, beside the lock's text.
 #[repr(C)]
 #[derive(Clone, Copy)]
 pub struct NodeFound {
@@ -206,7 +206,7 @@ fn other_if(lock: &[u8], flags: u32, flag: u32, head: &TreeHead) -> Option<Other
     }
 }
 
-// What a node finds, if the lock has this head.
+// The facts that a node finds, if the lock has this head.
 fn found_with(lock: &[u8], head: Option<Point>, found: &NodeFound) -> Found
     ensures { result ≡ found_of_c lock.now head found.now }
 {
@@ -227,7 +227,7 @@ fn found_with(lock: &[u8], head: Option<Point>, found: &NodeFound) -> Found
     }
 }
 
-// The number of what a node does when it starts.
+// The number of the action of a node when it starts.
 fn number_of_start(beginning: Beginning) -> u32
     ensures { result ≡ start_code beginning }
 {
@@ -258,7 +258,7 @@ fn head_in(lock: &[u8]) -> Option<Option<Point>>
     }))
 }
 
-/// What a node does when it starts. 0: it continues from the lock's text. 116: it creates the lock. 117 to 123: it must do neither, for the first reason in
+/// Decides what a node does when it starts. 0: it continues from the lock's text. 116: it creates the lock. 117 to 123: it must do neither, for the first reason in
 /// this order: 117 if there is no lock; otherwise 118, 120 or 119, 121, 122, 123. 114: the bytes are no lock's text.
 #[unsafe(no_mangle)]
 pub extern "C" fn wagtenib_node_start(lock: &[u8], found: &NodeFound) -> u32

@@ -17,7 +17,7 @@ pub(crate) fn write_output(bytes: &[u8], memory: &mut [u8], length: &mut u64) ->
     codes::OK
 }
 
-// Writes hashes to the beginning of the memory, if it has room for them. Their number is told in both cases.
+// Writes hashes to the beginning of the memory, if it has room for them. Their number is written in both cases.
 pub(crate) fn write_hashes(hashes: &[[u8; 32]], memory: &mut [[u8; 32]], count: &mut u64) -> u32
     ensures { WritesOutput hashes.now result memory.old memory.new count.new }
 {

@@ -24,8 +24,8 @@ pub(crate) fn number_of(fault: ProofFault) -> u32
     }
 }
 
-/// Checks an audit path. 0 exactly where it leads from the leaf hash at `leaf_index` to the root of a tree of `tree_size`
-/// leaves; else 1 to 4, the first fault in that order.
+/// Checks an audit path. 0 exactly if it leads from the leaf hash at `leaf_index` to the root of a tree of `tree_size`
+/// leaves; otherwise 1 to 4, the first fault in that order.
 #[unsafe(no_mangle)]
 pub extern "C" fn wagtenib_verify_inclusion(
     leaf_hash: &[u8; 32],
@@ -43,7 +43,7 @@ pub extern "C" fn wagtenib_verify_inclusion(
     }
 }
 
-/// Checks a consistency proof. 0 exactly where it leads to the roots of the first `first` and of all `second` leaves; else
+/// Checks a consistency proof. 0 exactly if it leads to the roots of the first `first` and of all `second` leaves; otherwise
 /// 7, 5, 2, 3, 6 or 4, the first fault in that order.
 #[unsafe(no_mangle)]
 pub extern "C" fn wagtenib_verify_consistency(

@@ -64,7 +64,7 @@ pub extern "C" fn wagtenib_step_begin(
     answer_in(ct_step_calls::begin(alloc, timestamp), out, length)
 }
 
-/// The names of the objects whose contents a step from this state has to be handed, in order, each a vector whose length stands in 8 bytes. 0, 8, 9 or 36
+/// Returns the names of the objects whose contents a step from this state needs, in order, each a vector whose length is in 8 bytes. 0, 8, 9 or 36
 /// (`state` is none).
 #[tactic(auto, using(crate::proofs::Told::told))]
 #[unsafe(no_mangle)]

@@ -1,6 +1,6 @@
 //! Roots, audit paths and consistency proofs out of the tiles of a log (C2SP tlog-tiles; RFC 6962, section 2.1).
 
-ghost use Rattle.std.specs.Prelude.{◌≡◌, ◌<◌, ◌≤◌, ◌⊎◌, All, IfOk, MatchResult, length, take, drop};
+ghost use Rattle.std.specs.Prelude.{◌≡◌, ◌<◌, ◌≤◌, ◌⊎◌, All, IfOk, MatchResult, length, map, take, drop};
 ghost use Rattle.ct_tile_reader.specs.Handed.{contents_in};
 ghost use Rattle.ct_tile_reader.specs.Needed.{root_tiles, path_tiles, proof_tiles};
 ghost use Rattle.libwagtenib.specs.Tiles.{root_of, path_of, proof_of, named_tile, IsNamedTile, names_text, pieces, handed_code};
@@ -80,6 +80,24 @@ pub(crate) fn pieces_of(
     while let Some((length, more)) = lengths.split_first() {
         let (piece, rest) = first_of(bytes, *length);
         contents.push(Vec::from_slice(alloc, piece)?)?;
+        bytes = rest;
+        lengths = more;
+    }
+    Ok(contents)
+}
+
+// The same pieces, as parts of the bytes.
+pub(crate) fn slices_of<'a>(
+    alloc: Global,
+    mut bytes: &'a [u8],
+    mut lengths: &[u64],
+) -> Result<Vec<&'a [u8]>, AllocError>
+    ensures { IfOk result (λ contents. map (λ piece. piece.now) contents.items ≡ pieces lengths.now bytes.now) }
+{
+    let mut contents = Vec::new(alloc);
+    while let Some((length, more)) = lengths.split_first() {
+        let (piece, rest) = first_of(bytes, *length);
+        contents.push(piece)?;
         bytes = rest;
         lengths = more;
     }

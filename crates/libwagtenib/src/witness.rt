@@ -38,7 +38,7 @@ fn is_timely(time: u64, last: u64) -> bool
     time != 0 && last <= time
 }
 
-// A law, which does nothing: what the type says of the hashes of a proof.
+// A law, which does nothing: the type of a proof says that its hashes have 32 bytes.
 fn are_hashes(proof: &[[u8; 32]])
     ensures { AreHashes proof.now }
 {}

@@ -197,6 +197,7 @@ extern "C" {
     pub fn wagtenib_guard_first_head(head: *const wagtenib_head, named: *const wagtenib_head, signed_bytes: *mut u8) -> u32;
     pub fn wagtenib_guard_head(last: *const u8, last_length: usize, head: *const wagtenib_head, proof: *const u8, proof_length: usize, max_ahead: u64, signed_bytes: *mut u8) -> u32;
     pub fn wagtenib_guard_receipt(last: *const u8, last_length: usize, leaf: *const u8, leaf_length: usize, leaf_index: u64, path: *const u8, path_length: usize) -> u32;
+    pub fn wagtenib_guard_receipts(last: *const u8, last_length: usize, first_index: u64, subtrees: *const u8, subtree_count: usize, leaves: *const u8, leaves_length: usize, lengths: *const u64, leaf_count: usize) -> u32;
     pub fn wagtenib_guard_state(seen: *const u8, seen_length: usize, state: *const u8, state_length: usize, head: *mut wagtenib_head) -> u32;
     pub fn wagtenib_step_begin(timestamp: u64, out: *mut u8, room: usize, length: *mut u64) -> u32;
     pub fn wagtenib_step_needs(state: *const u8, state_length: usize, out: *mut u8, room: usize, length: *mut u64) -> u32;
@@ -205,6 +206,7 @@ extern "C" {
     pub fn wagtenib_step_resume(origin: *const u8, origin_length: usize, state: *const u8, state_length: usize, bundle: *const u8, bundle_length: usize, out: *mut u8, room: usize, length: *mut u64) -> u32;
     pub fn wagtenib_node_next(command: *const wagtenib_node_command, outcome: *const wagtenib_node_outcome, next: *mut wagtenib_node_command) -> u32;
     pub fn wagtenib_node_start(lock: *const u8, lock_length: usize, found: *const wagtenib_node_found) -> u32;
+    pub fn wagtenib_node_accept(accepted: *const wagtenib_head, head: *const wagtenib_head, proof: *const u8, proof_length: usize) -> u32;
     pub fn wagtenib_lock_text(line: *const u8, line_length: usize, node: *const u8, node_length: usize, previous_timestamp: u64, salt: u64, text: *mut u8, room: usize, length: *mut u64) -> u32;
     pub fn wagtenib_lock_state(text: *const u8, text_length: usize, state: *mut wagtenib_node_state, tree_size: *mut u64) -> u32;
     pub fn wagtenib_batch_name(state: *const wagtenib_node_state, name: *mut u8);

@@ -9,6 +9,7 @@
 //! Then the log signs no fork, however many processes call the guard and wherever they are killed.
 
 use crate::error::result;
+use crate::memory::joined;
 use crate::tree::first_of;
 use crate::{Error, Hash};
 use wagtenib_sys as sys;
@@ -80,6 +81,25 @@ pub fn head(last: &[u8], head: &TreeHead, proof: &[Hash], max_ahead: u64) -> Res
 pub fn receipt(last: &[u8], leaf: &[u8], leaf_index: u64, path: &[Hash]) -> Result<(), Error> {
     // SAFETY: as in first_head.
     result(unsafe { sys::wagtenib_guard_receipt(last.as_ptr(), last.len(), leaf.as_ptr(), leaf.len(), leaf_index, first_of(path), path.len()) })
+}
+
+/// Decides whether SCTs of all leaves of a step may be signed after the head whose signed bytes are `last`. The leaves have the indexes from `first_index` on, and
+/// `subtrees` are the roots of the perfect subtrees of the leaves before them, largest first.
+///
+/// It is `Ok` exactly if the leaves end where the tree of that head ends, they and the subtrees give its root, and each leaf's timestamp is not later than the
+/// head's, and its extensions are empty or contain only its index.
+///
+/// # Errors
+///
+/// The first reason of [`Error::BadState`], [`Error::OutOfMemory`], [`Error::IndexOutOfRange`] (there are no leaves, or they end elsewhere), [`Error::RootMismatch`],
+/// and those of [`decode`](crate::leaf::decode), [`Error::LaterLeaf`] and [`Error::OtherIndex`] of the first leaf that may have no SCT.
+pub fn receipts<T: AsRef<[u8]>>(last: &[u8], first_index: u64, subtrees: &[Hash], leaves: &[T]) -> Result<(), Error> {
+    let (contents, lengths) = joined(leaves);
+    let (leaves, leaf_count) = ((contents.as_ptr(), contents.len()), lengths.len());
+    // SAFETY: as in first_head; `lengths` has so many numbers.
+    result(unsafe {
+        sys::wagtenib_guard_receipts(last.as_ptr(), last.len(), first_index, first_of(subtrees), subtrees.len(), leaves.0, leaves.1, lengths.as_ptr(), leaf_count)
+    })
 }
 
 /// Reads a state, the signed bytes of a head. It returns the head exactly if it is that of the state `seen`, or has a later timestamp and no fewer leaves.

@@ -24,6 +24,12 @@ pub(crate) fn written<T: Clone + Default>(room: usize, call: impl FnMut(*mut T, 
     result(answer).map(|()| out)
 }
 
+/// Returns byte strings one after the other, and the length of each.
+pub(crate) fn joined<T: AsRef<[u8]>>(pieces: &[T]) -> (Vec<u8>, Vec<u64>) {
+    let lengths = pieces.iter().map(|piece| piece.as_ref().len() as u64).collect();
+    (pieces.iter().flat_map(|piece| piece.as_ref().iter().copied()).collect(), lengths)
+}
+
 /// Returns a text that the library wrote.
 pub(crate) fn text(bytes: Vec<u8>) -> String {
     String::from_utf8(bytes).expect("the library writes texts in UTF-8")

@@ -8,7 +8,7 @@
 
 use crate::error::result;
 use crate::guard::TreeHead;
-use crate::memory::written;
+use crate::memory::{joined, written};
 use crate::tree::first_of;
 use crate::{Error, Hash};
 use wagtenib_sys as sys;
@@ -144,8 +144,7 @@ pub fn head(state: &[u8], head: &TreeHead) -> Result<Judgement, Error> {
 ///
 /// Those of [`head`].
 pub fn entries<T: AsRef<[u8]>>(state: &[u8], start: u64, leaves: &[T]) -> Result<(Judgement, EntryReport), Error> {
-    let lengths: Vec<u64> = leaves.iter().map(|leaf| leaf.as_ref().len() as u64).collect();
-    let contents: Vec<u8> = leaves.iter().flat_map(|leaf| leaf.as_ref().iter().copied()).collect();
+    let (contents, lengths) = joined(leaves);
     let (of, mut reported) = ((contents.as_ptr(), contents.len(), lengths.as_ptr(), lengths.len()), sys::wagtenib_entry_report::default());
     let judgement = judged(|verdict, out, room, length| {
         // SAFETY: as in begin; `lengths` has so many numbers.

@@ -6,7 +6,8 @@
 
 use crate::error::result;
 use crate::guard::TreeHead;
-use crate::Error;
+use crate::tree::first_of;
+use crate::{Error, Hash};
 use wagtenib_sys as sys;
 
 /// A state of a log, as far as the order of a node's commands goes. Timestamps are in milliseconds since 1970.
@@ -181,6 +182,21 @@ impl Found {
             flags: flags.iter().enumerate().map(|(bit, is_set)| u32::from(*is_set) << bit).sum(),
         }
     }
+}
+
+/// Decides whether a node may go on from `head`, if `accepted` is the newest head that it accepted. `proof` is the consistency proof between them (RFC 6962, section
+/// 2.1.2). It is not read if their sizes are equal or the size of `accepted` is 0.
+///
+/// It is `Ok` exactly if `head` is the accepted head again, or its timestamp is later, and its tree contains that of `accepted` by the proof. A node must sign and
+/// publish nothing of a lock's text before its head is accepted, since the lock may hold an older text again, or that of another list.
+///
+/// # Errors
+///
+/// The first reason of [`Error::SizeFalls`], [`Error::TimestampNotLater`], [`Error::Fork`] and those of [`verify_consistency`](crate::tree::verify_consistency).
+pub fn accept(accepted: &TreeHead, head: &TreeHead, proof: &[Hash]) -> Result<(), Error> {
+    let (accepted, head) = (accepted.in_c(), head.in_c());
+    // SAFETY: the pointers are those of variables that live through the call.
+    result(unsafe { sys::wagtenib_node_accept(&accepted, &head, first_of(proof), proof.len()) })
 }
 
 /// What a node that starts may do.

@@ -5,7 +5,7 @@
 //! [`verify_consistency`](crate::tree::verify_consistency) check it.
 
 use crate::error::result;
-use crate::memory::{text, written};
+use crate::memory::{joined, text, written};
 use crate::{Error, Hash};
 use wagtenib_sys as sys;
 
@@ -16,12 +16,6 @@ const HASHES: usize = 65;
 /// Returns the names that a call writes, each ended by a line feed.
 fn names(call: impl FnMut(*mut u8, usize, *mut u64) -> u32) -> Result<Vec<String>, Error> {
     Ok(text(written(NAMES, call)?).lines().map(String::from).collect())
-}
-
-/// Returns tiles one after the other, and the length of each.
-fn joined<T: AsRef<[u8]>>(tiles: &[T]) -> (Vec<u8>, Vec<u64>) {
-    let lengths = tiles.iter().map(|tile| tile.as_ref().len() as u64).collect();
-    (tiles.iter().flat_map(|tile| tile.as_ref().iter().copied()).collect(), lengths)
 }
 
 /// Returns the names of the tiles that the root of the first `tree_size` leaves is made of, the lowest level first.

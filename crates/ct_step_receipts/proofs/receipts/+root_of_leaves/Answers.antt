@@ -1,16 +1,16 @@
-use Rattle.std.proofs.Common.{ℕ, List, arith, ◌∙◌, ap, Vec, Global}
+use Rattle.std.specs.Borrow.{Bor}
+use Rattle.std.proofs.Common.{ℕ, List, arith, ◌∙◌, ap}
 use Rattle.ct_tree.specs.Tree.{hash_leaf}
 use Rattle.ct_step_receipts.proofs.StepBodies.{root_of_one, root_of_both}
 use Rattle.ct_step_receipts.proofs.receipts.+root_of_leaves.Goals as goal
 
-abbrev bytes : Vec ℕ Global → List ℕ
-bytes leaf = leaf.items
+abbrev bytes : Bor (List ℕ) → List ℕ
+bytes leaf = leaf.now
 
 pub returns-then-leaves-eq1 : goal.returns-then-leaves-eq1
 returns-then-leaves-eq1 g t c =
     let H = g.H.NodeHash.digest in
-    c.leaf_hash.ensures ∙ ap (hash_leaf H) c.deref.ensures.value
-    ∙ root_of_one H bytes c.args.leaves.now c.index-leaves-0.result c.if-leaves-eq1.true c.index-leaves-0.is
+    c.leaf_hash.ensures ∙ root_of_one H bytes c.args.leaves.now _ c.if-leaves-eq1.true
 
 pub returns : goal.returns
 returns g t c =

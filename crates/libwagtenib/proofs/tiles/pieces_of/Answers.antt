@@ -1,16 +1,19 @@
-use Rattle.std.proofs.Common.{◌∙◌}
+use Rattle.std.proofs.Common.{◌∙◌, ℕ, List, Vec, Global}
 use Rattle.libwagtenib.specs.Tiles.{pieces}
 use Rattle.libwagtenib.proofs.Made.{pieces_more, pieces_all}
 use Rattle.libwagtenib.proofs.tiles.pieces_of.Goals as goal
 
+abbrev items_of : Vec ℕ Global → List ℕ
+items_of piece = piece.items
+
 pub loop-length-preserved : goal.loop-length-preserved
 loop-length-preserved c =
     let l = c.loop-length in
-    pieces_more (pieces c.args.lengths.now c.args.bytes.now) l.contents.items c.push.new.self.items c.in_ok-from_slice.field-0 c.in-Some.length.now l.lengths.now
+    pieces_more items_of (pieces c.args.lengths.now c.args.bytes.now) l.contents.items c.push.new.self.items c.in_ok-from_slice.field-0 c.in-Some.length.now l.lengths.now
     c.in-Some.more.now l.bytes.now c.first_of.result.1.now l.invariant c.in-Some.ensures.cases.0
     (c.in_ok-from_slice.ensures.items ∙ c.first_of.ensures.first) c.first_of.ensures.rest c.in_ok-push.ensures.items
 
 pub returns : goal.returns
 returns c =
     let l = c.loop-length in
-    pieces_all (pieces c.args.lengths.now c.args.bytes.now) l.contents.items l.lengths.now l.bytes.now l.invariant c.in_default.ensures.cases
+    pieces_all items_of (pieces c.args.lengths.now c.args.bytes.now) l.contents.items l.lengths.now l.bytes.now l.invariant c.in_default.ensures.cases
