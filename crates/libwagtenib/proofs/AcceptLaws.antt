@@ -1,11 +1,10 @@
 -- The law of one node over a lock that may fall.
-use Rattle.std.proofs.Common.{◌≡◌, ◌∙◌, ◌⊎◌, ◌+◌, ◌<◌, ◌≤◌, ℕ, List, [], ◌∷◌, length, take, drop, Option, Some, None, All, sym, subst, ap, refl, inl, inr, ⊎_elim, arith}
+use Rattle.std.proofs.Common.{◌≡◌, ◌∙◌, ◌⊎◌, ◌+◌, ◌≤◌, ℕ, List, [], ◌∷◌, length, take, drop, Some, None, All, sym, subst, ap, inl, inr, ⊎_elim, arith}
 use Rattle.std.proofs.lemmas.List.{length-take-le}
 use Rattle.std.proofs.lemmas.List.Elements.{All-nil, All-head, All-tail}
 use Rattle.ct_guard.proofs.NewestHead.{heads_go_back}
 use Rattle.ct_guard.specs.Guarded.{PassesHead}
 use Rattle.ct_guard.specs.NewestHead.{HeadStep, AreHeadSteps, IsHeadOfFirst, NewestIsOf, IsHashedForHeads}
-use Rattle.ct_guard.specs.declared.refusal.ReceiptRefusal.{ReceiptRefusal}
 use Rattle.ct_monitor.specs.Heads.{IsHeadOfAll}
 use Rattle.ct_older_tree.proofs.Agreeing.{collide_more}
 use Rattle.ct_older_tree.specs.Hashed.{CollideAmong}

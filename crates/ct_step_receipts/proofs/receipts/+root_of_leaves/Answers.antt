@@ -1,6 +1,5 @@
 use Rattle.std.specs.Borrow.{Bor}
-use Rattle.std.proofs.Common.{ℕ, List, arith, ◌∙◌, ap}
-use Rattle.ct_tree.specs.Tree.{hash_leaf}
+use Rattle.std.proofs.Common.{ℕ, List, arith, ◌∙◌}
 use Rattle.ct_step_receipts.proofs.StepBodies.{root_of_one, root_of_both}
 use Rattle.ct_step_receipts.proofs.receipts.+root_of_leaves.Goals as goal
 

@@ -1,4 +1,4 @@
-use Rattle.std.proofs.Common.{◌≡◌, ◌+◌, ◌-◌, ◌≤◌, drop, length, map}
+use Rattle.std.proofs.Common.{◌+◌, ◌-◌, ◌≤◌, drop, length, map}
 use Rattle.ct_step_receipts.specs.StepReceipts.{AreLeavesOf, StopsLeaves}
 use Rattle.ct_guard.specs.declared.refusal.ReceiptRefusal.{ReceiptRefusal}
 use Rattle.ct_step_receipts.proofs.receipts.pass_leaves.Given as goal

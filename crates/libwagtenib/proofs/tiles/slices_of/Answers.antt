@@ -1,5 +1,5 @@
 use Rattle.std.specs.Borrow.{Bor}
-use Rattle.std.proofs.Common.{◌∙◌, ℕ, List}
+use Rattle.std.proofs.Common.{ℕ, List}
 use Rattle.libwagtenib.specs.Tiles.{pieces}
 use Rattle.libwagtenib.proofs.Made.{pieces_more, pieces_all}
 use Rattle.libwagtenib.proofs.tiles.slices_of.Goals as goal
