@@ -94,8 +94,6 @@ class Machine:
             return self.stepping(node[1], *outcome[1:])
         if (verb, told) == ("Stepping", "Listed") and self.is_past(node[1], outcome[1]):
             return ("Deleting", node[1], outcome[1])
-        if (verb, told) == ("Swapping", "Promise"):
-            return ("Promising", *node[2:])
         return self.behind_done(node) if told == "Done" else node
 
     def behind_done(self, node):
@@ -104,8 +102,6 @@ class Machine:
             return self.staged(*node[1:])
         if verb == "Swapping":
             return self.swapped(*node[2:])
-        if verb == "Promising":
-            return ("Putting", *node[1:])
         if verb == "Deleting":
             return ("Stepping", node[1])
         if verb == "Putting":
@@ -133,7 +129,6 @@ WRONG = {
     "answer before the head": ("answered", wrong(swapped=lambda self, new, objects: ("Answering", new))),
     "moment not later": ("later", wrong(follows=lambda self, seen, new: new.before == seen.moment)),
     "step from another moment": ("order", wrong(follows=lambda self, seen, new: seen.moment < new.moment)),
-    "promise before the swap": ("promised", wrong(staged=lambda self, seen, new, objects: ("Promising", new, objects))),
     "lost taken for done": ("objects", wrong(lost=lambda self, node: self.behind_done(node))),
     "nothing is put": ("publishes", wrong(looking=lambda self, seen, objects: READING)),
     "goes on from what is behind a head": ("newest", wrong(starts=lambda self, register, listed: True)),
@@ -151,7 +146,7 @@ class World:
         self.identities = {FIRST: frozenset({0})}
         self.held, self.past = FIRST, [FIRST]
         self.bundles, self.heads, self.places = {FIRST}, {FIRST}, {FIRST}
-        self.answered, self.promised, self.objects = set(), set(), set()
+        self.answered, self.objects = set(), set()
         self.made, self.sent, self.came = set(), [READING], set()
         # What of objects and heads still stands.
         self.standing, self.listed = set(), {FIRST}
@@ -173,7 +168,7 @@ class World:
         elif verb == "Deleting":
             self.bundles.discard(node[2])
         elif verb != "Putting":
-            {"Placing": self.places, "Heading": self.heads, "Promising": self.promised, "Answering": self.answered}[verb].add(node[1])
+            {"Placing": self.places, "Heading": self.heads, "Answering": self.answered}[verb].add(node[1])
             if verb == "Heading":
                 self.listed.add(node[1])
 
@@ -224,7 +219,7 @@ class World:
         """What may be told of a command."""
         verb, told = node[0], [("Lost",)] if chance.random() < 0.1 else []
         if node in self.came:
-            told.append(("Promise",) if verb == "Swapping" and chance.random() < 0.3 else ("Done",))
+            told.append(("Done",))
         if verb == "Reading":
             told.append(("Read", chance.choice(self.past)))
         elif verb == "Looking" and node[1] in self.heads:
@@ -265,8 +260,6 @@ class World:
             return "objects"
         if not self.answered <= self.heads:
             return "answered"
-        if not self.promised <= set(past):
-            return "promised"
         if sum(len(self.identities[state]) for state in past) > len(set().union(*(self.identities[state] for state in past))):
             return "others"
         if held not in self.bundles:
@@ -329,7 +322,7 @@ def histories(machine, seed, number, store=None):
     for at in range(number):
         fault, world = history(random.Random(f"{seed} {at}"), machine, store)
         found[fault] += 1
-        answered += bool(world.answered or world.promised)
+        answered += bool(world.answered)
     return found, answered
 
 

@@ -55,11 +55,6 @@ MACHINES = {
         ("l.before == k.moment && nat_lt k.moment l.moment", "l.before == k.moment"),
         ("new.before == seen.moment && seen.moment < new.moment", "new.before == seen.moment"),
     ),
-    "promise before the swap": (
-        "tell_staging",
-        ("on_staging k l n Done = Swapping k l n", "on_staging k l n Done = Promising l n"),
-        ("(Node::Staging(seen, new, count), Outcome::Done) => Node::Swapping(seen, new, count)", "(Node::Staging(_, new, count), Outcome::Done) => Node::Promising(new, count)"),
-    ),
     "places given up taken as added": (
         "tell_placing",
         ("on_placing l Lost = Reading", "on_placing l Lost = Heading l"),

@@ -3,7 +3,7 @@ use Rattle.std.proofs.Common.{subst, inl, inr, ⊎_elim, ◌≡◌, ℕ, zero, s
 use Rattle.std.proofs.lemmas.List.Kept.{AllPairs-cons}
 use Rattle.ct_node.specs.declared.state.State.{State}
 use Rattle.ct_node.specs.declared.node.Node.{Node}
-use Rattle.ct_node.specs.declared.node.Node.TheVariants.{Reading, Looking, Stepping, Staging, Swapping, Promising, Deleting, Putting, Placing, Heading, Answering}
+use Rattle.ct_node.specs.declared.node.Node.TheVariants.{Reading, Looking, Stepping, Staging, Swapping, Deleting, Putting, Placing, Heading, Answering}
 use Rattle.ct_node.specs.Worlds.{Has, Made, World, beginning, Happening, Comes, Makes, Puts, Goes, Told, comes, happens, MayCome, MayHappen, LeadTo}
 use Rattle.ct_node.specs.LookUps.{ShareNone, IsLookedUp, LooksUp, AllLookUp, StatesAddOthers}
 use Rattle.ct_node.proofs.Sound.{Kept, keep, begin, before_head}
@@ -65,7 +65,6 @@ module _ (count : State → ℕ) (b : State) (ids : State → List (List ℕ)) w
   comes_others w (Putting l n) a h m o = record { made = o.made; pairs = o.pairs }
   comes_others w (Placing l) a h m o = record { made = o.made; pairs = o.pairs }
   comes_others w (Heading l) a h m o = record { made = o.made; pairs = o.pairs }
-  comes_others w (Promising l n) a h m o = record { made = o.made; pairs = o.pairs }
   comes_others w (Answering l) a h m o = record { made = o.made; pairs = o.pairs }
   comes_others w Reading a h m o = o
   comes_others w (Looking k) a h m o = o

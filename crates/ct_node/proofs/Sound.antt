@@ -3,10 +3,10 @@ use Rattle.std.proofs.Common.{refl, subst, ◌⊎◌, inl, inr, ⊎_elim, ◌≡
 use Rattle.std.specs.Prelude.{⊤, Bool, true, false, not, ◌&&◌, ◌==◌, nat_lt, if◌then◌else◌}
 use Rattle.ct_node.specs.declared.state.State.{State}
 use Rattle.ct_node.specs.declared.node.Node.{Node}
-use Rattle.ct_node.specs.declared.node.Node.TheVariants.{Reading, Looking, Stepping, Staging, Swapping, Promising, Deleting, Putting, Placing, Heading, Answering}
+use Rattle.ct_node.specs.declared.node.Node.TheVariants.{Reading, Looking, Stepping, Staging, Swapping, Deleting, Putting, Placing, Heading, Answering}
 use Rattle.ct_node.specs.declared.node.Outcome.{Outcome}
-use Rattle.ct_node.specs.declared.node.Outcome.TheVariants.{Done, Promise, Lost, Read, Published, Bundle, Stepped, Listed}
-use Rattle.ct_node.specs.Nodes.{after, follows, is_behind, on_reading, on_looking, on_stepping, on_staging, on_swapping, on_promising, on_deleting, on_putting, on_placing, on_heading, on_answering}
+use Rattle.ct_node.specs.declared.node.Outcome.TheVariants.{Done, Lost, Read, Published, Bundle, Stepped, Listed}
+use Rattle.ct_node.specs.Nodes.{after, follows, is_behind, on_reading, on_looking, on_stepping, on_staging, on_swapping, on_deleting, on_putting, on_placing, on_heading, on_answering}
 use Rattle.ct_node.specs.Worlds.{Has, Object, Made, World, beginning, Happening, Comes, Makes, Puts, Goes, Told, IsChain, PastsAreChains, StepsFindAll, CanBePublished, comes, happens, MayCome, MayBeTold, MayHappen, LeadTo, IsSoundWorld, IsFirstState, WorldsAreSound, HeadsAreWhole, NamesHaveOneContent, HoldsNewest, StagedStand, AskedAreTaken}
 
 -- the object at an index of a state's staged batch
@@ -98,7 +98,6 @@ module _ (count : State → ℕ) (b : State) where
   Knows w (Stepping k) = Rolled w k
   Knows w (Staging k l n) = Rolled w k × May k l × (n ≡ count l) × Has (step k l) w.made
   Knows w (Swapping k l n) = Rolled w k × May k l × (n ≡ count l) × Stands w l × Has (step k l) w.made
-  Knows w (Promising l n) = Has l w.past × (n ≡ count l)
   Knows w (Deleting k l) = Rolled w k × Dead w l
   Knows w (Putting l n) = Has l w.past × (n ≡ count l)
   Knows w (Placing l) = Has l w.past × Out w l (count l)
@@ -130,7 +129,6 @@ module _ (count : State → ℕ) (b : State) where
   knows_on w v (Stepping l) g k = (g.past l k.0, g.heads l k.1)
   knows_on w v (Staging m l n) g k = ((g.past m k.0.0, g.heads m k.0.1), k.1, k.2, g.made (step m l) k.3)
   knows_on w v (Swapping m l n) g k = ((g.past m k.0.0, g.heads m k.0.1), k.1, k.2, g.stands l k.3, g.made (step m l) k.4)
-  knows_on w v (Promising l n) g k = (g.past l k.0, k.1)
   knows_on w v (Deleting m l) g k = ((g.past m k.0.0, g.heads m k.0.1), g.dead l k.1)
   knows_on w v (Putting l n) g k = (g.past l k.0, k.1)
   knows_on w v (Placing l) g k = (g.past l k.0, λ j b. g.objects (at l j) (k.1 j b))
@@ -143,7 +141,6 @@ module _ (count : State → ℕ) (b : State) where
   did_on w v (Stepping l) g k = tt
   did_on w v (Staging m l n) g k = g.stands l k
   did_on w v (Swapping m l n) g k = g.past l k
-  did_on w v (Promising l n) g k = tt
   did_on w v (Deleting m l) g k = tt
   did_on w v (Putting l n) g k = λ j b. g.objects (at l j) (k j b)
   did_on w v (Placing l) g k = g.places l k
@@ -173,7 +170,6 @@ module _ (count : State → ℕ) (b : State) where
         placed = s.placed;
         objects = s.objects;
         answered = s.answered;
-        promised = s.promised;
         bundle = s.bundle;
       }
 
@@ -229,14 +225,8 @@ module _ (count : State → ℕ) (b : State) where
   tell_swapping : (w : World) (k l : State) (n : ℕ) (o : Outcome) → Kept w → Knows w (Swapping k l n) → MayBeTold count w (Swapping k l n) o
       → Knows w (on_swapping k l n o)
   tell_swapping w k l n Done a r m = (a.came (Swapping k l n) m, r.2)
-  tell_swapping w k l n Promise a r m = (a.came (Swapping k l n) m, r.2)
   tell_swapping w k l n Lost a r m = tt
   tell_swapping w k l n o a r m = r
-
-  tell_promising : (w : World) (l : State) (n : ℕ) (o : Outcome) → Knows w (Promising l n) → Knows w (on_promising l n o)
-  tell_promising w l n Done r = r
-  tell_promising w l n Lost r = tt
-  tell_promising w l n o r = r
 
   tell_deleting : (w : World) (k l : State) (o : Outcome) → Knows w (Deleting k l) → Knows w (on_deleting k l o)
   tell_deleting w k l Done r = r.0
@@ -270,7 +260,6 @@ module _ (count : State → ℕ) (b : State) where
   tell w (Stepping k) o a r m = tell_stepping w k o a r m
   tell w (Staging k l n) o a r m = tell_staging w k l n o a r m
   tell w (Swapping k l n) o a r m = tell_swapping w k l n o a r m
-  tell w (Promising l n) o a r m = tell_promising w l n o r
   tell w (Deleting k l) o a r m = tell_deleting w k l o r
   tell w (Putting l n) o a r m = tell_putting w l n o a r m
   tell w (Placing l) o a r m = tell_placing w l o a r m
@@ -323,7 +312,6 @@ module _ (count : State → ℕ) (b : State) where
               placed = a.sound.placed;
               objects = a.sound.objects;
               answered = a.sound.answered;
-              promised = a.sound.promised;
               bundle = inr a.sound.bundle;
             };
         newest = a.newest;
@@ -379,7 +367,6 @@ module _ (count : State → ℕ) (b : State) where
               placed = a.sound.placed;
               objects = λ o h. (inr (a.sound.objects o h).0, (a.sound.objects o h).1);
               answered = a.sound.answered;
-              promised = λ x h. inr (a.sound.promised x h);
               bundle =
                   ⊎_elim (λ (i : Has l w.bundles). i) (λ (d : Dead w l). absurd (omega (arith, m, r.1.0, d.1))) r.3;
             };
@@ -436,7 +423,6 @@ module _ (count : State → ℕ) (b : State) where
               placed = λ x h. inr (a.sound.placed x h);
               objects = a.sound.objects;
               answered = a.sound.answered;
-              promised = a.sound.promised;
               bundle = a.sound.bundle;
             };
         newest = a.newest;
@@ -470,7 +456,6 @@ module _ (count : State → ℕ) (b : State) where
               placed = λ x h. ⊎_elim (λ (e : x ≡ l). subst (λ z. Has z w.places) (sym e) r.2) (λ (j : Has x w.heads). a.sound.placed x j) h;
               objects = a.sound.objects;
               answered = λ x h. inr (a.sound.answered x h);
-              promised = a.sound.promised;
               bundle = a.sound.bundle;
             };
         newest = a.newest;
@@ -504,7 +489,6 @@ module _ (count : State → ℕ) (b : State) where
               placed = a.sound.placed;
               objects = a.sound.objects;
               answered = λ x h. ⊎_elim (λ (e : x ≡ l). subst (λ z. Has z w.heads) (sym e) r) (λ (j : Has x w.answered). a.sound.answered x j) h;
-              promised = a.sound.promised;
               bundle = a.sound.bundle;
             };
         newest = a.newest;
@@ -515,47 +499,12 @@ module _ (count : State → ℕ) (b : State) where
         came = came_on w v (Answering l) g a tt (λ x h. h);
       }
 
-  comes_promising : (w : World) (l : State) (n : ℕ) → Kept w → Knows w (Promising l n) → Kept (comes w (Promising l n))
-  comes_promising w l n a r =
-      let v : World = comes w (Promising l n) in
-      let g : Grows w v = record {
-        past = λ x h. h;
-        heads = λ x h. h;
-        places = λ x h. h;
-        objects = λ x h. h;
-        made = λ x h. h;
-        dead = λ x h. h;
-        stands = λ x h. h;
-      } in
-      record {
-        sound =
-            record {
-              rolled = a.sound.rolled;
-              order = a.sound.order;
-              later = a.sound.later;
-              heads = a.sound.heads;
-              tiles = a.sound.tiles;
-              placed = a.sound.placed;
-              objects = a.sound.objects;
-              answered = a.sound.answered;
-              promised = λ x h. ⊎_elim (λ (e : x ≡ l). subst (λ z. Has z w.past) (sym e) r.0) (λ (j : Has x w.promised). a.sound.promised x j) h;
-              bundle = a.sound.bundle;
-            };
-        newest = a.newest;
-        top = a.top;
-        reads = a.reads;
-        chain = a.chain;
-        sent = λ x h. knows_on w v x g (a.sent x h);
-        came = came_on w v (Promising l n) g a tt (λ x h. h);
-      }
-
   come : (w : World) (s : Node) → Kept w → Knows w s → MayCome w s → Kept (comes w s)
   come w (Staging k l n) a r m = comes_staging w k l n a
   come w (Swapping k l n) a r m = comes_swapping w k l n a r m
   come w (Putting l n) a r m = comes_putting w l n a m
   come w (Placing l) a r m = comes_placing w l a
   come w (Heading l) a r m = comes_heading w l a r
-  come w (Promising l n) a r m = comes_promising w l n a r
   come w (Answering l) a r m = comes_answering w l a r
   come w Reading a r m = a
   come w (Looking k) a r m = a
@@ -592,7 +541,6 @@ module _ (count : State → ℕ) (b : State) where
               placed = a.sound.placed;
               objects = a.sound.objects;
               answered = a.sound.answered;
-              promised = a.sound.promised;
               bundle = ⊎_elim (λ (j : Has w.held left). j) (λ (e : w.held ≡ l). absurd (dead.0 (sym e))) (m.1 w.held a.sound.bundle);
             };
         newest = a.newest;
@@ -633,7 +581,6 @@ module _ (count : State → ℕ) (b : State) where
                   (λ (j : Has o w.objects). a.sound.objects o j)
                   h;
               answered = a.sound.answered;
-              promised = a.sound.promised;
               bundle = a.sound.bundle;
             };
         newest = a.newest;
@@ -688,7 +635,6 @@ module _ (count : State → ℕ) (b : State) where
               placed = λ x h. h;
               objects = λ o h. absurd h;
               answered = λ x h. absurd h;
-              promised = λ x h. absurd h;
               bundle = inl refl;
             };
         newest = inl refl;

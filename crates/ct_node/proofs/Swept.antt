@@ -2,7 +2,7 @@
 use Rattle.std.proofs.Common.{refl, subst, ◌⊎◌, inl, inr, ⊎_elim, ◌≡◌, ℕ, ◌<◌, ◌≤◌, sym, ◌∙◌, ap, arith, List, [], ◌∷◌, ◌++◌}
 use Rattle.ct_node.specs.declared.state.State.{State}
 use Rattle.ct_node.specs.declared.node.Node.{Node}
-use Rattle.ct_node.specs.declared.node.Node.TheVariants.{Reading, Looking, Stepping, Staging, Swapping, Promising, Deleting, Putting, Placing, Heading, Answering}
+use Rattle.ct_node.specs.declared.node.Node.TheVariants.{Reading, Looking, Stepping, Staging, Swapping, Deleting, Putting, Placing, Heading, Answering}
 use Rattle.ct_node.specs.Worlds.{Has, Object, World, beginning, Happening, Comes, Makes, Puts, Goes, Told, comes, happens, MayHappen, LeadTo, IsFirstState}
 use Rattle.ct_node.specs.Sweeps.{IsFullFor, SweptWorld, swept_beginning, SweptHappening, Beside, TileGoes, HeadGoes, objects_behind, heads_behind, happens_swept, AreLeft, MayHappenSwept, LeadToSwept, StandsInstead, IsStillRead, SweepsKeep}
 use Rattle.ct_node.proofs.Sound.{heads_are_whole}
@@ -25,7 +25,6 @@ comes_objects w (Looking k) = refl
 comes_objects w (Stepping k) = refl
 comes_objects w (Staging k l n) = refl
 comes_objects w (Swapping k l n) = refl
-comes_objects w (Promising l n) = refl
 comes_objects w (Deleting k l) = refl
 comes_objects w (Putting l n) = refl
 comes_objects w (Placing l) = refl
@@ -61,7 +60,6 @@ head_or w (Comes (Looking k)) ls l i = inr i
 head_or w (Comes (Stepping k)) ls l i = inr i
 head_or w (Comes (Staging k m n)) ls l i = inr i
 head_or w (Comes (Swapping k m n)) ls l i = inr i
-head_or w (Comes (Promising m n)) ls l i = inr i
 head_or w (Comes (Deleting k m)) ls l i = inr i
 head_or w (Comes (Putting m n)) ls l i = inr i
 head_or w (Comes (Placing m)) ls l i = inr i
@@ -78,7 +76,6 @@ head_stays (Comes (Looking k)) ls l i = i
 head_stays (Comes (Stepping k)) ls l i = i
 head_stays (Comes (Staging k m n)) ls l i = i
 head_stays (Comes (Swapping k m n)) ls l i = i
-head_stays (Comes (Promising m n)) ls l i = i
 head_stays (Comes (Deleting k m)) ls l i = i
 head_stays (Comes (Putting m n)) ls l i = i
 head_stays (Comes (Placing m)) ls l i = i
@@ -96,7 +93,6 @@ head_put w (Comes (Looking k)) ls f l i = f l i
 head_put w (Comes (Stepping k)) ls f l i = f l i
 head_put w (Comes (Staging k m n)) ls f l i = f l i
 head_put w (Comes (Swapping k m n)) ls f l i = f l i
-head_put w (Comes (Promising m n)) ls f l i = f l i
 head_put w (Comes (Deleting k m)) ls f l i = f l i
 head_put w (Comes (Putting m n)) ls f l i = f l i
 head_put w (Comes (Placing m)) ls f l i = f l i

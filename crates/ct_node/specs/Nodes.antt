@@ -2,9 +2,9 @@
 use Rattle.std.specs.Prelude.{ℕ, Bool, not, ◌&&◌, ◌==◌, nat_lt, if◌then◌else◌}
 use Rattle.ct_node.specs.declared.state.State.{State}
 use Rattle.ct_node.specs.declared.node.Node.{Node}
-use Rattle.ct_node.specs.declared.node.Node.TheVariants.{Reading, Looking, Stepping, Staging, Swapping, Promising, Deleting, Putting, Placing, Heading, Answering}
+use Rattle.ct_node.specs.declared.node.Node.TheVariants.{Reading, Looking, Stepping, Staging, Swapping, Deleting, Putting, Placing, Heading, Answering}
 use Rattle.ct_node.specs.declared.node.Outcome.{Outcome}
-use Rattle.ct_node.specs.declared.node.Outcome.TheVariants.{Done, Promise, Lost, Read, Published, Bundle, Stepped, Listed}
+use Rattle.ct_node.specs.declared.node.Outcome.TheVariants.{Done, Lost, Read, Published, Bundle, Stepped, Listed}
 
 -- the state l may come after k: it was made from a state with k's timestamp, and is later
 abbrev pub follows : State → State → Bool
@@ -39,18 +39,11 @@ on_staging k l n Done = Swapping k l n
 on_staging k l n Lost = Reading
 on_staging k l n o = Staging k l n
 
--- swapping k for l: once the lock took l, its objects are put, or the waiting requests are first answered by a promise
+-- swapping k for l: once the lock took l, its objects are put
 abbrev pub on_swapping : State → State → ℕ → Outcome → Node
 on_swapping k l n Done = Putting l n
-on_swapping k l n Promise = Promising l n
 on_swapping k l n Lost = Reading
 on_swapping k l n o = Swapping k l n
-
--- promising what the lock took: after that, the objects of l are put
-abbrev pub on_promising : State → ℕ → Outcome → Node
-on_promising l n Done = Putting l n
-on_promising l n Lost = Reading
-on_promising l n o = Promising l n
 
 -- deleting the staged batch of l: whatever the outcome, a step may be made from k
 abbrev pub on_deleting : State → State → Outcome → Node
@@ -90,7 +83,6 @@ after (Looking k) o = on_looking k o
 after (Stepping k) o = on_stepping k o
 after (Staging k l n) o = on_staging k l n o
 after (Swapping k l n) o = on_swapping k l n o
-after (Promising l n) o = on_promising l n o
 after (Deleting k l) o = on_deleting k l o
 after (Putting l n) o = on_putting l n o
 after (Placing l) o = on_placing l o

@@ -22,7 +22,7 @@ pub record IsReadTruly (size : State → ℕ) (w : SweptWorld) (k : State) (f : 
 
 -- A node that continues from the state k is ahead of everything that was published:
 -- - No head that was ever put is later (`heads`).
--- - No requests that waited for a later state were answered, except by a promise (`answered`).
+-- - No requests that waited for a later state were answered (`answered`).
 -- - No state that the lock took is later, except the newest if its head was not put (`past`).
 pub record IsTakenUp (w : World) (k : State) : Type 0 where
   pub heads : (l : State) → Has l w.heads → l.moment ≤ k.moment

@@ -2,9 +2,9 @@
 use Rattle.std.specs.Prelude.{◌≡◌, ◌⊎◌, ⊤, ℕ, ◌<◌, ◌≤◌, List, [], ◌∷◌}
 use Rattle.ct_node.specs.declared.state.State.{State}
 use Rattle.ct_node.specs.declared.node.Node.{Node}
-use Rattle.ct_node.specs.declared.node.Node.TheVariants.{Reading, Looking, Stepping, Staging, Swapping, Promising, Deleting, Putting, Placing, Heading, Answering}
+use Rattle.ct_node.specs.declared.node.Node.TheVariants.{Reading, Looking, Stepping, Staging, Swapping, Deleting, Putting, Placing, Heading, Answering}
 use Rattle.ct_node.specs.declared.node.Outcome.{Outcome}
-use Rattle.ct_node.specs.declared.node.Outcome.TheVariants.{Done, Promise, Lost, Read, Published, Bundle, Stepped, Listed}
+use Rattle.ct_node.specs.declared.node.Outcome.TheVariants.{Done, Lost, Read, Published, Bundle, Stepped, Listed}
 use Rattle.ct_node.specs.Nodes.{after}
 
 -- x is an element of the list
@@ -25,7 +25,7 @@ pub record Made : Type 0 where
 -- The history of a log so far:
 -- - The lock holds a state (`held`), and has taken these, the newest first (`past`).
 -- - These states have a staged batch (`bundles`), a head (`heads`), or their entries in the deduplication index (`places`).
--- - The requests that waited for these states were answered (`answered`), or were answered by a promise (`promised`).
+-- - The requests that waited for these states were answered (`answered`).
 -- - These objects exist under their public names (`objects`).
 -- - These steps were ever made (`made`).
 -- - These commands were ever given (`sent`), and these took effect (`came`).
@@ -38,7 +38,6 @@ pub record World : Type 0 where
   pub heads : List State
   pub places : List State
   pub answered : List State
-  pub promised : List State
   pub objects : List Object
   pub made : List Made
   pub sent : List Node
@@ -54,7 +53,6 @@ beginning b =
       heads = b ∷ [];
       places = b ∷ [];
       answered = [];
-      promised = [];
       objects = [];
       made = [];
       sent = Reading ∷ [];
@@ -83,7 +81,6 @@ comes w (Swapping k l n) = record w { held = l; past = l ∷ w.past; came = Swap
 comes w (Putting l n) = record w { came = Putting l n ∷ w.came }
 comes w (Placing l) = record w { places = l ∷ w.places; came = Placing l ∷ w.came }
 comes w (Heading l) = record w { heads = l ∷ w.heads; came = Heading l ∷ w.came }
-comes w (Promising l n) = record w { promised = l ∷ w.promised; came = Promising l n ∷ w.came }
 comes w (Answering l) = record w { answered = l ∷ w.answered; came = Answering l ∷ w.came }
 comes w Reading = w
 comes w (Looking k) = w
@@ -129,7 +126,6 @@ IsMadeOfSeen w s l = ⊤
 -- - That there is a staged batch of a state: always.
 abbrev pub MayBeTold : (State → ℕ) → World → Node → Outcome → Type 0
 MayBeTold count w s Done = Has s w.came
-MayBeTold count w s Promise = Has s w.came
 MayBeTold count w s Lost = ⊤
 MayBeTold count w s (Read k) = Has k w.past
 MayBeTold count w s Published = HasHead w s
@@ -162,8 +158,7 @@ LeadTo count w (h ∷ hs) v = MayHappen count w h × LeadTo count (happens w h) 
 -- - Each head is that of a state that the lock took (`heads`).
 -- - All objects of a state with a head exist (`tiles`), and its entries are in the deduplication index (`placed`).
 -- - Each object that exists is of a state that the lock took (`objects`).
--- - If the requests of a state were answered, its head exists (`answered`). If they were answered by a promise, the lock took it
---   (`promised`).
+-- - If the requests of a state were answered, its head exists (`answered`).
 -- - The newest state's staged batch exists (`bundle`).
 pub record IsSoundWorld (count : State → ℕ) (w : World) : Type 0 where
   pub rolled : (l : State) → Has l w.past → (l ≡ w.held) ⊎ Has l w.heads
@@ -174,7 +169,6 @@ pub record IsSoundWorld (count : State → ℕ) (w : World) : Type 0 where
   pub placed : (l : State) → Has l w.heads → Has l w.places
   pub objects : (o : Object) → Has o w.objects → Has o.state w.past × (o.index < count o.state)
   pub answered : (l : State) → Has l w.answered → Has l w.heads
-  pub promised : (l : State) → Has l w.promised → Has l w.past
   pub bundle : Has w.held w.bundles
 
 -- a log begins with a state that has no objects and was made from an earlier timestamp

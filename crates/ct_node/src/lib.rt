@@ -8,7 +8,7 @@
 //! earlier command. In all these cases the following holds ([`laws::worlds`]):
 //! - A tree head exists only if all objects of its state and of every earlier state exist.
 //! - Under public names, only objects of states that the lock took ever exist.
-//! - Each request that is answered, except by a promise, has a head that covers it.
+//! - Each request that is answered has a head that covers it.
 //! - The newest state's staged batch is never deleted, and a node that starts can publish that state.
 //!
 //! The premises are the definition `MayHappen`:

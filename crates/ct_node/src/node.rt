@@ -19,9 +19,6 @@ pub enum Node {
     Staging(State, State, u64),
     /// Replace the first state in the lock by the second one.
     Swapping(State, State, u64),
-    /// If the log answers with a promise once the lock took a state: answer the requests that wait for this state, which has this number of
-    /// objects.
-    Promising(State, u64),
     /// The first state is published: delete the staged batch of the second one.
     Deleting(State, State),
     /// Put all objects of the state's staged batch, which has this number of them, in any order or several at once.
@@ -39,8 +36,6 @@ pub enum Node {
 pub enum Outcome {
     /// It is done.
     Done,
-    /// It is done, and the log answers with a promise once the lock took a state.
-    Promise,
     /// It is not done, or is not known to be done and is given up. This outcome does no harm if it is false.
     Lost,
     /// The lock held this state.
@@ -97,10 +92,7 @@ impl Node {
             (Node::Staging(seen, new, count), Outcome::Done) => Node::Swapping(seen, new, count),
             (Node::Staging(_, _, _), Outcome::Lost) => Node::Reading,
             (Node::Swapping(_, new, count), Outcome::Done) => Node::Putting(new, count),
-            (Node::Swapping(_, new, count), Outcome::Promise) => Node::Promising(new, count),
             (Node::Swapping(_, _, _), Outcome::Lost) => Node::Reading,
-            (Node::Promising(taken, count), Outcome::Done) => Node::Putting(taken, count),
-            (Node::Promising(_, _), Outcome::Lost) => Node::Reading,
             (Node::Deleting(seen, _), Outcome::Done | Outcome::Lost) => Node::Stepping(seen),
             (Node::Putting(taken, _), Outcome::Done) => Node::Placing(taken),
             (Node::Putting(_, _), Outcome::Lost) => Node::Reading,

@@ -227,7 +227,6 @@ nodes_write_one_log agree sound chains tiles contents again H S line step plan k
       record {
         past = past;
         answered = λ l h. (s.answered l h, past l (s.heads l (s.answered l h)));
-        promised = λ l h. past l (s.promised l h);
         tiles = are_tiles H S line step count plan b w.made steps tiles E w begins.0 s put;
         names = one_content H S line step count plan b w.made steps contents E w begins.0 s put;
       },

@@ -47,15 +47,13 @@ IsOf H line step made b E l =
 
 -- Everything in the stores belongs to the entries E:
 -- - each state that the lock took (`past`)
--- - each state whose waiting requests were answered, except by a promise, and such a state has a head (`answered`)
--- - each state whose waiting requests were answered by a promise (`promised`)
+-- - each state whose waiting requests were answered, and such a state has a head (`answered`)
 -- - each object that was ever put, which is a tile of E (`tiles`)
 --
 -- Each name has only one content (`names`).
 pub record StandsOf (H : List ℕ → List ℕ) (line : State → StateLine) (step : Made → LineAttempt) (b : State) (plan : Object → List ℕ × List ℕ) (E : List Tiled) (w : World) : Type 0 where
   pub past : (l : State) → Has l w.past → IsOf H line step w.made b E l
   pub answered : (l : State) → Has l w.answered → Has l w.heads × IsOf H line step w.made b E l
-  pub promised : (l : State) → Has l w.promised → IsOf H line step w.made b E l
   pub tiles : (o : Object) → Has o w.objects → IsTileOfEntries H E (plan o)
   pub names : (o p : Object) → Has o w.objects → Has p w.objects → (plan o).0 ≡ (plan p).0 → (plan o).1 ≡ (plan p).1
 

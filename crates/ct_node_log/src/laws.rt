@@ -10,8 +10,7 @@ ghost use Rattle.ct_node_log.specs.Public.{PublicNamesHaveOneContent};
 /// Suppose that the nodes' steps are made by `take_step`, and that the objects that they put of a state are those that `resume` returns for
 /// its line and any bytes. Then, whatever happens to the commands of any number of nodes, there is one list of entries:
 /// - The line of each state that the lock took is the line of a beginning of the list.
-/// - Each state whose waiting requests were answered, except by a promise, has a published head.
-/// - Each state whose waiting requests were answered, also by a promise, is the log's first state or comes from a step. This step's
+/// - Each state whose waiting requests were answered has a published head, and is the log's first state or comes from a step. This step's
 ///   receipts, staged batch and entries are those of the list.
 /// - For each public name of a tile, only one content was ever put, which is the list's tile.
 ///

@@ -6,7 +6,7 @@ use Rattle.ct_log_state.specs.declared.line.StateLine.{StateLine}
 use Rattle.ct_older_tree.specs.Hashed.{CollideAmong}
 use Rattle.ct_node.specs.declared.state.State.{State}
 use Rattle.ct_node.specs.declared.node.Node.{Node}
-use Rattle.ct_node.specs.declared.node.Node.TheVariants.{Reading, Looking, Stepping, Staging, Swapping, Promising, Deleting, Putting, Placing, Heading, Answering}
+use Rattle.ct_node.specs.declared.node.Node.TheVariants.{Reading, Looking, Stepping, Staging, Swapping, Deleting, Putting, Placing, Heading, Answering}
 use Rattle.ct_node.specs.declared.node.Outcome.{Outcome}
 use Rattle.ct_node.specs.declared.starting.Point.{Point}
 use Rattle.ct_node.specs.declared.starting.Beginning.{Beginning}
@@ -31,7 +31,6 @@ read_back (Looking s) m e = same_Some (Looking s) m e
 read_back (Stepping s) m e = same_Some (Stepping s) m e
 read_back (Staging s t n) m e = same_Some (Staging s t n) m e
 read_back (Swapping s t n) m e = same_Some (Swapping s t n) m e
-read_back (Promising s n) m e = absurd (none-some m e)
 read_back (Deleting s t) m e = same_Some (Deleting s t) m e
 read_back (Putting s n) m e = same_Some (Putting s n) m e
 read_back (Placing s) m e = same_Some (Placing s) m e
@@ -57,7 +56,6 @@ came_sent w (Looking k) = refl
 came_sent w (Stepping k) = refl
 came_sent w (Staging k l n) = refl
 came_sent w (Swapping k l n) = refl
-came_sent w (Promising l n) = refl
 came_sent w (Deleting k l) = refl
 came_sent w (Putting l n) = refl
 came_sent w (Placing l) = refl

@@ -4,7 +4,7 @@ use Rattle.ct_lock_text.specs.LockText.{text_said, says_root}
 use Rattle.ct_lock_text.specs.declared.reading.Said.{Said}
 use Rattle.ct_node.specs.declared.state.State.{State}
 use Rattle.ct_node.specs.declared.node.Node.{Node}
-use Rattle.ct_node.specs.declared.node.Node.TheVariants.{Reading, Looking, Stepping, Staging, Swapping, Promising, Deleting, Putting, Placing, Heading, Answering}
+use Rattle.ct_node.specs.declared.node.Node.TheVariants.{Reading, Looking, Stepping, Staging, Swapping, Deleting, Putting, Placing, Heading, Answering}
 use Rattle.ct_node.specs.declared.node.Outcome.{Outcome}
 use Rattle.ct_node.specs.declared.node.Outcome.TheVariants.{Done, Lost, Read, Published, Bundle, Stepped, Listed}
 use Rattle.ct_node.specs.Nodes.{after}
@@ -62,7 +62,6 @@ c_of_node (Putting l n) = c_with 6 no_state l n
 c_of_node (Placing l) = c_with 7 no_state l 0
 c_of_node (Heading l) = c_with 8 no_state l 0
 c_of_node (Answering l) = c_with 9 no_state l 0
-c_of_node (Promising l n) = c_with 10 no_state l n
 
 -- the outcome that a caller hands in, by its number; or nothing if no outcome has that number
 abbrev pub outcome_of_c : NodeOutcome → Option Outcome

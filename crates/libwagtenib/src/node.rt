@@ -124,7 +124,6 @@ fn of_node(node: &Node) -> NodeCommand
         Node::Placing(next) => command_with(7, &none, next, 0),
         Node::Heading(next) => command_with(8, &none, next, 0),
         Node::Answering(next) => command_with(9, &none, next, 0),
-        Node::Promising(next, objects) => command_with(10, &none, next, *objects),
     }
 }
 
