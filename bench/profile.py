@@ -25,8 +25,8 @@ PARTS = [
     ("malloc and free", r"malloc|free|realloc|rattle_alloc|unlink_chunk|sysmalloc|alloc_perturb"),
     ("lines cut off", r"script::serve|reading::|read_until|memchr"),
     ("JSON read", r"json|simdutf8|from_utf8|Value|btree|BTreeMap|read_line|json_lines::fields|Vec\+T\+Lodged"),
-    ("settling and publishing", r"ct_house|ct_core|shared|ct_tree|ct_versions|indexmap|left_right|logbook"),
-    ("fronts and tickets", r"ct_parties|ct_script|ct_tasks|ct_gate|rtrb|ct_codec|atomic_table"),
+    ("settling and publishing", r"ct_house|ct_core|shared|ct_tree|indexmap|left_right|logbook"),
+    ("fronts and tickets", r"ct_parties|ct_gate|rtrb|ct_codec|atomic_table"),
     ("replies written", r"ct_lines::writing|reply"),
 ]
 COUNT = re.compile(r"^\s*([\d,]+) \(\s*[\d.]+%\)\s+(.*)$")

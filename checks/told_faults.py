@@ -64,16 +64,16 @@ TOLD = {
         "Endless": (1, "behind the last turn over the reader's calls"),
         **dict.fromkeys(("ReadFailed", "WriteFailed"), (1, "with the reader's, or the writer's, error")),
     },
-    "ct_command/src/command.rt": dict.fromkeys(("ErrorKind::ValueValidation", "ErrorKind::InvalidValue"), (1, "clap's kind of a refusal, which a clause pins")),
+    "ctlog/src/command.rt": dict.fromkeys(("ErrorKind::ValueValidation", "ErrorKind::InvalidValue"), (1, "clap's kind of a refusal, which a clause pins")),
     "ct_parties/src/front_work.rt": {"Late": (1, "behind the last turn of a line that waits")},
     "ct_parties/src/operator_work.rt": {"Late": (1, "behind the last turn of a line that waits")},
-    "ct_tasks/src/reading.rt": {"Read": (1, "behind the last turn over the lines")},
-    "ct_script/src/script.rt": {"Write": (2, "a reply of the closed log couldn't be written whole, or the output handed on")},
-    "ct_script/src/threads.rt": {"Threads": (1, "a front's thread didn't start")},
+    "ct_lines/src/plan_reading.rt": {"Read": (1, "behind the last turn over the lines")},
+    "ct_parties/src/script.rt": {"Write": (2, "a reply of the closed log couldn't be written whole, or the output handed on")},
+    "ct_parties/src/threads.rt": {"Threads": (1, "a front's thread didn't start")},
     "ct_data_tiles/src/entries.rt": {"Unwritten": (1, "of a leaf's bytes that weren't made, a conversion of its own")},
     "ct_data_tile_calls/src/entries.rt": {"Unwritten": (1, "of a leaf's bytes that were not made, a conversion of its own")},
-    "ct_versions/src/shelf.rt": {"NotAppended": (2, "`append` handed it back")},
-    "ct_versions/src/viewer.rt": {"Closed": (3, "nothing is shown, or what is shown is behind what was learnt")},
+    "ct_house/src/shelf.rt": {"NotAppended": (2, "`append` handed it back")},
+    "ct_house/src/viewer.rt": {"Closed": (3, "nothing is shown, or what is shown is behind what was learnt")},
 }
 
 

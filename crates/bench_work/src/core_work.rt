@@ -2,8 +2,7 @@
 
 use crate::prepared::{ReadyItem, prepare};
 use ct_codec::Refusal;
-use ct_core::{Query, Reply, Settled};
-use ct_sequencing::Core;
+use ct_core::{Core, Query, Reply, Settled};
 use std::alloc::{AllocError, Global};
 
 // The number of queries of each kind.

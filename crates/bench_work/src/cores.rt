@@ -1,11 +1,11 @@
-//! Work over the sequencing core of `ct_sequencing`.
+//! Work over the sequencing core of `ct_core`.
 
 use crate::core_work as work;
 use crate::core_work::{Kind, Reading};
 use crate::prepared::prepare_all;
 use crate::report::{report, show_root};
 use ct_codec::Refusal;
-use ct_sequencing::Core;
+use ct_core::Core;
 use std::alloc::Global;
 use std::time::{Duration, Instant};
 

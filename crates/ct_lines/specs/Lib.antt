@@ -6,3 +6,7 @@ pub mod Frozen
 pub mod Serving
 pub mod Progress
 pub mod Laws
+pub mod Tasks
+pub mod Faults
+pub mod Steps
+pub mod Plans

@@ -14,8 +14,8 @@ use Rattle.ct_core.specs.declared.settled.Settled.{Settled}
 use Rattle.ct_core.specs.Core.{Begins, CoreState, IsCovered, IsInTime, IsNextHead, after_publishing, entry_at, newest_leaf, last_moment, clock_of, publish_refusal, settle_refusal, IsSettled}
 use Rattle.ct_house.specs.House.{AreInOrder, FrontView, HouseState, IsAllSettled, SettlesMore}
 use Rattle.ct_parties.specs.ClosedLog.{EndsAt, EntersAt, IsClosingFault, IsLate, IsReady, IsRefusedAtClosing, KeepsCount, KeepsSettled}
-use Rattle.ct_tasks.specs.Faults.{IsRefusalFault}
-use Rattle.ct_tasks.specs.declared.fault.Fault.{Fault}
+use Rattle.ct_lines.specs.Faults.{IsRefusalFault}
+use Rattle.ct_lines.specs.declared.run_fault.Fault.{Fault}
 
 newest_in_time : (core : CoreState) (now : ℕ) → clock_of core ≤ now → newest_leaf core.entries ≤ now
 newest_in_time core now h = omega arith

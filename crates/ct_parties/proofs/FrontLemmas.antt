@@ -13,7 +13,7 @@ use Rattle.ct_core.proofs.CoreLemmas.{Begins-refl, Begins-trans}
 use Rattle.ct_gate.specs.Ends.{IntakeView, SameIntake}
 use Rattle.ct_house.specs.House.{FrontView}
 use Rattle.ct_tree.specs.declared.head.Head.{Head}
-use Rattle.ct_versions.specs.Sights.{Sight, Moves}
+use Rattle.ct_house.specs.Sights.{Sight, Moves}
 use Rattle.ct_lines.specs.ReplyText.{answered}
 use Rattle.ct_parties.specs.FrontWork.{FrontGoesOn, Looks, Shows}
 

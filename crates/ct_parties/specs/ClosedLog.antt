@@ -3,8 +3,8 @@ use Rattle.std.specs.Prelude.{All, ◌≡◌, ◌≢◌, ◌⊎◌, ◌<◌, ◌
 use Rattle.ct_codec.specs.declared.refusal.Refusal.{Refusal}
 use Rattle.ct_codec.specs.declared.refusal.Refusal.TheVariants.{ClockBack, Memory}
 use Rattle.ct_tree.specs.declared.head.Head.{Head}
-use Rattle.ct_tasks.specs.declared.fault.Fault.{Fault}
-use Rattle.ct_tasks.specs.declared.fault.Fault.TheVariants as fault
+use Rattle.ct_lines.specs.declared.run_fault.Fault.{Fault}
+use Rattle.ct_lines.specs.declared.run_fault.Fault.TheVariants as fault
 use Rattle.ct_core.specs.Settlement.{Log, IsFinal}
 use Rattle.ct_core.specs.Leaf.{Entry}
 use Rattle.ct_core.specs.Core.{Begins, CoreState, Extends, IsCovered, clock_of, last_moment}

@@ -11,7 +11,7 @@ use Rattle.ct_core.specs.declared.query.Query.TheVariants.{GetSth}
 use Rattle.ct_gate.specs.Ends.{IntakeView, SameIntake}
 use Rattle.ct_gate.specs.Sending.{Accepts, Refuses}
 use Rattle.ct_house.specs.House.{FrontView}
-use Rattle.ct_versions.specs.Sights.{Moves}
+use Rattle.ct_house.specs.Sights.{Moves}
 use Rattle.ct_tree.specs.declared.head.Head.{Head}
 use Rattle.ct_parties.specs.InTurn.{Serves}
 use Rattle.ct_lines.specs.declared.request.FrontRequest.{FrontRequest}

@@ -4,3 +4,6 @@ pub mod FrontWork
 pub mod OperatorWork
 pub mod Fronts
 pub mod ClosedLog
+pub mod Parties
+pub mod Shifts
+pub mod Output

@@ -7,8 +7,8 @@ use Rattle.ct_core.specs.Core.{Begins, clock_of, settle_refusal, IsNextHead, IsI
 use Rattle.ct_core.specs.Replies.{Answer, a_settled_count, a_published_head, an_accepted_count, refused}
 use Rattle.ct_house.specs.House.{HouseState, SettlesMore}
 use Rattle.ct_parties.specs.InTurn.{Serves}
-use Rattle.ct_tasks.specs.declared.task.OperatorTask.{OperatorTask}
-use Rattle.ct_tasks.specs.declared.task.OperatorTask.TheVariants.{Sequence, Publish, Shutdown, BadLine}
+use Rattle.ct_lines.specs.declared.task.OperatorTask.{OperatorTask}
+use Rattle.ct_lines.specs.declared.task.OperatorTask.TheVariants.{Sequence, Publish, Shutdown, BadLine}
 
 -- the house continues: it is the same house, and its shutdown and everything settled and published remain
 pub record GoesOn (old new : HouseState) : Type 0 where

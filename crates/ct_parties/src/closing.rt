@@ -6,7 +6,7 @@ ghost use Rattle.ct_parties.specs.ClosedLog.{IsReady, IsRefusedAtClosing, IsClos
 
 use ct_codec::Refusal;
 use ct_house::{FinalLog, Front, Retired, Sequencer};
-use ct_tasks::Fault;
+use ct_lines::Fault;
 use ct_tree::Head;
 use std::alloc::{AllocError, Global};
 use std::sync::Wait;

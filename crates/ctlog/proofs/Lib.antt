@@ -1,1 +1,5 @@
 pub mod RunLemmas
+pub mod CommandLemmas
+pub mod OptionLemmas
+pub mod FaultKinds
+pub mod AnswerLemmas

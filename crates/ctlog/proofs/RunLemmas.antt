@@ -2,10 +2,10 @@
 use Rattle.std.proofs.Common.{◌≡◌, ℕ, List, [], inr}
 use Rattle.std.specs.Prelude.{Option}
 use Rattle.std.specs.Io.KnownBytes.{Appends}
-use Rattle.ct_script.specs.Output.{not_begun}
-use Rattle.ct_tasks.specs.declared.fault.Fault.{Fault}
-use Rattle.ct_tasks.specs.declared.fault.Fault.TheVariants.{Memory}
-use Rattle.ct_command.specs.CommandLine.{CommandLine, log_with, help, version, nothing}
+use Rattle.ct_parties.specs.Output.{not_begun}
+use Rattle.ct_lines.specs.declared.run_fault.Fault.{Fault}
+use Rattle.ct_lines.specs.declared.run_fault.Fault.TheVariants.{Memory}
+use Rattle.ctlog.specs.CommandLine.{CommandLine, log_with, help, version, nothing}
 use Rattle.ctlog.specs.Runs.{IsBrokenOff}
 
 -- nothing was written because there was no memory, for any request

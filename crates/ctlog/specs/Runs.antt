@@ -1,10 +1,10 @@
 -- The output of a run of the program.
 use Rattle.std.specs.Prelude.{◌≡◌, ◌⊎◌, ℕ, List, [], Option}
 use Rattle.std.specs.Io.KnownBytes.{Appends}
-use Rattle.ct_script.specs.Output.{IsBegun, IsServed}
-use Rattle.ct_tasks.specs.declared.fault.Fault.{Fault}
-use Rattle.ct_tasks.specs.declared.fault.Fault.TheVariants.{Memory, Write}
-use Rattle.ct_command.specs.CommandLine.{CommandLine, log_with, help, version, nothing}
+use Rattle.ct_parties.specs.Output.{IsBegun, IsServed}
+use Rattle.ct_lines.specs.declared.run_fault.Fault.{Fault}
+use Rattle.ct_lines.specs.declared.run_fault.Fault.TheVariants.{Memory, Write}
+use Rattle.ctlog.specs.CommandLine.{CommandLine, log_with, help, version, nothing}
 
 -- the output of a run with status 0, by the request in its command line: all replies; or the text of help or of the version
 abbrev pub IsDone : CommandLine → Option (List ℕ) → Option (List ℕ) → Option (List ℕ) → Type 0

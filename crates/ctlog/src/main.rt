@@ -5,28 +5,38 @@
 //! of the fronts come first, in the order of their numbers, then the operator's, and then, after the log is closed, those of the frozen
 //! log. At a line that ends a shift, all lines before it are done, and all fronts are resumed, before the lines after it are started.
 //!
-//! - `program` has `run`, which does all this over any reader and any two writers, with `serve` of `ct_script`. `ct_command` reads the
-//!   command line, and has the lines for faults, which end the program before all output is written.
+//! - `program` has `run`, which does all this over any reader and any two writers, with `serve` of `ct_parties`.
+//! - `words` has the texts of the arguments, `command` reads the numbers of a log from them, and `answer` answers a command line that gives
+//!   no numbers. `names` has the program's name and its descriptions for help.
+//! - `reporting` writes the line for a fault, which ends the program before all output is written.
 #![tactic(auto)]
 
 ghost use Rattle.std.specs.Prelude.{◌≡◌, ◌⊎◌, ◌≤◌};
-ghost use Rattle.ct_tasks.specs.declared.fault.Fault.{Fault as FaultOf};
-ghost use Rattle.ct_command.specs.CommandLine.{asked_of, help, version, nothing};
-ghost use Rattle.ct_command.specs.FaultLines.{fault_line, name_of};
+ghost use Rattle.ct_lines.specs.declared.run_fault.Fault.{Fault as FaultOf};
+ghost use Rattle.ctlog.specs.CommandLine.{asked_of, help, version, nothing};
+ghost use Rattle.ctlog.specs.FaultLines.{fault_line, name_of};
 ghost use Rattle.ctlog.specs.Runs.{IsDone, IsBrokenOff};
 ghost use Rattle.json_lines.specs.Sends.{SendsSome};
 
+mod answer;
+mod command;
+mod names;
 mod program;
+mod reporting;
+mod words;
 
-use ct_command::{Program, refuse_words, report, texts};
-use ct_tasks::Fault;
+use answer::refuse_words;
+use ct_lines::Fault;
+use names::Program;
 use program::{TURNS, run};
+use reporting::report;
 use std::alloc::Global;
 use std::io;
 use std::io::{Read, Write};
 use std::process::ExitCode;
 use std::sync::Wait;
 use std::thread::Threads;
+use words::texts;
 
 // Returns the arguments of the command line. The contracts of `std` do not say which these are.
 fn collected(rt: &HostRuntime) -> io::Result<Vec<String>> {

@@ -2,14 +2,17 @@
 
 ghost use Rattle.std.specs.Prelude.{◌≡◌, ◌⊎◌, ◌≤◌};
 ghost use Rattle.json_lines.specs.Sends.{SendsSome};
-ghost use Rattle.ct_tasks.specs.declared.fault.Fault.{Fault as FaultOf};
-ghost use Rattle.ct_command.specs.CommandLine.{asked_for, help, version, nothing};
-ghost use Rattle.ct_command.specs.FaultLines.{fault_line, name_of};
+ghost use Rattle.ct_lines.specs.declared.run_fault.Fault.{Fault as FaultOf};
+ghost use Rattle.ctlog.specs.CommandLine.{asked_for, help, version, nothing};
+ghost use Rattle.ctlog.specs.FaultLines.{fault_line, name_of};
 ghost use Rattle.ctlog.specs.Runs.{IsDone, IsBrokenOff};
 
-use ct_command::{Program, answer_command_line, read_options, report};
-use ct_script::serve;
-use ct_tasks::Fault;
+use crate::answer::answer_command_line;
+use crate::command::read_options;
+use crate::names::Program;
+use crate::reporting::report;
+use ct_lines::Fault;
+use ct_parties::serve;
 use std::alloc::Global;
 use std::io::{Read, Write};
 use std::sync::Wait;

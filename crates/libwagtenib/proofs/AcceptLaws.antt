@@ -27,9 +27,9 @@ accepts H accepted head proof (inr (r, code, stops)) = absurd (omega (arith, cod
 lets : (H : List ℕ → List ℕ) (state : List ℕ) (first : ℕ) (subtrees leaves : List (List ℕ)) → GuardsReceipts H 0 state first subtrees leaves
     → (last : Head) × IsStateOf last state × PassesReceipts H (Some last) first subtrees leaves × AreHashes subtrees
 lets H state first subtrees leaves (inl z) = absurd (omega (arith, z.0))
-lets H state first subtrees leaves (inr (last, is, inl z)) = (last, is, z.1, z.2)
-lets H state first subtrees leaves (inr (last, is, inr (inl (r, code, stops)))) = absurd (omega (arith, code, above_0-receipt r))
-lets H state first subtrees leaves (inr (last, is, inr (inr none))) = absurd (omega (arith, none))
+lets H state first subtrees leaves (inr (last, is, inl (inl z))) = (last, is, z.1, z.2)
+lets H state first subtrees leaves (inr (last, is, inl (inr (r, code, stops)))) = absurd (omega (arith, code, above_0-receipt r))
+lets H state first subtrees leaves (inr (last, is, inr none)) = absurd (omega (arith, none))
 
 steps_of : (H : List ℕ → List ℕ) (accepted : Head) (acts : List (NodeAct H)) → AreActs H accepted acts → AreHeadSteps H (Some accepted) (accepted_steps acts)
 unfolding AreActs AreHeadSteps accepted_steps

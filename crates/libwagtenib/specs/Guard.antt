@@ -70,14 +70,19 @@ GuardsReceipt H code state leaf index path =
     × (((code ≡ 0) × PassesReceipt H (Some last) leaf index path)
     ⊎ ((r : ReceiptRefusal) × (code ≡ receipt_code r) × StopsReceipt H (Some last) leaf index path r)))
 
--- 36: the bytes that were handed in as the last TreeHeadSignature are none. 0: they are that of a head whose tree ends with the leaves E, from this index on, by
--- these roots of the subtrees before, and each leaf may have a receipt. Otherwise the number of the first reason why not, or memory was refused (8).
+-- 0: the last head's tree ends with the leaves E, from this index on, by these roots of the subtrees before, and each leaf may have a receipt. Otherwise the number of the
+-- first reason why not.
+abbrev pub JudgesReceipts : (List ℕ → List ℕ) → ℕ → Head → ℕ → List (List ℕ) → List (List ℕ) → Type 0
+JudgesReceipts H code last first subtrees E =
+    ((code ≡ 0) × PassesReceipts H (Some last) first subtrees E × AreHashes subtrees)
+    ⊎ ((r : ReceiptRefusal) × (code ≡ receipt_code r) × StopsReceipts H (Some last) first subtrees E r)
+
+-- 36: the bytes that were handed in as the last TreeHeadSignature are none. Otherwise the receipts are judged after its head, or memory was refused (8).
 abbrev pub GuardsReceipts : (List ℕ → List ℕ) → ℕ → List ℕ → ℕ → List (List ℕ) → List (List ℕ) → Type 0
 GuardsReceipts H code state first subtrees E =
     ((code ≡ 36) × IsOfNoHead state)
     ⊎ ((last : Head) × IsStateOf last state
-    × (((code ≡ 0) × PassesReceipts H (Some last) first subtrees E × AreHashes subtrees)
-    ⊎ (((r : ReceiptRefusal) × (code ≡ receipt_code r) × StopsReceipts H (Some last) first subtrees E r) ⊎ (code ≡ 8))))
+    × (JudgesReceipts H code last first subtrees E ⊎ (code ≡ 8)))
 
 -- 0: the head is the one that was accepted, or it is later and its tree contains that one's by this proof, whose elements have 32 bytes. Otherwise the number of
 -- the reason why not.

@@ -1,12 +1,13 @@
 //! The guard decides what a log's key may sign. Its state is the TreeHeadSignature that was signed last (RFC 6962, section 3.5), and belongs to the caller.
 
-ghost use Rattle.std.specs.Prelude.{◌≡◌, IfOk, MatchResult, map};
+ghost use Rattle.std.specs.Prelude.{◌≡◌, MatchResult, map};
 ghost use Rattle.std.specs.Bool.{MatchBool};
 ghost use Rattle.sha2.specs.Sha256.{sha256};
 ghost use Rattle.libwagtenib.specs.Codes.{head_code, receipt_code};
-ghost use Rattle.libwagtenib.specs.Guard.{head_of_c, AcceptsHead, GuardsFirstHead, GuardsHead, GuardsReceipt, GuardsReceipts, IsAtOrAfter, MayBeFirst, MayFollow, MayNotFollow, ReadsGuardState};
+ghost use Rattle.libwagtenib.specs.Guard.{head_of_c, AcceptsHead, GuardsFirstHead, GuardsHead, GuardsReceipt, GuardsReceipts, IsAtOrAfter, JudgesReceipts, MayBeFirst, MayFollow, MayNotFollow, ReadsGuardState};
 ghost use Rattle.libwagtenib.specs.Tiles.{pieces};
 
+use crate::codes::OUT_OF_MEMORY;
 use crate::head::{TreeHead, head_of, of_head, read_state, write_state};
 use crate::tiles::slices_of;
 use crate::{codes, leaf, proofs};
@@ -63,6 +64,17 @@ fn follow(last: &Head, head: &Head, proof: &[[u8; 32]], max_ahead: u64) -> Resul
     match guard.pass_head(&Sha256Hash, head, proof) {
         Ok(()) => Ok(()),
         Err(refusal) => Err(number_of_head(refusal)),
+    }
+}
+
+// Whether the receipts of a step may be signed after the last head: 0, or the number of the first reason why not.
+fn receipts_code(last: Head, first_index: u64, subtrees: &[[u8; 32]], leaves: &[&[u8]]) -> u32
+    ensures { JudgesReceipts sha256 result last first_index subtrees.now (map (λ leaf. leaf.now) leaves.now) }
+{
+    let guard = Guard { last: Some(last) };
+    match pass_receipts(&Sha256Hash, &guard, first_index, subtrees, leaves) {
+        Ok(()) => codes::OK,
+        Err(refusal) => number_of_receipt(refusal),
     }
 }
 
@@ -157,14 +169,9 @@ pub extern "C" fn wagtenib_guard_receipts(
     let Some(last) = read_state(last) else {
         return codes::BAD_STATE;
     };
-    let leaves = match slices_of(alloc, leaves, lengths) {
-        Ok(leaves) => leaves,
-        Err(AllocError) => return codes::OUT_OF_MEMORY,
-    };
-    let guard = Guard { last: Some(last) };
-    match pass_receipts(&Sha256Hash, &guard, first_index, subtrees, &leaves) {
-        Ok(()) => codes::OK,
-        Err(refusal) => number_of_receipt(refusal),
+    match slices_of(alloc, leaves, lengths) {
+        Ok(leaves) => receipts_code(last, first_index, subtrees, &leaves),
+        Err(AllocError) => OUT_OF_MEMORY,
     }
 }
 

@@ -2,8 +2,7 @@ use crate::rows::{Row, Shown, right_rows};
 use crate::settled_log::{asked, publish, receipt, settle};
 use ct_codec::{Refusal, decode_chain, decode_leaf};
 use ct_core::laws::shown_entries_are_read;
-use ct_core::{Query, Reply, ShownEntry};
-use ct_sequencing::Core;
+use ct_core::{Core, Query, Reply, ShownEntry};
 use std::test::Fail;
 
 // The hashes of five leaves, computed with Python's hashlib: the certificates 41 and 42 at the timestamp 1, and 43 to 45 at 2. The hash of

@@ -1,8 +1,7 @@
 use crate::rows::{Row, Shown, right_rows};
 use crate::settled_log::{is_text, publish, receipt, record, settle, settle_submission};
 use ct_codec::{Refusal, Submission, extra_data, identity};
-use ct_core::{LeafTable, Published};
-use ct_sequencing::Core;
+use ct_core::{Core, LeafTable, Published};
 use std::sync::Arc;
 use std::test::Fail;
 

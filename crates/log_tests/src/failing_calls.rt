@@ -1,8 +1,7 @@
 // The frozen log over a reader and a writer that fail at one of their calls, for each call in turn.
 use crate::settled_log::publish;
-use ct_core::Published;
+use ct_core::{Core, Published};
 use ct_lines::{ServeFault, serve_frozen};
-use ct_sequencing::Core;
 use std::io;
 use std::io::{ErrorKind, Read, Write};
 use std::test::*;

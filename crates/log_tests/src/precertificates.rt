@@ -5,8 +5,7 @@ use crate::rows::{Row, Shown, right_rows};
 use crate::settled_log::{asked, publish, settle, settle_submission};
 use crate::submissions::{Submissions, is_pre_chain, submission};
 use ct_codec::Refusal;
-use ct_core::{Query, Reply, Settled};
-use ct_sequencing::Core;
+use ct_core::{Core, Query, Reply, Settled};
 use std::test::*;
 
 #[test]

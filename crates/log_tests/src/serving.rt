@@ -1,9 +1,8 @@
 use crate::rows::{Row, Shown, right_rows};
 use crate::settled_log::{publish, settle};
 use ct_codec::Refusal;
-use ct_core::Published;
+use ct_core::{Core, Published};
 use ct_lines::{ServeFault, serve_frozen};
-use ct_sequencing::Core;
 use std::io;
 use std::io::{ErrorKind, Read, Write};
 use std::test::*;

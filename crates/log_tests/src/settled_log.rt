@@ -5,8 +5,7 @@ ghost use Rattle.ct_core.specs.Leaf.{leaf_at};
 ghost use Rattle.ct_core.specs.Tree.{sha256_leaf};
 
 use ct_codec::{Item, Refusal, Submission, leaf_input};
-use ct_core::{Query, Reply, Settled};
-use ct_sequencing::Core;
+use ct_core::{Core, Query, Reply, Settled};
 use ct_tree::{Head, Sha256Hash, leaf_hash};
 use std::alloc::Global;
 

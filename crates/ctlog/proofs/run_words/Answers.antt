@@ -2,12 +2,12 @@ use Rattle.std.proofs.Common.{◌≡◌, ◌⊎◌, ◌∙◌, ℕ, List, String
 use Rattle.std.specs.Borrow.{Bor}
 use Rattle.std.specs.Global.{Global}
 use Rattle.std.proofs.KnownBytes.{Appends-nil}
-use Rattle.ct_command.specs.CommandLine.{CommandLine, asked_for, asked_of, command_line, help, version, nothing}
-use Rattle.ct_command.specs.FaultLines.{fault_line, name_of}
-use Rattle.ct_command.specs.declared.program.Program.TheVariants.{Ctlog}
+use Rattle.ctlog.specs.CommandLine.{CommandLine, asked_for, asked_of, command_line, help, version, nothing}
+use Rattle.ctlog.specs.FaultLines.{fault_line, name_of}
+use Rattle.ctlog.specs.declared.names.Program.TheVariants.{Ctlog}
 use Rattle.ctlog.specs.Runs.{IsDone, IsBrokenOff}
 use Rattle.json_lines.specs.Sends.{SendsSome}
-use Rattle.ct_tasks.specs.declared.fault.Fault.{Fault}
+use Rattle.ct_lines.specs.declared.run_fault.Fault.{Fault}
 use Rattle.ctlog.proofs.RunLemmas.{none_written}
 use Rattle.ctlog.proofs.run_words.Goals as goal
 

@@ -1,5 +1,5 @@
 use Rattle.std.proofs.Common.{◌∙◌, sym, refl, arith, map, []}
-use Rattle.ct_versions.specs.Sights.{Sight}
+use Rattle.ct_house.specs.Sights.{Sight}
 use Rattle.ct_house.specs.House.{new_front}
 use Rattle.ct_house.proofs.OpeningLemmas.{opened, new_lanes, new_numbers, sequences_none}
 use Rattle.ct_house.proofs.opening.new_sequencer.Goals as goal

@@ -4,7 +4,7 @@ use Rattle.std.proofs.lemmas.List.Elements.{All-pop, All-cons, All-same}
 use Rattle.std.specs.Prelude.{Some}
 use Rattle.ct_gate.specs.Ends.{IntakeView}
 use Rattle.ct_core.specs.Core.{Extends}
-use Rattle.ct_versions.specs.Sights.{ShelfView}
+use Rattle.ct_house.specs.Sights.{ShelfView}
 use Rattle.ct_house.specs.House.{FrontView}
 use Rattle.ct_house.proofs.FinishLemmas.{moved_more, done_more}
 use Rattle.ct_house.proofs.sequencer.intakes_of.Goals as goal

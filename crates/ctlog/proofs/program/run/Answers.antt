@@ -1,8 +1,8 @@
 use Rattle.clap.specs.Words.{kind_of}
-use Rattle.ct_command.specs.CommandLine.{CommandLine, asked_for}
-use Rattle.ct_command.specs.FaultLines.{name_of}
-use Rattle.ct_command.specs.declared.program.Program.TheVariants.{Ctlog}
-use Rattle.ct_command.proofs.RunLemmas.{noticed, refused_words, unanswered}
+use Rattle.ctlog.specs.CommandLine.{CommandLine, asked_for}
+use Rattle.ctlog.specs.FaultLines.{name_of}
+use Rattle.ctlog.specs.declared.names.Program.TheVariants.{Ctlog}
+use Rattle.ctlog.proofs.AnswerLemmas.{noticed, refused_words, unanswered}
 use Rattle.ctlog.specs.Runs.{IsBrokenOff, IsDone}
 use Rattle.ctlog.proofs.RunLemmas.{none_written}
 use Rattle.ctlog.proofs.program.run.Goals as goal

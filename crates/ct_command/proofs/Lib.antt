@@ -1,4 +1,0 @@
-pub mod CommandLemmas
-pub mod OptionLemmas
-pub mod FaultKinds
-pub mod RunLemmas

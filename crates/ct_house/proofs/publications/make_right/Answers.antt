@@ -1,0 +1,18 @@
+use Rattle.std.proofs.Common.{ap, sym, ◌∙◌}
+use Rattle.std.specs.Prelude.{◌==◌}
+use prog.Atomic.{either}
+use Rattle.ct_house.proofs.Steps.{right_moves}
+use Rattle.ct_house.proofs.publications.make_right.Goals as goal
+
+pub compare_exchange-requires : goal.compare_exchange-requires
+compare_exchange-requires c =
+    let h = c.requires in
+    let same = ap (λ s. s.book) c.again-seen.ensures in
+    let pen = c.no_pen-pen.ensures in
+    let offer = c.plain-offer.ensures in (
+      ap (λ w. w.tracked) h,
+      same ∙ sym (ap (λ w. w.book) h),
+      pen.0 ∙ (same ∙ sym (ap (λ w. w.book) h)),
+      offer.0,
+      rw (ap (λ w. w.key) h, pen.1, offer.3) (right_moves c.again-seen.result.log c.plain-offer.result.ask (λ n. either (n == 0) 0 n)),
+    )

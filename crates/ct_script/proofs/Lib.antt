@@ -1,5 +1,0 @@
-mod PartyLemmas
-mod OrderLemmas
-mod ShiftLemmas
-mod StartLemmas
-mod OutputLemmas

@@ -1,3 +1,0 @@
-pub mod Parties
-pub mod Shifts
-pub mod Output

@@ -1,2 +1,0 @@
-pub mod SettleSteps
-pub mod AdoptSteps

@@ -1,3 +1,0 @@
-mod TaskLemmas
-pub mod PlanLemmas
-mod ReadingLemmas

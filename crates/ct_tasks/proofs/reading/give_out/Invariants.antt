@@ -1,5 +1,0 @@
-use Rattle.ct_tasks.proofs.ReadingLemmas.{HasRead}
-use Rattle.ct_tasks.proofs.reading.give_out.Given as goal
-
-abbrev pub invariant-loop-turn : goal.invariant-loop-turn
-invariant-loop-turn g l = HasRead l.fronts l.plan (g.R.Read.remaining l.fn.input) (g.R.Read.remaining l.input)

@@ -1,4 +1,0 @@
-pub mod Tasks
-pub mod Faults
-pub mod Steps
-pub mod Plans

@@ -1,6 +1,0 @@
-use Rattle.std.proofs.Common.{refl}
-use Rattle.ct_versions.proofs.Copies.{turns}
-use Rattle.ct_versions.proofs.viewer.Viewer.ask.Goals as goal
-
-pub enter_as-requires : goal.enter_as-requires
-enter_as-requires c x = turns _ _ x x refl
