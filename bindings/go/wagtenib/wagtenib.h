@@ -3,7 +3,7 @@
  *
  * A hash is 32 bytes (SHA-256). A list of hashes is given by a pointer to its first byte and the number of hashes, which
  * stand one after the other. No call keeps a pointer or has any state, so every call may run in any thread at any time.
- * wagtenib_root, wagtenib_lock_text, and the functions over steps, certificates, tiles and texts and those of the witness and of the monitor take memory (malloc), and
+ * wagtenib_root, wagtenib_guard_receipts, wagtenib_lock_text, and the functions over steps, certificates, tiles and texts and those of the witness and of the monitor take memory (malloc), and
  * give it back before they return. All other memory is the caller's. A length is a number of bytes.
  *
  * What the caller owes, and nothing checks: each pointer points to as many bytes as is said, readable, and writable where
@@ -16,6 +16,7 @@
  * are not named here take none.
  *
  *   wagtenib_root                            0 bytes and 4 KB
+ *   wagtenib_guard_receipts                  8 bytes and 1 KB
  *   wagtenib_lock_text                       2 bytes and 1 KB
  *   wagtenib_step                            8 bytes and 2 MB
  *   wagtenib_step_*                          3 bytes and 1 KB
@@ -197,7 +198,7 @@ struct wagtenib_head {
  *   3. after that, sign `signed_bytes`.
  *
  * Then the log signs no fork, however many processes call the guard and wherever they are killed. A state of another length, or with other bytes, is never
- * taken for no state: it is refused as 36. No call takes memory. */
+ * taken for no state: it is refused as 36. Only wagtenib_guard_receipts takes memory: 16 bytes for each leaf. */
 
 /* Whether `head` may be the first head that a log signs. Call it when the log is created, or when the operator asks for it, and never only because a state
  * is missing. 0: it is the head of the empty tree (no leaves, root SHA-256 of no bytes), at any timestamp, or it has leaves and is equal to `named`, which
@@ -218,6 +219,15 @@ uint32_t wagtenib_guard_head(const uint8_t *last, size_t last_length, const stru
  * to 22 of the leaf, 1 to 4 of the path, 38, 39. A log that signs an SCT before the leaf is in a tree calls wagtenib_decode_leaf instead. */
 uint32_t wagtenib_guard_receipt(const uint8_t *last, size_t last_length, const uint8_t *leaf, size_t leaf_length, uint64_t leaf_index,
                                 const uint8_t *path, size_t path_length);
+
+/* Whether SCTs of all leaves of a step may be signed after the head whose TreeHeadSignature is `last`: one call for the step, which hashes each leaf and each
+ * node once. The leaves of the step have the indexes from first_index on. `subtrees` are the roots of the perfect subtrees of the first_index leaves before
+ * them, largest first (those that wagtenib_push writes). The bytes of the leaves are in `leaves`, one leaf after the other, and `lengths` has the length of
+ * each leaf in bytes; a leaf is cut where the bytes end. 0: the leaves end where the tree of that head ends, they and the subtrees give its root, and each
+ * leaf's timestamp is not later than the head's, and its extensions are empty or contain only its index. Otherwise the first reason in this order: 36; 8;
+ * 1 (there are no leaves, or they end elsewhere); 4; and then 17 to 22, 38 or 39 of the first leaf that may have no SCT. */
+uint32_t wagtenib_guard_receipts(const uint8_t *last, size_t last_length, uint64_t first_index, const uint8_t *subtrees, size_t subtree_count,
+                                 const uint8_t *leaves, size_t leaves_length, const uint64_t *lengths, size_t leaf_count);
 
 /* Reads a state. 0: its head is in `head`, and is the head of the state `seen`, or has a later timestamp and no fewer leaves. 36: one of both is not the
  * TreeHeadSignature of a head. 37: the state was rolled back. Nothing is written unless the result is 0. To read a state without another, pass it twice. */
@@ -364,6 +374,15 @@ struct wagtenib_node_found {
  * no head that it found is later. 116: it creates the lock. 117 to 123: it must do neither, for the first reason in this order: 117 if there is no lock; otherwise
  * 118, 120 or 119, 121, 122, 123. 114: the bytes are no lock's text. */
 uint32_t wagtenib_node_start(const uint8_t *lock, size_t lock_length, const struct wagtenib_node_found *found);
+
+/* Whether a node may go on from `head`, if `accepted` is the newest head that it accepted. `proof` is the consistency proof between them; if their sizes are
+ * equal, or the size of `accepted` is 0, it is not read. 0: `head` is the accepted head again, or its timestamp is later, and its tree contains that of
+ * `accepted` by the proof. Otherwise the first reason in this order: 32, 33, 34, then 5, 2, 3, 6 or 4 of the proof.
+ *
+ * A lock may hold an older text again, if its store is restored from a backup, and other nodes may continue from there. So a node keeps the newest head that it
+ * accepted in a memory of its own, calls this function for the head of each text that it reads from the lock, and signs and publishes nothing of a text
+ * before the result is 0 and the memory has its head. Then all heads and receipts that it signs belong to one list, whatever the lock holds. */
+uint32_t wagtenib_node_accept(const struct wagtenib_head *accepted, const struct wagtenib_head *head, const uint8_t *proof, size_t proof_length);
 
 /* Writes a lock's text: `line` is the state's line that a step gave, `node` the address of this node (UTF-8 without a line end), `previous_timestamp` that of the state
  * from which the step was made, and `salt` a new random number. 0: the text is written. 9: *length says how much room it needs, and nothing else is
