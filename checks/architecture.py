@@ -1,13 +1,18 @@
 #!/usr/bin/env python3
-"""The rooms of crates: no arrow between them goes back, and the tables and the first picture of docs/ARCHITECTURE.md are made of crates.txt and of the
-first sentences of the crates' own pages.
+"""Checks the rooms (groups) of crates: no dependency between rooms goes back. The tables and the first picture of docs/ARCHITECTURE.md are generated from
+crates.txt and from the first sentences of the crates' own pages.
 
     architecture.py [--write]
 
-In crates.txt a line '# Room NAME over NAME, NAME' stands above the crates of a room, and says over which rooms, which stand before it, its crates
-may stand beside its own. What is made of each stands behind its line MADE. The script prints each crate that stands over one of another room, each that
-is in no room, each whose lib.rt or main.rt doesn't begin with a page, and the first line of what is made that differs; it ends with status 1 where there is one.
-With --write it writes the tables.
+In crates.txt a line '# Room NAME over NAME, NAME' comes before the crates of a room. It lists the earlier rooms whose crates this room's crates may
+depend on, besides those of their own room. The table of a room follows its line MADE. The script prints
+
+- each crate that depends on a crate of a room that it may not depend on,
+- each crate that is in no room,
+- each crate whose lib.rt or main.rt does not begin with a page,
+- and the first generated line that differs.
+
+If it prints anything, it ends with status 1. With --write it writes the tables and the picture.
 """
 import re
 import sys
@@ -22,13 +27,13 @@ ROOM = re.compile(r"# Room ([a-z ]+?)(?: over ([a-z ,]+))?")
 
 
 def rooms(text):
-    """The rooms of such a text, in their order: each with those over which it may stand, and its crates with what these stand on."""
+    """Returns the rooms of such a text, in their order: each with the rooms that it may depend on, and its crates with their dependencies; and the faults."""
     found, faults, here = {}, [], None
     for line in text.splitlines():
         if room := ROOM.fullmatch(line):
             here = room.group(1)
             over = room.group(2).split(", ") if room.group(2) else []
-            faults += [f"crates.txt: the room {here} is over {other}, which doesn't stand before it" for other in over if other not in found]
+            faults += [f"crates.txt: the room {here} is over {other}, which is not an earlier room (move one of them)" for other in over if other not in found]
             found[here] = (over, {})
         elif line and not line.startswith("#"):
             head, _, below = line.partition(":")
@@ -40,17 +45,17 @@ def rooms(text):
 
 
 def arrows_back(found):
-    """What is said of each crate that stands over one of a room over which its own may not."""
+    """Yields a message for each crate that depends on a crate of a room that its own room may not depend on."""
     room_of = {crate: room for room, (_, listed) in found.items() for crate in listed}
     for room, (over, listed) in found.items():
         for crate, below in listed.items():
             for other in below:
                 if room_of.get(other, room) not in (room, *over):
-                    yield f"crates.txt: {crate} ({room}) stands over {other} ({room_of[other]}), which the room {room} may not"
+                    yield f"crates.txt: {crate} ({room}) depends on {other} ({room_of[other]}), which the room {room} may not"
 
 
 def about(crate):
-    """The first sentence of a crate's page."""
+    """Returns the first sentence of a crate's page."""
     path = next(path for path in (CRATES / crate / "src" / name for name in ("lib.rt", "main.rt")) if path.exists())
     page = re.match(r"(?://! ?.*\n)*", path.read_text()).group()
     paragraph = " ".join(re.sub(r"^//! ?", "", page, flags=re.M).strip().split("\n\n")[0].split())
@@ -58,13 +63,13 @@ def about(crate):
 
 
 def table(over, words):
-    """What is made of a room: which others it may use, and its crates."""
+    """Returns the generated text for a room: the other rooms that it may use, and its crates."""
     rows = (f"| `{crate}` | {said} |\n" for crate, said in words.items())
     return "".join([f"It may use {', '.join(over) or 'no other'}.\n\n", "| Crate | Is |\n", "|---|---|\n", *rows])
 
 
 def picture(found):
-    """The text of the picture of the rooms (pictures.py), with an arrow from each to those that it may use, where no way leads there over a third."""
+    """Returns the text of the picture of the rooms (pictures.py), with an arrow from each room to those that it may use, unless a path over a third room leads there."""
     names = {room: room.replace(" ", "_") for room in found}
     boxes = "".join(f'    {name} [label="{room}"]\n' for room, name in names.items())
     through = {room: {other for third in over for other in found[third][0]} for room, (over, _) in found.items()}
@@ -75,21 +80,21 @@ def picture(found):
 def main():
     words = {crate: about(crate) for crate in crates()}
     found, faults = rooms((ROOT / "crates.txt").read_text())
-    faults += [*arrows_back(found), *(f"crates/{crate} doesn't begin with a page that says what it is" for crate, said in words.items() if not said)]
+    faults += [*arrows_back(found), *(f"crates/{crate} does not begin with a page that says what it is" for crate, said in words.items() if not said)]
     wanted = {room: table(over, {crate: words[crate] for crate in listed}) for room, (over, listed) in found.items()}
     page = PAGE.read_text()
     stands = dict(TABLE.findall(page))
     if set(stands) != set(wanted):
-        sys.exit(f"docs/ARCHITECTURE.md has the tables {sorted(stands)}, and not one behind each line {MADE.strip()} for {sorted(wanted)}")
+        sys.exit(f"docs/ARCHITECTURE.md has the tables {sorted(stands)}, but needs one after each line {MADE.strip()} for {sorted(wanted)}")
     if sys.argv[1:] == ["--write"]:
         ROOMS.write_text(picture(found))
         PAGE.write_text(TABLE.sub(lambda one: MADE.format(one.group(1)) + wanted[one.group(1)], page))
     for room in wanted if sys.argv[1:] != ["--write"] else ():
         if stands[room] != wanted[room]:
             line = next((one for one in wanted[room].splitlines() if one not in stands[room].splitlines()), "fewer or other rows")
-            faults.append(f"docs/ARCHITECTURE.md: what is made of {room} isn't as checks/architecture.py --write writes it: {line}")
+            faults.append(f"docs/ARCHITECTURE.md: the table of the room {room} is out of date at: {line} (checks/architecture.py --write writes it)")
     if ROOMS.read_text() != picture(found):
-        faults.append("docs/plots/rooms.dot isn't as checks/architecture.py --write writes it")
+        faults.append("docs/plots/rooms.dot is out of date (checks/architecture.py --write writes it)")
     for fault in faults:
         print(fault)
     sys.exit(1 if faults else 0)

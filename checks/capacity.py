@@ -1,11 +1,11 @@
-"""How many places a growth asks for, where the source shows that it is no more than there may be need of: a sum of lengths, of parameters, and of
-literals below 2^20, or less or a part of one. What is named by a `let` of the function or by a constant is judged by what it names, and what a
-parameter is given at each call of the function is judged in the same way. A field is no such number, but for those that a command line gives."""
+"""Judges how many elements an allocation requests. It is bounded if the source shows that it is a sum of lengths, of parameters, and of literals below 2^20,
+or less than that or a part of one. A name is judged by the `let` of the function or the constant that defines it. A parameter is judged in the same way at
+each call of the function. A field is not bounded, except the fields that a command line gives."""
 import re
 
 from source import closing
 
-# Which argument of a growth says how many places.
+# The index of the argument that says how many elements are allocated.
 PLACE = {
     **{"with_capacity": 1, "with_capacity_in": 0, "with_capacity_and_hasher": 1, "with_room": 1, "with_protocol": 1, "RingBuffer::new": 1, "repeat": 1},
     **{"from_elem": 2, "map_indices": 2, "vacant": 2, "VersionWriter::new": 3},
@@ -13,22 +13,22 @@ PLACE = {
 }
 OF = r"(?:::<[^;()]*>)?"
 GROWTH = re.compile(rf"(?<!fn )\b({'|'.join(name.replace('::', OF + '::') for name in PLACE)}){OF}\s*\(|\bvec!\s*\[")
-# Literals from here on are more than a growth may ask for.
+# An allocation may not request a literal of this size or more.
 LIMIT = 1 << 20
 LITERAL = re.compile(r"(\d[\d_]*?)(?:_?(?:u|i)(?:8|16|32|64|128|size))?$")
 LENGTH = re.compile(r"(?:\w+(?:\.\w+)*)\.len\(\)$")
 SUM = re.compile(r"(.+)\.saturating_add\((.+)\)$")
 CAST = re.compile(r"(?:usize|u64)::from\((.+)\)$|(.+) as (?:usize|u64)$")
-# Fields that may be asked for: a command line gives them, in a range of their own.
+# Fields that may be requested: a command line gives them, each in its own range.
 FIELDS = ("options.fronts", "options.ring")
 # A comparison as a number, 0 or 1.
 FLAG = re.compile(r"usize::from\(\w+ (?:>|<|==) \w+\)$")
-# Functions whose contracts say that they answer at most the digits of a number of 64 bits, or how many leaves bytes are.
+# Functions whose contracts bound their results: by the digits of a number of 64 bits, or by the number of leaves in some bytes.
 SMALL = re.compile(r"(?:path_length|count_tile_leaves)\(")
 
 
 def parts(text, sign):
-    """The parts of an expression between the signs that stand outside of brackets."""
+    """Returns the parts of an expression between the signs outside of brackets."""
     depth, start, found = 0, 0, []
     for place, letter in enumerate(text):
         depth += (letter in "([{") - (letter in ")]}")
@@ -39,12 +39,12 @@ def parts(text, sign):
 
 
 def constants(texts):
-    """What the constants of these sources name."""
+    """Returns the values of the constants of these sources, by name."""
     return {name: value.strip() for text in texts for name, value in re.findall(r"\bconst (\w+): [^=;]+=([^;]*);", text)}
 
 
 def function_around(text, at):
-    """The function in which a place lies: its signature, with its name, and its body up to there."""
+    """Returns the function that contains an offset: its signature, with its name, and its body up to there."""
     starts = [found for found in re.finditer(r"\bfn\s+(?=\w)", text[:at])]
     if not starts:
         return "", text[:at]
@@ -53,7 +53,7 @@ def function_around(text, at):
 
 
 def parameters(signature):
-    """The names of a function's parameters, but for `self`."""
+    """Returns the names of a function's parameters, except `self`."""
     depth, at = 0, 0
     while signature[at] != "(" or depth:
         depth += (signature[at] == "<") - (signature[at] == ">" and signature[at - 1] != "-")
@@ -63,8 +63,8 @@ def parameters(signature):
 
 
 def calls(text, asked, known, given):
-    """The places at which more may be given for one of these parameters: (a function, the parameter's place, how many there are). Those whose
-    own value is handed on join `given`."""
+    """Yields the offsets of calls that may pass an unbounded value for one of these parameters: (a function, the parameter's index, the number of parameters).
+    Parameters whose own value is passed on join `given`."""
     for name, place, count in asked:
         names = "|".join([name, *re.findall(rf"\b{name} as (\w+)", text)])
         for found in re.finditer(rf"(?<!fn )\b(?:{names})\s*\(", text):
@@ -74,7 +74,7 @@ def calls(text, asked, known, given):
 
 
 def is_bounded(expression, signature, body, known, given=None):
-    """Whether an expression is such a sum, in a function with this signature and with this body before it. The parameters that it is made of join
+    """Reports whether an expression is such a sum, in a function with this signature and with this body before it. The parameters that it contains join
     `given`."""
     expression = expression.strip().lstrip("&*").removesuffix("?").strip()
     terms = parts(expression, "+")
@@ -95,7 +95,7 @@ def is_bounded(expression, signature, body, known, given=None):
 
 
 def is_named(expression, signature, body, known, given):
-    """Whether an expression is a parameter, or a name whose each `let` before is such a sum; and what is put in it later, too."""
+    """Reports whether an expression is a parameter, or a name each of whose earlier `let`s and later assignments is such a sum."""
     if expression not in FIELDS and not re.fullmatch(r"\w+", expression):
         return False
     name = expression.split(".")[0]
@@ -117,14 +117,14 @@ ARRAY = re.compile(r"(?<!vec!)\[[^\[\];]*;\s*([^\[\];]+)\]")
 
 
 def arrays(text, known):
-    """The places of arrays, or of their types, that may have more items than a growth may ask for: so an item may be as large as a machine."""
+    """Yields the offsets of arrays, or of their types, that may have more elements than an allocation may request: one element could be as large as the machine."""
     for found in ARRAY.finditer(text):
         if not re.fullmatch(r"[A-Z]", found.group(1).strip()) and not is_bounded(found.group(1), "", "", known):
             yield found.start()
 
 
 def growths(text, known, given=None):
-    """The places of growths that may ask for more than there is need of, with these constants; the parameters that they ask for join `given`."""
+    """Yields the offsets of allocations that are not bounded, with these constants. The parameters that they request join `given`."""
     for found in GROWTH.finditer(text):
         end = closing(text, found.end() - 1)
         inside, name = text[found.end() : end - 1], re.sub(OF + "::", "::", found.group(1) or "")

@@ -4,8 +4,8 @@
     checking.py [--write]
 
 A page has the claim, its premises, the public contracts as they are in the source, and the text of all definitions that these reach by their imports, leaves
-first (claims.py). Between COUNTED and END of docs/CHECKING.md is a table of how many lines there are of what; the rest of that page is written by hand. The script prints
-each page that differs from the one that it makes, and each count that is more than a fifth off, and then ends with status 1. With --write it writes them.
+first (claims.py). Between COUNTED and END of docs/CHECKING.md is a table of numbers of lines; the rest of that page is written by hand. The script prints each
+page that differs from the generated one, and each count that is more than a fifth off, and then ends with status 1. With --write it writes them.
 checks/definitions.py runs it too.
 """
 import functools
@@ -36,7 +36,7 @@ BY_EQUATIONS = {
 
 
 class Text(typing.NamedTuple):
-    """A definition, or a type of the code: its key, the file that it stands in below crates/, its text with its comment, and the words that it may name."""
+    """A definition, or a type of the code: its key, its file below crates/, its text with its comment, and the words that it may name."""
 
     key: tuple
     file: str
@@ -54,7 +54,7 @@ def own_crates():
 
 
 def scope_of(text, crate):
-    """The words that a file imports from specs/ of this repository's crates: each with its key."""
+    """Returns the words that a file imports from specs/ of this repository's crates, each with its key."""
     scope = {}
     for owner, module, names in USE.findall(text):
         owner = crate if owner == "crate" else owner
@@ -71,7 +71,7 @@ def scope_of(text, crate):
 
 @functools.lru_cache(None)
 def words_of(crate):
-    """The definitions of a crate's specs/, by their names; a case of a data type names that type."""
+    """Returns the definitions of a crate's specs/, by their names. A case of a data type names that type."""
     found = {}
     for path in sorted((CRATES / crate / "specs").glob("*.antt")):
         text = path.read_text()
@@ -95,7 +95,7 @@ def words_of(crate):
 
 @functools.lru_cache(None)
 def types_of(crate):
-    """The structs and enums of a crate that contracts may name: of one with a model that model's type, of another its text without methods."""
+    """Returns the structs and enums of a crate that contracts may name: the type of the model if there is one, otherwise the text without methods."""
     found = {}
     for path in sorted((CRATES / crate / "src").rglob("*.rt")):
         text = path.read_text()
@@ -115,7 +115,7 @@ def types_of(crate):
 
 
 def text_of(key):
-    """The text behind a key. A word that its crate has from another one stands there: no two crates define one (definitions.py)."""
+    """Returns the text of a key. A word that its crate imports is looked up in the other crates: no two crates define the same word (definitions.py)."""
     kind, crate, name = key
     if kind == "type":
         return types_of(crate).get(name)
@@ -123,14 +123,14 @@ def text_of(key):
 
 
 def named(one):
-    """The keys that a text names."""
+    """Returns the keys that a text names."""
     code = one.scope.get("value", "") if not one.text else re.sub(r"--[^\n]*", "", one.text)
     keys = [one.scope.get(word) for word in WORD.findall(code)]
     return [key for key in dict.fromkeys(keys) if isinstance(key, tuple) and key != one.key]
 
 
 def reached(keys, seen):
-    """The texts behind these keys, leaves first, without those that were seen."""
+    """Returns the texts that these keys reach, leaves first, without those that were seen."""
     found = []
 
     def visit(key):
@@ -148,7 +148,7 @@ def reached(keys, seen):
 
 
 def contract(file, function, clauses):
-    """A function's head with its clauses, those that aren't named left out, and the keys that it names."""
+    """Returns a function's head with its clauses, without those that are not named, and the keys that it names."""
     text = (CRATES / file).read_text()
     crate = file.split("/")[0]
     owner, _, name = function.rpartition("::")
@@ -193,7 +193,7 @@ def block(kind, text):
 
 
 def definitions(texts):
-    """These texts as one block, with the file's name where it changes."""
+    """Returns these texts as one block, with the file's name each time it changes."""
     lines, file = [], None
     for one in texts:
         if one.file != file:
@@ -210,7 +210,7 @@ def listed(names):
 
 
 def page(claim):
-    """The page of a claim: the claim, its premises, its contracts with what they say, and all definitions that these reach, leaves first."""
+    """Returns the page of a claim: the claim, its premises, its contracts with their meanings, and all definitions that these reach, leaves first."""
     found = [contract(each.file, each.function, each.clauses) for each in claim.contracts]
     texts = reached([key for _, keys in found for key in keys], set())
     shown = [one for one in texts if one.key[2] not in BY_EQUATIONS]
@@ -228,7 +228,7 @@ def page(claim):
     return "\n".join([*lines, *definitions(shown), END, ""])
 
 
-# What is counted: its name, and the files, by their beginnings and ends.
+# The rows of the table of counts: the name, and a test of the path.
 COUNTS = [
     ("Specifications: `specs/`, which a reader must believe", lambda path: path.startswith("crates/") and "/specs/" in path),
     ("Code with its contracts: `src/`", lambda path: re.match(r"crates/(?!\w+_tests/)\w+/src/(?!.*tests\.rt)", path)),
@@ -250,16 +250,16 @@ def counts():
 
 
 def between(page, begin):
-    """The page before this line, what stands between it and END, and the rest."""
+    """Returns the page up to this line, the text between it and END, and the rest."""
     before, line, rest = page.partition(f"{begin}\n")
     middle, end, behind = rest.partition(f"{END}\n")
     if not line or not end:
-        sys.exit(f"docs/CHECKING.md has no lines {begin} and {END}")
+        sys.exit(f"docs/CHECKING.md lacks the line {begin} or {END}")
     return before + line, middle, end + behind
 
 
 def near(stands, belongs):
-    """Whether two tables of counts have the same rows, and no count is more than a fifth off."""
+    """Reports whether two tables of counts have the same rows, and no count is more than a fifth off."""
     rows = [re.findall(r"^\| (.*) \| ([\d,]+) \|$", text, re.M) for text in (stands, belongs)]
     numbers = [[int(number.replace(",", "")) for _, number in table] for table in rows]
     return [what for what, _ in rows[0]] == [what for what, _ in rows[1]] and all(abs(a - b) * 5 <= b for a, b in zip(*numbers))
@@ -270,12 +270,12 @@ def first_difference(page, stands, belongs):
     for at in range(max(len(ours), len(theirs))):
         pair = [lines[at] if at < len(lines) else "nothing" for lines in (ours, theirs)]
         if pair[0] != pair[1]:
-            return f"{page.relative_to(ROOT)}: {pair[0]}\n  is made as: {pair[1]}\n  (checks/checking.py --write writes the page)"
-    return f"{page.relative_to(ROOT)} has other empty lines than are made"
+                return f"{page.relative_to(ROOT)}: {pair[0]}\n  must be: {pair[1]}\n  (checks/checking.py --write writes the page)"
+    return f"{page.relative_to(ROOT)} differs in its empty lines (checks/checking.py --write writes the page)"
 
 
 def check_pages(write):
-    """What is wrong with the pages of the claims. With `write` they are written, and what is left of others is deleted."""
+    """Returns what is wrong with the pages of the claims. With `write` they are written."""
     made = {PAGES / f"{claim.page}.md": page(claim) for claim in CLAIMS}
     found = [f"{path.relative_to(ROOT)} is the page of no claim" for path in sorted(PAGES.glob("*")) if path not in made]
     if write:
@@ -288,7 +288,7 @@ def check_pages(write):
 
 
 def check_counts(write):
-    """What is wrong with the table of lines in CHECKING.md. With `write` it is written."""
+    """Returns what is wrong with the table of lines in CHECKING.md. With `write` it is written."""
     before, stands, after = between(PAGE.read_text(), COUNTED)
     belongs = f"\n{counts().rstrip()}\n\n"
     if stands == belongs or near(stands, belongs):

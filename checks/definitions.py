@@ -1,17 +1,17 @@
 #!/usr/bin/env python3
-"""Each definition of specs/ says in words what it is, no word is defined in two crates, each collision is one of strings that are named, and the pages
-that checking.py makes are up to date.
+"""Checks that each definition of specs/ has a comment, that no word is defined in two crates, that each collision names its strings, and that the pages
+of checking.py are up to date.
 
     definitions.py [--write]
 
-It reads the specs/ of each crate that is not for tests alone, and the contracts of its sources. It prints
+It reads the specs/ of each crate that is not only for tests, and the contracts of its sources. It prints
 
 - each file that does not begin with a comment that says what it is about,
 - each definition without a comment,
 - each word that two crates define,
 - each definition or contract that says only that some two strings collide: for SHA-256 that is true by counting, so a law must say which two strings they
   are (`Collides`), or among which strings they are (`CollideAmong`),
-- and each page that differs from the one that is made.
+- and each page that differs from the generated one.
 
 If it prints anything, it ends with status 1. With --write it writes the pages.
 """
@@ -30,17 +30,17 @@ AMONG = "CollideAmong"
 
 
 def wordless(files):
-    """Each definition without a comment, and each file that doesn't say what it is about."""
+    """Yields each definition without a comment, and each file that does not say what it is about."""
     for file in (file for of_crate in files.values() for file in of_crate):
         if not file.about:
-            yield f"crates/{file.path} doesn't begin with a comment that says what it is about"
+            yield f"crates/{file.path} does not begin with a comment that says what it is about"
         for one in file.definitions:
             if not one.words:
                 yield f"{one.word} (crates/{file.path}) has no comment"
 
 
 def defined_twice(files):
-    """Each word that two crates define."""
+    """Yields each word that two crates define."""
     places = {}
     for crate, of_crate in files.items():
         for word in {one.word for file in of_crate for one in file.definitions}:
@@ -51,14 +51,14 @@ def defined_twice(files):
 
 
 def some_collide(text):
-    """Whether a definition or contract says that two strings exist which have one digest, and does not say which they are."""
+    """Reports whether a definition or contract says that two strings with one digest exist, and does not say which they are."""
     found = {name for names in EXIST.findall(text) for name in names.split()}
     pairs = [{name for name in pair if name} for pair in ONE_DIGEST.findall(text)]
     return any(pair <= found for pair in pairs)
 
 
 def statements(crate):
-    """Each definition of a crate's specs/ and each contract of its sources: where it is, its name, and its text."""
+    """Yields each definition of a crate's specs/ and each contract of its sources: its file, its name, and its text."""
     for path in sorted((CRATES / crate / "specs").glob("*.antt")):
         lines = path.read_text().splitlines()
         for at, line in enumerate(lines):
@@ -71,7 +71,7 @@ def statements(crate):
 
 
 def unnamed_collisions(of_crates):
-    """Each statement that says only that some two strings collide."""
+    """Yields each statement that says only that some two strings collide."""
     for crate in of_crates:
         for path, name, text in statements(crate):
             if name != AMONG and some_collide(text):

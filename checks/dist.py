@@ -1,5 +1,5 @@
 #!/usr/bin/env python3
-"""dist/ has the code that the proved sources make.
+"""Checks that dist/ has the code that the proved sources make.
 
     dist.py [--sources | --write]
 
@@ -27,9 +27,9 @@ DIST = ROOT / "dist"
 LIBRARY = "libwagtenib"
 # For each processor the kit's name of the target, and the oldest of its kind, whose code runs on all of them.
 TARGETS = {"amd64": ("x86_64-unknown-linux-gnu", "x86-64"), "arm64": ("aarch64-unknown-linux-gnu", "generic")}
-# What the kit's assembler needs to fill gaps as its compiler does.
+# Flags with which the kit's assembler fills gaps as its compiler does.
 PADDING = {"amd64": ["-march=x86-64-v2"], "arm64": []}
-REMEDY = "make dist makes it anew, with the kit"
+REMEDY = "make dist makes it again, with the kit"
 # The folder of the Go package, and the files of which it has copies. `go build` has the C preprocessor read a file .S, by which a build tag can set the option below.
 BINDINGS = ROOT / "bindings" / "go" / "wagtenib"
 COPIED = {
@@ -51,7 +51,7 @@ wagtenib_proved_compress:
 	.endif
 """
 COMMENT = re.compile(r"//[^\n]*|/\*.*?\*/|(\"(?:\\.|[^\"\\])*\"|'(?:\\.|[^'\\])')", re.S)
-# What the compiler calls once with -c, and once more for the text.
+# The script that the compiler calls as clang: it runs clang once with -c, and once more for the text.
 CLANG = """#!/bin/sh
 {clang} "$@" || exit
 left=$#
@@ -70,7 +70,7 @@ exec {clang} "$@"
 
 
 def uses():
-    """What each crate of crates.txt stands on, libraries of the kit among them, with its line."""
+    """Returns the line of each crate of crates.txt, and its dependencies, including libraries of the kit."""
     found = {}
     for line in (ROOT / "crates.txt").read_text().splitlines():
         if line and not line.startswith("#"):
@@ -80,7 +80,7 @@ def uses():
 
 
 def made_of(listed):
-    """The repository's crates that the library is made of, those below first."""
+    """Returns the repository's crates that the library is made of, dependencies first."""
     found = {}
 
     def take(name):
@@ -94,7 +94,7 @@ def made_of(listed):
 
 
 def code(text):
-    """The text of a source without comments, clauses and what only lays it out."""
+    """Returns the text of a source without comments, clauses and layout."""
     bare = blanked(text)
     kept = COMMENT.sub(lambda found: found[1] or re.sub(r"[^\n]", " ", found[0]), text)
     ghostless = without_clauses(bare)
@@ -102,7 +102,7 @@ def code(text):
 
 
 def sum_of(crate, line):
-    """A sum over what the code of a crate is made from."""
+    """Returns a checksum of the sources that the code of a crate is made from."""
     found = hashlib.sha256(line.encode())
     for path in sources(crate):
         found.update(f"\n{path.relative_to(CRATES).as_posix()}\n{code(path.read_text())}".encode())
@@ -110,13 +110,13 @@ def sum_of(crate, line):
 
 
 def kit():
-    """The folder of the kit, or None."""
+    """Returns the folder of the kit, or None."""
     rt = shutil.which("rt")
     return rt and pathlib.Path(rt).resolve().parent.parent
 
 
 def said_of_sources(kit_name):
-    """The text of SOURCES."""
+    """Returns the text of SOURCES."""
     listed = uses()
     lines = ["# What dist/ is made of. Made by checks/dist.py --write.", f"kit: {kit_name}"]
     lines += [f"{processor}: --target {target} --cpu {cpu}" for processor, (target, cpu) in TARGETS.items()]
@@ -125,7 +125,7 @@ def said_of_sources(kit_name):
 
 
 def kit_name():
-    """The kit's name for itself, or where it isn't here what SOURCES says of it."""
+    """Returns the kit's name for itself, or the name in SOURCES if the kit is not here."""
     if kit():
         return subprocess.run(["rt", "version"], capture_output=True, text=True, check=True).stdout.strip()
     said = re.search(r"^kit: (.*)$", (DIST / "SOURCES").read_text(), re.M)
@@ -133,7 +133,7 @@ def kit_name():
 
 
 def toolchain(folder, of_kit, kept):
-    """A folder like the kit's toolchain, whose clang also keeps the object and the assembly."""
+    """Makes a folder like the kit's toolchain, whose clang also keeps the object and the assembly."""
     (folder / "bin").mkdir(parents=True)
     (folder / "lib").symlink_to(of_kit / "lib")
     for tool in (of_kit / "bin").iterdir():
@@ -145,7 +145,7 @@ def toolchain(folder, of_kit, kept):
 
 
 def words_of_build(top, listed):
-    """What `rattle build` is called with for the library, but for its target and where it puts what it makes."""
+    """Returns the arguments of `rattle build` for the library, except its target and its output."""
     own = listed[LIBRARY][1]
     words = ["build", "--crate-name", LIBRARY, "src/lib.rt", "--extern", f"std={top}/rlibs/std.rlib"]
     for name in own:
@@ -158,7 +158,7 @@ def words_of_build(top, listed):
 
 
 def plain(text):
-    """The assembly as any assembler takes it: without comments, empty lines and the lines .addrsig, which only clang knows."""
+    """Returns the assembly in a form that any assembler accepts: without comments, empty lines and the lines .addrsig, which only clang knows."""
     found = []
     for line in text.splitlines():
         if not re.match(r"\s*\.(?:ascii|asciz|string)\b", line):
@@ -169,14 +169,14 @@ def plain(text):
 
 
 def with_option(text, processor):
-    """The assembly with the lines of the build option."""
+    """Returns the assembly with the lines of the build option."""
     if text.count(COMPRESS) != 1:
         sys.exit(f"checks/dist.py: the assembly for {processor} has {text.count(COMPRESS)} functions that hash a block: change COMPRESS in this script")
     return text.replace(COMPRESS, COMPRESS + OPTION.format(jump=JUMPS[processor]))
 
 
 def is_the_object(text, processor, kept, clang, work):
-    """Whether the kit's assembler makes of this text the object that the library has, once the lines .addrsig are back."""
+    """Reports whether the kit's assembler makes this text into the library's object, after the lines .addrsig are added back."""
     marks = "".join(f"{line}\n" for line in (kept / "code.s").read_text().splitlines() if re.match(r"\s*\.addrsig", line))
     (work / "text.s").write_text(text + marks)
     subprocess.run([clang, f"--target={TARGETS[processor][0]}", *PADDING[processor], "-c", work / "text.s", "-o", work / "text.o"], check=True)
@@ -184,7 +184,7 @@ def is_the_object(text, processor, kept, clang, work):
 
 
 def assembly(processor, top, work):
-    """The assembly of the library for a processor, made of the sources."""
+    """Returns the assembly of the library for a processor, made from the sources."""
     listed = uses()
     absent = [name for name in made_of(listed)[:-1] if not (CRATES / name / "out" / "rlib" / f"{name}.rlib").exists()]
     if absent:
@@ -193,7 +193,7 @@ def assembly(processor, top, work):
     folder, kept = work / processor, work / processor / "kept"
     kept.mkdir(parents=True)
     toolchain(folder / "toolchain", top / "toolchain", kept)
-    # (what rt has kept of the library's proof saves proving it here; else the second target's build has the first one's)
+    # (a kept proof of the library saves proving it here; otherwise the second target's build uses the first one's)
     incremental = CRATES / LIBRARY / "out" / "incremental"
     incremental = incremental if incremental.exists() else work / "incremental"
     words = [*words_of_build(top, listed), "--target", target, "--cpu", cpu, "--toolchain", folder / "toolchain", "--incremental", incremental]
@@ -207,13 +207,13 @@ def assembly(processor, top, work):
 
 
 def of_the_kit(texts, top):
-    """The kit's crates whose functions the assembly has, by the names of its symbols."""
+    """Returns the kit's crates whose functions the assembly contains, by the names of its symbols."""
     named = {name for text in texts for name in re.findall(r"(?<![\w:])([a-z]\w*)::", text)}
     return sorted(name for name in named if (top / "rattle" / name).is_dir() and name not in uses())
 
 
 def notice(names, top):
-    """The text of NOTICE."""
+    """Returns the text of NOTICE."""
     texts, without = {}, []
     for name in names:
         folder = top / "rattle" / name
@@ -233,7 +233,7 @@ def notice(names, top):
 
 
 def made():
-    """The generated files, each by its name."""
+    """Returns the generated files, each by its name."""
     top = kit()
     with tempfile.TemporaryDirectory(prefix="wagtenib-dist-") as folder:
         texts = {f"{LIBRARY}_linux_{processor}.s": assembly(processor, top, pathlib.Path(folder)) for processor in TARGETS}
@@ -241,13 +241,13 @@ def made():
 
 
 def differing(said, due):
-    """The first line of a file that isn't as due."""
+    """Describes the first line of a file that is not as expected."""
     lines = zip([*said.splitlines(), ""], [*due.splitlines(), ""])
-    return next((f"line {number} is {one!r}, and is to be {other!r}" for number, (one, other) in enumerate(lines, 1) if one != other), "it ends too early or too late")
+    return next((f"line {number} is {one!r}, and must be {other!r}" for number, (one, other) in enumerate(lines, 1) if one != other), "it ends too early or too late")
 
 
 def stale_copies():
-    """The copied files whose copy in the Go package is absent or has other bytes, each with its copy."""
+    """Returns the copied files whose copy in the Go package is missing or has other bytes, each with its copy."""
     return [(of, copy) for of, copy in COPIED.items() if not copy.exists() or copy.read_bytes() != of.read_bytes()]
 
 

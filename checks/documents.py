@@ -1,13 +1,17 @@
 #!/usr/bin/env python3
-"""What the documents name is there: links, files, functions, words of the code, and targets of the Makefile.
+"""Checks that everything that the documents name exists: links, files, functions, words of the code, and targets of the Makefile.
 
-It reads README.md, docs/*.md (but for the texts of sources that checking.py puts into docs/CHECKING.md) and the README.md of each folder at
-the top, and of the folders below that READMES names. A link has to lead to a file, and its # to a heading there. In code
-(spans and blocks) a path has to be a file of this repository, `Type::name` a function or a case, `name()` a function, `make name` a target; a
-name with a capital inside or an underscore, and a span of one word, have to stand in the code outside of comments, or in elsewhere.txt. And
-`make help` has to tell each target but the parts of `make install`. A block below a comment `<!-- from FILE -->` has only text of that file, in its order (a line of `..` stands
-for what is left out, and lines may be broken otherwise).
-It prints each thing that isn't so, and ends with status 1 where there is one. Before that it tries itself on a page where each of these is wrong.
+It reads README.md, docs/**/*.md (except the parts that checking.py generates) and the README.md of each folder in READMES. It checks that
+
+- a link leads to a file, and its # to a heading there;
+- in code (spans and blocks), a path is a file of this repository, `Type::name` a function or a case, `name()` a function, and `make name` a target;
+- a name with a capital inside or an underscore, and a span of one word, occur in the code outside of comments, or in elsewhere.txt;
+- `make help` lists each target, except the parts of `make install`;
+- a block below a comment `<!-- from FILE -->` has only text of that file, in its order (a line of `..` marks omitted text, and lines may be wrapped
+  differently);
+- the programs, the library and CHANGELOG.md state the version in VERSION.
+
+It prints each violation, and ends with status 1 if there is one. Before that it tests itself on a page where each of the first five is wrong.
 """
 import os
 import pathlib
@@ -25,19 +29,19 @@ CALL = re.compile(r"(?<![\w.])([a-z]\w*)\(\)")
 NAME = re.compile(r"\b(?:[A-Z][a-z0-9]+(?:[A-Z][a-z0-9]*)+|[a-z]+(?:_[a-z0-9]+)+)\b")
 MAKE = re.compile(r"\bmake ([a-z]+(?:-[a-z]+)*)")
 QUOTED = re.compile(r"^<!-- from (\S+) -->\n+(```.*?^```$|(?:^ {4}[^\n]*\n)+)", re.M | re.S)
-# The folders whose README.md is read, beside docs/.
+# The folders whose README.md is read, in addition to docs/.
 READMES = (
     "bench", "bindings", "bindings/go/wagtenib", "bindings/python", "bindings/rust", "checks", "cmd", "crates", "deps", "dist", "examples", "examples/link", "include",
     "internal", "internal/node", "internal/sim", "release", "tests",
 )
-# No code: this script's own page of faults, and the words of elsewhere.
+# Files that do not count as code: this script, with its own page of faults, and elsewhere.txt.
 OWN = ("documents.py", "elsewhere.txt")
-# Words of the kit, of std, of the C library, of other crates and of standards, which stand in no code here.
+# Words of the kit, of std, of the C library, of other crates and of standards, which occur in no code here.
 ELSEWHERE = set((ROOT / "checks" / "elsewhere.txt").read_text().split())
 
 
 def files():
-    """The paths of all files of the repository, from its top, without what is made there, and without what is no file (a socket, say)."""
+    """Returns the paths of all files of the repository, relative to its top, without generated files, and without other things than files (such as sockets)."""
     found = []
     for folder, below, names in os.walk(ROOT):
         below[:] = [name for name in below if name not in MADE]
@@ -51,7 +55,7 @@ def pages():
 
 
 def words_of_code(paths):
-    """Each word of the code, comments of the crates left out, and the names of all files and folders."""
+    """Returns each word of the code, without the comments of the crates, and the names of all files and folders."""
     found = set()
     for path in paths:
         found.update(part.split(".")[0] for part in path.parts)
@@ -64,7 +68,7 @@ def words_of_code(paths):
 
 
 def functions_of_code():
-    """The names of functions, cases and fields, of definitions in specs/, and of targets: what may stand behind `::`."""
+    """Returns the names that may follow `::`: those of functions, cases, fields, types, modules and constants."""
     found = set()
     for path in (ROOT / "crates").glob("*/src/**/*.rt"):
         text = path.read_text()
@@ -75,7 +79,7 @@ def functions_of_code():
 
 
 def anchors(text):
-    """The anchors of a page's headings."""
+    """Returns the anchors of a page's headings."""
     titles = re.findall(r"^#+ (.*)$", re.sub(BLOCK, "", text), re.M)
     return {re.sub(r"[^\w -]", "", title.lower()).replace(" ", "-") for title in titles}
 
@@ -87,7 +91,7 @@ def targets():
 
 
 class Repository:
-    """What there is to be named."""
+    """The things in the repository that a page may name."""
 
     def __init__(self):
         paths = files()
@@ -96,7 +100,7 @@ class Repository:
         self.targets, self.told = targets()
 
     def has_path(self, path, page):
-        """Whether a path stands in the repository: from its top, the page's folder, crates/ or a crate, or at the end of some file's path."""
+        """Reports whether a path exists in the repository: from its top, the page's folder, crates/ or a crate, or at the end of some file's path."""
         path = re.sub(r"^(?:\.\./)+", "", path)
         if path.startswith(("out/", "/")) or "/out/" in f"/{path}":
             return True
@@ -118,28 +122,28 @@ class Repository:
                 yield f"the link {link} leads to no heading"
 
     def faults_of_code(self, code, page):
-        """What a span or a block names that isn't there."""
+        """Yields a message for each name in a span or a block that does not exist."""
         for path in PATH.findall(code):
             if not self.has_path(path, page) and path not in ELSEWHERE:
-                yield f"{path} is no file here"
+                yield f"{path} is not a file of this repository"
         for left, right in PAIR.findall(code):
             if left not in ELSEWHERE and (left not in self.words or right not in self.functions):
-                yield f"{left}::{right} stands nowhere in the code"
+                yield f"{left}::{right} occurs nowhere in the code"
         for name in CALL.findall(code):
             if name not in self.functions | ELSEWHERE:
-                yield f"{name}() is no function here"
+                yield f"{name}() is not a function of this repository"
         names = NAME.findall(code) + [code] * bool(re.fullmatch(r"[A-Za-z]\w+", code))
         for name in dict.fromkeys(names):
             if name not in self.words | ELSEWHERE:
-                yield f"{name} stands nowhere in the code"
+                yield f"{name} occurs nowhere in the code (or name it in checks/elsewhere.txt)"
         for name in MAKE.findall(code):
             if name not in self.targets:
-                yield f"make {name} is no target"
+                yield f"make {name} is not a target of the Makefile"
 
     def faults_of_quotations(self, text):
         for file, block in QUOTED.findall(text):
             if not (ROOT / file).is_file():
-                yield f"{file}, which is quoted, isn't here"
+                yield f"{file}, which is quoted, does not exist"
                 continue
             left = " ".join((ROOT / file).read_text().split())
             for part in re.split(r"^ *\.\.$|^```.*$", block, flags=re.M):
@@ -172,11 +176,11 @@ WRONG = """# A page
 <!-- from Makefile -->
     RUNS ?= 20 PREFIX ?= /usr/local
 """
-WRONG_IN = ["no-such-page.md leads", "#no-such-heading leads", "src/absent.rt is", "Front::absent stands", "absent() is", "AbsentWord stands"]
+WRONG_IN = ["no-such-page.md leads", "#no-such-heading leads", "src/absent.rt is", "Front::absent occurs", "absent() is", "AbsentWord occurs"]
 WRONG_IN += ["make nothing is", "make neither is", "not in Makefile", "on more than one line of Makefile: RUNS"]
 
 
-# How a crate states the version of its program: a text that is proved to be printed can't be read out of a file.
+# How a crate states the version of its program: a text that is proved to be printed cannot be read from a file.
 STATED = re.compile(r'^const VERSION: &str = "(?:\w+ )?([^ "\\]+)(?:\\n)?";$', re.M)
 
 
@@ -185,12 +189,12 @@ NUMBERED = {"include/wagtenib.h": r"^#define WAGTENIB_VERSION (\d+)$", "crates/l
 
 
 def three_numbers(number):
-    """The three numbers of a version that the library states."""
+    """Returns the three numbers of a version that the library states."""
     return f"{number // 1_000_000}.{number // 1_000 % 1_000}.{number % 1_000}"
 
 
 def version_faults():
-    """Where a program, the library, or the newest entry of CHANGELOG.md, says another version than VERSION."""
+    """Returns a message for each program, and for the library and the newest entry of CHANGELOG.md, that states another version than VERSION."""
     version = (ROOT / "VERSION").read_text().strip()
     said = {path: found for path in ROOT.glob("crates/*/src/**/*.rt") for found in STATED.findall(path.read_text())}
     if not said:
@@ -207,9 +211,9 @@ def main():
     told = "\n".join(repository.faults(WRONG, ROOT / "README.md"))
     missed = [fault for fault in WRONG_IN if fault not in told]
     if missed:
-        sys.exit(f"checks/documents.py doesn't find what is wrong on a page of its own: {', '.join(missed)}")
+        sys.exit(f"checks/documents.py does not find these faults on its own test page: {', '.join(missed)}")
     found = version_faults()
-    found += [f"make help doesn't tell of {name}" for name in sorted(repository.targets - repository.told) if not name.startswith("install-")]
+    found += [f"make help does not list {name} (add a comment ## to the target)" for name in sorted(repository.targets - repository.told) if not name.startswith("install-")]
     for page in pages():
         text = re.sub(r"<!-- Made by .*?<!-- Made until here. -->", "", page.read_text(), flags=re.S)
         found += [f"{page.relative_to(ROOT)}: {fault}" for fault in dict.fromkeys(repository.faults(text, page))]

@@ -1,22 +1,32 @@
 #!/usr/bin/env python3
-"""Runs `rt ci`, the merge gate, and prints each of its lines behind the time so far. Its last line, 'N passed, M failed', is printed once
-more, with the tests of the Go part in it, of which the file COUNT in the environment has how many passed and failed, and with what is run over the
-programs once `rt ci` has built them: all by words of their own (tests/command_lines.py), ctlog over sessions (tests/sessions.py), all while some growths
-of memory are refused (tests/sweep.py), and the parts of the demo (examples/demo.sh); dist/ is made again and compared (checks/dist.py),
-its guard, step, witness, node, names, data tiles and texts with models (tests/library/guard.py, step.py, witness.py, node.py, names.py, data_tiles.py, texts.py), the Rust crate with some of
-these (tests/library/rust.py), its build option with the proved code (tests/library/sha_instructions.py), and called without memory (tests/library/refusals.py), with NULL and in many threads (tests/library/replays.py), and the Python package
-with models (bindings/python/tests/compare.py); the programs in C and the Go, Python and Rust packages are run for arm64 (tests/library/arm64.py). The status is that of `rt ci`, or 1 where one of these failed.
+"""Runs `rt ci`, the merge gate, and prints each of its lines after the time so far. After `rt ci` has built the programs, it runs
 
-`rt ci` tells of a crate when it is done, and not how many of its functions are proved so far; while it tells nothing, a line a minute says
-how long it has been at work. Behind it a line says how many processor minutes it took.
+- each program with arguments of its own (tests/command_lines.py);
+- ctlog over sessions (tests/sessions.py);
+- all programs while some allocations are refused (tests/sweep.py);
+- a comparison of dist/ with a new build (checks/dist.py);
+- comparisons of the library in dist/ with models (tests/library/guard.py, step.py, witness.py, monitor.py, node.py, names.py, data_tiles.py, texts.py), and
+  of the Rust crate with some of these (tests/library/rust.py);
+- calls of the library without memory (tests/library/refusals.py), and with NULL and in many threads (tests/library/replays.py);
+- a comparison of its build option with the proved code (tests/library/sha_instructions.py);
+- a comparison of the Python package with models (bindings/python/tests/compare.py);
+- the programs in C and the Go, Python and Rust packages for arm64 (tests/library/arm64.py);
+- a crate that the prover must refuse (tests/linear.py);
+- and the parts of the demo (examples/demo.sh).
 
-It has `rt ci` try those edits of crates/NAME/wrong-bodies whose first line is 'tried: by each gate', and those where it is 'tried: by every ninth
-gate', of a ninth of the crates that have such: the commit's hash says which, or TURN=0 to 8 in the environment. They stand in must-fail, which
-`rt ci` reads, while it runs; what a run that was killed has left there wrong_bodies.py takes away. What a crate's edits cost is one more proof of
-the crate, and about a sixth of that for each; so the ninths are made of whole crates, of about the same cost.
+The last line of `rt ci`, 'N passed, M failed', is printed again with these and the tests of the Go part included. The file named by COUNT in the
+environment has how many Go tests passed and failed. The status is that of `rt ci`, or 1 if one of these failed.
 
-`rt ci` guesses what memory a proof needs, at two to three times what was seen, and lets a large crate wait while smaller ones have that, although it may be in
-the longest chain of crates. If each processor has memory for a proof, `rt ci` is told to use them all, by RT_JOBS.
+`rt ci` reports a crate when it is done, and not how many of its functions are proved so far. While it prints nothing, a line each minute says how long it
+has been at work. After it, a line says how many processor minutes it took.
+
+`rt ci` tries the edits of crates/NAME/wrong-bodies whose first line is 'tried: by each gate'. It also tries those whose first line is 'tried: by every ninth
+gate', in a ninth of the crates that have such edits: the commit's hash determines which, or TURN=0 to 8 in the environment. While `rt ci` runs, these edits
+are in must-fail, which it reads. wrong_bodies.py removes the edits that a killed run has left there. The edits of a crate cost one more proof of the crate,
+and about a sixth of that for each edit. So the ninths consist of whole crates, and cost about the same.
+
+`rt ci` estimates the memory that a proof needs at two to three times what was seen. It lets a large crate wait while smaller ones use that memory, although
+the large crate may be in the longest chain of crates. If each processor has memory for a proof, RT_JOBS makes `rt ci` use them all.
 """
 import contextlib
 import fcntl
@@ -33,20 +43,20 @@ import time
 ROOT = pathlib.Path(__file__).resolve().parent.parent
 PARTS = 9
 
-# What the first line of an edit of wrong-bodies says of when it is tried; where it is another, `make wrong` alone tries it.
+# The first lines of edits of wrong-bodies, which say when an edit is tried. Only `make wrong` tries an edit with another first line.
 EACH, IN_TURN = "tried: by each gate", "tried: by every ninth gate"
 
-# What it says of what it doesn't try.
-SKIPPED = """It leaves out {} others (make wrong CRATE=..), the service under the race detector, over engines, with kills and with other programs (make
-service-race, service-engines, service-clients), and what runs longer (make fuzz, load, sweep, link)."""
+# The message about the tests that it does not run.
+SKIPPED = """It leaves out {} others (make wrong CRATE=..), the tests of the service under the race detector, over engines, with kills and with other programs (make
+service-race, service-engines, service-clients), and longer tests (make fuzz, load, sweep, link)."""
 
-# About the most memory that a proof was seen to take, in bytes.
+# About the maximum memory that a proof was seen to take, in bytes.
 MEMORY = 4_000_000_000
 
 # The parts of the demo.
 DEMO = ("path", "log")
 
-# What runs over what was proved: comparisons of dist/ with it, and a crate that the prover must refuse.
+# The scripts that run over the proved code: comparisons of dist/ with it, and a crate that the prover must refuse.
 OF_DIST = (
     "checks/dist.py",
     "tests/library/guard.py",
@@ -66,7 +76,7 @@ OF_DIST = (
     "tests/linear.py",
 )
 
-# How the programs are broken off: each so many-th growth of memory is refused (make sweep refuses every one).
+# How the programs are broken off: each fortieth allocation is refused (make sweep refuses every one).
 BROKEN_OFF = (
     ("sweep.py", "--step", "40"),
 )
@@ -74,38 +84,38 @@ BROKEN_OFF = (
 # How often it says that the gate is still at work, in seconds, while nothing else happens.
 EVERY = 60
 
-# The signals at which it ends in order, where they aren't ignored already.
+# The signals at which it ends in order, unless they are ignored already.
 ENDINGS = (signal.SIGTERM, signal.SIGHUP)
 
 
 def turn():
-    """Which part of the crates is tried: the first where no commit is known."""
+    """Returns which part of the crates is tried: the first if no commit is known."""
     said = os.environ.get("TURN", "")
     if said.isdigit():
         return int(said) % PARTS
     try:
         commit = subprocess.run(["git", "rev-parse", "HEAD"], cwd=ROOT, capture_output=True, text=True).stdout.strip()
     except OSError:
-        # (git isn't here)
+        # (git is not installed)
         commit = ""
     return int(commit or "0", 16) % PARTS
 
 
 def edits(crate, *when):
-    """The edits of a crate that are tried then; those of by-turns are so in turn."""
+    """Returns the edits of a crate that are tried at one of these times. Those of by-turns are tried in turn."""
     found = [edit for edit in sorted((crate / "wrong-bodies").glob("*.edit")) if edit.read_text().partition("\n")[0] in when]
     return found + (sorted((crate / "by-turns").glob("*.edit")) if IN_TURN in when else [])
 
 
 def for_rt(edit):
-    """The text of an edit as rt reads it: without the line that says when it is tried."""
+    """Returns the text of an edit as rt reads it: without the line that says when it is tried."""
     first, end, rest = edit.read_text().partition("\n")
     return rest if first in (EACH, IN_TURN) else first + end + rest
 
 
 def put_out(own=()):
-    """Takes these edits out of must-fail, and those of wrong-bodies that a run that was killed has left there, whole or cut off; one with another
-    text stays. The answer is how many were left."""
+    """Removes these edits from must-fail, and those of wrong-bodies that a killed run has left there, whole or cut off. An edit with another text stays.
+    Returns how many were left there."""
     pairs = [(edit, crate / "must-fail" / edit.name) for crate in ROOT.glob("crates/*") for edit in edits(crate, EACH, IN_TURN)]
     left = [there for edit, there in pairs if there.exists() and for_rt(edit).startswith(there.read_text())]
     for there in {*own, *left}:
@@ -118,7 +128,7 @@ def put_out(own=()):
 
 @contextlib.contextmanager
 def at_work():
-    """A run in this checkout: meanwhile put_out_left leaves its edits where they are."""
+    """Marks a run in this checkout: meanwhile put_out_left does not remove its edits."""
     with open(__file__) as lock:
         # (without locks in the file system put_out_left does nothing)
         with contextlib.suppress(OSError):
@@ -127,7 +137,7 @@ def at_work():
 
 
 def put_out_left():
-    """Takes away what a run that was killed has left in must-fail, and answers how many edits these are; none while a run is at work."""
+    """Removes the edits that a killed run has left in must-fail, and returns their number. It removes none while a run is at work."""
     with open(__file__) as lock:
         try:
             fcntl.flock(lock, fcntl.LOCK_EX | fcntl.LOCK_NB)
@@ -137,17 +147,17 @@ def put_out_left():
 
 
 def size_of(crate):
-    """The bytes of a crate's code, specs and proofs."""
+    """Returns the number of bytes of a crate's code, specs and proofs."""
     return sum(path.stat().st_size for part in ("src", "specs", "proofs") for path in (crate / part).rglob("*") if path.is_file())
 
 
 def cost_of(crate):
-    """What a turn of the crate costs, in no unit: a proof, which goes by its size, and a sixth of one for each edit."""
+    """Returns the relative cost of a turn of the crate: a proof, which is proportional to its size, and a sixth of a proof for each edit."""
     return size_of(crate) * (6 + len(edits(crate, IN_TURN)))
 
 
 def parts():
-    """The crates that have edits in turn, in parts: the dearest first, each goes where least is so far."""
+    """Returns the crates that have edits in turn, in parts: beginning with the most expensive crate, each joins the part with the least cost so far."""
     found = [[] for _ in range(PARTS)]
     for crate in sorted((crate for crate in ROOT.glob("crates/*") if edits(crate, IN_TURN)), key=lambda it: (-cost_of(it), it.name)):
         min(found, key=lambda part: sum(map(cost_of, part))).append(crate)
@@ -155,7 +165,7 @@ def parts():
 
 
 def put_in():
-    """Puts the edits of each gate and of this turn into must-fail, and answers where they stand there."""
+    """Puts the edits of each gate and of this turn into must-fail, and returns their paths there."""
     put_out()
     found, part = [], parts()[turn()]
     for crate in sorted(ROOT.glob("crates/*")):
@@ -167,14 +177,14 @@ def put_in():
 
 
 def stop(*_):
-    """Ends it, and lets no further signal break that off."""
+    """Ends the program, and ignores further signals meanwhile."""
     for number in ENDINGS:
         signal.signal(number, signal.SIG_IGN)
     sys.exit(1)
 
 
 def end_in_order():
-    """Has each of these signals end the program as an exit does."""
+    """Makes each of these signals end the program as an exit does."""
     for number in ENDINGS:
         if signal.getsignal(number) != signal.SIG_IGN:
             signal.signal(number, stop)
@@ -191,14 +201,14 @@ def main():
             print(f"It tries {len(there)} wrong bodies, of {', '.join(names) or 'no crate'}. {SKIPPED.format(every - len(there))}", flush=True)
             status = run()
             if gone := [edit.name for edit in there if not edit.exists()]:
-                sys.exit(f"gate.py: {len(gone)} edits were taken out of must-fail while it ran, {gone[0]} among them: run it once more")
+                sys.exit(f"gate.py: {len(gone)} edits, such as {gone[0]}, were removed from must-fail while it ran (run it again)")
             sys.exit(status)
         finally:
             put_out(there)
 
 
 def surroundings():
-    """The environment of `rt ci`."""
+    """Returns the environment of `rt ci`."""
     processors = len(os.sched_getaffinity(0))
     free = re.search(r"MemAvailable:\s+(\d+)", pathlib.Path("/proc/meminfo").read_text())
     jobs = {"RT_JOBS": str(processors)} if free and int(free[1]) * 1024 >= processors * MEMORY else {}
@@ -206,7 +216,7 @@ def surroundings():
 
 
 def with_go(last):
-    """The last line of `rt ci` with the tests of the Go part; as it is where these weren't run, or it is another line."""
+    """Returns the last line of `rt ci` with the tests of the Go part included. It is unchanged if these were not run, or if it is another line."""
     path, found = pathlib.Path(os.environ.get("COUNT") or "no count"), re.fullmatch(r"(\d+) passed, (\d+) failed", last)
     if not found or not path.is_file():
         return last
@@ -215,13 +225,13 @@ def with_go(last):
 
 
 def count_sessions(ran):
-    """How many sessions were as due, and how many weren't: one at least where the script failed, which it does too where it can't read one."""
+    """Returns how many sessions were as expected, and how many were not: at least one if the script failed, which it also does if it cannot read one."""
     counts = re.findall(r"^\w+: (\d+) sessions as due(?:, (\d+) not)?", ran.stdout, re.M)
     return sum(int(due) for due, _ in counts), max(sum(int(others or 0) for _, others in counts), 1 if ran.returncode else 0)
 
 
 def run_programs():
-    """Runs what goes over the programs that `rt ci` has built: how many passed, and how many failed."""
+    """Runs the tests of the programs that `rt ci` has built, and returns how many passed, and how many failed."""
     how = {"stdout": subprocess.PIPE, "stderr": subprocess.STDOUT, "text": True, "errors": "replace"}
     words = subprocess.run([sys.executable, ROOT / "tests" / "command_lines.py"], **how)
     print(words.stdout, end="", flush=True)
@@ -247,9 +257,9 @@ def run_programs():
 
 
 def with_programs(last):
-    """The last line with what was run over the programs, and how much of that failed; nothing is where `rt ci` wasn't at its end."""
+    """Returns the last line with the tests of the programs included, and how many of these failed. They are not run if `rt ci` did not finish."""
     found = re.fullmatch(r"(\d+) passed, (\d+) failed", last)
-    # (tests/scripts.py runs this file alone, over an rt of its own)
+    # (tests/checks.py runs only this file, with an rt of its own)
     if not found or not (ROOT / "tests" / "command_lines.py").is_file():
         return last, 0
     passed, failed = run_programs()
@@ -257,7 +267,7 @@ def with_programs(last):
 
 
 def run():
-    """Runs `rt ci` and tells of it; the answer is its status, or 1 where something that is run over the programs fails."""
+    """Runs `rt ci` and reports its progress. Returns its status, or 1 if a test of the programs fails."""
     start, said = time.monotonic(), time.monotonic()
     ended, telling = threading.Event(), threading.Lock()
 
@@ -282,7 +292,7 @@ def run():
             say(line.rstrip("\n"))
         status = gate.wait()
     finally:
-        # (where this program is ended, what it has begun is too)
+        # (if this program is ended, rt ci is ended too)
         gate.terminate()
     ended.set()
     used = resource.getrusage(resource.RUSAGE_CHILDREN)

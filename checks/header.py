@@ -1,14 +1,14 @@
 #!/usr/bin/env python3
-"""The header of the library for C says what the library's functions are: which there are, their arguments in order and their types, the fields
-of its struct in order, and the number of each fault and code. No contract sees these, since clauses name arguments and fields. The script makes what the
-header has to say from the sources of `libwagtenib`, prints each line that differs, and ends with status 1 where there is one."""
+"""Checks the library's header for C against the sources of `libwagtenib`: the functions, their arguments and types in order, the fields of each struct in
+order, and the number of each fault and code. No contract covers these, because clauses name arguments and fields. The script prints each line that
+differs, and ends with status 1 if one does."""
 import re
 import sys
 
 from source import CRATES, ROOT, blanked, closing, without_clauses
 
 HEADER = ROOT / "include" / "wagtenib.h"
-# What stands in C for a type of an argument; `*` behind a list is how many elements it has, whatever the header calls that.
+# The C types of arguments. `*` after a list is its number of elements, under any name in the header.
 TYPES = {
     "u32": "uint32_t {}",
     "u64": "uint64_t {}",
@@ -63,19 +63,19 @@ NAMES = {"Memory": "OutOfMemory"}
 
 
 def parts(text):
-    """The parts of a list between the commas that stand outside of brackets."""
+    """Returns the parts of a list between the commas outside of brackets."""
     return [part.strip() for part in re.split(r",(?![^\[]*\])", text) if part.strip()]
 
 
 def prototype(name, arguments, result):
-    """How C declares a function of the library."""
+    """Returns the C declaration of a function of the library."""
     said = [(TYPES[kind], word) for word, kind in (re.split(r"\s*:\s*", part, 1) for part in parts(arguments))]
     declared = ", ".join(kind.format(word) for kind, word in said if kind)
     return f"{'uint32_t' if result == 'u32' else 'void'} {name}({declared or 'void'})"
 
 
 def declared_functions(text):
-    """What the sources say of the functions, as C declares them."""
+    """Yields the C declarations of the functions in the sources."""
     for found in re.finditer(r"\bextern\s+fn (\w+)\(", text):
         end = closing(text, found.end() - 1)
         result = re.match(r"\s*->\s*(\w+)", text[end:])
@@ -83,19 +83,19 @@ def declared_functions(text):
 
 
 def declared_structs(text):
-    """The fields of each struct that C sees, in order."""
+    """Yields each struct that C sees, with its fields in order."""
     for found in re.finditer(r"#\[repr\(C\)\](?:\s*#\[[^\]]*\])*\s*pub struct (\w+) \{([^}]*)\}", text):
         fields = re.findall(r"pub (\w+): ([^,]+),", found.group(2))
         yield f"struct {ALIASES[found.group(1)]} {{ " + " ".join(TYPES[kind].format(word) + ";" for word, kind in fields) + " }"
 
 
 def shouted(name):
-    """A fault's name as a constant of C has it."""
+    """Returns the C constant for a fault's name."""
     return "WAGTENIB_" + re.sub(r"(?<=[a-z])(?=[A-Z])", "_", name).upper()
 
 
 def declared_numbers(text):
-    """The number of each fault that the sources name, and of each code that is a constant."""
+    """Yields the number of each fault that the sources name, and of each code that is a constant."""
     for name, number in re.findall(r"\w+Fault::(\w+) => (\d+)", text):
         yield f"{shouted(NAMES.get(name, name))} = {number}"
     for name, number in re.findall(r"\bpub const (\w+): u32 = (\d+);", text):
@@ -103,7 +103,7 @@ def declared_numbers(text):
 
 
 def header_lines(text):
-    """What the header says, in the same form."""
+    """Yields the lines of the header, in the same form."""
     text = re.sub(r"/\*.*?\*/", " ", text, flags=re.S)
     for found in re.finditer(r"\b(uint32_t|void) (wagtenib_\w+)\(([^)]*)\);", text):
         yield re.sub(r"(\*\w+), size_t \w+", r"\1, size_t *", f"{found.group(1)} {found.group(2)}({' '.join(found.group(3).split())})")
@@ -120,7 +120,7 @@ def main():
     for line in sorted(made - said):
         print(f"include/wagtenib.h lacks: {line}")
     for line in sorted(said - made):
-        print(f"include/wagtenib.h says, and the sources don't: {line}")
+        print(f"include/wagtenib.h has a line that the sources do not: {line}")
     if made != said:
         sys.exit(1)
 

@@ -1,7 +1,8 @@
 #!/usr/bin/env python3
-"""The sources of all crates have the layout of `rt fmt`, without which `rt ci` refuses a crate. Where the kit isn't on the PATH, this says so and ends well.
+"""Checks that the sources of all crates have the layout of `rt fmt`, without which `rt ci` refuses a crate. If the kit is not on the PATH, it says so and
+ends with status 0.
 
-It ends with status 1 where a file has another layout, and names it.
+It names each file with another layout, and ends with status 1 if there is one.
 """
 import pathlib
 import shutil
@@ -14,7 +15,7 @@ from source import ROOT
 def main():
     rt = shutil.which("rt")
     if rt is None:
-        print("checks/layout.py: the layout isn't looked at, for want of the kit.")
+        print("checks/layout.py: the layout was not checked, because the Rattle kit is not on the PATH.")
         return 0
     files = sorted(str(path.relative_to(ROOT)) for part in ("src", "specs", "proofs") for path in ROOT.glob(f"crates/*/{part}/**/*") if path.suffix in (".rt", ".antt"))
     ran = subprocess.run([pathlib.Path(rt).resolve().parent / "rattle", "fmt", "--check", *files], cwd=ROOT, stdout=subprocess.DEVNULL, stderr=subprocess.PIPE, text=True)

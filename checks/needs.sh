@@ -1,20 +1,20 @@
 #!/usr/bin/env bash
-# Says what a target of the Makefile lacks here, and how long it takes on so many processors: needs.sh demo|test|check|link|dist|service|service-test,
-# of serve and serve-witness: needs.sh service-for-serve, and of the service's part of test: needs.sh service-for-test. GO=no leaves that part out. What the service lacks
-# deps/fetch.sh fetches; with SETUP=no it only says so.
+# Says which tools a target of the Makefile lacks here, and how long it takes on this machine's processors:
+# needs.sh demo|test|check|link|dist|service|service-test. For serve and serve-witness it is needs.sh service-for-serve, and for the service's part of test
+# needs.sh service-for-test. GO=no leaves that part out. deps/fetch.sh fetches what the service lacks; with SETUP=no it only reports it.
 # `needs.sh figures` prints the times on four processors, with which tests/scripts.py compares README.md, and `needs.sh write` writes them there.
 set -u
 cd "$(dirname "$0")/.." || exit
 what=$1
 missing=0
 
-# The processor minutes that a target takes where nothing was proved before: test by a run of the gate, demo by a run of its own, from
-# which link and dist are reckoned. After another run: put its figures into this line, and let `needs.sh write` put the times into README.md.
+# The processor minutes that a target takes if nothing was proved before: test from a run of the gate, demo from a run of its own, from
+# which link and dist are estimated. After another run, put its figures into this line, and let `needs.sh write` put the times into README.md.
 # shellcheck disable=SC2034
 work_of() { local demo=50 link=50 dist=50 test=180 && echo "${!1}"; }
 
-# The minutes that target $1 takes on $2 processors, rounded up to five. Crates are proved side by side: where processors share them a third is added, or
-# a fifth to the gate's, and more than eight gain little, of a program's own crates more than four.
+# The minutes that target $1 takes on $2 processors, rounded up to five. Crates are proved in parallel: if several processors share them, a third is added, or
+# a fifth for the gate. More than eight processors gain little for the gate, and more than four for the other targets.
 minutes() {
   python3 - "$1" "$(work_of "$1")" "$2" <<'END'
 import math
@@ -26,7 +26,7 @@ print(max(5, math.ceil(round(taken, 3) / 5) * 5))
 END
 }
 
-# The sentence of README.md that says whose times these are.
+# The sentence of README.md that says where these times come from.
 whose() { echo "The times are estimates from earlier runs."; }
 
 time_of() { echo "$(minutes "$1" 4) minutes ($(work_of "$1") of one processor)"; }
@@ -51,7 +51,7 @@ lacks() {
   missing=1
 }
 
-# The Go part needs what deps/fetch.sh fetches, and nothing of the kit.
+# The Go part needs only what deps/fetch.sh fetches, and nothing from the kit.
 if [ "$what" = service ] || [ "$what" = service-test ] || [ "$what" = service-for-serve ] || [ "$what" = service-for-test ]; then
   tools=openssl
   [ "$what" != service ] || tools=
@@ -70,7 +70,7 @@ if command -v python3 >/dev/null && ! python3 -c 'import sys; sys.exit(sys.versi
   lacks "a python3 of 3.8 or later: this one is $(python3 --version 2>&1)"
 fi
 case $what in
-  demo) tools="awk cmp cut diff grep mktemp realpath sed seq sort tail uniq wc" ;; # (and a C compiler, where its part is to be linked)
+  demo) tools="awk cmp cut diff grep mktemp realpath sed seq sort tail uniq wc" ;; # (and a C compiler, if its part must be linked)
   link) tools="${CC:-cc} ar mktemp nm sed" ;;
   check | test) tools="cmp rm" ;;
   *) tools= ;;

@@ -1,13 +1,13 @@
 #!/usr/bin/env python3
-"""Each function that docs/PROMISES.md names in a table is public and has the clauses named, and the column of files is made.
+"""Checks that each function that docs/PROMISES.md names in a table is public and has the clauses named. The column of files is generated.
 
     promises.py [--write]
 
 A row of a table with the columns Contract and File names functions, each with the names of its clauses in brackets: a method as `Type::name`, a
-free function as `name`, or as `module::name` or `crate::name` where several have that name. It has to be a public function of the crates that the
-section's heading names, of any crate where it names none, with all these clauses. The cell of files has the files in which the row's functions
-stand, in their order. The script prints each name that isn't so, each crate that has contracts and no section, and the first line that differs from
-what is made; it ends with status 1 where there is one. With --write it writes the page.
+free function as `name`, or as `module::name` or `crate::name` if several have that name. It must be a public function, with all these clauses, of the
+crates that the section's heading names, or of any crate if the heading names none. The cell of files has the files of the row's functions, in their
+order. The script prints each name that violates this, each crate that has contracts but no section, and each line whose files are out of date. It ends
+with status 1 if it prints anything. With --write it writes the page.
 """
 import re
 import sys
@@ -40,7 +40,7 @@ class Function(typing.NamedTuple):
 
 
 def clauses(text, at):
-    """The names of the clauses of the function whose name ends there."""
+    """Returns the names of the clauses of the function whose name ends at this offset."""
     found, part = set(), re.compile(r"\b(?:ensures|requires)\b\s*\w*\s*\{|\{|;")
     while (place := part.search(text, at)) and (clause := CLAUSE.match(text, place.start())):
         found.add(clause.group(1))
@@ -49,7 +49,7 @@ def clauses(text, at):
 
 
 def functions(crate):
-    """The public functions of a crate. (The `;` of an array's type doesn't end a signature.)"""
+    """Yields the public functions of a crate. (The `;` of an array's type does not end a signature.)"""
     for path in sources(crate):
         text = re.sub(r";(?= *[\w:]+\])", " ", blanked(path.read_text()))
         types = [(found.start(), found.group(1)) for found in IMPL.finditer(text)]
@@ -69,7 +69,7 @@ class Row(typing.NamedTuple):
 
 
 def rows(page):
-    """The rows of the tables of contracts."""
+    """Yields the rows of the tables of contracts."""
     named, columns = [], []
     for number, line in enumerate(page.splitlines(), 1):
         cells = [cell.strip() for cell in line.strip("|").split("|")]
@@ -84,7 +84,7 @@ def rows(page):
 
 
 def found_in(row, there):
-    """For each function that a row names, as it is named, the public ones that it may be."""
+    """Yields each function that a row names, as it is named, with the public functions that it may be."""
     for owner, name, brackets in NAMED.findall(row.contract):
         wanted = set(re.findall(r"\w+", brackets))
         of_crates = [one for one in there if not row.crates or one.crate in row.crates]
@@ -93,7 +93,7 @@ def found_in(row, there):
 
 
 def faults(page, there):
-    """What the tables name that isn't there, or is there more than once."""
+    """Yields a message for each name in the tables that does not exist, or exists more than once."""
     if not any(rows(page)):
         yield "there is no table with the columns Contract and File"
     for row in rows(page):
@@ -109,13 +109,13 @@ def faults(page, there):
 
 
 def files_of(row, there):
-    """The cell of files of a row."""
+    """Returns the cell of files of a row."""
     paths = [(one.crate, one.file) for _, matching in found_in(row, there) for one in matching[:1]]
     return ", ".join(dict.fromkeys(f"`{file}`" if len(row.crates) == 1 else f"`{crate}/{file}`" for crate, file in paths))
 
 
 def made(page, there):
-    """The page with its cells of files as they are made."""
+    """Returns the page with its generated cells of files."""
     lines = page.split("\n")
     for row in rows(page):
         cells = lines[row.number - 1].split("|")
@@ -125,7 +125,7 @@ def made(page, there):
 
 
 def unnamed(page):
-    """The crates that have contracts and that no heading names."""
+    """Returns the crates that have contracts but that no heading names."""
     headings = set(re.findall(r"`(\w+)`", " ".join(re.findall(r"^#.*", page, re.M))))
     return [crate for crate in crates() if not is_for_tests(crate) and crate not in headings]
 
@@ -139,7 +139,7 @@ def main():
         page = wanted
     found = list(faults(page, there)) + [f"no section is about the crate {crate}" for crate in unnamed(page)]
     differing = [number for number, lines in enumerate(zip(page.split("\n"), wanted.split("\n")), 1) if lines[0] != lines[1]]
-    found += [f"line {number}: the files aren't those that checks/promises.py --write writes" for number in differing]
+    found += [f"line {number}: the files are out of date (checks/promises.py --write writes them)" for number in differing]
     for fault in found:
         print(f"docs/PROMISES.md: {fault}")
     sys.exit(1 if found else 0)

@@ -1,10 +1,10 @@
 #!/usr/bin/env python3
-"""Proves what changed: each crate whose own text changed since it was last proved here, or what it reads of the crates below it.
+"""Proves the crates that changed: each crate whose own text, or what it reads from its dependencies, changed since it was last proved here.
 
-A crate reads the contracts of those below it, their specs and proofs, and the bodies of none. So where a body alone changed, that crate is proved, and
-none above it. `make test` proves all of it from nothing, and decides; this is for daily work, and takes crates of tests and measurements as the
-programs that they are, without their tests. What a crate was last proved with lies in crates/NAME/out/proved, as a sum; of one that was changed
-meanwhile it isn't known, and none lies there.
+A crate reads the contracts, specs and proofs of its dependencies, but not their bodies. So if only a body changed, that crate is proved, and no crate that
+depends on it. `make test` proves everything from scratch, and decides. This script is for daily work: it proves crates of tests and measurements as
+programs, without their tests. A checksum of everything with which a crate was last proved is in crates/NAME/out/proved. If a crate was changed during its
+proof, the checksum is unknown, and the file is deleted.
 """
 import hashlib
 import importlib.util
@@ -22,7 +22,7 @@ SPEC.loader.exec_module(BUILD)
 
 
 def sum_of(paths, top):
-    """One sum over the names of these files below a folder and their bytes."""
+    """Returns one checksum of the names of these files below a folder and of their bytes."""
     found = hashlib.sha256()
     for path in sorted(paths):
         bytes_of = path.read_bytes()
@@ -31,7 +31,7 @@ def sum_of(paths, top):
 
 
 class Check:
-    """What was proved last, and what each crate reads now."""
+    """The state of the last proofs, and what each crate reads now."""
 
     def __init__(self):
         self.crates = BUILD.Crates()
@@ -44,7 +44,7 @@ class Check:
         return ROOT / "crates" / name / "out" / "rlib" / f"{name}.rlib"
 
     def read_of(self, name):
-        """A sum of what proofs above a library read of it: all but compiled code, and sums over it. None where it isn't built."""
+        """Returns a checksum of the parts of a library that dependent proofs read: everything except compiled code and sums over it. None if it is not built."""
         if name not in self.reads:
             top, paths = self.rlib(name), []
             for at, folders, files in os.walk(top):
@@ -54,13 +54,13 @@ class Check:
         return self.reads[name]
 
     def now(self, name):
-        """A sum of all that the proof of a crate reads, or None where a library below it isn't built."""
+        """Returns a checksum of everything that the proof of a crate reads, or None if a library that it depends on is not built."""
         below = [self.read_of(it) for it in self.crates.below(name)[:-1]]
         own = sum_of(self.crates.sources(name), ROOT / "crates" / name)
         return hashlib.sha256(repr((self.kit, self.lines[name], own, below)).encode()).hexdigest() if None not in below else None
 
     def prove(self, name):
-        """Proves a crate, and builds it where others stand on it, in one run; whether that held. Where it doesn't, `rt check` says more of what is open."""
+        """Proves a crate, and builds it if others depend on it, in one run. Reports whether that succeeded. If not, `rt check` shows more about the open goals."""
 
         def does(word):
             return subprocess.run(["rt", word], cwd=ROOT / "crates" / name, stdin=subprocess.DEVNULL).returncode == 0
@@ -79,16 +79,16 @@ def main():
         sum_now = check.now(name)
         if sum_now is not None and kept.exists() and kept.read_text() == sum_now and (check.crates.is_put_together(name) or check.rlib(name).exists()):
             continue
-        print(f"{name}: it changed, or what it reads of those below it", flush=True)
+        print(f"{name}: it changed, or what it reads from its dependencies", flush=True)
         if not check.prove(name):
-            sys.exit(f"{name} isn't proved")
+            sys.exit(f"{name} is not proved (the lines above say why)")
         if check.now(name) != sum_now:
             kept.unlink(missing_ok=True)
-            sys.exit(f"{name} was changed while it was proved: make check once more")
+            sys.exit(f"{name} was changed while it was proved (run make check again)")
         check.reads.pop(name, None)
         kept.write_text(sum_now or "")
         proved += 1
-    print(f"{len(names)} crates proved, {proved} of them now, in {int(time.monotonic() - start)} s. Left out are tests and wrong bodies (make test), and the Go part (make service-test).")
+    print(f"{len(names)} crates proved, {proved} of them now, in {int(time.monotonic() - start)} s. This leaves out tests and wrong bodies (make test), and the Go part (make service-test).")
 
 
 if __name__ == "__main__":

@@ -4,7 +4,7 @@ import typing
 
 from source import CRATES
 
-# A definition's first line. One that stands in is one of a module's block; and `pub` alone begins a field there.
+# A definition's first line. An indented one belongs to a module's block. There a line that starts with only `pub` is a field.
 START = re.compile(r"(?:(?:unfoldable |abbrev )*pub|^ +(?:unfoldable |abbrev )+pub) (record |data )?(?!mod\b|use\b)(\S+)")
 
 
@@ -24,7 +24,7 @@ class File(typing.NamedTuple):
 
 
 def comment_above(lines, at):
-    """The comment that stands directly above a line, as one line."""
+    """Returns the comment directly above a line, as one line."""
     first = at
     while first > 0 and re.match(r" *--(?! ----)", lines[first - 1]):
         first -= 1
@@ -32,7 +32,7 @@ def comment_above(lines, at):
 
 
 def body_below(lines, at):
-    """The lines of the definition that begins at a line, that one with them."""
+    """Returns the lines of the definition that starts at a line, including that line."""
     end = at + 1
     while end < len(lines) and lines[end].strip() and not re.match(r" *--", lines[end]):
         end += 1
@@ -40,18 +40,18 @@ def body_below(lines, at):
 
 
 def cases(kind, body):
-    """The names of a data type's cases."""
+    """Returns the names of a data type's cases."""
     return re.findall(r"^ +(\w+) :", "\n".join(body[1:]), re.M) if kind == "data" else []
 
 
 def definition(lines, at):
-    """The definition that begins at a line, or none."""
+    """Returns the definition that starts at a line, or None."""
     start = START.match(lines[at])
     return Definition(start.group(2), comment_above(lines, at)) if start else None
 
 
 def specs(crate):
-    """The files of a crate's specs/, in the order in which its Lib.antt names them."""
+    """Returns the files of a crate's specs/, in the order in which its Lib.antt names them."""
     folder, files = CRATES / crate / "specs", []
     for name in re.findall(r"^pub mod (\w+)", (folder / "Lib.antt").read_text(), re.M) if folder.is_dir() else []:
         lines = (folder / f"{name}.antt").read_text().splitlines()

@@ -1,15 +1,21 @@
 #!/usr/bin/env python3
-"""No fault is told at will. No contract can say that a reader, a writer or the start of a thread failed, nor why nothing was shown or nobody came
-in time. So where the sources of a crate (but those of tests) tell such a fault, that place is named here with its reason: behind a call that
-failed, behind the last turn of a bounded loop, or where another's fault is handed on. A conversion (`impl From`) of what its name
-says to be an error may tell them, and patterns, types and imports may name them, but give them no other name. What is read or written to is what a
-function was handed. Such faults too are an error of std's input and output and its kind, what tells of one (a call that failed, a value that
-was handed back), and a call of std that may fail by itself. What is told behind the last turn over lines or calls stands right behind a loop of
-2^50 turns, which nothing breaks off, or a test whether there were 2^50; no other constant hides that number. Where a program tells a fault by its text,
-that is a fault's that it was handed or that a pattern took, and the status 1 stands behind it alone. And since std's contracts don't say what a process's status is, the `main`
-of a program ends with the one status that it was answered, and makes none up; and how long a line waits are the numbers of this table. The script
-prints each file in which a fault is told more or less often than this table says, or in which such a loop, a test, an end or a number is another, or
-which isn't there, and ends with status 1 where there is one."""
+"""Checks that no source reports an external fault without a cause. No contract can say that a reader, a writer or the start of a thread failed, why nothing was
+shown, or that nothing arrived in time. So this script checks the sources of each crate, except those of tests:
+
+- The tables below name each place that reports such a fault, with the reason: after a call that failed, after the last turn of a bounded loop, or to pass on
+  another fault. A conversion (`impl From`) from a type that is an error by its name may report them. Patterns, types and imports may name them, but must
+  not give them another name.
+- A function reads from and writes to only what was passed to it.
+- These count as such faults too: an error of std's input and output and its kind, a sign of one (a call that failed, a value that was handed back), and a
+  call of std that may fail by itself.
+- A fault after the last turn over lines or calls is reported directly after a loop of 2^50 turns without a break, or after a test whether there were 2^50.
+  No other constant hides that number.
+- If a program reports a fault by its text, it is the text of a fault that was passed to it or that a pattern matched. The status 1 only follows such a text.
+- Because std's contracts do not say which status a process ends with, the `main` of a program ends with the status that it was given, and with no other.
+- The numbers that say how long a line waits are those of the table.
+
+The script prints each file in which a fault is reported more or less often than the table says, in which such a loop, test, end or number is different, or
+which does not exist. It ends with status 1 if there is one."""
 import re
 import sys
 
@@ -21,24 +27,24 @@ FAULT = re.compile(
     r"\b(?:\w*Fault|Refusal|Self)::(Read|Write|Threads|Closed|Late|Stopped|Endless)\b|\b(?:io::)?(Error)::(?:from|new|other)\b|\b(ErrorKind::\w+)"
     r"|\b(NotAppended|ReadFailed|Stopped|Unwritten|WriteFailed)\b|(?:\.|::)(read_exact|read_to_end|read_to_string|read_until|write_all|write_fmt)\s*\("
 )
-# A loop behind whose last turn a fault is told, and how many turns it makes.
+# A loop with a fault after its last turn, and its number of turns.
 LOOP = re.compile(r"\bfor turn in 0\.\.([A-Z]+) \{")
-# A test behind which a fault is told at once.
+# A test directly followed by a fault.
 LIMIT = re.compile(r"\bif self\.\w+ == ([A-Z]+) \{\s*return Err\((?:io::Error::from\()?")
 TURNS = "1 << 50"
-# How a program ends. No number stands in the file, since a status that is made up is one, but the 1 behind a fault that is told.
+# The end of a program. Its file contains no number, because that could be an invented status, except the 1 after a reported fault.
 END = re.compile(r"\bExitCode::from\(status\)\s*\}\s*$")
 TELLS = re.compile(r"\b(?:tell\([^;]*\b(?:fault_text|line_of)\(fault\)[^;]*\)|tell_fault\([^,;]*, fault, [&\w ]+\));\s*1\s*\}")
-# What is told among the faults: a text of a fault, which came by a pattern or was handed over; or a text that no status 1 stands behind.
+# The texts that may be written to the faults: that of a fault, which a pattern matched or which was passed in; or a text that no status 1 follows.
 TOLD_TEXT = re.compile(r"(?:[A-Z]+|text|(?:\w+_text|(?:\w+\.)?line_of)\(fault\))(?:\.as_bytes\(\))?$")
 STATUS = re.compile(r"\bfn\s+\w[^;{]*->\s*u8\b[^;{]*\{")
-# Another name for a fault: an import's, a type's, or a case that is brought in by itself.
+# Another name for a fault: that of an import, of a type, or of a case that is imported by itself.
 RENAMED = re.compile(
     r"\b(?:\w*Fault|Refusal)(?:::\w+)?\s+as\s+\w|^(?:pub(?:\(\w+\))? )?type\s[^=;]*=\s*(?:\w+::)*(?:\w*Fault|Refusal)\s*;|\buse\s[^;]*\b(?:\w*Fault|Refusal)::", re.M
 )
-# What a conversion may tell a fault of: an error, by its name.
+# The source of a conversion that may report a fault: an error, by its name.
 SOURCE = re.compile(r"From<(?:.*\b)?(?:\w*(?:Fault|Failed|Error|ErrorKind|Refused|Appended)(?:<\w+>)?|Refusal|Stopped|Unwritten|Unkept|Unfit|Unread)>+ for")
-# What is written to, and read.
+# Calls that read or write, and their first argument.
 STREAM = re.compile(r"(?<!fn )(?<![.\w])(?:send|write_whole|write_bytes|tell|next_line)\(\s*(&mut )?(\w+)")
 # How long a line waits.
 WAITS = {
@@ -49,7 +55,7 @@ WAITS = {
         **{"LOOKS": "16_384"},
     },
 }
-# How often each file tells each of these faults, and where.
+# How often each file reports each of these faults, and where.
 TOLD = {
     "json_lines/src/lines.rt": {
         "Error": (1, "after the last turn over a line's pieces"),
@@ -57,28 +63,28 @@ TOLD = {
         "ErrorKind::Interrupted": (1, "of a call that was interrupted"),
     },
     "json_lines/src/sending.rt": {
-        **dict.fromkeys(("Error", "ErrorKind::WriteZero"), (1, "the writer took no bytes")),
-        "Unwritten": (2, "the output couldn't be written, or handed on"),
+        **dict.fromkeys(("Error", "ErrorKind::WriteZero"), (1, "the writer accepted no bytes")),
+        "Unwritten": (2, "the output could not be written, or handed on"),
     },
     "ct_lines/src/serving.rt": {
-        "Endless": (1, "behind the last turn over the reader's calls"),
+        "Endless": (1, "after the last turn over the reader's calls"),
         **dict.fromkeys(("ReadFailed", "WriteFailed"), (1, "with the reader's, or the writer's, error")),
     },
     "ctlog/src/command.rt": dict.fromkeys(("ErrorKind::ValueValidation", "ErrorKind::InvalidValue"), (1, "clap's kind of a refusal, which a clause pins")),
-    "ct_parties/src/front_work.rt": {"Late": (1, "behind the last turn of a line that waits")},
-    "ct_parties/src/operator_work.rt": {"Late": (1, "behind the last turn of a line that waits")},
-    "ct_lines/src/plan_reading.rt": {"Read": (1, "behind the last turn over the lines")},
-    "ct_parties/src/script.rt": {"Write": (2, "a reply of the closed log couldn't be written whole, or the output handed on")},
-    "ct_parties/src/threads.rt": {"Threads": (1, "a front's thread didn't start")},
-    "ct_data_tiles/src/entries.rt": {"Unwritten": (1, "of a leaf's bytes that weren't made, a conversion of its own")},
+    "ct_parties/src/front_work.rt": {"Late": (1, "after the last turn of a line that waits")},
+    "ct_parties/src/operator_work.rt": {"Late": (1, "after the last turn of a line that waits")},
+    "ct_lines/src/plan_reading.rt": {"Read": (1, "after the last turn over the lines")},
+    "ct_parties/src/script.rt": {"Write": (2, "a reply of the closed log could not be written whole, or the output not handed on")},
+    "ct_parties/src/threads.rt": {"Threads": (1, "a front's thread could not be started")},
+    "ct_data_tiles/src/entries.rt": {"Unwritten": (1, "of a leaf's bytes that were not made, a conversion of its own")},
     "ct_data_tile_calls/src/entries.rt": {"Unwritten": (1, "of a leaf's bytes that were not made, a conversion of its own")},
     "ct_house/src/shelf.rt": {"NotAppended": (2, "`append` handed it back")},
-    "ct_house/src/viewer.rt": {"Closed": (3, "nothing is shown, or what is shown is behind what was learnt")},
+    "ct_house/src/viewer.rt": {"Closed": (3, "no state is shown, or the state shown is older than the one learned")},
 }
 
 
 def told(text):
-    """The places at which a source tells such a fault, with its name."""
+    """Yields the offsets at which a source reports such a fault, with its name."""
     text = without_clauses(blanked(text))
     conversions = [block for block in blocks(text, r"\bimpl(?:<[^{]*?>)? From<") if SOURCE.search(text[slice(*block)])]
     allowed = conversions + list(declared(text)) + list(asked(text))
@@ -90,7 +96,7 @@ def told(text):
 
 
 def of_its_own(text):
-    """The places at which a fault is given another name, and those of a call that reads or writes over what is no parameter."""
+    """Yields the offsets at which a fault is given another name, and those of calls that read or write something other than a parameter."""
     text = without_clauses(blanked(text))
     yield from (found.start() for found in RENAMED.finditer(text))
     for found in STREAM.finditer(text):
@@ -101,7 +107,7 @@ def of_its_own(text):
 
 
 def is_whole(text, name):
-    """Whether a constant is so many turns: json_lines' own, which the source is or imports."""
+    """Reports whether a constant is the 2^50 turns of json_lines, which the source defines or imports."""
     own = re.search(rf"\bconst {name}: u64 = {TURNS};", text)
     imported = re.search(rf"\buse (?:crate::lines|json_lines)::{{[^}}]*\b{name}\b", text)
     # (another of this name would hide it)
@@ -111,7 +117,7 @@ def is_whole(text, name):
 
 
 def loops(text):
-    """The loops over turns, and the tests: the place behind each, where it makes so many turns and nothing breaks it off, and else none."""
+    """Yields the offset after each loop over turns, and after each test: None if it does not make 2^50 turns, or something breaks it off."""
     text = without_clauses(blanked(text))
     for found in LOOP.finditer(text):
         end = closing(text, found.end() - 1)
@@ -124,7 +130,7 @@ def loops(text):
 
 
 def texts_told(text):
-    """The places at which another text than a fault's, or one of no fault, is told, and those of a status 1 that isn't right behind a fault's text."""
+    """Yields the offsets at which a text other than a fault's is reported, and those of a status 1 that does not directly follow a fault's text."""
     text = without_clauses(blanked(text))
     for found in re.finditer(r"(?<!fn )\btell\(", text):
         told_text = parts(text[found.end() : closing(text, found.end() - 1) - 1], ",")[-1]
@@ -138,7 +144,7 @@ def texts_told(text):
         yield found.start()
 
 
-# Sources of which each tells a fault at will, and sources that may stand: the faults that are told in each, its loops, and its texts.
+# Sources each of which reports a fault without a cause, and sources that are allowed: the faults that each reports, its loops, and its texts.
 LINES = "use json_lines::{READS, tell};"
 LOOPS = "for turn in 0..READS { next(turn)?; } Err(Fault::Read)"
 RUN = "match run(words) { Ok(status) => status, Err(fault) => { tell(faults, fault_text(fault).as_bytes()); 1 } }"
@@ -183,18 +189,18 @@ def try_itself():
 
     missed = [line for line in WRONG.splitlines() if not is_wrong(line)] + [line for line in RIGHT.splitlines() if is_wrong(line)]
     if missed:
-        sys.exit("checks/told_faults.py judges lines of its own wrongly:\n" + "\n".join(missed))
+        sys.exit("checks/told_faults.py judges these test lines of its own wrongly:\n" + "\n".join(missed))
 
 
 def ends_and_waits(text, name):
-    """What is wrong with how a program ends, and how long a line waits there."""
+    """Yields what is wrong with how a program ends, and with how long a line waits there."""
     text = without_clauses(blanked(text))
     if name.endswith("/main.rt") and "ExitCode" in text:
         if not END.search(text) or text.count("ExitCode::") != 1 or re.search(r"(?<![\w.])\d", TELLS.sub("", text)):
-            yield f"{name} ends with another status than it is answered, or makes one up"
+            yield f"{name} ends with another status than it was given, or invents one"
     for word, number in WAITS.get(name, {}).items():
         if not re.search(rf"\bconst {word}: u64 = {number};", text):
-            yield f"{name} has another {word} than {number}"
+            yield f"{name} has another {word} than {number} (change it there, or in WAITS of checks/told_faults.py)"
 
 
 def main():
@@ -206,21 +212,21 @@ def main():
             seen.add(name)
             places, ends = list(told(text)), set(loops(text))
             differ += ends_and_waits(text, name)
-            differ += [f"{name}:{line_of(text, at)} gives a fault another name, or reads or writes over what it wasn't handed" for at in of_its_own(text)]
-            differ += [f"{name}:{line_of(text, at)} tells a fault that it wasn't handed, or ends with 1 behind none" for at in texts_told(text)]
+            differ += [f"{name}:{line_of(text, at)} gives a fault another name, or reads or writes something that was not passed to it" for at in of_its_own(text)]
+            differ += [f"{name}:{line_of(text, at)} reports a fault that was not passed to it, or ends with 1 after none" for at in texts_told(text)]
             if None in ends:
-                differ.append(f"{name} has a loop over turns that isn't of {TURNS}, or is broken off, or has no error behind it")
+                differ.append(f"{name} has a loop over turns that is not of {TURNS}, or is broken off, or is not followed by an error")
             for fault in sorted({fault for _, fault in places} | set(TOLD.get(name, {}))):
                 lines = [line_of(text, at) for at, other in places if other == fault]
                 often, reason = TOLD.get(name, {}).get(fault, (0, ""))
                 if len(lines) != often:
-                    differ.append(f"{name} tells {fault} in {len(lines)} places: lines {', '.join(map(str, lines)) or 'none'}")
-                if "behind the last turn over" in reason and not {at for at, other in places if other == fault} <= ends:
-                    differ.append(f"{name} tells {fault} elsewhere than right behind such a loop")
-    differ += [f"{name} is in a table here, and isn't among the sources" for name in sorted({*TOLD, *WAITS} - seen)]
+                    differ.append(f"{name} reports {fault} in {len(lines)} places, and not in {often}: lines {', '.join(map(str, lines)) or 'none'}")
+                if "after the last turn over" in reason and not {at for at, other in places if other == fault} <= ends:
+                    differ.append(f"{name} reports {fault} elsewhere than directly after such a loop")
+    differ += [f"{name} is in a table of checks/told_faults.py, but not among the sources" for name in sorted({*TOLD, *WAITS} - seen)]
     if differ:
         print("\n".join(differ))
-        sys.exit("a fault that no clause can pin is told where checks/told_faults.py doesn't say why")
+        sys.exit("a fault that no clause can pin is reported where checks/told_faults.py does not give a reason (its table TOLD)")
 
 
 if __name__ == "__main__":

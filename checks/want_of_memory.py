@@ -1,16 +1,19 @@
 #!/usr/bin/env python3
-"""Want of memory is never made up, and no value is kept from being let go.
+"""Checks that the code never invents an out-of-memory error, and never keeps a value from being dropped.
 
-No contract can say that an allocator refused. So in the sources of every crate but those of tests: an expression that names want of
-memory (the case `Memory` of an enum, or std's `AllocError`) stands only inside an `impl From<AllocError> for ..`, which turns a refused growth
-into an error, or a conversion that passes on an error which tells of one; everywhere else it comes by `?`. Types (in the body of a struct or an
-enum, a signature, an `impl`'s head, behind `let x:` or in angle brackets), imports and patterns may name it. The library for C has a number for
-it, 8 or OUT_OF_MEMORY, which stands only behind a pattern that names it. No growth is asked for that may be more than a machine has room for: how many places it
-asks for is a sum of lengths, of parameters, and of literals below 2^20, by way of `let`s of its function and constants, and so is what each call
-gives for such a parameter (`capacity.py`); only shared/src/count.rt asks for all places that there are, behind the last number. No array has 2^20 items or more, and
-nothing but a process's words is collected from an iterator, which may say that it has any number of items. And none
-names `forget`, `leak` or `ManuallyDrop`. The script prints each place that breaks this, and ends with status 1 where there is one. Before that
-it tries itself on lines of its own, wrong ones and right ones.
+No contract can say that an allocator refused. So this script checks the sources of every crate, except those of tests:
+
+- An expression that names an out-of-memory error (the case `Memory` of an enum, or std's `AllocError`) occurs only inside an `impl From<AllocError> for ..`,
+  which turns a refused allocation into an error, or in a conversion that passes on such an error. Everywhere else it comes from `?`. Types (in the body of
+  a struct or an enum, a signature, an `impl`'s head, after `let x:` or in angle brackets), imports and patterns may name it.
+- The library for C has a number for it, 8 or OUT_OF_MEMORY, which occurs only after a pattern that names the error.
+- No allocation is requested that may be more than a machine has room for. The number of elements is a sum of lengths, of parameters, and of literals
+  below 2^20, by way of `let`s of its function and constants. The same holds for the value of such a parameter at each call (`capacity.py`). Only
+  shared/src/count.rt requests the maximum, after the last number.
+- No array has 2^20 elements or more. Only a process's arguments are collected from an iterator, because an iterator may claim any number of items.
+- No source names `forget`, `leak` or `ManuallyDrop`.
+
+It prints each violation, and ends with status 1 if there is one. Before that it tests itself on lines of its own, wrong ones and right ones.
 """
 import re
 import sys
@@ -20,44 +23,44 @@ from source import ROOT, blanked, closing, crates, is_for_tests, line_of, source
 
 NAMES = re.compile(r"\b(?:Memory|OutOfMemory|AllocError|AllocFailed)\b")
 KEPT = re.compile(r"\b(?:forget|leak|ManuallyDrop)\b")
-# Where a name is no expression: what stands before it in its line, and what stands behind it.
+# A name is not an expression if this text comes before it in its line, or this text after it.
 ANGLE = r"<(?:[^()=<>{};]|->|<(?:[^()=<>{};]|<[^()=<>{};]*>)*>)*"
 BEFORE = re.compile(rf"(?:\blet\b[^=]*|\b(?:const|static)\s+\w+:[^=]*|->[^{{;=]*|{ANGLE}|\btype\s[^;]*|[!=]= (?:\w+::)*)$")
 BEHIND = re.compile(r"^(?:\([^()]*\)|\{[^{}]*\})?\s*[)}]*\s*(?:if\b[^=]*)?(?:\|(?!\|)|=>)|^>")
-# The library for C, its number, and the one place that may name it without a pattern.
+# The library for C, its number, and the one constant that may name it without a pattern.
 # (A field of a certificate, a command of a node and a flag of what it finds have the same number.)
 NUMBERED, NUMBER = (
     ("libwagtenib",),
     re.compile(r"(?<!; )(?<!Place::Issuer => )(?<!command_with\()(?<!found\.flags, )\b8(?:_?[iu](?:\d+|size))?\b(?! => Some\(Node::)|\bOUT_OF_MEMORY\b"),
 )
 CONSTANT = re.compile(r"\buse [^;]*;|\bpub const OUT_OF_MEMORY: u32 = 8;")
-# The one file that may ask for all places that there are.
+# The one file that may request the maximum number of elements.
 COUNT = "shared/src/count.rt"
-# A growth for as many items as an iterator says that it has: of a process's words alone, since a range says any number.
+# An allocation for as many items as an iterator claims: only for a process's arguments, because a range may claim any number.
 ITEMS = re.compile(r"(?:\.(?:collect|extend)|\bfrom_iter)\s*(?:::<[^;()]*>)?\s*\(")
 WORDS = re.compile(r"\benv::args\(rt\)\?$")
 GIVEN_WORDS = re.compile(r"\w: io::Result<Args<\w+>>")
 
 
 def blocks(text, pattern):
-    """The places of the bodies that follow a pattern."""
+    """Yields the start and the end of each body that follows a pattern."""
     for found in re.finditer(pattern, text):
         yield found.start(), closing(text, text.index("{", found.end()))
 
 
 def is_pattern(text, found):
-    """Whether a name stands in a pattern."""
+    """Reports whether a name is in a pattern."""
     return BEHIND.match(text[found.end() : text.find("\n", found.end())]) is not None
 
 
-# Another name for it: an import's, or a type's beside those of traits.
+# Another name for it: that of an import, or of a type that is not a trait's.
 RENAMED = re.compile(rf"{NAMES.pattern}\s+as\s+\w|^(?:pub(?:\(\w+\))? )?type (?!{NAMES.pattern})\w+\s*=\s*(?:\w+::)*{NAMES.pattern}\s*;", re.M)
-# What a test before an expression that names it says, and nothing else.
+# A test for the error, before an expression that names it, that tests nothing else.
 TEST = re.compile(rf"\w+(?:\.\w+)*(?:\.is_memory\(\)| == (?:\w+::)*{NAMES.pattern})")
 
 
 def is_of_a_refusal(text, start, end):
-    """Whether a conversion is from a refused growth alone: from std's errors for it, from a struct that holds one, or from what left_right's `append` hands back."""
+    """Reports whether a conversion is only from a refused allocation: from std's errors for it, from a struct that contains one, or from the value that left_right's `append` hands back."""
     source = re.search(r"From<(.*)> for", text[start:end]).group(1)
     return bool(
         re.match(r"(?:AllocError|AllocFailed|TryReserveError|NotAppended)\b", source)
@@ -66,7 +69,7 @@ def is_of_a_refusal(text, start, end):
 
 
 def pattern_before(text, end):
-    """The pattern of an arm, which ends at a place."""
+    """Returns the pattern of an arm that ends at an offset."""
     depth, at = 0, end
     while at > 0 and (depth or text[at - 1] not in ",({["):
         at -= 1
@@ -76,7 +79,7 @@ def pattern_before(text, end):
 
 
 def is_passed_on(text, start, at):
-    """Whether what stands at a place of a conversion that begins at `start` is behind a pattern, or a test, that names the refusal."""
+    """Reports whether an offset in a conversion that starts at `start` comes after a pattern, or a test, that names the refusal."""
     for arm in reversed(list(re.finditer(r"=>\s*", text[start:at]))):
         begun = start + arm.end()
         end = begun
@@ -93,7 +96,7 @@ def is_passed_on(text, start, at):
 
 
 def declared(text):
-    """The places of types: bodies of structs and enums, signatures of functions, heads of `impl`s."""
+    """Yields the ranges of types: bodies of structs and enums, signatures of functions, heads of `impl`s."""
     for found in re.finditer(r"\b(?:struct|enum)\s+\w[^;{]*[;{]", text):
         yield found.start(), closing(text, found.end() - 1) if text[found.end() - 1] == "{" else found.end()
     for found in re.finditer(r"\bfn\s+\w(?:[^;{\[]|\[[^\]]*\])*[;{]|\bimpl\b[^;{]*\{", text):
@@ -101,7 +104,7 @@ def declared(text):
 
 
 def asked(text):
-    """The places of the patterns of `matches!`."""
+    """Yields the ranges of the patterns of `matches!`."""
     for found in re.finditer(r"\bmatches!\s*\(", text):
         end = closing(text, found.end() - 1)
         at = found.end()
@@ -111,7 +114,7 @@ def asked(text):
 
 
 def named_in_expressions(text):
-    """The places of expressions that name want of memory."""
+    """Yields the offsets of expressions that name an out-of-memory error."""
     conversions = list(blocks(text, r"\bimpl(?:<[^{]*?>)? From<"))
     allowed = [block for block in conversions if is_of_a_refusal(text, *block)] + list(declared(text)) + list(asked(text))
     allowed += [found.span() for found in re.finditer(r"\buse [^;]*;", text)]
@@ -129,14 +132,14 @@ def named_in_expressions(text):
 
 
 def collected(text):
-    """The places of growths for as many items as an iterator has that aren't a process's words."""
+    """Yields the offsets of allocations for the items of an iterator, except a process's arguments."""
     for found in ITEMS.finditer(text):
         if not (WORDS.search(text[: found.start()]) or GIVEN_WORDS.search(function_around(text, found.start())[0])):
             yield found.start()
 
 
 def numbers(text):
-    """The places of the library's number for want of memory, where no pattern before it names it."""
+    """Yields the offsets of the library's number for out of memory that no pattern before them names."""
     for found in NUMBER.finditer(CONSTANT.sub(lambda it: " " * len(it[0]), text)):
         arm = re.search(r"([^\n]*)=>\s*(?:Err\()?$", text[: found.start()])
         if not (arm and NAMES.search(arm.group(1))):
@@ -144,8 +147,8 @@ def numbers(text):
 
 
 def made_up(text, crate, path, known, given=None):
-    """The places of a source at which want of memory is made up, or a value is kept from being let go; with the constants of its crate. The
-    parameters that say how many places a growth asks for join `given`."""
+    """Returns the offsets in a source at which an out-of-memory error is invented, or a value is kept from being dropped, with the constants of its crate. The
+    parameters that say how many elements an allocation requests join `given`."""
     text = without_clauses(blanked(text))
     found = set(named_in_expressions(text)) | {hit.start() for sort in (KEPT, RENAMED) for hit in sort.finditer(text)}
     if crate in NUMBERED:
@@ -155,7 +158,7 @@ def made_up(text, crate, path, known, given=None):
     return sorted(found)
 
 
-# Lines of which each names want of memory where it mustn't, and lines that may stand.
+# Lines each of which breaks a rule, and lines that are allowed.
 WRONG = """return Err(ServeFault::from(GrowthRefused { count, error: AllocError }));
 let t = Told { answer: Err(AllocError) };
 let told = Told::<u8>::Memory(1);
@@ -264,8 +267,8 @@ impl A { fn g(&self, count: usize) -> Answer { vec![in alloc; 0; count] } fn h(&
 
 
 def given_too_much(texts, asked):
-    """The places of these sources, each (a name, a text, constants), at which a call may give more for one of these parameters, or for one whose value
-    is handed on to them: as (a name, a place)."""
+    """Returns the offsets in these sources, each (a name, a text, constants), at which a call may pass an unbounded value for one of these parameters, or for one
+    whose value is passed on to them: as (a name, an offset)."""
     left, found = asked, []
     while left:
         more = set()
@@ -286,11 +289,11 @@ def try_itself():
         made_up(line, NUMBERED[0], "lines", known, asked)
         missed += [line] if bool(given_too_much([("lines", line, known)], asked)) != (line in GIVEN_TOO_MUCH) else []
     if missed:
-        sys.exit("checks/want_of_memory.py judges lines of its own wrongly:\n" + "\n".join(missed))
+        sys.exit("checks/want_of_memory.py judges these test lines of its own wrongly:\n" + "\n".join(missed))
 
 
 def closers(line):
-    """What closes the braces that a line leaves open."""
+    """Returns the braces that close those that a line leaves open."""
     return " }" * (line.count("{") - line.count("}"))
 
 
@@ -311,7 +314,7 @@ def main():
         line = line_of(lines[name], at)
         print(f"{name}:{line}: {lines[name].splitlines()[line - 1].strip()}")
     if places:
-        print(f"{len(places)} places make up want of memory, where no refused growth is converted, or keep a value from being let go")
+        print(f"{len(places)} places invent an out-of-memory error, request unbounded memory, or keep a value from being dropped (the docstring of checks/want_of_memory.py has the rules)")
         sys.exit(1)
 
 

@@ -1,13 +1,15 @@
 #!/usr/bin/env python3
-"""The wrong bodies: each applies to its crate, and with a crate's name, the prover refuses each.
+"""Checks the mutants (wrong bodies): that each can be applied to its crate and, for the named crates, that the prover refuses each.
 
     wrong_bodies.py [CRATE..]
 
-crates/NAME/wrong-bodies/ has edits: a line 'file: PATH', and then pairs of lines 'old: TEXT' and 'new: TEXT', of which each old TEXT stands in
-that file exactly once. The gate (gate.py) tries those whose first line is 'tried: by each gate' each time, and those where it is 'tried: by every
-ninth gate' of a ninth of the crates, since one costs up to a minute of a processor, and a crate's first one a proof of the crate. Without a name
-this script looks, in a moment, whether all edits can be applied, and whether checks/README.md names those that each gate tries. With names it has rt try all edits of the crates, over a copy of the repository
-with what is proved there. First it takes out of must-fail what a gate that was killed has left there; not while a gate is at work here.
+crates/NAME/wrong-bodies/ has edits: a line 'file: PATH', and then pairs of lines 'old: TEXT' and 'new: TEXT'. Each old TEXT must occur in that file exactly
+once. The gate (gate.py) tries those whose first line is 'tried: by each gate' each time. It tries those whose first line is 'tried: by every ninth gate' in a
+ninth of the crates, because one edit costs up to a minute of a processor, and a crate's first one a proof of the crate.
+
+Without a name, this script checks within seconds whether all edits can be applied, and whether checks/README.md names those that each gate tries. With
+names, rt tries all edits of these crates, in a copy of the repository that includes the proofs done so far. First the script removes the edits that a killed
+gate has left in must-fail, unless a gate is at work here.
 """
 import os
 import pathlib
@@ -20,12 +22,12 @@ import tempfile
 import gate
 from source import CRATES, MADE, ROOT
 
-# (must-fail is rt's own, of a gate at work; by-turns is wrong-bodies that every ninth gate tries)
+# (must-fail is rt's own folder, used while a gate is at work; by-turns has wrong bodies that every ninth gate tries)
 FOLDERS = ("must-fail", "by-turns", "wrong-bodies")
 
 
 def why_not(edit, crate):
-    """Why the edit can't be applied to the crate, or None."""
+    """Returns the reason why the edit cannot be applied to the crate, or None."""
     texts, path, old, pairs = {}, None, None, 0
     for line in gate.for_rt(edit).splitlines():
         if line.startswith("file: "):
@@ -34,21 +36,21 @@ def why_not(edit, crate):
             old = line[len("old: "):]
         elif line.startswith("new:"):
             if path is None or old is None:
-                return "a 'new:' line stands before any 'file:' or 'old:' line"
+                return "a 'new:' line comes before any 'file:' or 'old:' line"
             if not (crate / path).is_file():
                 return f"there is no file {path}"
             text = texts.setdefault(path, (crate / path).read_text())
             if text.count(old) != 1:
-                return f"an 'old:' text is in {path} {text.count(old)} times, and not once"
+                return f"an 'old:' text is in {path} {text.count(old)} times, but must be there exactly once"
             texts[path] = text.replace(old, re.sub("^ ", "", line[len("new:"):]))
             old, pairs = None, pairs + 1
         else:
-            return f"a line is none of 'file:', 'old:', 'new:', and not the first one, '{gate.EACH}' or '{gate.IN_TURN}': {line}"
+            return f"a line does not start with 'file:', 'old:' or 'new:', and is not a first line '{gate.EACH}' or '{gate.IN_TURN}': {line}"
     return None if pairs else "it has no 'old:' and 'new:' pair"
 
 
 def looked():
-    """Whether all edits can be applied; it prints each that can't."""
+    """Reports whether all edits can be applied, and prints each that cannot."""
     found = []
     for at, folder in enumerate(FOLDERS):
         for edit in sorted(CRATES.glob(f"*/{folder}/*.edit")):
@@ -62,7 +64,7 @@ def looked():
 
 
 def untold():
-    """Whether the table in README.md names just the edits that each gate tries; it prints each that it does not name, and each name that is no such edit."""
+    """Reports whether the table in README.md fails to name exactly the edits that each gate tries. It prints each edit that is not named, and each name that is no such edit."""
     named = set(re.findall(r"`([a-z_0-9]+/[a-z_0-9]+)`", (ROOT / "checks" / "README.md").read_text()))
     tried_each_time = {f"{edit.parent.parent.name}/{edit.stem}" for edit in CRATES.glob("*/wrong-bodies/*.edit") if edit.read_text().startswith(gate.EACH)}
     for edit in sorted(tried_each_time - named):
@@ -73,18 +75,18 @@ def untold():
 
 
 def passed_over(folder, names):
-    """Of a folder's names those that no copy needs: what is made there, but for what is built, and what is no file (a socket, say)."""
+    """Returns the names in a folder that no copy needs: generated files, except built ones, and other things than files and folders (such as sockets)."""
     paths = {name: pathlib.Path(folder, name) for name in names}
     return [name for name, path in paths.items() if name in MADE - {"out"} or not (path.is_symlink() or path.is_file() or path.is_dir())]
 
 
 def tried(names):
-    """Whether the prover refuses each edit of these crates' folders."""
+    """Reports whether the prover refuses each edit of these crates' folders."""
     for name in names:
         if not any(edit for folder in FOLDERS[1:] for edit in (CRATES / name / folder).glob("*.edit")):
             sys.exit(f"wrong_bodies.py: crates/{name} has no edit in wrong-bodies")
     gate.end_in_order()
-    # (the copy takes some GB: a folder of the disk, not of memory)
+    # (the copy takes several GB, so its folder must be on the disk, not in memory)
     if not shutil.which("rt"):
         sys.exit("checks/wrong_bodies.py lacks rt, the command of the Rattle kit: put the kit's folder bin on the PATH (README.md, 'With the kit')")
     disk = None if "TMPDIR" in os.environ or not os.access("/var/tmp", os.W_OK) else "/var/tmp"
@@ -102,12 +104,12 @@ def tried(names):
         try:
             return trial.wait() == 0
         finally:
-            # (where this program is ended, rt ends what it has begun, before the copy goes)
+            # (if this program is ended, rt ends its own work before the copy is deleted)
             trial.terminate()
             trial.wait()
 
 
 if __name__ == "__main__":
     if left := gate.put_out_left():
-        print(f"checks/wrong_bodies.py: {left} edits that a gate has left in must-fail were taken out", flush=True)
+        print(f"checks/wrong_bodies.py: removed {left} edits that a gate has left in must-fail", flush=True)
     sys.exit(0 if looked() and not untold() and (not sys.argv[1:] or tried(sys.argv[1:])) else 1)

@@ -196,12 +196,12 @@ def try_left(repository):
 def try_rooms(repository):
     """A crate that stands over one of a room over which its own may not is told by both names; so is one in no room, and a room over a later one."""
     text = "# Room base\nlow:\n{}\n# Room top over base\nfar may_wait=2: low std\n"
-    for crate, due in (("high: low", []), ("high: low far", ["crates.txt: high (base) stands over far (top), which the room base may not"])):
+    for crate, due in (("high: low", []), ("high: low far", ["crates.txt: high (base) depends on far (top), which the room base may not"])):
         found, faults = architecture.rooms(text.format(crate))
         hold(f"of the rooms with {crate} is told", [*faults, *architecture.arrows_back(found)], due)
     hold("of a crate before all rooms is told", architecture.rooms("x:\n" + text.format(""))[1], ["crates.txt: x is in no room"])
     back = architecture.rooms("# Room base over top\n# Room top\n")[1]
-    hold("of a room over a later one is told", back, ["crates.txt: the room base is over top, which doesn't stand before it"])
+    hold("of a room over a later one is told", back, ["crates.txt: the room base is over top, which is not an earlier room (move one of them)"])
 
 
 def try_ended(repository):

@@ -1,4 +1,5 @@
--- The verdict on a proof of inclusion (an audit path of RFC 6962, section 2.1.1, checked as by RFC 9162, section 2.1.3.2), against the leaves D of a tree.
+-- The verdict on a proof of inclusion (an audit path of RFC 6962, section 2.1.1, checked as by RFC 9162, section 2.1.3.2), against the
+-- leaves D of a tree.
 use Rattle.std.specs.Prelude.{ℕ, List, length, Option, Some, None, Bool, false, not, ◌&&◌, nat_lt, if◌then◌else◌}
 use Rattle.std.specs.Global.{Global}
 use Rattle.std.specs.Str.{bytes_eq}
