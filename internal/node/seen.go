@@ -153,6 +153,10 @@ func (l *Loop) isLater(ctx context.Context, k *state, name string) error {
 
 // extends returns ErrRolledBack unless the proved decision accepts a state's head after another head, by a consistency proof (docs/NODE.md, "A lock that falls").
 func (l *Loop) extends(ctx context.Context, k *state, head signer.Head, objects []step.Object) error {
+	if head == (signer.Head{}) {
+		// Nothing was accepted before.
+		return nil
+	}
 	var proof [][32]byte
 	if head.Size < k.Size {
 		var err error
