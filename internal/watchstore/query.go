@@ -48,24 +48,24 @@ func (s *Store) Find(q Query) ([]Issuance, error) {
 	}
 	values = append(values, q.Limit)
 	var found []Issuance
+	var ids []int64
 	err := s.each("select i.id, i.found from issuances i where "+strings.Join(conditions,
 		" and ")+" order by i.id desc limit ?", values, func(rows *sql.Rows) error {
 		var one Issuance
 		var at int64
 		err := rows.Scan(&one.ID, &at)
 		one.At = timeOf(at)
-		found = append(found, one)
+		found, ids = append(found, one), append(ids, one.ID)
 		return err
 	})
 	if err != nil {
 		return nil, err
 	}
+	certificates, err := s.certificates(ids)
 	for i := range found {
-		if found[i].Certificate, err = s.issuance(found[i].ID); err != nil {
-			return nil, err
-		}
+		found[i].Certificate = certificates[found[i].ID]
 	}
-	return found, nil
+	return found, err
 }
 
 // nameCondition returns the condition of issuances with a name: the name itself, a wildcard over it, a name below it
