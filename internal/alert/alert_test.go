@@ -256,6 +256,11 @@ func TestWebhook(t *testing.T) {
 	if sent != 2 || tried != 3 || err == nil || !strings.Contains(err.Error(), "302") || len(posted) != 3 {
 		t.Errorf("%d sent, %d tried, %d posted: %v", sent, tried, len(posted), err)
 	}
+	server.Close()
+	if _, _, err := output.Send(context.Background(), []alert.Alert{certificateOf("a")}); err == nil ||
+		strings.Contains(err.Error(), "secret") {
+		t.Errorf("a webhook that is gone: %v", err)
+	}
 	for _, address := range []string{"", "hook.example", "ftp://hook.example", "https://"} {
 		if _, err := alert.NewWebhook(address, "a"); err == nil {
 			t.Errorf("%q is taken", address)

@@ -15,6 +15,8 @@ func TestParsesNames(t *testing.T) {
 		"example.org":               "example.org",
 		" Example.ORG. ":            "example.org",
 		".example.org":              "example.org",
+		"192.0.2.7.":                "192.0.2.7",
+		"=１92.0.2.7":                "192.0.2.7",
 		"=www.example.org":          "=www.example.org",
 		"bücher.example":            "xn--bcher-kva.example",
 		"BÜCHER.example":            "xn--bcher-kva.example",
