@@ -82,7 +82,7 @@ func TestKilledProgram(t *testing.T) {
 	if status, out, faults := ctwatch(t, append(words, "--once")...); status != statusAccused {
 		t.Errorf("the last run: status %d: %s%s", status, out, faults)
 	}
-	again, cut := judgeAlerts(t, alerts, wanted)
+	again, cut := judgeAlerts(t, alerts, wanted, 1)
 	if cut > *kills {
 		t.Errorf("%d lines are cut off, and only %d programs were killed", cut, *kills)
 	}
@@ -121,9 +121,9 @@ func killAt(t *testing.T, words []string, asked chan struct{}, requests int, lat
 	<-ended
 }
 
-// judgeAlerts looks at the lines of the alerts: each host must have one, and the fork. It returns how many say "again",
-// and how many lines are cut off.
-func judgeAlerts(t *testing.T, path string, wanted map[string]bool) (again, cut int) {
+// judgeAlerts looks at the lines of the alerts: each host must have one, and so many are about logs. It returns how many
+// say "again", and how many lines are cut off.
+func judgeAlerts(t *testing.T, path string, wanted map[string]bool, accused int) (again, cut int) {
 	t.Helper()
 	content, err := os.ReadFile(path)
 	must(t, err)
@@ -151,8 +151,8 @@ func judgeAlerts(t *testing.T, path string, wanted map[string]bool) (again, cut 
 		}
 		hosts[host] = one.ID
 	}
-	if len(hosts) != len(wanted) || len(accusations) != 1 {
-		t.Errorf("%d hosts of %d have an alert, and there are %d alerts to the fork", len(hosts), len(wanted),
+	if len(hosts) != len(wanted) || len(accusations) != accused {
+		t.Errorf("%d hosts of %d have an alert, and there are %d alerts about logs", len(hosts), len(wanted),
 			len(accusations))
 	}
 	return again, cut

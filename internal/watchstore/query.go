@@ -1,6 +1,7 @@
 package watchstore
 
 import (
+	"crypto/sha256"
 	"database/sql"
 	"encoding/hex"
 	"errors"
@@ -88,15 +89,18 @@ func nameCondition(name finding.Name) (string, []any) {
 
 // Certificate returns the bytes of a certificate or precertificate with this SHA-256 hash, in DER. If its names could
 // not be read from the leaf, they are the bytes of the leaf.
-func (s *Store) Certificate(sha256 string) ([]byte, error) {
-	digest, err := hex.DecodeString(sha256)
-	if err != nil || len(digest) != 32 {
-		return nil, fmt.Errorf("%.100q is no SHA-256 hash (write 64 hexadecimal digits)", sha256)
+func (s *Store) Certificate(hash string) ([]byte, error) {
+	digest, err := hex.DecodeString(hash)
+	if err != nil || len(digest) != sha256.Size {
+		return nil, fmt.Errorf("%.100q is no SHA-256 hash (write 64 hexadecimal digits)", hash)
 	}
 	var der []byte
 	err = s.db.QueryRow("select der from certificates where sha256 = ?", digest).Scan(&der)
 	if errors.Is(err, sql.ErrNoRows) {
-		return nil, fmt.Errorf("certificate %s: %w (ctwatch query lists what it has)", sha256, ErrAbsent)
+		return nil, fmt.Errorf("certificate %s: %w (ctwatch query lists what it has)", hash, ErrAbsent)
+	}
+	if err == nil && sha256.Sum256(der) != [sha256.Size]byte(digest) {
+		err = fmt.Errorf("%w: the bytes of certificate %s have another hash", ErrDamaged, hash)
 	}
 	if err != nil {
 		return nil, s.describe(err)
