@@ -30,8 +30,8 @@ func TestFullDiskLosesNoAlert(t *testing.T) {
 	})
 }
 
-// runFull runs the program twice over a log with more certificates than the disk has room for, and makes room in between.
-// If it is limited, no file of the first run grows beyond 512 KiB.
+// runFull runs the program twice over a log with more certificates than the disk has room for, and makes room in
+// between. If it is limited, no file of the first run grows beyond 512 KiB.
 func runFull(t *testing.T, folder, says string, isLimited bool, makeRoom func()) {
 	t.Helper()
 	const count = 2000

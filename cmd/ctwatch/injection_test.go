@@ -24,16 +24,16 @@ import (
 	"wagtenib/internal/watchstore"
 )
 
-// hostileTexts are names that a CA might certify, or a log list might give a log. Each would do something on a terminal,
-// in a mail, in HTML or in a shell if it got there as it is.
+// hostileTexts are names that a CA might certify, or a log list might give a log. Each would do something on a
+// terminal, in a mail, in HTML or in a shell if it got there as it is.
 var hostileTexts = []string{
 	"\x1b]0;owned\x07\x1b[2J", "\u009b31m\u0085", "\u202egro.live\u2066", "a\r\nBcc: victim@evil.example\r\n\r\nbody",
 	"\n.\n", `"><script>alert(1)</script>`, `'><img src=x onerror=alert(1)>`, "$(touch owned)", "`touch owned`",
 	"; touch owned", "a\x00b", strings.Repeat("long", 25_000), "\xff\xfe", "-oQ/tmp", "%s%n{{.}}", "=?utf-8?q?owned?=",
 }
 
-// injected has the program find a certificate for each of these texts, in a log whose name is the last one that JSON can
-// have, and report them to every output. It returns the folder with what came, and what the program printed.
+// injected has the program find a certificate for each of these texts, in a log whose name is the last one that JSON
+// can have, and report them to every output. It returns the folder with what came, and what the program printed.
 func injected(t *testing.T) (folder, out string) {
 	t.Helper()
 	folder = t.TempDir()

@@ -301,7 +301,8 @@ func (w *watching) once(ctx context.Context) error {
 	case listFault != nil:
 		return &statusError{statusUnread, "ctwatch: " + listFault.Error()}
 	case len(faults) > 0:
-		return &statusError{statusUnread, fmt.Sprintf("ctwatch: %s could not be read", alert.Count(int64(len(faults)), "log"))}
+		count := alert.Count(int64(len(faults)), "log")
+		return &statusError{statusUnread, fmt.Sprintf("ctwatch: %s could not be read", count)}
 	case after.Alerts > before.Alerts:
 		return &statusError{statusFoundByOnce, "ctwatch: " + alert.Count(after.Alerts-before.Alerts, "new alert")}
 	}

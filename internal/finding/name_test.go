@@ -134,8 +134,9 @@ func TestReadsListsOfCertspotter(t *testing.T) {
 // FuzzLists: a watch list of either kind is refused, or each name in it is there once, can be written and read again,
 // and covers something.
 func FuzzLists(f *testing.F) {
-	for _, text := range []string{"example.org\n# a comment\n=www.example.org\n", ".example.org\nexample.org valid_at:2026-01-02",
-		".", "192.0.2.7\n2001:db8::1\n::ffff:192.0.2.7", "bücher.example\nxn--bcher-kva.example", "*.a.b\nhttps://a.b/\n\x00",
+	for _, text := range []string{"example.org\n# a comment\n=www.example.org\n",
+		".example.org\nexample.org valid_at:2026-01-02", ".", "192.0.2.7\n2001:db8::1\n::ffff:192.0.2.7",
+		"bücher.example\nxn--bcher-kva.example", "*.a.b\nhttps://a.b/\n\x00",
 		"ß.example\nẞ.example\n。example", "fe80::1%eth0"} {
 		f.Add([]byte(text), true)
 		f.Add([]byte(text), false)

@@ -80,22 +80,17 @@ func fixedKey(t testing.TB) *ecdsa.PrivateKey {
 // not sign, and the log is accused of no head that it did not sign. After the log answers as it should, all of its
 // entries are kept.
 func FuzzLogAnswers(f *testing.F) {
-	const before, after = 300, 1500
+	const before, after = 40, 1100
 	log := newLog(f, 0)
 	log.Key = fixedKey(f)
 	grow(log, before)
 	states, heads := map[string]watch.State{}, map[string][2]watch.Head{}
-	pass := func(t testing.TB, kind string, k *keeper, d damage) error {
-		at := newClock(begun)
-		return follower(t, watched(log, "http://log.example", kind), k, watch.Options{FromStart: true,
-			Client: logclient.Options{Transport: direct{log, d}, Clock: at}}).Pass(context.Background())
-	}
 	id := watched(log, "http://log.example", "tiled").ID
 	for _, size := range []uint64{before, after} {
 		grow(log, size-log.Size())
 		for _, kind := range kinds {
 			k := newKeeper()
-			if err := pass(f, kind, k, damage{}); err != nil {
+			if err := passOver(f, log, kind, k, damage{}); err != nil {
 				f.Fatal(err)
 			}
 			if size == before {
@@ -107,15 +102,12 @@ func FuzzLogAnswers(f *testing.F) {
 		}
 	}
 	for i, kind := range kinds {
-		for number, part := range partsOf[kind] {
-			f.Add(i == 0, uint8(number), false, uint32(9), []byte{0})
-			f.Add(i == 0, uint8(number), false, uint32(200), []byte(nil))
-			f.Add(i == 0, uint8(number), true, uint32(0), []byte(`{"entries":[{}]}`))
-			if part == "checkpoint" || part == "get-sth" {
-				for _, head := range heads[kind] {
-					f.Add(i == 0, uint8(number), true, uint32(0), head.Signed)
-				}
-			}
+		for number := range uint8(len(partsOf[kind])) {
+			f.Add(i == 0, number, false, uint32(9), []byte{0})
+			f.Add(i == 0, number, false, uint32(200), []byte(nil))
+			f.Add(i == 0, number, true, uint32(0), []byte(`{"entries":[{}]}`))
+			// (the first part is that of the head)
+			f.Add(i == 0, uint8(0), true, uint32(number), heads[kind][number%2].Signed)
 		}
 	}
 	f.Fuzz(func(t *testing.T, isTiled bool, part uint8, isWhole bool, at uint32, content []byte) {
@@ -127,7 +119,7 @@ func FuzzLogAnswers(f *testing.F) {
 		k.states[id] = states[kind]
 		names := partsOf[kind]
 		// (the error is the answer's fault, or nil if the change does no harm)
-		_ = pass(t, kind, k, damage{names[int(part)%len(names)], isWhole, at, content})
+		_ = passOver(t, log, kind, k, damage{names[int(part)%len(names)], isWhole, at, content})
 		if accepted := k.states[id].Accepted; accepted.TreeHead != heads[kind][0].TreeHead &&
 			accepted.TreeHead != heads[kind][1].TreeHead {
 			t.Fatalf("the head %+v was accepted", accepted)
@@ -138,24 +130,37 @@ func FuzzLogAnswers(f *testing.F) {
 				t.Fatalf("the log is accused of %s", verdict)
 			}
 		}
-		err := pass(t, kind, k, damage{})
+		err := passOver(t, log, kind, k, damage{})
 		for tries := 0; err != nil && tries < 3; tries++ {
-			err = pass(t, kind, k, damage{})
+			err = passOver(t, log, kind, k, damage{})
 		}
 		if err != nil || k.states[id].Accepted.TreeHead != heads[kind][1].TreeHead {
 			t.Fatalf("the log is followed no longer: %v", err)
 		}
-		due := map[uint64]bool{}
-		for index := range uint64(after - before) {
-			due[before+index] = true
-		}
-		for _, entry := range k.entries[id] {
-			if bytes.Equal(entry.Leaf, entriesOf(entry.Index, 1)[0].MerkleLeaf(entry.Index)) {
-				delete(due, entry.Index)
-			}
-		}
-		if len(due) > 0 {
-			t.Fatalf("%d entries were never kept", len(due))
-		}
+		wantsLeaves(t, k.entries[id], before, after)
 	})
+}
+
+// passOver makes a pass over a log of this kind that answers with some damage.
+func passOver(t testing.TB, log *testlog.Log, kind string, k *keeper, d damage) error {
+	options := logclient.Options{Transport: direct{log, d}, Clock: newClock(begun)}
+	return follower(t, watched(log, "http://log.example", kind), k, watch.Options{FromStart: true,
+		Client: options}).Pass(context.Background())
+}
+
+// wantsLeaves sees that the log's own leaf was kept at each of these indexes.
+func wantsLeaves(t testing.TB, kept []watch.Entry, first, end uint64) {
+	t.Helper()
+	due := map[uint64]bool{}
+	for index := first; index < end; index++ {
+		due[index] = true
+	}
+	for _, entry := range kept {
+		if bytes.Equal(entry.Leaf, entriesOf(entry.Index, 1)[0].MerkleLeaf(entry.Index)) {
+			delete(due, entry.Index)
+		}
+	}
+	if len(due) > 0 {
+		t.Fatalf("%d entries were never kept", len(due))
+	}
 }

@@ -166,7 +166,8 @@ func TestKeepsEvidence(t *testing.T) {
 		Files: map[string][]byte{"first": []byte("a"), "second": nil}}
 	must(t, store.Accuse(logOf(2), watch.State{Read: 5}, evidence))
 	alerts := next(t, store)
-	line := `LOG log c: forked: two roots\u{a}of one size; ctwatch evidence 1 NEW-FOLDER --folder ` + folder + " writes its files"
+	line := `LOG log c: forked: two roots\u{a}of one size; ctwatch evidence 1 NEW-FOLDER --folder ` + folder +
+		" writes its files"
 	if len(alerts) != 1 || alerts[0].Kind != alert.Evidence || alert.Line(alerts[0]) != line {
 		t.Fatalf("%+v", alerts)
 	}
@@ -264,7 +265,8 @@ func TestAlertsToTheLogList(t *testing.T) {
 	}
 }
 
-// TestKeepsACertificateWithManyNames: of 100,000 names an alert has 20 and their number, and a query finds the last one.
+// TestKeepsACertificateWithManyNames: of 100,000 names an alert has 20 and their number, and a query finds the last
+// one.
 func TestKeepsACertificateWithManyNames(t *testing.T) {
 	var hosts []string
 	for i := range 100_000 {
@@ -278,7 +280,8 @@ func TestKeepsACertificateWithManyNames(t *testing.T) {
 	if len(alerts) != 1 || len(alerts[0].Certificate.Names) != 20 || alerts[0].Certificate.NameCount != 100_001 {
 		t.Fatalf("%d alerts", len(alerts))
 	}
-	if line := alert.Line(alerts[0]); len(line) > 1000 || !strings.HasPrefix(line, "FOUND example.org: shop.example.org (100001 names)") {
+	if line := alert.Line(alerts[0]); len(line) > 1000 ||
+		!strings.HasPrefix(line, "FOUND example.org: shop.example.org (100001 names)") {
 		t.Errorf("%.2000s", line)
 	}
 	name, err := finding.ParseName("=shop.example.org")

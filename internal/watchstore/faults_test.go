@@ -71,9 +71,9 @@ func TestRefusesDamagedStores(t *testing.T) {
 	}
 }
 
-// TestNamesWhatIsDamaged flips a bit of a store, or cuts it, at many places. It is refused by its name, or each answer is
-// the right one, or an error that names it. SQLite has no checksum of a row, so a text or a number can be another one; a
-// certificate and the state of a log cannot.
+// TestNamesWhatIsDamaged flips a bit of a store, or cuts it, at many places. It is refused by its name, or each answer
+// is the right one, or an error that names it. SQLite has no checksum of a row, so a text or a number can be another
+// one; a certificate and the state of a log cannot.
 func TestNamesWhatIsDamaged(t *testing.T) {
 	path := madeStore(t)
 	whole, err := os.ReadFile(path)

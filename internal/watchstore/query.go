@@ -181,7 +181,8 @@ func (s *Store) Counts() (Counts, error) {
 	var c Counts
 	err := s.db.QueryRow(`select (select count(*) from issuances), (select count(*) from issuances where fault != ''),
 		(select count(*) from alerts), (select count(*) from evidence),
-		(select count(*) from evidence where not is_seen)`).Scan(&c.Issuances, &c.Unread, &c.Alerts, &c.Evidence, &c.NewEvidence)
+		(select count(*) from evidence where not is_seen)`).
+		Scan(&c.Issuances, &c.Unread, &c.Alerts, &c.Evidence, &c.NewEvidence)
 	if err != nil {
 		return c, s.describe(err)
 	}

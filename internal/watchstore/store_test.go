@@ -116,8 +116,8 @@ func TestAlertsToOtherNames(t *testing.T) {
 	}
 }
 
-// TestKeepsAPrecertificateForEachIssuance: a log answers with the precertificate of another entry, which nothing binds to
-// its own. The honest entry has its certificate all the same, and a name that is added later is found in it.
+// TestKeepsAPrecertificateForEachIssuance: a log answers with the precertificate of another entry, which nothing binds
+// to its own. The honest entry has its certificate all the same, and a name that is added later is found in it.
 func TestKeepsAPrecertificateForEachIssuance(t *testing.T) {
 	authority, folder := testcert.NewAuthority(t), t.TempDir()
 	first, second := entriesOf(authority.Issue("a.other.net"), 0)[:1], entriesOf(authority.Issue("b.example.org"), 1)[:1]
