@@ -93,6 +93,23 @@ func TestExpectedCauseNoAlert(t *testing.T) {
 	}
 }
 
+// TestExpectsNoUnreadCertificate: a certificate whose names cannot be read causes an alert, whoever issued it: nobody
+// can say what it is for.
+func TestExpectsNoUnreadCertificate(t *testing.T) {
+	one := testcert.NewAuthority(t).Issue("a.example.org").Certificate.Raw
+	// (a dNSName that is longer than the list of names; all before it can be read)
+	damaged := bytes.Replace(one, []byte("\x82\x0da.example.org"), []byte("\x82\x7fa.example.org"), 1)
+	store := open(t, t.TempDir(), watchstore.Options{Searcher: searcher("example.org"),
+		Expected: watchstore.Expected{Issuers: []string{"An authority"}}})
+	must(t, store.UseOutputs([]string{"test"}))
+	must(t, store.Keep(logOf(0), watch.State{}, []watch.Entry{{Type: wagtenib.X509Entry, Certificate: damaged}}))
+	alerts := next(t, store)
+	if len(alerts) != 1 || alerts[0].Kind != alert.Unread ||
+		!strings.Contains(alerts[0].Certificate.Fields.Issuer, "An authority") {
+		t.Errorf("%+v", alerts)
+	}
+}
+
 // TestReportsUnread: a certificate whose names cannot be read, and a leaf that is none, are reported as the setting
 // says.
 func TestReportsUnread(t *testing.T) {
