@@ -64,8 +64,11 @@ case $what in
       go test ./internal/web -run '^$' -fuzz "^$target\$" -fuzztime "${1:-60}s" -fuzzminimizetime 1s -parallel "${PROCESSORS:-2}"
     done
     go test ./internal/tile -run '^$' -fuzz '^FuzzRead$' -fuzztime "${1:-60}s" -fuzzminimizetime 1s -parallel "${PROCESSORS:-2}"
-    go test ./internal/finding -run '^$' -fuzz '^FuzzSearch$' -fuzztime "${1:-60}s" -fuzzminimizetime 1s -parallel "${PROCESSORS:-2}"
-    go test ./internal/alert -run '^$' -fuzz '^FuzzSafe$' -fuzztime "${1:-60}s" -fuzzminimizetime 1s -parallel "${PROCESSORS:-2}"
+    # (what ctwatch reads: certificates, watch lists, answers of logs, log lists, and settings)
+    for target in finding/FuzzSearch finding/FuzzLists alert/FuzzSafe watchstore/FuzzKeep watch/FuzzLogAnswers loglist/FuzzParse; do
+      go test "./internal/${target%/*}" -run '^$' -fuzz "^${target#*/}\$" -fuzztime "${1:-60}s" -fuzzminimizetime 1s -parallel "${PROCESSORS:-2}"
+    done
+    go test ./cmd/ctwatch -run '^$' -fuzz '^FuzzSettings$' -fuzztime "${1:-60}s" -fuzzminimizetime 1s -parallel "${PROCESSORS:-2}"
     # (each decoder of libwagtenib)
     for target in $(sed -n 's/^func \(Fuzz[A-Za-z]*\)(.*/\1/p' bindings/go/wagtenib/fuzz_*_test.go); do
       go test ./bindings/go/wagtenib -run '^$' -fuzz "^$target\$" -fuzztime "${1:-60}s" -fuzzminimizetime 1s -parallel "${PROCESSORS:-2}"

@@ -33,8 +33,8 @@ func newAcceptedFolder(keeper watch.Keeper, folder string, lines *web.Lines) (*a
 // acceptedName is the name of a log's file: its origin, in which a slash is written as %2F.
 func acceptedName(origin string) string { return url.PathEscape(origin) }
 
-// Keep keeps what was read, and then puts the accepted head into the folder. If the file cannot be written, the state is
-// kept all the same: a witness then refuses newer heads, and the next head that is accepted is written again.
+// Keep keeps what was read, and then puts the accepted head into the folder. If the file cannot be written, the state
+// is kept all the same: a witness then refuses newer heads, and the next head that is accepted is written again.
 func (a *acceptedFolder) Keep(log watch.Log, next watch.State, entries []watch.Entry) error {
 	if err := a.Keeper.Keep(log, next, entries); err != nil {
 		return err

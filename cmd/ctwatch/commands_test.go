@@ -31,7 +31,8 @@ func TestMain(m *testing.M) { trial.Main(m, main) }
 // remedy.
 func TestRefusesSettings(t *testing.T) {
 	folder := filepath.Join(t.TempDir(), "store")
-	key := base64.StdEncoding.EncodeToString(testcert.NewAuthority(t).Issue("a.example").Certificate.RawSubjectPublicKeyInfo)
+	issued := testcert.NewAuthority(t).Issue("a.example").Certificate
+	key := base64.StdEncoding.EncodeToString(issued.RawSubjectPublicKeyInfo)
 	for words, remedy := range map[string]string{
 		"":                               "write --name example.org",
 		"--name *.example.org":           "write example.org",

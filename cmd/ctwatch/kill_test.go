@@ -26,8 +26,8 @@ var (
 )
 
 // TestKilledProgram kills ctwatch by SIGKILL at random moments of reading two logs, one of which forks in the middle.
-// At the end each issuance had its alert, and no alert came twice without the word "again". The fork alerted once, and its
-// evidence convinces the judge of ctcheck.
+// At the end each issuance had its alert, and no alert came twice without the word "again". The fork alerted once, and
+// its evidence convinces the judge of ctcheck.
 func TestKilledProgram(t *testing.T) {
 	authority, chance, folder := testcert.NewAuthority(t), rand.New(rand.NewPCG(*seed, 0)), t.TempDir()
 	first, second := serveLog(t, "a.example"), serveLog(t, "b.example")
@@ -82,17 +82,23 @@ func TestKilledProgram(t *testing.T) {
 	if status, out, faults := ctwatch(t, append(words, "--once")...); status != statusAccused {
 		t.Errorf("the last run: status %d: %s%s", status, out, faults)
 	}
-	again, cut := judgeAlerts(t, alerts, wanted)
+	again, cut := judgeAlerts(t, alerts, wanted, 1)
 	if cut > *kills {
 		t.Errorf("%d lines are cut off, and only %d programs were killed", cut, *kills)
 	}
 	t.Logf("%d kills, %d issuances, %d alerts again, %d lines cut off", *kills, len(wanted), again, cut)
+	judgeFork(t, folder, second.PublicKey())
+}
+
+// judgeFork has the judge of ctcheck look at the first evidence of a store.
+func judgeFork(t *testing.T, folder string, key []byte) {
+	t.Helper()
 	evidence := filepath.Join(folder, "evidence")
 	status, out, faults := ctwatch(t, "evidence", "1", evidence, "--folder", folder)
 	if status != 0 || !strings.Contains(out, "fork") {
 		t.Fatalf("the evidence: status %d: %s%s", status, out, faults)
 	}
-	if shown, err := check.Evidence(evidence, second.PublicKey()); err != nil || !strings.Contains(shown, "two roots") {
+	if shown, err := check.Evidence(evidence, key); err != nil || !strings.Contains(shown, "two roots") {
 		t.Errorf("the judge says %q, %v", shown, err)
 	}
 }
@@ -121,9 +127,9 @@ func killAt(t *testing.T, words []string, asked chan struct{}, requests int, lat
 	<-ended
 }
 
-// judgeAlerts looks at the lines of the alerts: each host must have one, and the fork. It returns how many say "again",
-// and how many lines are cut off.
-func judgeAlerts(t *testing.T, path string, wanted map[string]bool) (again, cut int) {
+// judgeAlerts looks at the lines of the alerts: each host must have one, and so many are about logs. It returns how
+// many say "again", and how many lines are cut off.
+func judgeAlerts(t *testing.T, path string, wanted map[string]bool, accused int) (again, cut int) {
 	t.Helper()
 	content, err := os.ReadFile(path)
 	must(t, err)
@@ -151,8 +157,8 @@ func judgeAlerts(t *testing.T, path string, wanted map[string]bool) (again, cut 
 		}
 		hosts[host] = one.ID
 	}
-	if len(hosts) != len(wanted) || len(accusations) != 1 {
-		t.Errorf("%d hosts of %d have an alert, and there are %d alerts to the fork", len(hosts), len(wanted),
+	if len(hosts) != len(wanted) || len(accusations) != accused {
+		t.Errorf("%d hosts of %d have an alert, and there are %d alerts about logs", len(hosts), len(wanted),
 			len(accusations))
 	}
 	return again, cut

@@ -110,7 +110,8 @@ func (l *listStatus) report(now time.Time, fault error) {
 	}
 }
 
-// silence returns the reason for an alert if the list could not be read for so long, and there was no alert for as long.
+// silence returns the reason for an alert if the list could not be read for so long, and there was no alert for as
+// long.
 func (l *listStatus) silence(now time.Time, after time.Duration) string {
 	l.mutex.Lock()
 	defer l.mutex.Unlock()

@@ -240,13 +240,41 @@ func (w *watching) look(ctx context.Context) {
 	}
 }
 
+// sendWhile sends alerts while logs are read: a slow log must not delay the alerts to what others have. An output that
+// fails is left to the last delivery.
+func (w *watching) sendWhile(ctx context.Context, read func()) {
+	done := make(chan struct{})
+	var sending sync.WaitGroup
+	for i, output := range w.outputs {
+		sending.Add(1)
+		go func() {
+			defer sending.Done()
+			for {
+				select {
+				case <-done:
+					return
+				case <-w.wakes[i]:
+				}
+				if alert.Deliver(ctx, w.store, output) != nil {
+					return
+				}
+			}
+		}()
+	}
+	read()
+	close(done)
+	sending.Wait()
+}
+
 // once reads each log up to its newest head, sends what was found, and returns an error with the gravest status.
 func (w *watching) once(ctx context.Context) error {
 	before, err := w.store.Counts()
 	if err != nil {
 		return err
 	}
-	faults, listFault := w.follower.once(ctx)
+	var faults map[string]error
+	var listFault error
+	w.sendWhile(ctx, func() { faults, listFault = w.follower.once(ctx) })
 	if err := w.store.CheckSilent(w.settings.silent); err != nil {
 		return err
 	}
@@ -273,7 +301,8 @@ func (w *watching) once(ctx context.Context) error {
 	case listFault != nil:
 		return &statusError{statusUnread, "ctwatch: " + listFault.Error()}
 	case len(faults) > 0:
-		return &statusError{statusUnread, fmt.Sprintf("ctwatch: %s could not be read", alert.Count(int64(len(faults)), "log"))}
+		count := alert.Count(int64(len(faults)), "log")
+		return &statusError{statusUnread, fmt.Sprintf("ctwatch: %s could not be read", count)}
 	case after.Alerts > before.Alerts:
 		return &statusError{statusFoundByOnce, "ctwatch: " + alert.Count(after.Alerts-before.Alerts, "new alert")}
 	}

@@ -6,6 +6,7 @@ import (
 	"encoding/base64"
 	"encoding/json"
 	"encoding/pem"
+	"net/http"
 	"net/http/httptest"
 	"path/filepath"
 	"slices"
@@ -103,5 +104,39 @@ func TestAlertsOnceOverLogs(t *testing.T) {
 	}
 	if status, out, faults = ctwatch(t, "health", "--folder", folder); status != 0 || !strings.Contains(out, "3 logs") {
 		t.Errorf("status %d: %s%s", status, out, faults)
+	}
+}
+
+// TestOnceSendsWhileALogIsSlow: a log answers for its entries only after the alert to a certificate in another log has
+// come. So the alert does not wait for the slow log, and both certificates have one in the end.
+func TestOnceSendsWhileALogIsSlow(t *testing.T) {
+	authority, told := testcert.NewAuthority(t), make(chan string, 2)
+	hook := httptest.NewServer(http.HandlerFunc(func(_ http.ResponseWriter, r *http.Request) {
+		var one alert.Alert
+		if err := json.NewDecoder(r.Body).Decode(&one); err != nil {
+			t.Error(err)
+			return
+		}
+		told <- one.Certificate.Names[0]
+	}))
+	defer hook.Close()
+	quick, slow := serveLog(t, "a.example"), serveLog(t, "b.example")
+	quick.add(authority, authority.Issue("quick.example.org"))
+	slow.add(authority, authority.Issue("slow.example.org"))
+	first := ""
+	slow.Intercept(func(_ http.ResponseWriter, r *http.Request) bool {
+		if !strings.Contains(r.URL.Path, "get-entries") {
+			return false
+		}
+		select {
+		case first = <-told:
+		case <-r.Context().Done():
+		}
+		return false
+	})
+	status, out, faults := ctwatch(t, "run", "--once", "--from-start", "--name", "example.org", "--quiet", "--webhook",
+		hook.URL, "--folder", t.TempDir(), "--log", quick.setting(true), "--log", slow.setting(false))
+	if status != statusFoundByOnce || first != "quick.example.org" || <-told != "slow.example.org" {
+		t.Errorf("status %d, first %q: %s%s", status, first, out, faults)
 	}
 }

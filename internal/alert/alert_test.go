@@ -207,20 +207,22 @@ func TestCommandThatFails(t *testing.T) {
 		!strings.Contains(err.Error(), "no disk") {
 		t.Errorf("%d sent, %d tried: %v", sent, tried, err)
 	}
-	// Those after the tenth run until Send has taken the tenth's status.
+	// Those after the tenth run until the tenth has ended. There are so many that Send has taken its status long before
+	// the last of them.
 	folder := t.TempDir()
 	path = program(t, folder, "tell", `case "$CTWATCH_ISSUER" in
 no) echo $$ > "$1/failing"; exit 1;;
-after) until [ -s "$1/failing" ] && read -r failing < "$1/failing" && ! kill -0 "$failing" 2> "$1/gone"; do sleep 0.01; done;;
+after) until [ -s "$1/failing" ] && read -r failing < "$1/failing" && ! kill -0 "$failing" 2> "$1/gone"
+do sleep 0.01; done;;
 esac`)
 	output, err = alert.NewCommand([]string{path, folder})
 	must(t, err)
 	var some []alert.Alert
-	for i := range 20 {
+	for i := range 2000 {
 		some = append(some, certificateOf(map[int]string{-1: "before", 0: "no", 1: "after"}[cmp.Compare(i, 9)]))
 	}
-	if sent, tried, err = output.Send(context.Background(), some); sent != 9 || tried < 10 || tried == 20 || err == nil {
-		t.Errorf("the tenth of 20 fails: %d sent, %d tried: %v", sent, tried, err)
+	if sent, tried, err = output.Send(context.Background(), some); sent != 9 || tried < 10 || tried == 2000 || err == nil {
+		t.Errorf("the tenth of 2,000 fails: %d sent, %d tried: %v", sent, tried, err)
 	}
 	if _, err := alert.NewCommand([]string{"/does/not/exist"}); err == nil || !strings.Contains(err.Error(),
 		"write the path of a program") {
@@ -255,6 +257,11 @@ func TestWebhook(t *testing.T) {
 		certificateOf("c"), certificateOf("d")})
 	if sent != 2 || tried != 3 || err == nil || !strings.Contains(err.Error(), "302") || len(posted) != 3 {
 		t.Errorf("%d sent, %d tried, %d posted: %v", sent, tried, len(posted), err)
+	}
+	server.Close()
+	if _, _, err := output.Send(context.Background(), []alert.Alert{certificateOf("a")}); err == nil ||
+		strings.Contains(err.Error(), "secret") {
+		t.Errorf("a webhook that is gone: %v", err)
 	}
 	for _, address := range []string{"", "hook.example", "ftp://hook.example", "https://"} {
 		if _, err := alert.NewWebhook(address, "a"); err == nil {

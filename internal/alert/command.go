@@ -49,11 +49,12 @@ func (c *Command) Name() string { return "command " + strings.Join(c.words, " ")
 // Batch returns how many alerts are sent before they are marked.
 func (c *Command) Batch() int { return batchOfCommands }
 
-// atOnce is how many programs run at a time. Most of a program's time is its start, so one after the other would be slow.
+// atOnce is how many programs run at a time. Most of a program's time is its start, so one after the other would be
+// slow.
 const atOnce = 4
 
-// Send runs the program for each alert, a few at a time. Status 0 means that it took the alert. If one fails, no other one
-// is begun, and those after the one that failed do not count as sent.
+// Send runs the program for each alert, a few at a time. Status 0 means that it took the alert. If one fails, no other
+// one is begun, and those after the one that failed do not count as sent.
 func (c *Command) Send(ctx context.Context, alerts []Alert) (sent, tried int, err error) {
 	faults := make([]error, len(alerts))
 	var running sync.WaitGroup

@@ -61,8 +61,9 @@ func Describe(c *Certificate) string {
 	if shown == "" {
 		shown = "no name"
 	}
-	parts := []string{fmt.Sprintf("%s (%s)", shown, Count(int64(c.NameCount), "name")), "issued by " + orUnread(c.Fields.Issuer)}
-	parts = append(parts, "valid "+validity(c.Fields), "serial number "+orUnread(c.Fields.SerialNumber))
+	parts := []string{fmt.Sprintf("%s (%s)", shown, Count(int64(c.NameCount), "name"))}
+	parts = append(parts, "issued by "+orUnread(c.Fields.Issuer), "valid "+validity(c.Fields))
+	parts = append(parts, "serial number "+orUnread(c.Fields.SerialNumber))
 	if places := placesThatAreNotProved(c); places != "" {
 		parts = append(parts, places)
 	}

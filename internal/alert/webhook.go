@@ -4,6 +4,7 @@ import (
 	"bytes"
 	"context"
 	"encoding/json"
+	"errors"
 	"fmt"
 	"io"
 	"net/http"
@@ -75,6 +76,11 @@ func (w *Webhook) post(ctx context.Context, alert Alert) error {
 	request.Header.Set("User-Agent", w.agent)
 	response, err := w.client.Do(request)
 	if err != nil {
+		// The text of a url.Error has the whole URL, which may have a password.
+		var of *url.Error
+		if errors.As(err, &of) {
+			err = of.Err
+		}
 		return err
 	}
 	defer response.Body.Close()

@@ -75,12 +75,17 @@ func parse(text string, exact bool) (Name, error) {
 	if err := refuse(text); err != nil {
 		return Name{}, err
 	}
-	if address, err := netip.ParseAddr(text); err == nil {
-		return Name{text: address.String(), exact: true, address: address}, nil
-	}
-	domain, err := toASCII(strings.TrimSuffix(text, "."))
+	domain := ""
+	address, err := netip.ParseAddr(text)
 	if err != nil {
-		return Name{}, err
+		if domain, err = toASCII(strings.TrimSuffix(text, ".")); err != nil {
+			return Name{}, err
+		}
+		// (an address with a dot at its end, or with other digits)
+		address, err = netip.ParseAddr(domain)
+	}
+	if err == nil {
+		return Name{text: address.String(), exact: true, address: address}, nil
 	}
 	name := Name{text: domain, domain: domain, letters: toLetters(domain), exact: exact}
 	if exact {

@@ -1,6 +1,7 @@
 package finding_test
 
 import (
+	"bytes"
 	"errors"
 	"strings"
 	"testing"
@@ -14,6 +15,8 @@ func TestParsesNames(t *testing.T) {
 		"example.org":               "example.org",
 		" Example.ORG. ":            "example.org",
 		".example.org":              "example.org",
+		"192.0.2.7.":                "192.0.2.7",
+		"=１92.0.2.7":                "192.0.2.7",
 		"=www.example.org":          "=www.example.org",
 		"bücher.example":            "xn--bcher-kva.example",
 		"BÜCHER.example":            "xn--bcher-kva.example",
@@ -126,4 +129,38 @@ func TestReadsListsOfCertspotter(t *testing.T) {
 			t.Errorf("%q: %v", line, err)
 		}
 	}
+}
+
+// FuzzLists: a watch list of either kind is refused, or each name in it is there once, can be written and read again,
+// and covers something.
+func FuzzLists(f *testing.F) {
+	for _, text := range []string{"example.org\n# a comment\n=www.example.org\n",
+		".example.org\nexample.org valid_at:2026-01-02", ".", "192.0.2.7\n2001:db8::1\n::ffff:192.0.2.7",
+		"bücher.example\nxn--bcher-kva.example", "*.a.b\nhttps://a.b/\n\x00",
+		"ß.example\nẞ.example\n。example", "fe80::1%eth0"} {
+		f.Add([]byte(text), true)
+		f.Add([]byte(text), false)
+	}
+	f.Fuzz(func(t *testing.T, content []byte, ofCertspotter bool) {
+		parse := finding.ParseList
+		if ofCertspotter {
+			parse = finding.ParseCertspotterList
+		}
+		names, err := parse(bytes.NewReader(content))
+		if err != nil {
+			return
+		}
+		seen := map[finding.Name]bool{}
+		for _, name := range names {
+			again, err := finding.ParseName(name.String())
+			if !name.IsEverything() && (err != nil || again != name) || seen[name] || name.Covers() == "" {
+				t.Fatalf("the name %q is read again as %q, or is there twice: %v", name, again, err)
+			}
+			seen[name] = true
+		}
+		if len(names) == 0 {
+			t.Fatal("no name, and no error")
+		}
+		finding.NewSearcher(names)
+	})
 }

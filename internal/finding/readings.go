@@ -3,6 +3,7 @@ package finding
 import (
 	"bytes"
 	"net/netip"
+	"slices"
 	"strings"
 	"unicode/utf8"
 
@@ -190,12 +191,18 @@ func (n Name) isIn(name wagtenib.Name) bool {
 		address, ok := netip.AddrFromSlice(name.Bytes)
 		return ok && address == n.address
 	}
-	for _, reading := range readings(name) {
-		if mayMatch(reading, strings.Split(reading, "."), n, strings.Split(n.domain, ".")) {
-			return true
-		}
+	if len(name.Bytes) > maxReading && !n.exact {
+		// The last labels decide. Wide characters have at most 4 bytes, of which maxReading is a multiple.
+		name.Bytes = name.Bytes[len(name.Bytes)-maxReading:]
 	}
-	return false
+	hosts := readings(name)
+	for _, text := range texts(name) {
+		// (the library does not cut a path or a port)
+		hosts = append(hosts, normal(text))
+	}
+	return slices.ContainsFunc(hosts, func(host string) bool {
+		return mayMatch(host, strings.Split(host, "."), n, strings.Split(n.domain, "."))
+	})
 }
 
 // starMatches reports whether a label matches a pattern in which each star matches any characters.

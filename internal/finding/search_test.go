@@ -100,6 +100,8 @@ func rows() []row {
 		{"star in a label", pkix.Name{}, dns("w*.example.org"), san, likeSAN, no},
 		{"star for a part of another", pkix.Name{}, dns("*ple.org"), likeSAN, no, no},
 		{"star of a stranger", pkix.Name{}, dns("a*.org"), no, no, no},
+		{"a path in a label", pkix.Name{}, dns("a/b.example.org"), san, no, no},
+		{"a port in a label", pkix.Name{}, dns("a:1.example.org"), san, no, no},
 		{"IDN in letters", pkix.Name{}, dns("bücher.example"), no, no, san},
 		{"wildcard over IDN in letters", pkix.Name{}, dns("*.bücher.example"), no, no, san},
 		{"IDN in a BMPString", common(bmpString, bmp("bücher.example")), nil, no, no, likeCN},
@@ -226,6 +228,29 @@ func TestFindsTheLastOfManyNames(t *testing.T) {
 	}
 	if found := watched[0].Hosts(result.Names, 20); !slices.Equal(found, []string{"shop.example.org"}) {
 		t.Errorf("%q", found)
+	}
+}
+
+// TestShowsTheHostOfALongName: a name with more bytes than any host, which the library finds below a watched name, is
+// among the hosts of the match. It is not among those of an exact name that it only ends with.
+func TestShowsTheHostOfALongName(t *testing.T) {
+	authority, watched := testcert.NewAuthority(t), parseAll(t, "example.org", "=www.example.org")
+	long := strings.Repeat("a", 100_000)
+	for what, one := range map[string]testcert.Issued{
+		"a dNSName":         authority.IssueNames(pkix.Name{}, dns(long+".www.example.org")...),
+		"a BMPString":       authority.IssueNames(testcert.CommonName(bmpString, bmp(long+".www.example.org"))),
+		"a UniversalString": authority.IssueNames(testcert.CommonName(universalString, universal(long+".www.example.org"))),
+	} {
+		result, err := finding.NewSearcher(watched).Search(wagtenib.X509Entry, one.Certificate.Raw)
+		if err != nil || len(result.Matches) != 1 || result.Matches[0].Name != watched[0] {
+			t.Fatalf("%s: %v %v", what, result.Matches, err)
+		}
+		if hosts := watched[0].Hosts(result.Names, 20); len(hosts) != 1 || !strings.HasSuffix(hosts[0], "a.www.example.org") {
+			t.Errorf("%s: %d hosts", what, len(hosts))
+		}
+		if hosts := watched[1].Hosts(result.Names, 20); len(hosts) != 0 {
+			t.Errorf("%s: %d hosts of an exact name", what, len(hosts))
+		}
 	}
 }
 

@@ -55,7 +55,7 @@ func (e entry) with(name string, value any) entry {
 }
 
 // listOf returns a list of a time with these logs.
-func listOf(t *testing.T, at string, logs, tiled []entry) []byte {
+func listOf(t testing.TB, at string, logs, tiled []entry) []byte {
 	t.Helper()
 	content, err := json.Marshal(entry{"version": "42.1", "log_list_timestamp": at,
 		"operators": []entry{{"name": "Operator", "email": []string{"a@b.example"}, "logs": logs, "tiled_logs": tiled}}})

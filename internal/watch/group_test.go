@@ -49,16 +49,7 @@ func TestSlowLogDelaysNoOther(t *testing.T) {
 		if i == 3 {
 			log.Intercept(func(w http.ResponseWriter, r *http.Request) bool {
 				asked <- struct{}{}
-				for r.Context().Err() == nil {
-					if _, err := w.Write([]byte("a")); err != nil {
-						return true
-					}
-					w.(http.Flusher).Flush()
-					select {
-					case <-r.Context().Done():
-					case <-time.After(time.Second): // (the pace of the server that drips)
-					}
-				}
+				drip(w, r, time.Second)
 				return true
 			})
 		}
@@ -110,7 +101,8 @@ var nonsense = map[string]struct {
 	"no such page": {func(w http.ResponseWriter, r *http.Request) { http.NotFound(w, r) }, "does not have",
 		"does not have"},
 	"endless": {endless, "too many bytes", "too "},
-	"a drip":  {drip, "too slow", "too slow"},
+	"a drip": {func(w http.ResponseWriter, r *http.Request) { drip(w, r, 20*time.Millisecond) }, "too slow",
+		"too slow"},
 }
 
 func endless(w http.ResponseWriter, r *http.Request) {
@@ -122,7 +114,8 @@ func endless(w http.ResponseWriter, r *http.Request) {
 	}
 }
 
-func drip(w http.ResponseWriter, r *http.Request) {
+// drip answers with a byte at each pause, which is the pace of the server, until the client has gone.
+func drip(w http.ResponseWriter, r *http.Request, pause time.Duration) {
 	for r.Context().Err() == nil {
 		if _, err := w.Write([]byte("a")); err != nil {
 			return
@@ -130,7 +123,7 @@ func drip(w http.ResponseWriter, r *http.Request) {
 		w.(http.Flusher).Flush()
 		select {
 		case <-r.Context().Done():
-		case <-time.After(20 * time.Millisecond): // (the pace of the server)
+		case <-time.After(pause):
 		}
 	}
 }

@@ -1,7 +1,9 @@
-// Package watch follows Certificate Transparency logs: it reads their tree heads and entries, and has the proved library judge each answer.
+// Package watch follows Certificate Transparency logs: it reads their tree heads and entries, and has the proved
+// library judge each answer.
 //
-// A monitor reads every entry of a log, and compares the hash of all of them with the root that the log signed. This package does this for tiled logs
-// (C2SP static-ct-api) and for logs of RFC 6962, for many logs at once. What it reads goes to a Keeper, which searches it and stores it.
+// A monitor reads every entry of a log, and compares the hash of all of them with the root that the log signed. This
+// package does this for tiled logs (C2SP static-ct-api) and for logs of RFC 6962, for many logs at once. What it reads
+// goes to a Keeper, which searches it and stores it.
 package watch
 
 import (
@@ -17,7 +19,7 @@ type LogID [32]byte
 type Log struct {
 	ID            LogID
 	Name          string // for people: the description in a log list, or the host
-	Origin        string // of the checkpoints of a tiled log (C2SP static-ct-api); empty if the log has the interface of RFC 6962
+	Origin        string // of the checkpoints of a tiled log (C2SP static-ct-api); empty for one of RFC 6962
 	URL           string // the monitoring prefix of a tiled log, or the base of "ct/v1/"; without a slash at its end
 	PublicKey     []byte // SubjectPublicKeyInfo, in DER
 	MaxMergeDelay time.Duration
@@ -46,7 +48,8 @@ type Entry struct {
 	Fault          error      // why the leaf cannot be read; nothing but Index and Leaf is set then
 }
 
-// State is what is known of a log. It is stored with what was found in the entries up to it, so that a monitor that is killed goes on where it was.
+// State is what is known of a log. It is stored with what was found in the entries up to it, so that a monitor that is
+// killed goes on where it was.
 type State struct {
 	Monitor  []byte // the state of the library's monitor
 	Accepted Head   // the newest head whose leaves were all read and have its root
@@ -73,13 +76,13 @@ type Status struct {
 	Fault    error             // why it does not go on now; nil if it does
 }
 
-// A Keeper keeps what is read of logs. Its methods are called by one goroutine for each log. It searches entries before their head is accepted: a finding must
-// not wait for a log to be read whole.
+// A Keeper keeps what is read of logs. Its methods are called by one goroutine for each log. It searches entries
+// before their head is accepted: a finding must not wait for a log to be read whole.
 type Keeper interface {
 	// Load returns the state of a log that was kept last. It is the zero State if there is none.
 	Load(id LogID) (State, error)
-	// Keep searches the entries, which follow those of the last call, and stores what is found together with the next state. After it has returned nil,
-	// nothing of it is lost by a kill. If it returns an error, nothing of it is stored.
+	// Keep searches the entries, which follow those of the last call, and stores what is found together with the next
+	// state. After it has returned nil, nothing of it is lost by a kill. If it returns an error, nothing of it is stored.
 	Keep(log Log, next State, entries []Entry) error
 	// Accuse stores the evidence against a log together with the next state, and has an alert sent.
 	Accuse(log Log, next State, evidence Evidence) error

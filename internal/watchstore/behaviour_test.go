@@ -93,6 +93,23 @@ func TestExpectedCauseNoAlert(t *testing.T) {
 	}
 }
 
+// TestExpectsNoUnreadCertificate: a certificate whose names cannot be read causes an alert, whoever issued it: nobody
+// can say what it is for.
+func TestExpectsNoUnreadCertificate(t *testing.T) {
+	one := testcert.NewAuthority(t).Issue("a.example.org").Certificate.Raw
+	// (a dNSName that is longer than the list of names; all before it can be read)
+	damaged := bytes.Replace(one, []byte("\x82\x0da.example.org"), []byte("\x82\x7fa.example.org"), 1)
+	store := open(t, t.TempDir(), watchstore.Options{Searcher: searcher("example.org"),
+		Expected: watchstore.Expected{Issuers: []string{"An authority"}}})
+	must(t, store.UseOutputs([]string{"test"}))
+	must(t, store.Keep(logOf(0), watch.State{}, []watch.Entry{{Type: wagtenib.X509Entry, Certificate: damaged}}))
+	alerts := next(t, store)
+	if len(alerts) != 1 || alerts[0].Kind != alert.Unread ||
+		!strings.Contains(alerts[0].Certificate.Fields.Issuer, "An authority") {
+		t.Errorf("%+v", alerts)
+	}
+}
+
 // TestReportsUnread: a certificate whose names cannot be read, and a leaf that is none, are reported as the setting
 // says.
 func TestReportsUnread(t *testing.T) {
@@ -166,7 +183,8 @@ func TestKeepsEvidence(t *testing.T) {
 		Files: map[string][]byte{"first": []byte("a"), "second": nil}}
 	must(t, store.Accuse(logOf(2), watch.State{Read: 5}, evidence))
 	alerts := next(t, store)
-	line := `LOG log c: forked: two roots\u{a}of one size; ctwatch evidence 1 NEW-FOLDER --folder ` + folder + " writes its files"
+	line := `LOG log c: forked: two roots\u{a}of one size; ctwatch evidence 1 NEW-FOLDER --folder ` + folder +
+		" writes its files"
 	if len(alerts) != 1 || alerts[0].Kind != alert.Evidence || alert.Line(alerts[0]) != line {
 		t.Fatalf("%+v", alerts)
 	}
@@ -264,7 +282,8 @@ func TestAlertsToTheLogList(t *testing.T) {
 	}
 }
 
-// TestKeepsACertificateWithManyNames: of 100,000 names an alert has 20 and their number, and a query finds the last one.
+// TestKeepsACertificateWithManyNames: of 100,000 names an alert has 20 and their number, and a query finds the last
+// one.
 func TestKeepsACertificateWithManyNames(t *testing.T) {
 	var hosts []string
 	for i := range 100_000 {
@@ -278,7 +297,8 @@ func TestKeepsACertificateWithManyNames(t *testing.T) {
 	if len(alerts) != 1 || len(alerts[0].Certificate.Names) != 20 || alerts[0].Certificate.NameCount != 100_001 {
 		t.Fatalf("%d alerts", len(alerts))
 	}
-	if line := alert.Line(alerts[0]); len(line) > 1000 || !strings.HasPrefix(line, "FOUND example.org: shop.example.org (100001 names)") {
+	if line := alert.Line(alerts[0]); len(line) > 1000 ||
+		!strings.HasPrefix(line, "FOUND example.org: shop.example.org (100001 names)") {
 		t.Errorf("%.2000s", line)
 	}
 	name, err := finding.ParseName("=shop.example.org")

@@ -1,8 +1,10 @@
 package watchstore_test
 
 import (
+	"bytes"
 	"database/sql"
 	"errors"
+	"math/rand/v2"
 	"os"
 	"path/filepath"
 	"strings"
@@ -67,6 +69,79 @@ func TestRefusesDamagedStores(t *testing.T) {
 			t.Errorf("%s: %v", what, err)
 		}
 	}
+}
+
+// TestNamesWhatIsDamaged flips a bit of a store, or cuts it, at many places. It is refused by its name, or each answer
+// is the right one, or an error that names it. SQLite has no checksum of a row, so a text or a number can be another
+// one; a certificate and the state of a log cannot.
+func TestNamesWhatIsDamaged(t *testing.T) {
+	path := madeStore(t)
+	whole, err := os.ReadFile(path)
+	must(t, err)
+	folder, chance := t.TempDir(), rand.New(rand.NewPCG(1, 2))
+	certificates := certificatesOf(t, filepath.Dir(path))
+	refused := 0
+	for round := range 150 {
+		damaged, at := bytes.Clone(whole), chance.IntN(len(whole))
+		if damaged[at] ^= 1 << chance.IntN(8); round%5 == 0 {
+			damaged = damaged[:at]
+		}
+		must(t, os.WriteFile(filepath.Join(folder, watchstore.FileName), damaged, 0o600))
+		store, err := watchstore.Open(folder, watchstore.Options{Searcher: searcher("example.org")})
+		if err == nil {
+			for hash, der := range certificates {
+				found, fault := store.Certificate(hash)
+				if fault == nil && !bytes.Equal(found, der) {
+					t.Fatalf("round %d: certificate %s is another one", round, hash)
+				}
+				err = errors.Join(err, ignoreAbsent(fault))
+			}
+			_, failed := store.Next("test", 100)
+			_, stateless := store.Load(logOf(0).ID)
+			err = errors.Join(err, failed, stateless, store.Close())
+		}
+		if err == nil {
+			continue
+		}
+		if refused++; !strings.Contains(err.Error(), watchstore.FileName) {
+			t.Errorf("round %d: the error does not name the store: %v", round, err)
+		}
+		for _, name := range []string{watchstore.FileName + "-wal", watchstore.FileName + "-shm"} {
+			if err := os.Remove(filepath.Join(folder, name)); err != nil && !errors.Is(err, os.ErrNotExist) {
+				t.Fatal(err)
+			}
+		}
+	}
+	if refused < 30 {
+		t.Errorf("only %d damaged stores were named", refused)
+	}
+}
+
+// ignoreAbsent returns an error unless it is that a certificate is not there: a flipped bit of its hash hides it.
+func ignoreAbsent(err error) error {
+	if errors.Is(err, watchstore.ErrAbsent) {
+		return nil
+	}
+	return err
+}
+
+// certificatesOf returns the certificates of a store by their hashes.
+func certificatesOf(t *testing.T, folder string) map[string][]byte {
+	t.Helper()
+	store, err := watchstore.OpenToRead(folder)
+	must(t, err)
+	found, err := store.Find(watchstore.Query{Limit: 100})
+	must(t, err)
+	certificates := map[string][]byte{}
+	for _, one := range found {
+		certificates[one.SHA256], err = store.Certificate(one.SHA256)
+		must(t, err)
+	}
+	must(t, store.Close())
+	if len(certificates) != 50 {
+		t.Fatalf("%d certificates", len(certificates))
+	}
+	return certificates
 }
 
 // TestRefusesOtherStores: a database of another program, and one of a later version, are refused by name.

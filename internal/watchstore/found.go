@@ -157,7 +157,7 @@ func keepCertificate(w *writer, one *found, issuance int64) (int64, error) {
 		digest[:], issuance, int64(one.entry.Type), one.tbs, one.der); err != nil {
 		return 0, err
 	}
-	id, _, err := w.number("select id from certificates where sha256 = ?", digest[:])
+	id, _, err := w.number("select id from certificates where sha256 = ? and issuance = ?", digest[:], issuance)
 	return id, err
 }
 

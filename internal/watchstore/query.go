@@ -1,6 +1,7 @@
 package watchstore
 
 import (
+	"crypto/sha256"
 	"database/sql"
 	"encoding/hex"
 	"errors"
@@ -48,24 +49,24 @@ func (s *Store) Find(q Query) ([]Issuance, error) {
 	}
 	values = append(values, q.Limit)
 	var found []Issuance
+	var ids []int64
 	err := s.each("select i.id, i.found from issuances i where "+strings.Join(conditions,
 		" and ")+" order by i.id desc limit ?", values, func(rows *sql.Rows) error {
 		var one Issuance
 		var at int64
 		err := rows.Scan(&one.ID, &at)
 		one.At = timeOf(at)
-		found = append(found, one)
+		found, ids = append(found, one), append(ids, one.ID)
 		return err
 	})
 	if err != nil {
 		return nil, err
 	}
+	certificates, err := s.certificates(ids)
 	for i := range found {
-		if found[i].Certificate, err = s.issuance(found[i].ID); err != nil {
-			return nil, err
-		}
+		found[i].Certificate = certificates[found[i].ID]
 	}
-	return found, nil
+	return found, err
 }
 
 // nameCondition returns the condition of issuances with a name: the name itself, a wildcard over it, a name below it
@@ -88,15 +89,18 @@ func nameCondition(name finding.Name) (string, []any) {
 
 // Certificate returns the bytes of a certificate or precertificate with this SHA-256 hash, in DER. If its names could
 // not be read from the leaf, they are the bytes of the leaf.
-func (s *Store) Certificate(sha256 string) ([]byte, error) {
-	digest, err := hex.DecodeString(sha256)
-	if err != nil || len(digest) != 32 {
-		return nil, fmt.Errorf("%.100q is no SHA-256 hash (write 64 hexadecimal digits)", sha256)
+func (s *Store) Certificate(hash string) ([]byte, error) {
+	digest, err := hex.DecodeString(hash)
+	if err != nil || len(digest) != sha256.Size {
+		return nil, fmt.Errorf("%.100q is no SHA-256 hash (write 64 hexadecimal digits)", hash)
 	}
 	var der []byte
 	err = s.db.QueryRow("select der from certificates where sha256 = ?", digest).Scan(&der)
 	if errors.Is(err, sql.ErrNoRows) {
-		return nil, fmt.Errorf("certificate %s: %w (ctwatch query lists what it has)", sha256, ErrAbsent)
+		return nil, fmt.Errorf("certificate %s: %w (ctwatch query lists what it has)", hash, ErrAbsent)
+	}
+	if err == nil && sha256.Sum256(der) != [sha256.Size]byte(digest) {
+		err = fmt.Errorf("%w: the bytes of certificate %s have another hash", ErrDamaged, hash)
 	}
 	if err != nil {
 		return nil, s.describe(err)
@@ -177,7 +181,8 @@ func (s *Store) Counts() (Counts, error) {
 	var c Counts
 	err := s.db.QueryRow(`select (select count(*) from issuances), (select count(*) from issuances where fault != ''),
 		(select count(*) from alerts), (select count(*) from evidence),
-		(select count(*) from evidence where not is_seen)`).Scan(&c.Issuances, &c.Unread, &c.Alerts, &c.Evidence, &c.NewEvidence)
+		(select count(*) from evidence where not is_seen)`).
+		Scan(&c.Issuances, &c.Unread, &c.Alerts, &c.Evidence, &c.NewEvidence)
 	if err != nil {
 		return c, s.describe(err)
 	}

@@ -20,9 +20,10 @@ create table issuances (
   key_sha256 text not null, name_count integer not null, fault text not null, is_expected integer not null
 );
 create index issuances_by_found on issuances (found);
+-- a log can answer with the precertificate of another entry, so one may be there for several issuances
 create table certificates (
-  id integer primary key, sha256 blob not null unique, issuance integer not null references issuances (id),
-  type integer not null, tbs blob, der blob not null
+  id integer primary key, sha256 blob not null, issuance integer not null references issuances (id),
+  type integer not null, tbs blob, der blob not null, unique (sha256, issuance)
 );
 create index certificates_by_issuance on certificates (issuance);
 -- host is the name in small letters, with its labels in the other order: what is below a name begins with it

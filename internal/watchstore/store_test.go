@@ -115,3 +115,28 @@ func TestAlertsToOtherNames(t *testing.T) {
 		t.Errorf("%+v %v", counts, err)
 	}
 }
+
+// TestKeepsAPrecertificateForEachIssuance: a log answers with the precertificate of another entry, which nothing binds
+// to its own. The honest entry has its certificate all the same, and a name that is added later is found in it.
+func TestKeepsAPrecertificateForEachIssuance(t *testing.T) {
+	authority, folder := testcert.NewAuthority(t), t.TempDir()
+	first, second := entriesOf(authority.Issue("a.other.net"), 0)[:1], entriesOf(authority.Issue("b.example.org"), 1)[:1]
+	first[0].Precertificate = second[0].Precertificate
+	store, err := watchstore.Open(folder, watchstore.Options{KeepAll: true})
+	must(t, err)
+	must(t, store.UseOutputs([]string{"test"}))
+	must(t, store.Keep(logOf(0), watch.State{Read: 1}, first))
+	must(t, store.Keep(logOf(1), watch.State{Read: 2}, second))
+	found, err := store.Find(watchstore.Query{Limit: 9})
+	must(t, err)
+	kept := sha256.Sum256(second[0].Precertificate)
+	if len(found) != 2 || found[0].SHA256 != hex.EncodeToString(kept[:]) || found[1].SHA256 != found[0].SHA256 {
+		t.Errorf("%+v", found)
+	}
+	must(t, store.Close())
+	store = open(t, folder, watchstore.Options{Searcher: searcher("example.org"), KeepAll: true})
+	if alerts, err := store.Next("test", 9); err != nil || len(alerts) != 1 ||
+		alerts[0].Certificate.Names[0] != "b.example.org" || alerts[0].Certificate.SHA256 != hex.EncodeToString(kept[:]) {
+		t.Errorf("%+v %v", alerts, err)
+	}
+}

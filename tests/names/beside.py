@@ -5,9 +5,9 @@
 
 certspotter is the one that is installed, unless --certspotter names another one, which may be that of a later Debian's package. The page must name its version.
 ctwatch is cmd/out/ctwatch, which `make service` builds. The entries are the certificates of table.py, made by openssl and by
-python's `cryptography`; odd names on which monitors differ; the certificates of examples/real-chains.jsonl; and N (1000) made-up ones, each with its precertificate. Three
-logs have all of them, and both programs watch the three at once. ctwatch must report everything that certspotter reports, each issuance once, and nothing
-else except names of the kinds that certspotter does not read. With --write the table of docs/WATCH.md is written; otherwise it must be there.
+python's `cryptography`; odd names, and the certificates of field.py, on which monitors differ; the certificates of examples/real-chains.jsonl; and N (1000) made-up ones,
+each with its precertificate. Three logs have the last two, and both programs watch the three at once. ctwatch must report everything that certspotter reports, each issuance
+once, and nothing else except the rows of REASONS. With --write the table of docs/WATCH.md is written; otherwise it must be there.
 The script ends with status 1 at the first thing that is not so. It is not part of `make test`.
 """
 import argparse
@@ -27,14 +27,15 @@ ROOT = HERE.parent.parent
 sys.path.append(str(HERE))
 
 import compare  # noqa: E402
+import field  # noqa: E402
 import table  # noqa: E402
 from compare import kinds, x509  # noqa: E402
 from cryptography.hazmat.primitives import hashes, serialization  # noqa: E402
 
 PAGE = ROOT / "docs" / "WATCH.md"
 MADE, END = "<!-- Made by tests/names/beside.py --write. -->\n\n", "\n<!-- Made until here. -->"
-# A watch list of certspotter: a name with all below it, an exact name, and one with other letters than ASCII's; and what ctwatch calls them.
-WATCHED = {".example.org": "example.org", "www.example.org": "=www.example.org", "bücher.example": "=xn--bcher-kva.example"}
+# A watch list of certspotter: a name with all below it, an exact name, one with other letters than ASCII's, and an address; and what ctwatch calls them.
+WATCHED = {".example.org": "example.org", "www.example.org": "=www.example.org", "bücher.example": "=xn--bcher-kva.example", "192.0.2.7": "192.0.2.7"}
 LOGS = 3
 # How long a program may take, in seconds: so long, and so long for each entry of a log.
 PATIENCE, PATIENCE_OF_ENTRY = 120, 0.03
@@ -63,8 +64,29 @@ ODD = [
 ]
 
 
+# The rows that only ctwatch reports, and why it does.
+MAILS, URIS = "ctwatch reads mail addresses.", "ctwatch reads URIs."
+REASONS = {
+    "mail `admin@example.org`": MAILS,
+    "URI `https://www.example.org/`": URIS,
+    "URI `https://www.example.org:8443/a?b`": URIS,
+    "address `192.0.2.7`": "ctwatch reads IP addresses.",
+    "dNSName `www.example.org:443`": "Software that cuts a port would take the name for the host.",
+    "commonName ` www.example.org `": "Software that trims spaces would take the name for the host.",
+}
+LATIN = "dNSName `bücher.example` in Latin-1"
+# How many certificates field.py names.
+CELLS = 56
+
+
 def fail(why):
     sys.exit(f"beside.py: {why}")
+
+
+def check_cells(rows):
+    """Each certificate that field.py names is one of the rows."""
+    if len(set(field.CELLS)) != CELLS or not rows.issuperset(field.CELLS):
+        fail(f"of the {CELLS} certificates of field.py these are no rows: {sorted(set(field.CELLS) - rows)}")
 
 
 def latin():
@@ -149,9 +171,11 @@ def watch(program, folder, names, logs, urls):
 
 
 def place_of(index, alerts_by_index, name):
-    """Where ctwatch found a watched name in an entry; a dot if it did not."""
-    alert = alerts_by_index.get(index)
-    for match in (alert or {"certificate": {"matches": []}})["certificate"]["matches"]:
+    """Where ctwatch found a watched name in an entry; a dot if it did not. `unread` says that the names cannot be read."""
+    alert = alerts_by_index.get(index) or {"kind": "", "certificate": {"matches": []}}
+    if alert["kind"] == "unread":
+        return "unread"
+    for match in alert["certificate"]["matches"]:
         if match["name"] == name:
             return match["place"]
     return "."
@@ -160,7 +184,9 @@ def place_of(index, alerts_by_index, name):
 def table_of(rows, cells):
     head = " | ".join(f"`{name}`: ctwatch | certspotter" for name in WATCHED)
     lines = [f"| In the certificate | {head} |", "|---|" + "---|---|" * len(WATCHED)]
-    return "\n".join(lines + [f"| {row.what} | {' | '.join(cells[i])} |" for i, row in enumerate(rows)]) + "\n"
+    lines += [f"| {row.what} | {' | '.join(cells[i])} |" for i, row in enumerate(rows)]
+    lines += ["", "| Only `ctwatch` reports | Reason |", "|---|---|", *(f"| {what} | {why} |" for what, why in REASONS.items())]
+    return "\n".join(lines) + "\n"
 
 
 def version_of(program):
@@ -211,11 +237,11 @@ def compare_rows(given, folder, rows):
     made += [(maker.make(row), row.poison) for row in table.ROWS]
     log = table.Log([*made, (latin(), False)])
     url = log.serve()
-    rows = [*rows, host("dNSName `bücher.example` in Latin-1", "")]
+    rows = [*rows, host(LATIN, "")]
     # (the rows that openssl made too stand behind those of `cryptography`, and must be as those)
     places = {i: i for i in range(len(made))} | {len(rows) - 1: len(made)}
     alerts = by_index(watch(given.ctwatch, folder, WATCHED, [log], [url]), [url])
-    cells = [[] for _ in rows]
+    cells, only_ours = [[] for _ in rows], set()
     for number, (spotted_name, name) in enumerate(WATCHED.items()):
         below = folder / f"run.{number}"
         below.mkdir()
@@ -225,11 +251,13 @@ def compare_rows(given, folder, rows):
             cells[i] += [ours, theirs]
             if theirs == "x" and ours == ".":
                 fail(f"{row.what}: certspotter reports {name}, and ctwatch does not")
-            if theirs == "." and ours != "." and not any(kind in ("email", "URI") for kind, _ in row.alt):
-                print(f"beside.py: {row.what}: ctwatch reports {name} ({ours}), and certspotter does not")
+            if theirs == "." and ours != ".":
+                only_ours.add(row.what)
         for i, _ in enumerate(table.ROWS):
             if place_of(i, alerts, name) != place_of(len(made) - len(table.ROWS) + i, alerts, name):
                 fail(f"{table.ROWS[i].what}: made by openssl, {name} is found at another place")
+    if only_ours != set(REASONS):
+        fail(f"only ctwatch reports {sorted(only_ours)}, and there are reasons for {sorted(REASONS)}")
     return table_of(rows, cells)
 
 
@@ -263,10 +291,12 @@ def main():
         folder = pathlib.Path(name)
         for part in ("rows", "many"):
             (folder / part).mkdir()
-        text = compare_rows(given, folder / "rows", [*table.ROWS, *ODD])
+        rows = [*table.ROWS, *ODD, *field.MORE]
+        check_cells({LATIN, *(row.what for row in rows)})
+        text = compare_rows(given, folder / "rows", rows)
         told = compare_many(given, folder / "many")
     check_page(text, version, given.write)
-    print(f"tests/names: beside certspotter {version}, {len(table.ROWS) + len(ODD) + 1} rows and {told}.")
+    print(f"tests/names: beside certspotter {version}, {len(rows) + 1} rows and {told}.")
 
 
 if __name__ == "__main__":

@@ -53,6 +53,7 @@ class Row:
     issuer: str = "An authority"
     lists: str = ""
     poison: bool = False
+    made: bytes = b""  # the whole certificate in DER, if no library makes it
 
 
 def host(name, found, **more):
@@ -164,7 +165,9 @@ class Openssl:
 
 
 def by_library(row):
-    """A row's certificate in DER, made by `cryptography`."""
+    """A row's certificate in DER, made by `cryptography`, or as the row has it."""
+    if row.made:
+        return row.made
     makers = {"DNS": x509.DNSName._init_without_validation, "email": x509.RFC822Name, "URI": x509.UniformResourceIdentifier}
     oids = {"O": compare.NameOID.ORGANIZATION_NAME, "emailAddress": compare.NameOID.EMAIL_ADDRESS}
     subject = compare.common(row.common, getattr(kinds, row.kind)) if row.common else []

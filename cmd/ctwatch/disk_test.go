@@ -1,0 +1,71 @@
+package main
+
+import (
+	"bytes"
+	"os"
+	"path/filepath"
+	"strings"
+	"syscall"
+	"testing"
+
+	"wagtenib/internal/testcert"
+	"wagtenib/internal/trial"
+)
+
+// TestFullDiskLosesNoAlert runs the program on a disk that gets full while it reads a log: it says so by the store's
+// name. With room again it goes on, and each certificate has its alert, no one twice without the word "again".
+func TestFullDiskLosesNoAlert(t *testing.T) {
+	t.Run("a small disk", func(t *testing.T) {
+		folder := t.TempDir()
+		if err := syscall.Mount("tmpfs", folder, "tmpfs", 0, "size=2m"); err != nil {
+			t.Skipf("no disk can be mounted here, and the other test has to do: %v", err)
+		}
+		defer func() { must(t, syscall.Unmount(folder, 0)) }()
+		runFull(t, folder, "the disk is full", false, func() {
+			must(t, syscall.Mount("tmpfs", folder, "tmpfs", syscall.MS_REMOUNT, "size=64m"))
+		})
+	})
+	t.Run("files that cannot grow", func(t *testing.T) {
+		runFull(t, t.TempDir(), filepath.Join("store", "ctwatch.sqlite"), true, func() {})
+	})
+}
+
+// runFull runs the program twice over a log with more certificates than the disk has room for, and makes room in
+// between. If it is limited, no file of the first run grows beyond 512 KiB.
+func runFull(t *testing.T, folder, says string, isLimited bool, makeRoom func()) {
+	t.Helper()
+	const count = 2000
+	log, wanted := manyIssuances(t, count), map[string]bool{}
+	for i := range count {
+		wanted[hostOf(i)] = true
+	}
+	log.add(testcert.NewAuthority(t), testcert.NewAuthority(t).Issue("other.net"))
+	alerts := filepath.Join(t.TempDir(), "alerts")
+	words := []string{"run", "--once", "--from-start", "--quiet", "--name", "example.org", "--folder",
+		filepath.Join(folder, "store"), "--json", alerts, "--log", log.setting(true)}
+	var out bytes.Buffer
+	program := trial.Program(t, words...)
+	program.Stdout, program.Stderr = &out, &out
+	if isLimited {
+		// (the program inherits the bound)
+		_ = trial.ShortFiles(t, 512<<10, program.Run)
+	} else {
+		_ = program.Run()
+	}
+	if status := program.ProcessState.ExitCode(); status != statusUnread && status != statusFault ||
+		!strings.Contains(out.String(), says) {
+		t.Fatalf("on a full disk: status %d: %s", status, out.String())
+	}
+	content, err := os.ReadFile(alerts)
+	must(t, err)
+	if sent := bytes.Count(content, []byte("\n")); sent == count {
+		t.Fatal("the disk was not full")
+	}
+	makeRoom()
+	status, said, faults := ctwatch(t, words...)
+	if status != statusFoundByOnce {
+		t.Fatalf("with room: status %d: %s%s", status, said, faults)
+	}
+	again, cut := judgeAlerts(t, alerts, wanted, 0)
+	t.Logf("%d alerts came again, %d lines are cut off", again, cut)
+}

@@ -1,0 +1,57 @@
+package main
+
+import (
+	"crypto/sha256"
+	"encoding/base64"
+	"errors"
+	"io"
+	"os"
+	"path/filepath"
+	"slices"
+	"testing"
+	"time"
+
+	"wagtenib/internal/finding"
+	"wagtenib/internal/testcert"
+	"wagtenib/internal/watch"
+)
+
+// FuzzSettings: a file of settings is refused as a usage fault, or it has names that can be written again, times within
+// their bounds, and logs with the IDs of their keys.
+func FuzzSettings(f *testing.F) {
+	key := base64.StdEncoding.EncodeToString(testcert.NewAuthority(f).Issue("a.b").Certificate.RawSubjectPublicKeyInfo)
+	example, err := os.ReadFile("../../release/ctwatch.conf")
+	must(f, err)
+	f.Add(example)
+	f.Add([]byte("name example.org\nname =www.example.org # exact\nname 192.0.2.7\npause 2s\nsilent-after 2h\n"))
+	f.Add([]byte("name bücher.example\nlog https://log.example/a " + key + "\nunread mentioned\n"))
+	f.Add([]byte("name a.b\nlog tiled+https://log.example/a " + key + " other.example\nexpect-issuer A CA\nquorum 2"))
+	f.Add([]byte("name a.b\nmail a@b.c\ncommand /bin/true x\nwebhook https://a.b\nlisten\nkeep-all true"))
+	f.Fuzz(func(t *testing.T, content []byte) {
+		path := filepath.Join(t.TempDir(), "settings")
+		must(t, os.WriteFile(path, content, 0o600))
+		s, err := parse([]string{"--config", path}, io.Discard)
+		if err != nil {
+			if !errors.Is(err, errUsage) {
+				t.Fatalf("the fault is no usage fault: %v", err)
+			}
+			return
+		}
+		for i, name := range s.names {
+			again, err := finding.ParseName(name.String())
+			if err != nil || again != name || slices.Contains(s.names[:i], name) {
+				t.Fatalf("the name %q is read again as %q, or is there twice: %v", name, again, err)
+			}
+		}
+		if len(s.names) == 0 || s.logs.pause < time.Second || s.silent < time.Minute || s.folder == "" {
+			t.Fatalf("%+v", s)
+		}
+		for _, log := range s.logs.only {
+			if log.ID != sha256.Sum256(log.PublicKey) {
+				t.Fatalf("%+v", log)
+			}
+			// (a key that is none is refused here)
+			_, _ = watch.NewFollower(log, nil, watch.Options{})
+		}
+	})
+}

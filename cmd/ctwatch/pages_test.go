@@ -1,0 +1,116 @@
+package main
+
+import (
+	"encoding/pem"
+	"os"
+	"path/filepath"
+	"regexp"
+	"strings"
+	"testing"
+	"time"
+
+	"wagtenib/internal/testcert"
+)
+
+// The pages of the program, what they have in code, and the flags of a help text.
+var (
+	pagesOfProgram = []string{"../../docs/WATCH.md", "../../docs/AUDIT.md"}
+	code           = regexp.MustCompile("`([^`\n]+)`")
+	flagName       = regexp.MustCompile(`(?m)^  -([a-z-]+)`)
+)
+
+// TestPagesNameRealFlags: each flag that a page names is one of a command.
+func TestPagesNameRealFlags(t *testing.T) {
+	known := map[string]bool{"--help": true, "--now": true} // (systemctl has the last one)
+	for name := range commands {
+		_, out, _ := ctwatch(t, name, "--help")
+		for _, found := range flagName.FindAllStringSubmatch(out, -1) {
+			known["--"+found[1]] = true
+		}
+	}
+	for _, page := range pagesOfProgram {
+		content, named := readAll(t, page), 0
+		for _, span := range code.FindAllStringSubmatch(content, -1) {
+			for _, word := range strings.Fields(span[1]) {
+				word, _, _ = strings.Cut(word, "=")
+				if strings.HasPrefix(word, "--") {
+					named++
+					if !known[word] {
+						t.Errorf("%s has the flag %s, which no command has", page, word)
+					}
+				}
+			}
+		}
+		if named == 0 {
+			t.Errorf("%s names no flag", page)
+		}
+	}
+}
+
+// TestRunsTheCommandsOfItsPage runs each command of docs/WATCH.md that begins with ctwatch, with this scene's log,
+// folder and files in the place of the page's. The one that begins with cmd/out is run by tests/readme.py.
+func TestRunsTheCommandsOfItsPage(t *testing.T) {
+	folder := t.TempDir()
+	t.Setenv("HOME", folder)
+	log, authority := serveLog(t, "a.example"), testcert.NewAuthority(t)
+	one := authority.Issue("shop.example.org")
+	log.add(authority, one)
+	must(t, os.Mkdir(filepath.Join(folder, ".certspotter"), 0o700))
+	for name, content := range map[string]string{"names": "example.org\n", ".certspotter/watchlist": ".example.org\n",
+		"log.pem": string(pem.EncodeToMemory(&pem.Block{Type: "PUBLIC KEY", Bytes: log.PublicKey()}))} {
+		must(t, os.WriteFile(filepath.Join(folder, name), []byte(content), 0o600))
+	}
+	store, of := []string{"--folder", filepath.Join(folder, "ct-watch")}, log.address+" "+filepath.Join(folder, "log.pem")
+	run := append([]string{"--once", "--from-start", "--log", of}, store...)
+	// The head of a fork makes the evidence that the page's command writes.
+	fork := func() { log.PublishRoot(log.Size(), uint64(time.Now().UnixMilli())+2, [32]byte{1}) }
+	ran := map[string]bool{}
+	for _, command := range []struct {
+		typed  string
+		more   []string
+		status int
+		says   string
+		after  func()
+	}{
+		{"ctwatch run --help", nil, 0, "-from-start", nil},
+		{"ctwatch names FILE", nil, 0, "this name, all names below it", nil},
+		{"ctwatch run --name example.org", run, statusFoundByOnce, "FOUND example.org: shop.example.org", nil},
+		{"ctwatch run --once", append(run[1:], "--name", "example.org"), 0, "", nil},
+		{"ctwatch run --certspotter-watchlist ~/.certspotter/watchlist", run, 0, "", nil},
+		{"ctwatch query example.org --valid", store, 0, "shop.example.org", nil},
+		{"ctwatch certificate HASH", store, 0, "BEGIN CERTIFICATE", nil},
+		{"ctwatch show LOG INDEX", []string{"--log", of}, 0, "shop.example.org", nil},
+		{"ctwatch health", store, 0, "1 log; all are read", fork},
+		{"ctwatch run", append(run, "--name", "example.org"), statusAccused, "fork", nil},
+		{"ctwatch evidence NUMBER FOLDER", store, 0, "fork", nil},
+	} {
+		ran[command.typed] = true
+		if !strings.Contains(readAll(t, pagesOfProgram[0]), "`"+command.typed+"`") {
+			t.Errorf("the page does not have %q", command.typed)
+		}
+		typed := strings.NewReplacer("FILE", filepath.Join(folder, "names"), "~", folder, "NUMBER", "1", "FOLDER",
+			filepath.Join(folder, "evidence"), "LOG", log.address, "INDEX", "1", "HASH", hashIn(t, store)).Replace(command.typed)
+		status, out, faults := ctwatch(t, append(strings.Fields(typed)[1:], command.more...)...)
+		if status != command.status || !strings.Contains(out, command.says) {
+			t.Errorf("%s: status %d: %s%s", typed, status, out, faults)
+		}
+		if command.after != nil {
+			command.after()
+		}
+	}
+	for _, span := range code.FindAllStringSubmatch(readAll(t, pagesOfProgram[0]), -1) {
+		if strings.HasPrefix(span[1], "ctwatch ") && !ran[span[1]] {
+			t.Errorf("the page has %q, which this test does not run", span[1])
+		}
+	}
+}
+
+// hashIn returns the hash of the first certificate of a store, or HASH if there is none.
+func hashIn(t *testing.T, store []string) string {
+	t.Helper()
+	_, out, _ := ctwatch(t, append([]string{"query", "example.org", "--json"}, store...)...)
+	if found := regexp.MustCompile(`"sha256":"([0-9a-f]{64})"`).FindStringSubmatch(out); found != nil {
+		return found[1]
+	}
+	return "HASH"
+}

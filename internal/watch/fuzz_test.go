@@ -1,0 +1,166 @@
+package watch_test
+
+import (
+	"bytes"
+	"context"
+	"crypto/ecdh"
+	"crypto/ecdsa"
+	"crypto/x509"
+	"net/http"
+	"net/http/httptest"
+	"slices"
+	"strings"
+	"testing"
+
+	"wagtenib/internal/logclient"
+	"wagtenib/internal/testlog"
+	"wagtenib/internal/watch"
+)
+
+// damage is how some answers of a log are changed.
+type damage struct {
+	part    string // of the paths of the answers that are changed
+	isWhole bool   // the answer is replaced; otherwise it is overwritten from a byte on, or cut there
+	at      uint32
+	content []byte
+}
+
+// apply returns what is answered instead.
+func (d damage) apply(answer []byte) []byte {
+	if d.isWhole {
+		return d.content
+	}
+	at := int(d.at) % (len(answer) + 1)
+	if len(d.content) == 0 {
+		return answer[:at]
+	}
+	after := answer[min(len(answer), at+len(d.content)):]
+	return slices.Concat(answer[:at], d.content, after)
+}
+
+// direct asks a log without a network, and changes some of its answers.
+type direct struct {
+	log *testlog.Log
+	damage
+}
+
+func (d direct) RoundTrip(r *http.Request) (*http.Response, error) {
+	answer := httptest.NewRecorder()
+	d.log.ServeHTTP(answer, r)
+	if d.part != "" && strings.Contains(r.URL.Path, d.part) && answer.Code == http.StatusOK {
+		changed := d.apply(bytes.Clone(answer.Body.Bytes()))
+		answer.Body = bytes.NewBuffer(changed)
+	}
+	return answer.Result(), nil
+}
+
+// partsOf are parts of paths that a fuzzer chooses from, by the kind of log.
+var partsOf = map[string][]string{"tiled": {"checkpoint", "tile/data/", "tile/0/", "tile/1/"},
+	"RFC 6962": {"get-sth", "get-entries", "get-sth-consistency", "get-proof-by-hash"}}
+
+// fixedKey returns the same key in each process: a fuzzer has several, and what they sign must be of one log.
+func fixedKey(t testing.TB) *ecdsa.PrivateKey {
+	t.Helper()
+	scalar, err := ecdh.P256().NewPrivateKey(bytes.Repeat([]byte{7}, 32))
+	if err != nil {
+		t.Fatal(err)
+	}
+	der, err := x509.MarshalPKCS8PrivateKey(scalar)
+	if err != nil {
+		t.Fatal(err)
+	}
+	key, err := x509.ParsePKCS8PrivateKey(der)
+	if err != nil {
+		t.Fatal(err)
+	}
+	return key.(*ecdsa.PrivateKey)
+}
+
+// FuzzLogAnswers changes answers of a log in any way. No answer stops the program, no head is accepted that the log did
+// not sign, and the log is accused of no head that it did not sign. After the log answers as it should, all of its
+// entries are kept.
+func FuzzLogAnswers(f *testing.F) {
+	const before, after = 40, 1100
+	log := newLog(f, 0)
+	log.Key = fixedKey(f)
+	grow(log, before)
+	states, heads := map[string]watch.State{}, map[string][2]watch.Head{}
+	id := watched(log, "http://log.example", "tiled").ID
+	for _, size := range []uint64{before, after} {
+		grow(log, size-log.Size())
+		for _, kind := range kinds {
+			k := newKeeper()
+			if err := passOver(f, log, kind, k, damage{}); err != nil {
+				f.Fatal(err)
+			}
+			if size == before {
+				states[kind] = k.states[id]
+			}
+			of := heads[kind]
+			of[size/after] = k.states[id].Accepted
+			heads[kind] = of
+		}
+	}
+	for i, kind := range kinds {
+		for number := range uint8(len(partsOf[kind])) {
+			f.Add(i == 0, number, false, uint32(9), []byte{0})
+			f.Add(i == 0, number, false, uint32(200), []byte(nil))
+			f.Add(i == 0, number, true, uint32(0), []byte(`{"entries":[{}]}`))
+			// (the first part is that of the head)
+			f.Add(i == 0, uint8(0), true, uint32(number), heads[kind][number%2].Signed)
+		}
+	}
+	f.Fuzz(func(t *testing.T, isTiled bool, part uint8, isWhole bool, at uint32, content []byte) {
+		kind := kinds[1]
+		if isTiled {
+			kind = kinds[0]
+		}
+		k := newKeeper()
+		k.states[id] = states[kind]
+		names := partsOf[kind]
+		// (the error is the answer's fault, or nil if the change does no harm)
+		_ = passOver(t, log, kind, k, damage{names[int(part)%len(names)], isWhole, at, content})
+		if accepted := k.states[id].Accepted; accepted.TreeHead != heads[kind][0].TreeHead &&
+			accepted.TreeHead != heads[kind][1].TreeHead {
+			t.Fatalf("the head %+v was accepted", accepted)
+		}
+		for _, verdict := range k.verdicts(id) {
+			switch verdict {
+			case watch.VerdictFork, watch.VerdictShrunk, watch.VerdictNotLater:
+				t.Fatalf("the log is accused of %s", verdict)
+			}
+		}
+		err := passOver(t, log, kind, k, damage{})
+		for tries := 0; err != nil && tries < 3; tries++ {
+			err = passOver(t, log, kind, k, damage{})
+		}
+		if err != nil || k.states[id].Accepted.TreeHead != heads[kind][1].TreeHead {
+			t.Fatalf("the log is followed no longer: %v", err)
+		}
+		wantsLeaves(t, k.entries[id], before, after)
+	})
+}
+
+// passOver makes a pass over a log of this kind that answers with some damage.
+func passOver(t testing.TB, log *testlog.Log, kind string, k *keeper, d damage) error {
+	options := logclient.Options{Transport: direct{log, d}, Clock: newClock(begun)}
+	return follower(t, watched(log, "http://log.example", kind), k, watch.Options{FromStart: true,
+		Client: options}).Pass(context.Background())
+}
+
+// wantsLeaves sees that the log's own leaf was kept at each of these indexes.
+func wantsLeaves(t testing.TB, kept []watch.Entry, first, end uint64) {
+	t.Helper()
+	due := map[uint64]bool{}
+	for index := first; index < end; index++ {
+		due[index] = true
+	}
+	for _, entry := range kept {
+		if bytes.Equal(entry.Leaf, entriesOf(entry.Index, 1)[0].MerkleLeaf(entry.Index)) {
+			delete(due, entry.Index)
+		}
+	}
+	if len(due) > 0 {
+		t.Fatalf("%d entries were never kept", len(due))
+	}
+}
