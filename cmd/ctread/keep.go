@@ -38,10 +38,10 @@ func (r *reader) resume(folder string) error {
 	}
 	node := r.node
 	r.node = folder
-	last, moment, err := r.checkpoint(string(text))
+	last, timestamp, err := r.checkpoint(string(text))
 	r.node = node
 	if err == nil {
-		r.last, r.moment = last, moment
+		r.last, r.timestamp = last, timestamp
 	}
 	return err
 }

@@ -84,7 +84,7 @@ func started(t *testing.T, every string, words ...string) *program {
 
 // isLate says of what a start was given up for that one of its programs gave no reply in the seconds that it has, which a busy machine may need: then it is begun
 // anew.
-func isLate(told string) bool { return strings.Contains(told, "gives no reply: none in ") }
+func isLate(told string) bool { return strings.Contains(told, "no reply from the signer: none in ") }
 
 // begun starts one, and gives the line by which it serves or ends.
 func begun(t *testing.T, every string, words ...string) (p *program, line map[string]any) {
@@ -925,14 +925,14 @@ func TestGuardStateAway(t *testing.T) {
 		if status == 1 && strings.Contains(told.String(), "the guard's state (guard-state, of etcd) isn't read") {
 			return
 		}
-		late := isLate(told.String()) || strings.Contains(told.String(), "gives no reply: context deadline exceeded")
+		late := isLate(told.String()) || strings.Contains(told.String(), "no reply from the signer: context deadline exceeded")
 		if status != 1 || !late || time.Now().After(until) {
 			t.Fatalf("status %d: %s", status, told.String())
 		}
 	}
 }
 
-// A signer that is started again makes no state of the guard, where that is gone.
+// A signer that is started again does not create the state of its guard if the state is missing.
 func TestSignerIsCreatedOnce(t *testing.T) {
 	t.Parallel()
 	at := newPlace(t)
@@ -1145,7 +1145,7 @@ func TestGuards(t *testing.T) {
 		}
 	}
 	lacks(`"no-such-guard" is neither true nor false`, "--guard=no-such-guard")
-	lacks("no state of the guard: there is none", "--create=false")
+	lacks("no valid guard state: there is none", "--create=false")
 	lacks("no such file", "--signing-key", at.path("nowhere"))
 	words = at.realWords("--create")
 	lacks("no such file", "--signer-socket", at.path("nowhere"))

@@ -116,8 +116,8 @@ func (s *settings) frontFlags(flags *flag.FlagSet) {
 		return nil
 	})
 	flags.StringVar(&s.roots.Without, "excluded-roots", "", "`file` with the SHA-256 fingerprint of one root on each line. These roots are not accepted")
-	flags.Func("not-after-start", "`time` (2026-07-01 or 2026-07-01T00:00:00Z). Certificates that expire before it are refused", moment(&s.rules.Window.From))
-	flags.Func("not-after-limit", "`time`. Certificates that expire at this time or later are refused", moment(&s.rules.Window.To))
+	flags.Func("not-after-start", "`time` (2026-07-01 or 2026-07-01T00:00:00Z). Certificates that expire before it are refused", timestamp(&s.rules.Window.From))
+	flags.Func("not-after-limit", "`time`. Certificates that expire at this time or later are refused", timestamp(&s.rules.Window.To))
 	flags.BoolVar(&s.anyPurpose, "any-purpose", false, "accept certificates of any purpose. Without it, those whose extended key usage excludes TLS servers are refused")
 	flags.BoolVar(&s.rules.RefuseExpired, "refuse-expired", false, "refuse certificates that have expired")
 	flags.BoolVar(&s.rules.RefuseNotYetValid, "refuse-not-yet-valid", false, "refuse certificates whose validity has not begun")
@@ -432,7 +432,7 @@ func above0(into *time.Duration) func(string) error {
 	}
 }
 
-func moment(into *time.Time) func(string) error {
+func timestamp(into *time.Time) func(string) error {
 	return func(text string) (err error) {
 		if *into, err = time.Parse("2006-01-02", text); err != nil {
 			*into, err = time.Parse(time.RFC3339, text)

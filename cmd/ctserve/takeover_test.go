@@ -115,7 +115,7 @@ func TestTakesOverNothingOlder(t *testing.T) {
 		{"the lock is gone", func(p *place) error { return os.RemoveAll(p.path("log/register")) },
 			"the lock is older than the log"},
 		{"the guard's state is gone", func(p *place) error { return os.RemoveAll(p.path("log.guard")) },
-			"no state of the guard"},
+			"no valid guard state"},
 		{"the index is gone", func(p *place) error { return os.RemoveAll(p.path("log/places")) },
 			"the index is not the log's"},
 		{"this machine saw more", func(p *place) error {

@@ -88,8 +88,8 @@ type Window struct {
 	From, To time.Time
 }
 
-func (w Window) has(moment time.Time) bool {
-	return (w.From.IsZero() || !moment.Before(w.From)) && (w.To.IsZero() || moment.Before(w.To))
+func (w Window) has(timestamp time.Time) bool {
+	return (w.From.IsZero() || !timestamp.Before(w.From)) && (w.To.IsZero() || timestamp.Before(w.To))
 }
 
 // Checker checks chains against a log's roots and its rules. Its methods may be called at once.

@@ -137,7 +137,7 @@ func TestChainsAreRefused(t *testing.T) {
 		if test.roots == "" {
 			test.roots = "root"
 		}
-		window := Window{moment(t, test.from), moment(t, test.til)}
+		window := Window{timestamp(t, test.from), timestamp(t, test.til)}
 		c := NewChecker(rootsNamed(t, a, test), Rules{Window: window}, byASN1{})
 		call := c.Certificate
 		if test.precert {
@@ -171,7 +171,7 @@ func rootsNamed(t testing.TB, a *authorities, test refused) *Roots {
 	return roots
 }
 
-func moment(t testing.TB, text string) time.Time {
+func timestamp(t testing.TB, text string) time.Time {
 	if text == "" {
 		return time.Time{}
 	}
@@ -295,7 +295,7 @@ func TestWindow(t *testing.T) {
 		{"", "2027-01-01T00:00:00Z", false},
 		{"", "2027-01-01T00:00:01Z", true},
 	} {
-		_, err := NewChecker(roots, Rules{Window: Window{moment(t, test.from), moment(t, test.to)}}, byASN1{}).Certificate(chain)
+		_, err := NewChecker(roots, Rules{Window: Window{timestamp(t, test.from), timestamp(t, test.to)}}, byASN1{}).Certificate(chain)
 		if (err == nil) != test.taken || err != nil && RefusalOf(err) != OutsideWindow {
 			t.Errorf("from %q to %q: %v", test.from, test.to, err)
 		}

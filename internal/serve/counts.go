@@ -159,7 +159,7 @@ func (l *Log) Figures() log.Figures {
 	l.counts.into(&f)
 	if head := l.node.Known(); head != nil {
 		f.Entries = head.Size
-		f.HeadAge = time.Duration(l.config.Machine.Of.Now().UnixMilli()-int64(head.Moment)) * time.Millisecond
+		f.HeadAge = time.Duration(l.config.Machine.Of.Now().UnixMilli()-int64(head.Timestamp)) * time.Millisecond
 	}
 	if decided := l.node.Decided(); decided.Size > f.Entries {
 		f.Unpublished = decided.Size - f.Entries

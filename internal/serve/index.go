@@ -145,7 +145,7 @@ func RebuildIndex(ctx context.Context, of Stores, told func(left uint64)) error 
 	if err != nil {
 		return fmt.Errorf("serve: the lock: %w", err)
 	}
-	if published.Before(stores.Published{Size: head.Size, Moment: head.Moment}) {
+	if published.Before(stores.Published{Size: head.Size, Timestamp: head.Timestamp}) {
 		return fmt.Errorf("%w: the newest state is not published "+
 			"(start a node, which publishes it, and run this again)", node.ErrIndex)
 	}

@@ -90,7 +90,7 @@ func (l *Log) headWith(ctx context.Context, of tlog.Tile) (signer.Head, error) {
 		return now.Head, nil
 	}
 	head, err := l.Checkpoint(ctx)
-	return signer.Head{Size: head.TreeSize, Moment: head.Timestamp, Root: head.RootHash}, err
+	return signer.Head{Size: head.TreeSize, Timestamp: head.Timestamp, Root: head.RootHash}, err
 }
 
 // read reads an object of the log.

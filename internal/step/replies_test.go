@@ -13,8 +13,8 @@ import (
 )
 
 // lineOf is a state's line: its size and moment, and of its four hashes the first bytes.
-func lineOf(size, moment uint64, hashes ...[32]byte) string {
-	line := fmt.Sprintf("growth %016x%016x", size, moment)
+func lineOf(size, timestamp uint64, hashes ...[32]byte) string {
+	line := fmt.Sprintf("growth %016x%016x", size, timestamp)
 	for i := 0; i < 4; i++ {
 		var hash [32]byte
 		if i < len(hashes) {
@@ -63,9 +63,9 @@ func TestWrongNeeds(t *testing.T) {
 }
 
 // signedOf returns the TreeHeadSignature of a head (RFC 6962, section 3.5).
-func signedOf(size, moment uint64, root [32]byte) (signed wagtenib.SignedBytes) {
+func signedOf(size, timestamp uint64, root [32]byte) (signed wagtenib.SignedBytes) {
 	signed[1] = 1
-	binary.BigEndian.PutUint64(signed[2:], moment)
+	binary.BigEndian.PutUint64(signed[2:], timestamp)
 	binary.BigEndian.PutUint64(signed[10:], size)
 	copy(signed[18:], root[:])
 	return signed
@@ -171,7 +171,7 @@ func TestClaimOfOne(t *testing.T) {
 
 // TestBounds: as many entries as a log has are taken, and no more.
 func TestBounds(t *testing.T) {
-	if s, err := ParseState(lineOf(MostLeaves, 1)); err != nil || s.Size != MostLeaves || s.Moment != 1 {
+	if s, err := ParseState(lineOf(MostLeaves, 1)); err != nil || s.Size != MostLeaves || s.Timestamp != 1 {
 		t.Errorf("%+v, %v", s, err)
 	}
 	if s, err := ParseState(lineOf(MostLeaves+1, 1)); !errors.Is(err, ErrState) {

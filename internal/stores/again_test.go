@@ -126,7 +126,7 @@ func TestRegisterOutlivesItsEngine(t *testing.T) {
 		if err != nil || number(text) < last || !strings.HasPrefix(text, "try ") {
 			t.Errorf("%q stands, %v, and %d was acknowledged", text, err, last)
 		}
-		if published, err := register.Published(ctx); err != nil || published.Size < uint64(last) || published.Moment != 2*published.Size {
+		if published, err := register.Published(ctx); err != nil || published.Size < uint64(last) || published.Timestamp != 2*published.Size {
 			t.Errorf("%v is published, %v, and %d was acknowledged", published, err, last)
 		}
 	})

@@ -154,7 +154,7 @@ func (e *inEtcd) Swap(ctx context.Context, old, new string) error {
 }
 
 // headInOrder writes a size and a moment so that the order of texts is that of heads.
-func headInOrder(p Published) string { return inOrder(p.Size) + "-" + inOrder(p.Moment) }
+func headInOrder(p Published) string { return inOrder(p.Size) + "-" + inOrder(p.Timestamp) }
 
 // headFormInOrder reads what headInOrder wrote.
 const headFormInOrder = "%020d-%020d"
@@ -165,7 +165,7 @@ func (e *inEtcd) Published(ctx context.Context) (published Published, err error)
 	if err != nil {
 		return published, err
 	}
-	if n, err := fmt.Sscanf(head, headFormInOrder, &published.Size, &published.Moment); n != 2 || err != nil {
+	if n, err := fmt.Sscanf(head, headFormInOrder, &published.Size, &published.Timestamp); n != 2 || err != nil {
 		return Published{}, fmt.Errorf("stores: etcd: %s has %.60q, and not how far the log is published", e.head, head)
 	}
 	return published, nil
@@ -173,7 +173,7 @@ func (e *inEtcd) Published(ctx context.Context) (published Published, err error)
 
 // Raise is Register's.
 func (e *inEtcd) Raise(ctx context.Context, published Published) error {
-	if err := checkNumbers(published.Size, published.Moment); err != nil {
+	if err := checkNumbers(published.Size, published.Timestamp); err != nil {
 		return err
 	}
 	head := headInOrder(published)

@@ -228,8 +228,8 @@ func (f *file) published() (p Published, err error) {
 	if err != nil {
 		return p, err
 	}
-	n, err := fmt.Sscanf(head, headForm, &p.Size, &p.Moment)
-	if n != 2 || err != nil || fmt.Sprintf(headForm, p.Size, p.Moment) != head {
+	n, err := fmt.Sscanf(head, headForm, &p.Size, &p.Timestamp)
+	if n != 2 || err != nil || fmt.Sprintf(headForm, p.Size, p.Timestamp) != head {
 		return Published{}, fmt.Errorf("stores: register: %s has %.40q, and not how far the log is published", f.path(headFile), head)
 	}
 	return p, nil
@@ -266,7 +266,7 @@ func (f *file) Published(ctx context.Context) (Published, error) {
 }
 
 func (f *file) Raise(ctx context.Context, published Published) error {
-	if err := checkNumbers(published.Size, published.Moment); err != nil {
+	if err := checkNumbers(published.Size, published.Timestamp); err != nil {
 		return err
 	}
 	return f.alone(ctx, func() error {
@@ -277,7 +277,7 @@ func (f *file) Raise(ctx context.Context, published Published) error {
 		if !standing.Before(published) {
 			return f.keepRaised(standing)
 		}
-		if err := f.set(headFile, fmt.Sprintf(headForm, published.Size, published.Moment)); err != nil {
+		if err := f.set(headFile, fmt.Sprintf(headForm, published.Size, published.Timestamp)); err != nil {
 			return err
 		}
 		f.knowRaised(published)

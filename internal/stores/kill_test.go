@@ -157,7 +157,7 @@ func TestRegisterOutlivesKills(t *testing.T) {
 				t.Fatalf("%q stands, %v, and %d was acknowledged", text, err, last)
 			}
 			published, err := register.Published(ctx)
-			if n := published.Size; err != nil || n != uint64(last) && n != uint64(last)+1 || published.Moment != 2*n {
+			if n := published.Size; err != nil || n != uint64(last) && n != uint64(last)+1 || published.Timestamp != 2*n {
 				t.Fatalf("%v is published, %v, and %d was acknowledged", published, err, last)
 			}
 		}

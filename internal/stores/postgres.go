@@ -192,7 +192,7 @@ type row struct {
 func (p *inPostgres) read(ctx context.Context) (row, error) {
 	read, err := within(ctx, func() (read row, err error) {
 		const one = "select text, published, moment from ct_register where log = $1"
-		err = p.db.QueryRowContext(ctx, one, p.log).Scan(&read.text, &read.published.Size, &read.published.Moment)
+		err = p.db.QueryRowContext(ctx, one, p.log).Scan(&read.text, &read.published.Size, &read.published.Timestamp)
 		return read, err
 	})
 	if errors.Is(err, sql.ErrNoRows) {
@@ -233,11 +233,11 @@ func (p *inPostgres) Published(ctx context.Context) (Published, error) {
 }
 
 func (p *inPostgres) Raise(ctx context.Context, published Published) error {
-	if err := checkNumbers(published.Size, published.Moment); err != nil {
+	if err := checkNumbers(published.Size, published.Timestamp); err != nil {
 		return err
 	}
 	const raise = "update ct_register set published = $2, moment = $3 where log = $1 and (published, moment) < ($2, $3)"
-	done, err := p.changed(ctx, "raise", raise, p.log, int64(published.Size), int64(published.Moment))
+	done, err := p.changed(ctx, "raise", raise, p.log, int64(published.Size), int64(published.Timestamp))
 	if err != nil || done {
 		return err
 	}

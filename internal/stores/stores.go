@@ -111,11 +111,11 @@ type Register interface {
 }
 
 // Published is how far a log is published: by a head of so many entries, with a timestamp in milliseconds since 1970.
-type Published struct{ Size, Moment uint64 }
+type Published struct{ Size, Timestamp uint64 }
 
 // Before says whether p is before another one: of fewer entries, or of as many and an earlier moment.
 func (p Published) Before(other Published) bool {
-	return p.Size < other.Size || p.Size == other.Size && p.Moment < other.Moment
+	return p.Size < other.Size || p.Size == other.Size && p.Timestamp < other.Timestamp
 }
 
 // Identity is by what a submission is known when it comes again: SHA-256 over what of it goes into the log.

@@ -159,7 +159,7 @@ func OfRFC6962(origin string, der []byte) note.Verifier {
 		if err != nil || !bytes.HasPrefix(text, []byte(origin+"\n")) || len(signature) <= 8 {
 			return false
 		}
-		head := signer.Head{Size: size, Moment: binary.BigEndian.Uint64(signature[:8]), Root: root}
+		head := signer.Head{Size: size, Timestamp: binary.BigEndian.Uint64(signature[:8]), Root: root}
 		return signer.CheckHead(der, head, signature[8:]) == nil
 	}}
 }
@@ -214,7 +214,7 @@ func cosignatureLine(name string, key ed25519.PublicKey, seconds uint64, signatu
 }
 
 // MomentOf reads whose a cosignature's line is, and its moment; nothing where it is none.
-func MomentOf(line string) (name string, at time.Time, ok bool) {
+func TimestampOf(line string) (name string, at time.Time, ok bool) {
 	name, text, _ := strings.Cut(strings.TrimPrefix(line, "— "), " ")
 	blob, err := base64.StdEncoding.DecodeString(text)
 	if err != nil || len(blob) != 4+8+ed25519.SignatureSize || !strings.HasPrefix(line, "— ") {
