@@ -38,7 +38,7 @@ type logSetting struct {
 }
 
 // errUsage reports a command line or a file of settings that is refused.
-var errUsage = errors.New("ctwitness-serve")
+var errUsage = errors.New("ctwitness")
 
 // mostKey is the number of bytes of a key file that are read.
 const mostKey = 64 << 10
@@ -46,7 +46,7 @@ const mostKey = 64 << 10
 // parse reads the command line, and the file that it names. If both have a setting, the command line counts; logs of both are used.
 func parse(words []string, help io.Writer) (*settings, error) {
 	s := &settings{words: words, accepted: map[string]string{}}
-	flags := settingsfile.Flags("ctwitness-serve", "ctwitness-serve is a witness of Certificate Transparency logs. It cosigns a head of a log only if the proved code in it decides that the head follows the last one.\nEach setting except --create and --verifier-key is a flag, or a line 'name value' in the file that --config names.", help)
+	flags := settingsfile.Flags("ctwitness", "ctwitness is a witness of Certificate Transparency logs. It cosigns a head of a log only if the proved code in it decides that the head follows the last one.\nEach setting except --create and --verifier-key is a flag, or a line 'name value' in the file that --config names.", help)
 	flags.String("config", "", "`file` with a line 'name value' for each of these settings. A comment begins with #. The logs are read again at SIGHUP")
 	flags.StringVar(&s.name, "name", "", "the witness's `name`, for example witness.example")
 	flags.StringVar(&s.key, "key", "", "`file` with its Ed25519 private key in PEM (openssl genpkey -algorithm ed25519). Only its owner may have the permission to read it")
