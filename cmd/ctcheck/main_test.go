@@ -107,7 +107,7 @@ func TestJudge(t *testing.T) {
 		}
 	}
 	long := filepath.Join(t.TempDir(), "long")
-	must(t, os.WriteFile(long, []byte(strings.Repeat(" ", mostLine)+"{}\n"), 0o600))
+	must(t, os.WriteFile(long, []byte(strings.Repeat(" ", maxLine)+"{}\n"), 0o600))
 	if _, err := judge(l.folder, l.key, []string{long}); err == nil || !strings.Contains(err.Error(), "too long") {
 		t.Errorf("a line that is too long: %v", err)
 	}

@@ -52,7 +52,7 @@ func TestEachBound(t *testing.T) {
 		}
 	}
 	for all, ofOne := range map[int]int{1: 1, 3: 1, 4: 1, 8: 2, 64: 16, 67: 16} {
-		if s, err := with("max-proofs", all); err != nil || s.limits.ProofsByAddress != ofOne || s.node.mostProofs != all {
+		if s, err := with("max-proofs", all); err != nil || s.limits.ProofsByAddress != ofOne || s.node.maxProofs != all {
 			t.Errorf("of %d proofs an address has another share than %d: %v", all, ofOne, err)
 		}
 	}

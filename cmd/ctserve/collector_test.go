@@ -16,7 +16,7 @@ func TestCollector(t *testing.T) {
 	for _, c := range []struct {
 		percent, held         string
 		wantPercent, wantHeld int64
-	}{{"", "", collectsAt, mostHeld}, {"50", "", 100, mostHeld}, {"", "5GiB", collectsAt, math.MaxInt64}} {
+	}{{"", "", collectsAt, maxHeld}, {"50", "", 100, maxHeld}, {"", "5GiB", collectsAt, math.MaxInt64}} {
 		t.Setenv("GOGC", c.percent)
 		t.Setenv("GOMEMLIMIT", c.held)
 		settleCollector()

@@ -607,7 +607,7 @@ func TestSettings(t *testing.T) {
 	if err != nil {
 		t.Fatal(err)
 	}
-	if s.node.origin != "z" || s.node.mostSkew != 3*time.Second || !s.node.synchronized || s.limits.Idle != 5*time.Second || fmt.Sprint(s.proxies) != "[127.0.0.1/32 10.0.0.0/8]" || !s.node.create ||
+	if s.node.origin != "z" || s.node.maxSkew != 3*time.Second || !s.node.synchronized || s.limits.Idle != 5*time.Second || fmt.Sprint(s.proxies) != "[127.0.0.1/32 10.0.0.0/8]" || !s.node.create ||
 		s.rules.Window.From.Year() != 2027 ||
 		s.node.guardState != "file:ct-log.guard" || s.node.latestHead != "ct-log.latest-head" || s.node.namedDay != "ct-log.day" || !s.node.isGuarded() || s.node.store != "folder:ct-log/objects" || s.node.register != "file:ct-log/register" || s.node.places != "sqlite:ct-log/places" {
 		t.Errorf("%+v", s)

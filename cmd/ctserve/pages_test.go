@@ -90,10 +90,10 @@ func TestPageSaysBounds(t *testing.T) {
 	s, err := parse([]string{"--roots", "r", "--origin", "o.example", "--signing-key", "k"}, &bytes.Buffer{})
 	trial.Must(t, err)
 	trial.Says(t, trial.Page(t, "../../docs/SERVICE.md"), map[string]bool{
-		"more than `max-write-rate` allows in a second (16 MiB)": s.node.mostWritten == 16<<20,
+		"more than `max-write-rate` allows in a second (16 MiB)": s.node.maxWritten == 16<<20,
 	})
-	if s.node.mostProofs != 64 || s.limits.ProofsByAddress != 16 {
-		t.Errorf("%d proofs at once, of one address %d", s.node.mostProofs, s.limits.ProofsByAddress)
+	if s.node.maxProofs != 64 || s.limits.ProofsByAddress != 16 {
+		t.Errorf("%d proofs at once, of one address %d", s.node.maxProofs, s.limits.ProofsByAddress)
 	}
 }
 

@@ -26,10 +26,10 @@ import (
 // statusNoState is the status of a start that is refused since a log's state is missing or another's, and will be until an operator has looked.
 const statusNoState = 3
 
-// mostConnections is how many clients are connected at once, and mostHeader how many bytes a request's headers have.
+// maxConnections is how many clients are connected at once, and maxHeader how many bytes a request's headers have.
 const (
-	mostConnections = 512
-	mostHeader      = 16 << 10
+	maxConnections = 512
+	maxHeader      = 16 << 10
 )
 
 func main() {
@@ -244,6 +244,6 @@ func (w *running) wait(s *settings, lines *web.Lines, signals <-chan os.Signal, 
 func serverOf(handler http.Handler, lines *web.Lines) *http.Server {
 	return &http.Server{
 		Handler: handler, ReadHeaderTimeout: 10 * time.Second, ReadTimeout: 20 * time.Second, WriteTimeout: time.Minute,
-		IdleTimeout: time.Minute, MaxHeaderBytes: mostHeader, ErrorLog: logOf(lines),
+		IdleTimeout: time.Minute, MaxHeaderBytes: maxHeader, ErrorLog: logOf(lines),
 	}
 }

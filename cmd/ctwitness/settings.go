@@ -40,8 +40,8 @@ type logSetting struct {
 // errUsage reports a command line or a file of settings that is refused.
 var errUsage = errors.New("ctwitness")
 
-// mostKey is the number of bytes of a key file that are read.
-const mostKey = 64 << 10
+// maxKey is the number of bytes of a key file that are read.
+const maxKey = 64 << 10
 
 // parse reads the command line, and the file that it names. If both have a setting, the command line counts; logs of both are used.
 func parse(words []string, help io.Writer) (*settings, error) {
@@ -160,7 +160,7 @@ func readKey(path string) (ed25519.PrivateKey, error) {
 	if info.Mode().Perm()&0o077 != 0 {
 		return nil, fmt.Errorf("%w: not only its owner may read or write %s (chmod 600)", witness.ErrKey, filepath.Clean(path))
 	}
-	content, err := io.ReadAll(io.LimitReader(opened, mostKey))
+	content, err := io.ReadAll(io.LimitReader(opened, maxKey))
 	if err != nil {
 		return nil, err
 	}

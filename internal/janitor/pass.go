@@ -86,7 +86,7 @@ func (j *Janitor) call(ctx context.Context, do func(context.Context) error) erro
 func (j *Janitor) read(ctx context.Context, name string) ([]byte, error) {
 	return tile.Stored(func(ctx context.Context, name string) (content []byte, err error) {
 		err = j.call(ctx, func(ctx context.Context) (err error) {
-			content, err = j.config.Objects.Get(ctx, name, stores.MostObject)
+			content, err = j.config.Objects.Get(ctx, name, stores.MaxObject)
 			return err
 		})
 		return content, err
@@ -96,7 +96,7 @@ func (j *Janitor) read(ctx context.Context, name string) ([]byte, error) {
 // list lists names after a name.
 func (j *Janitor) list(ctx context.Context, prefix, after string) (names []string, err error) {
 	err = j.call(ctx, func(ctx context.Context) (err error) {
-		names, err = j.config.Objects.List(ctx, prefix, after, stores.MostListed)
+		names, err = j.config.Objects.List(ctx, prefix, after, stores.MaxListed)
 		return err
 	})
 	return names, err
@@ -199,7 +199,7 @@ func (j *Janitor) deleteHeads(ctx context.Context, _ Newest) error {
 			return err
 		}
 	}
-	if len(names) < stores.MostListed {
+	if len(names) < stores.MaxListed {
 		j.thinned.due = now + j.config.Keep.Thin
 	}
 	return nil
@@ -250,7 +250,7 @@ func (j *Janitor) deleteStaged(ctx context.Context, newest Newest) error {
 	j.report.Lock()
 	j.report.Listed = listed
 	j.report.Unlock()
-	if j.staged.after = ""; len(names) == stores.MostListed {
+	if j.staged.after = ""; len(names) == stores.MaxListed {
 		j.staged.after = names[len(names)-1]
 		return nil
 	}

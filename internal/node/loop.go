@@ -335,5 +335,5 @@ func (t *timekeeper) timestamp(newest uint64) (now, ahead uint64, err error) {
 		return 0, 0, err
 	}
 	now = max(uint64(max(t.of.Now().UnixMilli(), 1)), newest+1)
-	return now, max(step.MostAhead, now-newest), nil
+	return now, max(step.MaxAhead, now-newest), nil
 }

@@ -108,7 +108,7 @@ func (n *Node) headAt(ctx context.Context, published stores.Published) (Head, er
 func (n *Node) newestOf(ctx context.Context, size uint64) (string, error) {
 	newest, prefix := "", fmt.Sprintf("%s%020d-", headsPrefix, size)
 	for after := prefix; ; after = newest {
-		names, err := n.config.Stores.Objects.List(ctx, headsPrefix, after, stores.MostListed)
+		names, err := n.config.Stores.Objects.List(ctx, headsPrefix, after, stores.MaxListed)
 		if err != nil {
 			return "", fmt.Errorf("node: the heads: %w", err)
 		}
@@ -116,7 +116,7 @@ func (n *Node) newestOf(ctx context.Context, size uint64) (string, error) {
 		for ; ours < len(names) && strings.HasPrefix(names[ours], prefix); ours++ {
 			newest = names[ours]
 		}
-		if ours < stores.MostListed {
+		if ours < stores.MaxListed {
 			break
 		}
 	}

@@ -110,7 +110,7 @@ func (l *Loop) headsUpTo(ctx context.Context, k *state, isNext bool) (last strin
 		after = headName(before.Size, before.Timestamp)
 	}
 	for {
-		names, err := l.config.Stores.Objects.List(ctx, headsPrefix, after, stores.MostListed)
+		names, err := l.config.Stores.Objects.List(ctx, headsPrefix, after, stores.MaxListed)
 		if err != nil {
 			return "", fmt.Errorf("node: the heads: %w", err)
 		}
@@ -130,7 +130,7 @@ func (l *Loop) headsUpTo(ctx context.Context, k *state, isNext bool) (last strin
 			}
 			last, before = name, signer.Head{Size: size, Timestamp: timestamp}
 		}
-		if len(names) < stores.MostListed {
+		if len(names) < stores.MaxListed {
 			return last, nil
 		}
 		after = names[len(names)-1]

@@ -158,7 +158,7 @@ func (l *Loop) newestListed(ctx context.Context, f found) (*decider.Point, error
 // newestHead returns the name of the newest head in the store after a name, or nothing.
 func (l *Loop) newestHead(ctx context.Context, after string) (newest string, err error) {
 	for {
-		names, err := l.config.Stores.Objects.List(ctx, headsPrefix, after, stores.MostListed)
+		names, err := l.config.Stores.Objects.List(ctx, headsPrefix, after, stores.MaxListed)
 		if err != nil {
 			return "", fmt.Errorf("node: the heads: %w", err)
 		}

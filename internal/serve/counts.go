@@ -152,7 +152,7 @@ func (c *counts) into(f *log.Figures) {
 
 // Figures is log.Log's.
 func (l *Log) Figures() log.Figures {
-	f := log.Figures{Queue: l.node.Waiting(), MostQueue: l.config.Pace.MaxQueue}
+	f := log.Figures{Queue: l.node.Waiting(), MaxQueue: l.config.Pace.MaxQueue}
 	if counted, ok := l.config.Signer.(interface{ Starts() uint64 }); ok {
 		f.SignerStarts = counted.Starts()
 	}

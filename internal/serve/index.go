@@ -45,8 +45,8 @@ func newID(ctx context.Context, in stores.Places) (id stores.Place, err error) {
 	if _, err := rand.Read(chance[:]); err != nil {
 		return id, fmt.Errorf("serve: %w", err)
 	}
-	id.Index, id.Timestamp = binary.BigEndian.Uint64(chance[:8])&stores.MostNumber,
-		binary.BigEndian.Uint64(chance[8:])&stores.MostNumber
+	id.Index, id.Timestamp = binary.BigEndian.Uint64(chance[:8])&stores.MaxNumber,
+		binary.BigEndian.Uint64(chance[8:])&stores.MaxNumber
 	if err := in.Add(ctx, []stores.Placed{{Identity: ownIdentity, Place: id}}); err != nil {
 		return id, fmt.Errorf("serve: the index: %w", err)
 	}
@@ -59,7 +59,7 @@ func newID(ctx context.Context, in stores.Places) (id stores.Place, err error) {
 
 // storedIDs lists the ids that the store has. It has one, except before the first start.
 func storedIDs(ctx context.Context, in stores.Objects) ([]string, error) {
-	names, err := in.List(ctx, placesPrefix, "", stores.MostListed)
+	names, err := in.List(ctx, placesPrefix, "", stores.MaxListed)
 	if err != nil {
 		return nil, fmt.Errorf("serve: the objects: %w", err)
 	}
@@ -153,7 +153,7 @@ func RebuildIndex(ctx context.Context, of Stores, told func(left uint64)) error 
 		return err
 	}
 	read := tile.Stored(func(ctx context.Context, name string) ([]byte, error) {
-		return of.Objects.Get(ctx, name, stores.MostObject)
+		return of.Objects.Get(ctx, name, stores.MaxObject)
 	})
 	for number := (head.Size + tile.Width - 1) / tile.Width; number > 0; number-- {
 		leaves, err := tile.LeavesOf(ctx, tile.Data((number-1)*tile.Width, head.Size), head, read)

@@ -56,7 +56,7 @@ func TestOneNode(t *testing.T) {
 		}
 	}
 	for _, name := range []string{"tile/0/000", "tile/1/000.p/2", "tile/data/001", "tile/data/002.p/188"} {
-		if content, err := l.Object(limited(t), name, stores.MostObject); err != nil || len(content) == 0 {
+		if content, err := l.Object(limited(t), name, stores.MaxObject); err != nil || len(content) == 0 {
 			t.Errorf("%s: %v", name, err)
 		}
 	}

@@ -72,7 +72,7 @@ var all = []planted{
 	{"no head is deleted", []edit{{"janitor/pass.go", "		if !ok || name >= old && !isThin {", "		if !ok || isThin || name != old {"}}},
 	{"no staged batch is listed", []edit{{"janitor/pass.go", "	if newest.Stepping == nil || now < j.staged.due {", "	if true {"}}},
 	{"an old state's lost edge is damage", []edit{{"pass.go", "		case errors.Is(failed, errMoves):", "		case failed == nil && errors.Is(failed, errMoves):"}}},
-	{"a deleted partial tile is damage", []edit{{"proofs.go", "	return tile.Stored(func(ctx context.Context, name string) ([]byte, error) {\n		return n.config.Stores.Objects.Get(ctx, name, stores.MostObject)\n	})(ctx, name)", "	content, err := n.config.Stores.Objects.Get(ctx, name, stores.MostObject)\n	if err != nil {\n		err = fmt.Errorf(\"%w: %v\", ErrDamaged, err)\n	}\n	return content, err"}}},
+	{"a deleted partial tile is damage", []edit{{"proofs.go", "	return tile.Stored(func(ctx context.Context, name string) ([]byte, error) {\n		return n.config.Stores.Objects.Get(ctx, name, stores.MaxObject)\n	})(ctx, name)", "	content, err := n.config.Stores.Objects.Get(ctx, name, stores.MaxObject)\n	if err != nil {\n		err = fmt.Errorf(\"%w: %v\", ErrDamaged, err)\n	}\n	return content, err"}}},
 	{"the memory keeps nothing", []edit{{"seen.go", "	if err := l.config.Machine.Memory.Save(ctx, k.head()); err != nil {", "	if err := error(nil); err != nil {"}}},
 	{"the seen head is forgotten", []edit{{"seen.go", "	l.seen.accepted = *k", "	_ = k"}}},
 	{"a state behind the accepted one is accepted", []edit{{"seen.go", "	if k.head() != accepted.head() && !follows(k.Size, k.Timestamp, accepted.head()) {", "	if false {"}}},

@@ -11,8 +11,8 @@ import (
 	"wagtenib/bindings/go/wagtenib"
 )
 
-// MostAhead is how many milliseconds a step's timestamp is beyond its line's at most, unless a caller has a reason for more: an hour.
-const MostAhead = 3_600_000
+// MaxAhead is how many milliseconds a step's timestamp is beyond its line's at most, unless a caller has a reason for more: an hour.
+const MaxAhead = 3_600_000
 
 // ErrReply is the error of a reply that isn't one to the request.
 var ErrReply = errors.New("step: not a reply to the request")

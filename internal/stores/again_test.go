@@ -12,7 +12,7 @@ import (
 	"time"
 )
 
-// again is the command that kills an engine's process (-9) and starts it once more, as tests/engines.sh tells it.
+// again is the command that kills an engine's process (-9) and starts it again. tests/engines.sh sets it.
 var again = os.Getenv("STORES_AGAIN")
 
 // processes are what is killed of an engine.
@@ -139,7 +139,7 @@ func TestPlacesOutliveTheirEngine(t *testing.T) {
 			_, all, _ := someOf(perWrite*i, perWrite*(i+1))
 			return store.Add(ctx, all)
 		})
-		must(t, parts(perWrite*last, MostPlaces, func(from, to int) error {
+		must(t, parts(perWrite*last, MaxPlaces, func(from, to int) error {
 			asked, _, want := someOf(perWrite+from, perWrite+to)
 			finds(t, store, asked, want)
 			return nil

@@ -92,9 +92,9 @@ func parameter(query url.Values, name string) (uint64, error) {
 	if err != nil {
 		return 0, err
 	}
-	value, ok := number(text, stores.MostNumber)
+	value, ok := number(text, stores.MaxNumber)
 	if !ok {
-		return 0, badParameter(fmt.Sprintf("%s is a number from 0 to %d", name, uint64(stores.MostNumber)))
+		return 0, badParameter(fmt.Sprintf("%s is a number from 0 to %d", name, uint64(stores.MaxNumber)))
 	}
 	return value, nil
 }
@@ -106,13 +106,13 @@ func (f *Front) entries(ctx context.Context, start, end uint64) ([]entryOf, erro
 	}
 	var entries []entryOf
 	bytes := 0
-	for at := start % fullWidth; at < uint64(len(leaves)) && len(entries) < MostEntries && start+uint64(len(entries)) <= end; at++ {
+	for at := start % fullWidth; at < uint64(len(leaves)) && len(entries) < MaxEntries && start+uint64(len(entries)) <= end; at++ {
 		entry, err := f.entryOf(ctx, &leaves[at])
 		if err != nil {
 			return nil, err
 		}
 		bytes += len(entry.LeafInput) + len(entry.ExtraData)
-		if len(entries) > 0 && bytes > MostEntryBytes {
+		if len(entries) > 0 && bytes > MaxEntryBytes {
 			break
 		}
 		entries = append(entries, entry)
@@ -185,8 +185,8 @@ func (f *Front) entryOf(ctx context.Context, leaf *tile.Leaf) (entryOf, error) {
 	return entry, nil
 }
 
-// mostIssuerBytes is how many bytes of issuers are kept at hand.
-const mostIssuerBytes = 16 << 20
+// maxIssuerBytes is how many bytes of issuers are kept at hand.
+const maxIssuerBytes = 16 << 20
 
 // issuers keeps some issuers at hand.
 type issuers struct {
@@ -213,7 +213,7 @@ func (f *Front) issuerOf(ctx context.Context, fingerprint [32]byte) ([]byte, err
 	}
 	f.issuers.mutex.Lock()
 	defer f.issuers.mutex.Unlock()
-	if f.issuers.kept == nil || f.issuers.bytes+len(certificate) > mostIssuerBytes {
+	if f.issuers.kept == nil || f.issuers.bytes+len(certificate) > maxIssuerBytes {
 		f.issuers.kept, f.issuers.bytes = map[[32]byte][]byte{}, 0
 	}
 	if _, there := f.issuers.kept[fingerprint]; !there {

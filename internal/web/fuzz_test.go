@@ -65,7 +65,7 @@ func FuzzHandlers(f *testing.F) {
 		if _, isCall := calls[path]; isCall {
 			return
 		}
-		content, err := x.log.Object(context.Background(), path[1:], stores.MostObject)
+		content, err := x.log.Object(context.Background(), path[1:], stores.MaxObject)
 		if err != nil || !bytes.Equal(content, w.Body.Bytes()) {
 			t.Fatalf("%q is served, and stands there as %v", path, err)
 		}

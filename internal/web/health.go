@@ -36,7 +36,7 @@ func (f *Front) unready(ctx context.Context) error {
 		return unready("ended", nil)
 	case figures.Fault != "":
 		return unready("fault", errors.New(figures.Fault))
-	case figures.MostQueue > 0 && figures.Queue >= figures.MostQueue:
+	case figures.MaxQueue > 0 && figures.Queue >= figures.MaxQueue:
 		return unready("busy", nil)
 	}
 	ctx, cancel := context.WithTimeout(ctx, 2*time.Second)

@@ -11,9 +11,9 @@ import (
 	"time"
 )
 
-// mostLines is how many lines of one event are written in a second. Those above are counted, and told by one line: many of one event hide
+// maxLines is how many lines of one event are written in a second. Those above are counted, and told by one line: many of one event hide
 // none of another.
-const mostLines = 50
+const maxLines = 50
 
 // Lines writes what is told, one JSON object a line: time, level, event, and what belongs to it. A nil one writes nothing.
 type Lines struct {
@@ -49,17 +49,17 @@ func (l *Lines) tell(level, event string, words []any) {
 		l.second, l.written = second, map[string]int{}
 		var above []string
 		for event, many := range written {
-			if many > mostLines {
+			if many > maxLines {
 				above = append(above, event)
 			}
 		}
 		sort.Strings(above)
 		for _, event := range above {
-			l.to.Write(line(now, "warn", "dropped", []any{"of", event, "lines", written[event] - mostLines}))
+			l.to.Write(line(now, "warn", "dropped", []any{"of", event, "lines", written[event] - maxLines}))
 		}
 	}
 	if level != "error" {
-		if l.written[event]++; l.written[event] > mostLines {
+		if l.written[event]++; l.written[event] > maxLines {
 			return
 		}
 	}

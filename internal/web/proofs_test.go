@@ -177,7 +177,7 @@ func TestProofsThatAreRefused(t *testing.T) {
 	refused(t, "no leaf", f.get(of+hash(sha256.Sum256(nil))), 404, "no-such-leaf")
 	refused(t, "a tree without leaves", f.get("/ct/v1/get-proof-by-hash?tree_size=0&hash="+hash(leaves[0])), 404, "no-such-leaf")
 	right := f.front.log
-	for _, index := range []uint64{0, 2, 4, stores.MostNumber} {
+	for _, index := range []uint64{0, 2, 4, stores.MaxNumber} {
 		f.front.log = elsewhere{f.log, index}
 		refused(t, fmt.Sprint("a leaf that is said to stand at ", index), f.get(of+hash(leaves[1])), 404, "no-such-leaf")
 	}
@@ -190,7 +190,7 @@ func TestProofsThatAreRefused(t *testing.T) {
 			refused(t, what+": "+call, f.get("/ct/v1/"+call), status, name)
 		}
 	}
-	content, err := f.log.Object(context.Background(), "tile/0/000.p/5", stores.MostObject)
+	content, err := f.log.Object(context.Background(), "tile/0/000.p/5", stores.MaxObject)
 	if err != nil {
 		t.Fatal(err)
 	}

@@ -11,8 +11,8 @@ import (
 const (
 	// burst is what an address may ask at once that asked nothing for a while: as much as its rate is in this time.
 	burst = 10 * time.Second
-	// mostRated is of how many addresses it is known what they asked.
-	mostRated = 1 << 16
+	// maxRated is of how many addresses it is known what they asked.
+	maxRated = 1 << 16
 )
 
 // rates bounds how many requests of one address are taken a second. Each address has a bucket, which is full at first: a request takes one
@@ -72,7 +72,7 @@ func (r *rates) bucketOf(group netip.Prefix, now time.Time) *bucket {
 		return known.Value.(*bucket)
 	}
 	for last := r.buckets.Back(); last != nil; last = r.buckets.Back() {
-		if of := last.Value.(*bucket); len(r.at) >= mostRated || !of.full.After(now) {
+		if of := last.Value.(*bucket); len(r.at) >= maxRated || !of.full.After(now) {
 			r.buckets.Remove(last)
 			delete(r.at, of.of)
 			continue

@@ -322,7 +322,7 @@ func TestTooOften(t *testing.T) {
 func TestRatesOnThePages(t *testing.T) {
 	trial.Says(t, trial.Page(t, "../../docs/SERVICE.md"), map[string]bool{
 		"An address may use ten seconds of its rate at once":                        burst == 10*time.Second,
-		"`ctserve` remembers how often 65,536 addresses asked":                      mostRated == 65536,
+		"`ctserve` remembers how often 65,536 addresses asked":                      maxRated == 65536,
 		"A request above the rate gets status 429 `too-often`, with Retry-After: 1": tooOften.status == 429 && tooOften.name == "too-often" && tooOften.after == 1,
 	})
 	limits := DefaultLimits()

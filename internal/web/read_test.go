@@ -250,7 +250,7 @@ func TestLongObjectsAreTakenFirst(t *testing.T) {
 
 // The answers of one address have an eighth of what all have, or as much as one object may; another address has its own.
 func TestAnswersByAddress(t *testing.T) {
-	for _, test := range []struct{ all, one int }{{1 << 30, 128 << 20}, {512 << 20, 65 << 20}, {80 << 20, stores.MostObject + 1<<20}} {
+	for _, test := range []struct{ all, one int }{{1 << 30, 128 << 20}, {512 << 20, 65 << 20}, {80 << 20, stores.MaxObject + 1<<20}} {
 		f := newFixture(t, 0, func(o *Options) { o.Limits.AnswerBytes = int64(test.all) })
 		f.fill(5)
 		client, same, other := netip.MustParseAddr("2001:db8::1"), "[2001:db8::2:3]:7", "[2001:db8:0:1::1]:7"
@@ -483,7 +483,7 @@ func dataTileOf(sizes ...int) []byte {
 func TestEntriesAreBoundedByBytes(t *testing.T) {
 	f := newFixture(t, 0, nil)
 	f.fill(3)
-	f.log.Change("tile/data/000.p/3", dataTileOf(700000, MostEntryBytes+1, 700000))
+	f.log.Change("tile/data/000.p/3", dataTileOf(700000, MaxEntryBytes+1, 700000))
 	for start := uint64(0); start < 3; start++ {
 		if entries := f.entries(start, 2); len(entries) != 1 {
 			t.Errorf("%d entries from %d on", len(entries), start)
@@ -712,7 +712,7 @@ func TestDamagedObjects(t *testing.T) {
 	}
 	// Where too many are, they go.
 	f.log.Change(issuer, f.authority.Root.Raw)
-	f.front.issuers.kept, f.front.issuers.bytes = map[[32]byte][]byte{{}: {7}}, mostIssuerBytes
+	f.front.issuers.kept, f.front.issuers.bytes = map[[32]byte][]byte{{}: {7}}, maxIssuerBytes
 	f.entries(0, 1)
 	if kept := &f.front.issuers; len(kept.kept) != 1 || kept.bytes != len(f.authority.Root.Raw) {
 		t.Errorf("%d issuers of %d bytes are kept", len(kept.kept), kept.bytes)

@@ -151,7 +151,7 @@ func TestUnclearRequests(t *testing.T) {
 		{"HTTP/2 without asking", "PRI * HTTP/2.0\r\n\r\nSM\r\n\r\n", []int{404}},
 		{"a space before the first header", "GET /healthz HTTP/1.1\r\n Host: log\r\n\r\n" + hidden, []int{400}},
 		{"a zero byte", "GET /healthz HTTP/1.1\r\nHost: log\r\nX: \x00\r\n\r\n" + hidden, []int{400}},
-		{"headers above the bound", get + "X: " + strings.Repeat("x", 2*MostHeader) + "\r\n\r\n", []int{431}},
+		{"headers above the bound", get + "X: " + strings.Repeat("x", 2*MaxHeader) + "\r\n\r\n", []int{431}},
 		{"not HTTP", "\x16\x03\x01\x02\x00\x01\x00\x01\xfc\r\n\r\n", []int{400}},
 		{"nothing", "", nil},
 	} {
@@ -378,7 +378,7 @@ func TestOperatorCountsApart(t *testing.T) {
 		connection.Close()
 	}
 	isAsked(f, 0)
-	for i := 0; i < mostOfOthers; i++ {
+	for i := 0; i < maxOfOthers; i++ {
 		fmt.Fprint(dial(t, operator), "GET /healthz HTTP/1.1\r\nHost: log\r\n")
 	}
 	closed(t, "the operator's connections, one above the bound", dial(t, operator))

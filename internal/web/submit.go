@@ -67,7 +67,7 @@ func (f *Front) body(r *http.Request, client netip.Addr) (body []byte, taken int
 	if r.ContentLength < 0 {
 		return nil, 0, refusal{status: http.StatusLengthRequired, name: "length-required", closes: true}
 	}
-	if r.ContentLength > MostBody {
+	if r.ContentLength > MaxBody {
 		return nil, 0, refusal{status: http.StatusRequestEntityTooLarge, name: "body-too-large", closes: true}
 	}
 	piece := make([]byte, 16<<10)

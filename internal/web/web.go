@@ -24,14 +24,14 @@ import (
 
 // The bounds that no option moves.
 const (
-	// MostHeader is how many bytes the headers of a request may have.
-	MostHeader = 16 << 10
-	// MostBody is how many bytes a submission may have. (A chain has at most chains.MostBytes, in base64.)
-	MostBody = 1 << 20
-	// MostEntries is how many entries get-entries answers at most.
-	MostEntries = 256
-	// MostEntryBytes is how many bytes they may have together, in base64 not counted, but for the first one.
-	MostEntryBytes = 1000000
+	// MaxHeader is how many bytes the headers of a request may have.
+	MaxHeader = 16 << 10
+	// MaxBody is how many bytes a submission may have. (A chain has at most chains.MaxBytes, in base64.)
+	MaxBody = 1 << 20
+	// MaxEntries is how many entries get-entries answers at most.
+	MaxEntries = 256
+	// MaxEntryBytes is how many bytes they may have together, in base64 not counted, but for the first one.
+	MaxEntryBytes = 1000000
 )
 
 // Limits are the bounds that an operator may move.
@@ -137,9 +137,9 @@ func New(of log.Log, proofs *tile.Prover, checker *chains.Checker, options Optio
 		checks:    make(chan struct{}, limits.Checks),
 		packs:     make(chan struct{}, limits.Checks),
 		waiting:   budget{most: limits.WaitingBytes},
-		waitingOf: counts{most: byAddress(limits.WaitingBytes, MostBody)},
+		waitingOf: counts{most: byAddress(limits.WaitingBytes, MaxBody)},
 		answers:   budget{most: limits.AnswerBytes},
-		answersOf: counts{most: byAddress(limits.AnswerBytes, stores.MostObject+likelyEntries)},
+		answersOf: counts{most: byAddress(limits.AnswerBytes, stores.MaxObject+likelyEntries)},
 		requests:  counts{most: limits.ConnectionsByAddress, submitters: limits.Submitters},
 		proofsOf:  counts{most: limits.ProofsByAddress},
 		rates:     map[cost]*rates{aSubmission: newRates(limits.SubmissionRate), aRead: newRates(limits.ReadRate)},

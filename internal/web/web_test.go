@@ -249,7 +249,7 @@ func TestBodiesAreRefused(t *testing.T) {
 		refused(t, body, f.do("POST", "/ct/v1/add-chain", []byte(body)), 400, "no-submission")
 	}
 	refused(t, "no chain", f.do("POST", "/ct/v1/add-chain", []byte(`{}`)), 400, "empty-chain")
-	refused(t, "bytes", f.do("POST", "/ct/v1/add-chain", make([]byte, MostBody+1)), 413, "body-too-large")
+	refused(t, "bytes", f.do("POST", "/ct/v1/add-chain", make([]byte, MaxBody+1)), 413, "body-too-large")
 	refused(t, "bytes that wait", f.do("POST", "/ct/v1/add-chain", make([]byte, 4097)), 503, "busy")
 	if used := f.front.waiting.used.Load(); used != 0 {
 		t.Errorf("%d bytes are still counted", used)
@@ -266,7 +266,7 @@ func TestBodiesAreRefused(t *testing.T) {
 
 // The bodies of one address have an eighth of what all have, or as much as one may; another address has its own.
 func TestBytesByAddress(t *testing.T) {
-	for _, test := range []struct{ all, one int }{{64 << 20, 8 << 20}, {3 << 20, MostBody}} {
+	for _, test := range []struct{ all, one int }{{64 << 20, 8 << 20}, {3 << 20, MaxBody}} {
 		f := newFixture(t, 5*time.Millisecond, func(o *Options) { o.Limits.WaitingBytes = int64(test.all) })
 		client, same := netip.MustParseAddr("2001:db8::1"), "[2001:db8::2:3]:7"
 		from := func(peer string) *httptest.ResponseRecorder {
@@ -352,7 +352,7 @@ func TestErrorsOfTheLog(t *testing.T) {
 
 func TestFullQueue(t *testing.T) {
 	f := newFixture(t, 0, nil)
-	f.log.MostQueue = 3
+	f.log.MaxQueue = 3
 	var all sync.WaitGroup
 	answers := make(chan *httptest.ResponseRecorder, 3)
 	for i := 0; i < 3; i++ {
@@ -658,17 +658,17 @@ func TestLinesAreBounded(t *testing.T) {
 	l := NewLines(&told)
 	now := time.Unix(1000, 0)
 	l.now = func() time.Time { return now }
-	for i := 0; i < mostLines+7; i++ {
+	for i := 0; i < maxLines+7; i++ {
 		l.Info("x", "quoted \"\n", errors.New("\"\n"), "number", 7, "nothing", "", "none")
 	}
 	l.Warn("another event")
-	for i := 0; i < 2*mostLines; i++ {
+	for i := 0; i < 2*maxLines; i++ {
 		l.Error("y")
 	}
 	now = now.Add(time.Second)
 	l.Info("z")
 	lines := strings.Split(strings.TrimSpace(told.String()), "\n")
-	if len(lines) != 3*mostLines+3 || !strings.Contains(lines[mostLines], "another event") || !strings.HasSuffix(lines[3*mostLines+1], `"event":"dropped","of":"x","lines":7}`) {
+	if len(lines) != 3*maxLines+3 || !strings.Contains(lines[maxLines], "another event") || !strings.HasSuffix(lines[3*maxLines+1], `"event":"dropped","of":"x","lines":7}`) {
 		t.Errorf("%d lines, at their end %s", len(lines), lines[len(lines)-2:])
 	}
 	for _, line := range lines {

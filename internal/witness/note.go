@@ -26,9 +26,9 @@ import (
 
 // The bounds, and the types of keys that lines of signatures name (C2SP signed-note, tlog-cosignature, static-ct-api).
 const (
-	// MostBody is how many bytes a request has, and MostProof how many hashes (C2SP tlog-witness).
-	MostBody  = 64 << 10
-	MostProof = 63
+	// MaxBody is how many bytes a request has, and MaxProof how many hashes (C2SP tlog-witness).
+	MaxBody  = 64 << 10
+	MaxProof = 63
 
 	algCosignature = 4
 	algRFC6962     = 5
@@ -76,16 +76,16 @@ func hash(text string) (h [32]byte, err error) {
 
 // ParseRequest reads the body of add-checkpoint: "old N", the proof's hashes, an empty line, the signed note.
 func ParseRequest(body []byte) (r Request, err error) {
-	if len(body) > MostBody {
-		return r, fmt.Errorf("%w: more than %d bytes", ErrRequest, MostBody)
+	if len(body) > MaxBody {
+		return r, fmt.Errorf("%w: more than %d bytes", ErrRequest, MaxBody)
 	}
 	head, signed, found := bytes.Cut(body, []byte("\n\n"))
 	if !found {
 		return r, fmt.Errorf("%w: no empty line", ErrRequest)
 	}
 	lines := strings.Split(string(head), "\n")
-	if !strings.HasPrefix(lines[0], "old ") || len(lines) > 1+MostProof {
-		return r, fmt.Errorf("%w: no old size, or more than %d hashes", ErrRequest, MostProof)
+	if !strings.HasPrefix(lines[0], "old ") || len(lines) > 1+MaxProof {
+		return r, fmt.Errorf("%w: no old size, or more than %d hashes", ErrRequest, MaxProof)
 	}
 	if r.Old, err = number(strings.TrimPrefix(lines[0], "old ")); err != nil {
 		return r, err

@@ -279,7 +279,7 @@ func TestCalls(t *testing.T) {
 	}{
 		{"GET", "/add-checkpoint", "", 405},
 		{"POST", "/", "", 404},
-		{"POST", "/add-checkpoint", "old 0\n\n" + strings.Repeat("x", MostBody), 413},
+		{"POST", "/add-checkpoint", "old 0\n\n" + strings.Repeat("x", MaxBody), 413},
 		{"POST", "/add-checkpoint", "", 400},
 	} {
 		w := httptest.NewRecorder()
@@ -288,7 +288,7 @@ func TestCalls(t *testing.T) {
 			t.Errorf("%s %s: %d, and not %d", test.method, test.path, w.Code, test.status)
 		}
 	}
-	for i := 0; i < mostAtOnce; i++ {
+	for i := 0; i < maxAtOnce; i++ {
 		s.room <- struct{}{}
 	}
 	if w := posted(t, s, nil); w.Code != 503 || w.Header().Get("Retry-After") == "" {
