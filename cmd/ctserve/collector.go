@@ -12,7 +12,7 @@ const (
 	maxHeld    = 768 << 20
 )
 
-// settleCollector says so to the collector, but for what the environment says to it (GOGC, GOMEMLIMIT).
+// settleCollector sets the limits of the garbage collector, unless the environment sets them (GOGC, GOMEMLIMIT).
 func settleCollector() {
 	if os.Getenv("GOGC") == "" {
 		debug.SetGCPercent(collectsAt)

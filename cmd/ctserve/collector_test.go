@@ -6,7 +6,7 @@ import (
 	"testing"
 )
 
-// TestCollector: the collector of garbage is told how much may be allocated, and from where on less, but for what the environment says.
+// TestCollector: the garbage collector has a target and a memory limit, unless the environment sets them.
 func TestCollector(t *testing.T) {
 	percent, held := debug.SetGCPercent(100), debug.SetMemoryLimit(math.MaxInt64)
 	t.Cleanup(func() {

@@ -103,7 +103,7 @@ func parse(words []string, help io.Writer) (*settings, error) {
 func (s *settings) frontFlags(flags *flag.FlagSet) {
 	flags.StringVar(&s.listen, "listen", "127.0.0.1:8618", "`address` for clients")
 	flags.StringVar(&s.operator, "operator-listen", "127.0.0.1:8619", "`address` for /metrics, /healthz and /readyz. If it is empty, they are not served")
-	flags.StringVar(&s.monitoringURL, "monitoring-url", "", "`URL` below which the log is read, if that is another one than where it is submitted to. /log.v3.json and list-entry have it (default https://ORIGIN/)")
+	flags.StringVar(&s.monitoringURL, "monitoring-url", "", "`URL` below which the log is read, if it differs from the one for submissions. /log.v3.json and list-entry have it (default https://ORIGIN/)")
 	flags.StringVar(&s.notice, "notice", "", "`text` that the log's page and /log.v3.json show")
 	flags.StringVar(&s.certificate, "tls-certificate", "", "`file` with the TLS certificate chain in PEM. It is read again at SIGHUP. Without it, the log serves plain HTTP")
 	flags.StringVar(&s.key, "tls-key", "", "`file` with the key of the TLS certificate in PEM")

@@ -62,7 +62,7 @@ func runSigner(given []string, from io.Reader, answers, to io.Writer) int {
 		return 0
 	}
 	if err != nil || flags.NArg() > 0 || *key == "" {
-		fmt.Fprintln(to, "ctserve signer: --signing-key is missing, or there are words that are not settings (see --help)")
+		fmt.Fprintln(to, "ctserve signer: --signing-key is missing, or an argument is not a setting (see --help)")
 		return 2
 	}
 	if err := serveSigner(*key, *guard, *state, *create, *openWithin, *listen, from, answers); err != nil {
@@ -92,7 +92,7 @@ func serveSigner(keyAt string, guard bool, stateAt string, create bool, openWith
 		if err != nil && late != nil {
 			// (who operates it knows what doesn't answer: an address may have a password)
 			kind, _, _ := strings.Cut(stateAt, ":")
-			return fmt.Errorf("the guard's state (guard-state, of %s) isn't read: %w", kind, err)
+			return fmt.Errorf("the guard's state (guard-state, of %s) cannot be read: %w", kind, err)
 		}
 		if errors.Is(err, signer.ErrState) && listen == "" {
 			if told := signer.ServeState(err, from, answers); told != nil {

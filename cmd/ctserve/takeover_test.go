@@ -79,7 +79,8 @@ func (p *place) goesOn(words []string) {
 	}
 }
 
-// A log that an earlier ctserve made goes on: what was answered is answered again, and its list grows.
+// TestTakesOver: a log that an earlier ctserve created continues. What was answered is answered again, and its list
+// grows.
 func TestTakesOver(t *testing.T) {
 	t.Parallel()
 	p, words := takenOver(t)

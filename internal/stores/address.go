@@ -107,7 +107,7 @@ func PlacesAt(ctx context.Context, address string) (Places, error) {
 		}
 		return OpenPostgresPlaces(ctx, at)
 	}
-	return nil, fmt.Errorf("%w: places are at sqlite:PATH or postgres://.., not at %.20q", ErrAddress, kind)
+	return nil, fmt.Errorf("%w: an index is at sqlite:PATH or postgres://.., not at %.20q", ErrAddress, kind)
 }
 
 // pathOf returns a path as it is: it is not part of a URL, so a percent sign has no meaning.

@@ -104,7 +104,7 @@ func OpenSQLite(ctx context.Context, path string) (Places, error) {
 	})
 	if err != nil {
 		of.close()
-		return nil, fmt.Errorf("%w: the places in %s", err, path)
+		return nil, fmt.Errorf("%w: the index in %s", err, path)
 	}
 	if err := syncFolder(filepath.Dir(path)); err != nil {
 		of.close()

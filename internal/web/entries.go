@@ -53,7 +53,7 @@ func (f *Front) getEntries(w http.ResponseWriter, r *http.Request) error {
 	}
 	start, end := numbers[0], numbers[1]
 	if start > end {
-		return badParameter("start is behind end")
+		return badParameter("start is after end")
 	}
 	ctx, cancel := f.reading(r)
 	defer cancel()
@@ -84,7 +84,7 @@ func textOf(query url.Values, name string) (string, error) {
 	case 1:
 		return query[name][0], nil
 	}
-	return "", badParameter(name + " stands there more than once")
+	return "", badParameter(name + " occurs more than once")
 }
 
 func parameter(query url.Values, name string) (uint64, error) {
@@ -120,8 +120,8 @@ func (f *Front) entries(ctx context.Context, start, end uint64) ([]entryOf, erro
 	return entries, nil
 }
 
-// dataTile reads the tile of an entry as a head has it that has all of it up to an end, or as the newest. A partial tile may go between the head and the
-// read, where the full one came to stand.
+// dataTile reads the tile of an entry. It is the tile of a head that has all entries up to an end, or of the newest
+// head. A partial tile may be deleted between reading the head and the tile, after the full tile was stored.
 func (f *Front) dataTile(ctx context.Context, index, end uint64) ([]tile.Leaf, error) {
 	if last := index - index%fullWidth + fullWidth - 1; end > last {
 		end = last
@@ -147,14 +147,14 @@ func (f *Front) dataTile(ctx context.Context, index, end uint64) ([]tile.Leaf, e
 		}
 		leaves, err := tile.ReadData(content)
 		if err != nil || uint64(len(leaves)) != name.width {
-			return nil, fmt.Errorf("%w: %s isn't a tile of %d entries", log.ErrStore, name, name.width)
+			return nil, fmt.Errorf("%w: %s is not a tile of %d entries", log.ErrStore, name, name.width)
 		}
 		return leaves, nil
 	}
 }
 
-// entryOf makes of a leaf what RFC 6962 answers: a MerkleTreeLeaf (section 3.4), and the chain (section 4.6: of a precertificate
-// a PrecertChainEntry, of a certificate its certificate_chain alone).
+// entryOf returns what RFC 6962 has for a leaf: a MerkleTreeLeaf (section 3.4) and the chain (section 4.6). A
+// precertificate has a PrecertChainEntry, and a certificate only its certificate_chain.
 func (f *Front) entryOf(ctx context.Context, leaf *tile.Leaf) (entryOf, error) {
 	var extra cryptobyte.Builder
 	if leaf.Type == chains.PrecertEntry {

@@ -24,7 +24,7 @@ const (
 	fullWidth = tile.Width
 )
 
-// readTileName reads what stands behind "tile/"; each tile has one name.
+// readTileName reads the text after "tile/". Each tile has one name.
 func readTileName(text string) (name tileName, ok bool) {
 	level, rest, ok := strings.Cut(text, "/")
 	if !ok {

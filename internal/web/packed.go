@@ -43,8 +43,8 @@ func takesGzip(r *http.Request) bool {
 	return false
 }
 
-// writePacked answers a content, in gzip to who takes it. What is sent counts, in the place of what was read. So many are compressed at once
-// as chains are checked.
+// writePacked answers with a content, compressed by gzip for a client that accepts it. The compressed bytes then count
+// instead of the bytes that were read. At most as many contents are compressed at once as chains are checked.
 func (f *Front) writePacked(w http.ResponseWriter, r *http.Request, kind string, content []byte) {
 	w.Header().Set("Vary", "Accept-Encoding")
 	if len(content) < leastPacked || len(content) > maxPacked || !takesGzip(r) {

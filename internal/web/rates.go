@@ -22,7 +22,7 @@ type rates struct {
 	// apart is how long a bucket takes to get one more.
 	apart time.Duration
 	mutex sync.Mutex
-	// buckets has them in the order in which their addresses asked, the last one first, and at where each stands there.
+	// buckets has the addresses that asked, the last one first. at is the position of each in it.
 	buckets list.List
 	at      map[netip.Prefix]*list.Element
 }
@@ -54,7 +54,7 @@ func (r *rates) take(group netip.Prefix, now time.Time) bool {
 		own.full = now
 	}
 	if own.full.After(empty) {
-		// The clock was set back. It is empty, and fills from now on.
+		// The clock was set to an earlier time. The bucket is empty, and fills from now on.
 		own.full = empty
 	}
 	full := own.full.Add(r.apart)

@@ -59,7 +59,7 @@ func (f *Front) Serve(handler http.Handler) *Server {
 	return s
 }
 
-// httpLines takes what net/http tells. A handshake that fails is the client's affair, and is counted.
+// httpLines receives the errors of net/http. A failed handshake concerns only the client, and is counted.
 type httpLines struct{ front *Front }
 
 func (h httpLines) Write(text []byte) (int, error) {

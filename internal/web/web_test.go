@@ -87,7 +87,7 @@ func newFixture(t testing.TB, every time.Duration, change func(*Options)) *fixtu
 	return f
 }
 
-// unlessLate asks until what is answered isn't that it is late: /readyz has two seconds alone.
+// unlessLate repeats a request until the response does not say that it is late. /readyz has a limit of two seconds.
 func unlessLate(ask func() *httptest.ResponseRecorder) (w *httptest.ResponseRecorder) {
 	for until := time.Now().Add(trial.Longest); ; {
 		if w = ask(); w.Code != 503 || !strings.Contains(w.Body.String(), `"late"`) || time.Now().After(until) {
@@ -303,7 +303,7 @@ func TestTooLargeSaysTheBound(t *testing.T) {
 	}
 }
 
-// What the log answers comes out with its status, and where it is of a moment, with the time to ask again.
+// TestErrorsOfTheLog: an error of the log has its status, and a temporary one has Retry-After.
 func TestErrorsOfTheLog(t *testing.T) {
 	f := newFixture(t, 10*time.Millisecond, nil)
 	body := standin.Submission(f.issue(false))
@@ -566,8 +566,8 @@ func TestMetricsAndHealth(t *testing.T) {
 	}
 }
 
-// What of the log is damaged is told by its name, and doesn't make it unready; what keeps it from going on does. Each is told once, and so is
-// its end.
+// TestFaultsAndDamageAreTold: damage in the log is logged by its name, and does not make the log unready. A fault that
+// stops the log does. Each is logged once, and its end is logged once.
 func TestFaultsAndDamageAreTold(t *testing.T) {
 	f := newFixture(t, 0, nil)
 	f.fill(1)
@@ -608,7 +608,7 @@ func TestFaultsAndDamageAreTold(t *testing.T) {
 	tells(`"event":"mended","detail":"no disk"}`)
 	tells(`"event":"mended","detail":"tile/data/007 is missing"}`)
 	measures("ctserve_faults_total 1")
-	// One that goes before anybody looks is told all the same.
+	// A fault that ends before the next check is logged too.
 	f.log.Stumble("no disk for half a second")
 	tells(`"level":"error","event":"fault","detail":"no disk for half a second"}`)
 	tells(`"event":"mended","detail":"no disk for half a second"}`)
@@ -643,7 +643,7 @@ func TestReloadsAreCounted(t *testing.T) {
 	}
 }
 
-// A panic of the log is a refusal, and is told.
+// TestPanic: a panic of the log is a refusal, and is logged.
 func TestPanic(t *testing.T) {
 	f := newFixture(t, 0, nil)
 	f.front.log = nil
@@ -679,7 +679,8 @@ func TestLinesAreBounded(t *testing.T) {
 	(*Lines)(nil).Info("nothing")
 }
 
-// Whom a proxy names is believed of a proxy alone, and its last name; one client's requests are bounded, another's aren't.
+// TestClientsBehindProxies: only a proxy's header is believed, and its last address counts. One client's requests are
+// bounded, another's are not.
 func TestClientsBehindProxies(t *testing.T) {
 	f := newFixture(t, 0, func(o *Options) {
 		o.Proxies = []netip.Prefix{netip.MustParsePrefix("127.0.0.0/8"), netip.MustParsePrefix("::1/128")}

@@ -1,5 +1,5 @@
-// Package standin has what the tests of a front stand on: a log in memory, an authority that issues certificates, and what a
-// reader makes of tiles. It serves no log: it forgets all at its end.
+// Package standin helps to test a front. It has a log in memory, a CA, and a reader of tiles. It is not for serving a
+// log: it keeps everything in memory.
 package standin
 
 import (
@@ -28,7 +28,7 @@ type Log struct {
 	Every time.Duration
 	// MaxQueue is how many submissions may wait.
 	MaxQueue int
-	// Fault, where it isn't nil, is what each call gives.
+	// Fault is the error of each call, or nil.
 	Fault error
 	// Damage is what its figures say of a tile that is damaged.
 	Damage string
@@ -268,7 +268,7 @@ func (l *Log) slowly(ctx context.Context) error {
 	}
 }
 
-// Change changes what stands under a name; nil takes it away.
+// Change replaces the content of a name. A nil content deletes it.
 func (l *Log) Change(name string, content []byte) {
 	l.mutex.Lock()
 	defer l.mutex.Unlock()
