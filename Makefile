@@ -44,10 +44,10 @@ check: ## for daily work: proves what changed
 serve: ## serves a log over HTTP at PORT=8618 out of the folder FOLDER=ct-log, by ctserve, which it builds over the proved code of dist/, without the kit
 	@cmd/serve.sh "$(FOLDER:~/%=$(HOME)/%)" "$(PORT)"
 
-serve-witness: ## serves a witness at WITNESS_PORT=8640 out of WITNESS=ct-witness, of the log of make serve in FOLDER=ct-log, by ctwitness-serve, which it builds likewise
+serve-witness: ## serves a witness at WITNESS_PORT=8640 out of WITNESS=ct-witness, of the log of make serve in FOLDER=ct-log, by ctwitness, which it builds likewise
 	@cmd/serve-witness.sh "$(WITNESS:~/%=$(HOME)/%)" "$(WITNESS_PORT)" "$(FOLDER:~/%=$(HOME)/%)"
 
-service: ## builds cmd/out/ctserve, the service in Go (docs/OPERATING.md), ctwitness-serve, ctwatch, and ctcheck, ctload and ctread
+service: ## builds cmd/out/ctserve, the service in Go (docs/OPERATING.md), ctwitness, ctwatch, and ctcheck, ctload and ctread
 	@checks/needs.sh service
 	@cmd/build.sh build
 

@@ -3,7 +3,7 @@
 
     witnesses.py [--turns 3] [--seconds 15] [--clients 16] [--rate 20] [--interval 50ms]
 
-Each setup has a log of its own, over a folder, and its witnesses, by ctwitness-serve over files; all are made before the first turn and run to the end, so that
+Each setup has a log of its own, over a folder, and its witnesses, by ctwitness over files; all are made before the first turn and run to the end, so that
 the turns differ by nothing else. Some of the witnesses answer 100 ms late, or don't answer at all, or answer with no cosignature (`liar`); a head is
 published with as many as publish-quorum has by default, one more than the half. It prints of each setup the median of its turns: timestamps a second, and the median and the 99th
 percentile of the time from a submission to its timestamp. make service builds what it runs.
@@ -140,7 +140,7 @@ class Setup:
             f"name w{number}.example\nkey {own}.key\nstate file:{own}\nlog {ORIGIN} {self.folder / 'log.pem'}\n"
             f"listen 127.0.0.1:{port}\noperator-listen 127.0.0.1:{free_port()}\n"
         )
-        words = [OUT / "ctwitness-serve", "--config", f"{own}.conf"]
+        words = [OUT / "ctwitness", "--config", f"{own}.conf"]
         subprocess.run([*words, "--create", ORIGIN], check=True, capture_output=True)
         key = subprocess.run([*words, "--verifier-key"], check=True, capture_output=True, text=True).stdout.strip()
         self.start(f"w{number}", *words)

@@ -2,7 +2,7 @@
 # Serves a witness of one log on loopback: serve-witness.sh [FOLDER] [PORT] [LOG], by default ct-witness, 8640 and ct-log, the folder of serve.sh, which
 # contains the log's public key, log.pem. ORIGIN=ct-log.example is the log's name in checkpoints.
 # The first start makes the witness's key, its settings and the log's state in FOLDER. Later starts go on with them.
-# ctwitness-serve contains the proved code, which gcc compiles from dist/: nothing is proved here.
+# ctwitness contains the proved code, which gcc compiles from dist/: nothing is proved here.
 set -eu
 here=$(cd "$(dirname "$0")" && pwd)
 folder=${1:-ct-witness} port=${2:-8640} log=${3:-ct-log} origin=${ORIGIN:-ct-log.example}
@@ -34,13 +34,13 @@ key $folder/key.pem
 state file:$folder/states
 log $origin $log/log.pem
 END_OF_SETTINGS
-  "$here/out/ctwitness-serve" "${arguments[@]}" --create "$origin" 2>"$folder/create.log" || { cat "$folder/create.log" >&2; exit 1; }
+  "$here/out/ctwitness" "${arguments[@]}" --create "$origin" 2>"$folder/create.log" || { cat "$folder/create.log" >&2; exit 1; }
   touch "$folder/made"
 fi
 cat <<END_OF_TEXT
 A witness in $folder, of $origin:
-  its key       $("$here/out/ctwitness-serve" "${arguments[@]}" --verifier-key)
+  its key       $("$here/out/ctwitness" "${arguments[@]}" --verifier-key)
   asked at      http://127.0.0.1:$port/add-checkpoint
   metrics       curl http://127.0.0.1:$((port + 1))/metrics
 END_OF_TEXT
-exec "$here/out/ctwitness-serve" "${arguments[@]}"
+exec "$here/out/ctwitness" "${arguments[@]}"

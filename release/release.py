@@ -27,9 +27,9 @@ import time
 ROOT = pathlib.Path(__file__).resolve().parent.parent
 PROGRAMS = {"ctlog": "make demo"}
 # The services that contain the proved code of dist/.
-LINKED = ("ctserve", "ctwatch", "ctwitness-serve")
-SERVICE = ("ctserve", "ctcheck", "ctread", "ctload", "ctwitness-serve", "ctwatch")
-UNITS = ("ctserve@.service", "ctwitness-serve@.service")
+LINKED = ("ctserve", "ctwatch", "ctwitness")
+SERVICE = ("ctserve", "ctcheck", "ctread", "ctload", "ctwitness", "ctwatch")
+UNITS = ("ctserve@.service", "ctwitness@.service")
 WATCH_UNITS = ("ctwatch.service",)
 MACHINE, DEBIAN = "x86_64", "amd64"
 LIBRARY = "lib/x86_64-linux-gnu"
@@ -42,7 +42,7 @@ PAGES = ("OPERATING", "AUDIT", "GUARD", "GROWTH", "TILES", "LINES", "PROMISES", 
 PACKAGES = {
     "wagtenib": (
         "Certificate Transparency log with proved steps, guard and proofs",
-        "ctserve serves a log over HTTP (RFC 6962, C2SP static-ct-api), and ctwitness-serve is a witness. Proved code in them decides what is appended, what is signed and what is cosigned; the rest of them, and what judges, reads and loads a log, is not proved. ctlog, a log in memory, is proved.",
+        "ctserve serves a log over HTTP (RFC 6962, C2SP static-ct-api), and ctwitness is a witness. Proved code in them decides what is appended, what is signed and what is cosigned; the rest of them, and what judges, reads and loads a log, is not proved. ctlog, a log in memory, is proved.",
         "adduser, libsqlite3-0, procps",
         "ca-certificates, nginx | httpd, openssl",
     ),
@@ -274,7 +274,7 @@ if [ "$1" = configure ]; then
   if [ -d /run/systemd/system ]; then
     systemctl --system daemon-reload >/dev/null || true
     # (logs that run go on in the new version once they are started again)
-    systemctl try-restart 'ctserve@*' 'ctwitness-serve@*' >/dev/null || true
+    systemctl try-restart 'ctserve@*' 'ctwitness@*' >/dev/null || true
   fi
 fi
 """

@@ -100,8 +100,8 @@ log              $origin $folder/log.pem
 listen           127.0.0.1:$(($2 + 7 + $1))
 operator-listen  127.0.0.1:$(($2 + 17 + $1))
 END_OF_CONF
-  "$programs/ctwitness-serve" --config "$name.conf" --create "$origin" 2>>"$name.log"
-  "$programs/ctwitness-serve" --config "$name.conf" --verifier-key >>"$folder/witnesses"
+  "$programs/ctwitness" --config "$name.conf" --create "$origin" 2>>"$name.log"
+  "$programs/ctwitness" --config "$name.conf" --verifier-key >>"$folder/witnesses"
 }
 
 # last_of NUMBER: the size and the root of the tree that a witness cosigned last.
@@ -170,7 +170,7 @@ start() {
     [ ! -S "$folder/signer" ] || break
     sleep 0.1
   done
-  for i in $(witnesses); do launch "witness-$i" "$programs/ctwitness-serve" --config "$folder/witness-$i.conf"; done
+  for i in $(witnesses); do launch "witness-$i" "$programs/ctwitness" --config "$folder/witness-$i.conf"; done
   for i in $(nodes); do
     # (the first one makes the log)
     launch "node-$i" "$programs/ctserve" --config "$folder/node-$i.conf" ${create:+"$create"}

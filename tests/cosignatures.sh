@@ -4,7 +4,7 @@
 #
 #   cosignatures.sh WITNESSES K < heads
 #
-# A line of the file WITNESSES is a witness's verifier key of Ed25519, NAME+ID+KEY (ctwitness-serve --verifier-key prints it); one that is empty or
+# A line of the file WITNESSES is a witness's verifier key of Ed25519, NAME+ID+KEY (ctwitness --verifier-key prints it); one that is empty or
 # begins with # isn't. It prints a line for each checkpoint with who cosigned it, each once, and ends with status 1 at the first that fewer than K of
 # them did, and where there is no checkpoint; with 2 where the words or WITNESSES are wrong, or more than its witnesses are wanted. Of a checkpoint's
 # lines of signatures 100 are looked at.

@@ -293,7 +293,7 @@ def try_release(folder):
     if (folder / "none").exists():
         fail("release.py makes something of nothing")
     programs = {name: folder / "built" / name / "out" / name for name in ("ctlog",)}
-    programs.update({name: folder / "service" / name for name in ("ctserve", "ctcheck", "ctread", "ctload", "ctwitness-serve", "ctwatch")})
+    programs.update({name: folder / "service" / name for name in ("ctserve", "ctcheck", "ctread", "ctload", "ctwitness", "ctwatch")})
     library = {f"libwagtenib.{end}": folder / "built" / "libwagtenib" / "out" / "link" / f"libwagtenib.{end}" for end in ("a", "so")}
     commit = subprocess.run(["git", "log", "-1", "--format=%H"], cwd=HERE, capture_output=True, text=True).stdout[:12]
     texts = {name: f"#!/bin/sh\necho '{name} 0.1.0{f' (commit {commit})' if path.parent.name == 'service' else ''}'\n" for name, path in programs.items()}
@@ -326,7 +326,7 @@ def try_release(folder):
         if subprocess.run(words).returncode:
             fail(f"release.py: {name} can't be unpacked")
     places = {"wagtenib-0.1.0-x86_64.tar.gz": ("wagtenib-0.1.0/bin", tuple(programs)),
-              "wagtenib_0.1.0_amd64.deb": ("usr/bin", ("ctserve", "ctwitness-serve", "ctcheck", "ctread", "ctload", "ctlog")),
+              "wagtenib_0.1.0_amd64.deb": ("usr/bin", ("ctserve", "ctwitness", "ctcheck", "ctread", "ctload", "ctlog")),
               "ctwatch_0.1.0_amd64.deb": ("usr/bin", ("ctwatch",))}
     for name, (below, held) in places.items():
         for program in held:
@@ -485,7 +485,7 @@ def try_serve_witness(folder):
     (programs / "out").mkdir(parents=True)
     (folder / "checks").mkdir()
     shutil.copy(HERE.parent / "cmd" / "serve-witness.sh", programs)
-    for path, script in ((programs / "build.sh", ""), (folder / "checks" / "needs.sh", ""), (programs / "out" / "ctwitness-serve", f"echo \"$*\" >>'{calls}'")):
+    for path, script in ((programs / "build.sh", ""), (folder / "checks" / "needs.sh", ""), (programs / "out" / "ctwitness", f"echo \"$*\" >>'{calls}'")):
         path.write_text(f"#!/bin/sh\n{script}\n")
         path.chmod(0o755)
 
@@ -504,13 +504,13 @@ def try_serve_witness(folder):
             other.listen()
             serve("a port that is taken", port, 1, f"serve-witness.sh: another program listens at port {taken} ", False)
     if calls.exists():
-        fail(f"serve-witness.sh, refused, calls ctwitness-serve by {calls.read_text()}")
+        fail(f"serve-witness.sh, refused, calls ctwitness by {calls.read_text()}")
     serve("a first start", port, 0, f"A witness in {witness}, of ct-log.example:", True)
     serve("a second start", port, 0, f"A witness in {witness}, of ct-log.example:", True)
     of = f"--config {witness}/settings --listen 127.0.0.1:{port} --operator-listen 127.0.0.1:{port + 1}"
     due = [f"{of} --create ct-log.example", f"{of} --verifier-key", of, f"{of} --verifier-key", of]
     if calls.read_text().splitlines() != due or (witness / "key.pem").stat().st_mode & 0o077:
-        fail(f"serve-witness.sh calls ctwitness-serve by {calls.read_text()}")
+        fail(f"serve-witness.sh calls ctwitness by {calls.read_text()}")
 
 
 def try_count(folder):

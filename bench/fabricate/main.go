@@ -46,8 +46,8 @@ func stop(err error) {
 }
 
 // entry is a TimestampedEntry (RFC 6962, section 3.4), with the extension leaf_index of static-ct-api.
-func entry(index, moment uint64) []byte {
-	b := binary.BigEndian.AppendUint64(make([]byte, 0, 128), moment)
+func entry(index, timestamp uint64) []byte {
+	b := binary.BigEndian.AppendUint64(make([]byte, 0, 128), timestamp)
 	b = append(b, 0, 0, 0, 0, certificate)
 	b = append(b, make([]byte, certificate-8)...)
 	b = binary.BigEndian.AppendUint64(b, index)
@@ -115,8 +115,8 @@ func join(hashes []hash) []byte {
 
 // tree is what is known of the tiles while they are written.
 type tree struct {
-	objects string
-	moment  uint64
+	objects   string
+	timestamp uint64
 	// data is the partial data tile, and partial are the names of all partial tiles.
 	data    []byte
 	partial []string
@@ -128,7 +128,7 @@ type tree struct {
 func (t *tree) leaves(tile, wide int) (data []byte, hashes []hash) {
 	hashes = make([]hash, wide)
 	for at := range hashes {
-		e := entry(uint64(width*tile+at), t.moment)
+		e := entry(uint64(width*tile+at), t.timestamp)
 		hashes[at] = leafHash(e)
 		data = append(append(data, e...), 0, 0)
 	}
@@ -195,8 +195,8 @@ func (t *tree) root() hash {
 	return root(carried)
 }
 
-func tiles(objects string, entries int, moment uint64) {
-	t := &tree{objects: objects, moment: moment}
+func tiles(objects string, entries int, timestamp uint64) {
+	t := &tree{objects: objects, timestamp: timestamp}
 	hashes := t.bottom(entries)
 	for number := 1; len(hashes) > 0; number++ {
 		hashes = t.level(number, hashes)
@@ -263,8 +263,8 @@ func main() {
 	case len(words) == 5 && words[0] == "rows" && words[1] == "places":
 		rows(identity, words[2], number(words[3]))
 	case len(words) == 5 && words[0] == "rows" && words[1] == "leaves":
-		moment := number(words[4])
-		rows(func(index uint64) hash { return leafHash(entry(index, moment)) }, words[2], number(words[3]))
+		timestamp := number(words[4])
+		rows(func(index uint64) hash { return leafHash(entry(index, timestamp)) }, words[2], number(words[3]))
 	default:
 		fmt.Fprintln(os.Stderr, "fabricate: tiles OBJECTS ENTRIES MOMENT, or rows places|leaves FOLDER ENTRIES MOMENT")
 		os.Exit(2)

@@ -22,7 +22,7 @@ import (
 
 const (
 	height      = 8
-	moment      = 1000
+	timestamp   = 1000
 	certificate = 1500
 	entry       = 1590
 )
@@ -252,7 +252,7 @@ func madeUp(size uint64) (line, [][]byte, []byte) {
 		root = carried[0]
 	}
 	entries := bytes.Repeat([]byte{7}, int(size%256)*entry)
-	return line{size: size, timestamp: moment, root: root, dataTile: sha256.Sum256(entries)}, edge, entries
+	return line{size: size, timestamp: timestamp, root: root, dataTile: sha256.Sum256(entries)}, edge, entries
 }
 
 func submissionOf(number uint64) submission {
@@ -286,7 +286,7 @@ func main() {
 		for place := range batch {
 			batch[place] = submissionOf(at*numbers[1] + uint64(place))
 		}
-		made, err := takeStep(l, edge, entries, batch, moment+1+at)
+		made, err := takeStep(l, edge, entries, batch, timestamp+1+at)
 		if err != nil {
 			fmt.Fprintln(os.Stderr, err)
 			os.Exit(1)

@@ -110,8 +110,8 @@ func fetch(address, folder string) error {
 	return err
 }
 
-// mostLine is how long an answer's line may be.
-const mostLine = 1 << 20
+// maxLine is how long an answer's line may be.
+const maxLine = 1 << 20
 
 func readAnswers(name string, answers []check.Answer) ([]check.Answer, error) {
 	file, err := os.Open(name)
@@ -120,7 +120,7 @@ func readAnswers(name string, answers []check.Answer) ([]check.Answer, error) {
 	}
 	defer file.Close()
 	lines := bufio.NewScanner(file)
-	lines.Buffer(nil, mostLine)
+	lines.Buffer(nil, maxLine)
 	for lines.Scan() {
 		var a check.Answer
 		if err := json.Unmarshal(lines.Bytes(), &a); err != nil {

@@ -43,10 +43,10 @@ func newLog(t testing.TB) log {
 		must(t, err)
 		return append([]byte{4, 3, 0, byte(len(signature))}, signature...)
 	}
-	const origin, moment, head = "log.example/judged", 7, 9
+	const origin, timestamp, head = "log.example/judged", 7, 9
 	certificate := make([]byte, 90_000)
 	extensions := []byte{0, 0, 5, 0, 0, 0, 0, 0}
-	entry := append(binary.BigEndian.AppendUint64(nil, moment), 0, 0, byte(len(certificate)>>16), byte(len(certificate)>>8), byte(len(certificate)&255))
+	entry := append(binary.BigEndian.AppendUint64(nil, timestamp), 0, 0, byte(len(certificate)>>16), byte(len(certificate)>>8), byte(len(certificate)&255))
 	entry = append(append(append(entry, certificate...), 0, 8), extensions...)
 	leaf := append([]byte{0, 0}, entry...)
 	// (the root of one leaf is the leaf's hash)
@@ -56,7 +56,7 @@ func newLog(t testing.TB) log {
 	message := binary.BigEndian.AppendUint64([]byte{0, 1}, head)
 	message = append(binary.BigEndian.AppendUint64(message, 1), root[:]...)
 	blob := append(binary.BigEndian.AppendUint64(append([]byte{}, name[:4]...), head), signed(message)...)
-	l := log{t.TempDir(), filepath.Join(t.TempDir(), "log.pem"), check.Answer{Certificate: certificate, Timestamp: moment, Extensions: extensions, Signature: signed(leaf), LogID: id[:]}}
+	l := log{t.TempDir(), filepath.Join(t.TempDir(), "log.pem"), check.Answer{Certificate: certificate, Timestamp: timestamp, Extensions: extensions, Signature: signed(leaf), LogID: id[:]}}
 	in := base64.StdEncoding
 	for name, content := range map[string][]byte{
 		"tile/0/000.p/1": root[:], "tile/data/000.p/1": append(entry, 0, 0), fmt.Sprintf("heads/%020d-%020d", 1, head): []byte(fmt.Sprintf("%s\n1\n%s\n\n— %s %s\n", origin, in.EncodeToString(root[:]), origin, in.EncodeToString(blob))),
@@ -107,7 +107,7 @@ func TestJudge(t *testing.T) {
 		}
 	}
 	long := filepath.Join(t.TempDir(), "long")
-	must(t, os.WriteFile(long, []byte(strings.Repeat(" ", mostLine)+"{}\n"), 0o600))
+	must(t, os.WriteFile(long, []byte(strings.Repeat(" ", maxLine)+"{}\n"), 0o600))
 	if _, err := judge(l.folder, l.key, []string{long}); err == nil || !strings.Contains(err.Error(), "too long") {
 		t.Errorf("a line that is too long: %v", err)
 	}

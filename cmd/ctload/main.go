@@ -60,9 +60,9 @@ type submission struct {
 }
 
 const (
-	// mostTook is how many latencies are kept, and mostPast how many submissions that may be repeated.
-	mostTook, mostPast = 1 << 20, 1000
-	mostReply          = 1 << 20
+	// maxDuration is how many latencies are kept, and maxPast how many submissions that may be repeated.
+	maxDuration, maxPast = 1 << 20, 1000
+	maxReply          = 1 << 20
 	answersWithin      = 30 * time.Second
 )
 
@@ -164,7 +164,7 @@ func (l *load) ready(ctx context.Context) error {
 		for {
 			reply, err := l.client.Get(node + "/ct/v1/get-roots")
 			if err == nil {
-				text, err := io.ReadAll(io.LimitReader(reply.Body, mostReply))
+				text, err := io.ReadAll(io.LimitReader(reply.Body, maxReply))
 				reply.Body.Close()
 				if err == nil && strings.Contains(string(text), root) {
 					break
@@ -322,7 +322,7 @@ func (l *load) post(ctx context.Context, address string, body []byte) (int, []by
 		return 0, nil, err
 	}
 	defer reply.Body.Close()
-	text, err := io.ReadAll(io.LimitReader(reply.Body, mostReply))
+	text, err := io.ReadAll(io.LimitReader(reply.Body, maxReply))
 	return reply.StatusCode, text, err
 }
 
@@ -347,15 +347,15 @@ func answered(s submission, reply []byte) (*check.Answer, error) {
 func (l *load) keep(s submission, answer check.Answer, took time.Duration) error {
 	l.mu.Lock()
 	defer l.mu.Unlock()
-	if l.count++; len(l.past) < mostPast {
+	if l.count++; len(l.past) < maxPast {
 		l.past = append(l.past, s)
 	} else {
-		l.past[l.count%mostPast] = s
+		l.past[l.count%maxPast] = s
 	}
-	if len(l.took) < mostTook {
+	if len(l.took) < maxDuration {
 		l.took = append(l.took, took)
 	} else {
-		l.took[l.count%mostTook] = took
+		l.took[l.count%maxDuration] = took
 	}
 	return l.answers.Encode(answer)
 }

@@ -172,7 +172,7 @@ func TestPrepared(t *testing.T) {
 // TestKeep: each answer is written down, with its latency and its submission; of these two some are kept, however many there are.
 func TestKeep(t *testing.T) {
 	l, answers := loadOf(t)
-	for i := 0; i < mostPast+3; i++ {
+	for i := 0; i < maxPast+3; i++ {
 		one := some
 		one.call = fmt.Sprint(i)
 		must(t, l.keep(one, check.Answer{Timestamp: uint64(i)}, time.Duration(i)*time.Millisecond))
@@ -181,14 +181,14 @@ func TestKeep(t *testing.T) {
 	for _, one := range l.past {
 		calls[one.call] = true
 	}
-	if l.count != mostPast+3 || len(l.past) != mostPast || len(calls) != mostPast || !calls[fmt.Sprint(mostPast+2)] || len(l.took) != mostPast+3 {
+	if l.count != maxPast+3 || len(l.past) != maxPast || len(calls) != maxPast || !calls[fmt.Sprint(maxPast+2)] || len(l.took) != maxPast+3 {
 		t.Errorf("%d answers, %d submissions of which %d differ, %d latencies", l.count, len(l.past), len(calls), len(l.took))
 	}
-	if lines := strings.Count(answers.String(), "\n"); lines != mostPast+3 || !strings.Contains(answers.String(), fmt.Sprintf(`"timestamp":%d,`, mostPast+2)) {
+	if lines := strings.Count(answers.String(), "\n"); lines != maxPast+3 || !strings.Contains(answers.String(), fmt.Sprintf(`"timestamp":%d,`, maxPast+2)) {
 		t.Errorf("%d lines", lines)
 	}
 	// Of the latencies, too, the newest stay.
-	l.took, l.answers = make([]time.Duration, mostTook), json.NewEncoder(io.Discard)
+	l.took, l.answers = make([]time.Duration, maxDuration), json.NewEncoder(io.Discard)
 	for i := 0; i < 3; i++ {
 		must(t, l.keep(some, check.Answer{}, time.Hour))
 	}
@@ -198,7 +198,7 @@ func TestKeep(t *testing.T) {
 			hours++
 		}
 	}
-	if len(l.took) != mostTook || hours != 3 {
+	if len(l.took) != maxDuration || hours != 3 {
 		t.Errorf("%d latencies are kept, and %d of the last three", len(l.took), hours)
 	}
 	full := errors.New("the disk is full")

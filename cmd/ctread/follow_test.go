@@ -15,10 +15,10 @@ import (
 )
 
 // publish has a tree's checkpoint at a moment be the newest.
-func (g *grown) publish(tree tlog.Tree, moment uint64) {
+func (g *grown) publish(tree tlog.Tree, timestamp uint64) {
 	g.mu.Lock()
 	defer g.mu.Unlock()
-	g.objects["/checkpoint"] = []byte(noteOf(tree, "— "+origin+" ", blobOf(g.t, g.key, g.keyID, tree, moment)))
+	g.objects["/checkpoint"] = []byte(noteOf(tree, "— "+origin+" ", blobOf(g.t, g.key, g.keyID, tree, timestamp)))
 }
 
 // TestBehind: of two checkpoints of one size the later one isn't of an earlier moment, nor of another root, also where the first was read by a mirror before.
@@ -33,8 +33,8 @@ func TestBehind(t *testing.T) {
 	must(t, again.resume(folder))
 	other := tlog.Tree{N: 5, Hash: sha256.Sum256([]byte("another root"))}
 	for what, reads := range map[string]*reader{"it": r, "a mirror that goes on": again} {
-		if reads.last != tree || reads.moment != 7 {
-			t.Errorf("%s has read %v at %d", what, reads.last, reads.moment)
+		if reads.last != tree || reads.timestamp != 7 {
+			t.Errorf("%s has read %v at %d", what, reads.last, reads.timestamp)
 		}
 		g.publish(tree, 6)
 		if err := reads.follow(ctx); !errors.Is(err, errWrong) {
@@ -45,7 +45,7 @@ func TestBehind(t *testing.T) {
 			t.Errorf("%s reads another root: %v", what, err)
 		}
 		g.publish(tree, 7)
-		if err := reads.follow(ctx); err != nil || reads.moment != 7 {
+		if err := reads.follow(ctx); err != nil || reads.timestamp != 7 {
 			t.Errorf("%s reads the same: %v", what, err)
 		}
 	}
@@ -53,8 +53,8 @@ func TestBehind(t *testing.T) {
 	g.publish(tree, 9)
 	must(t, r.follow(ctx))
 	g.publish(tree, 8)
-	if err := r.follow(ctx); !errors.Is(err, errWrong) || r.moment != 9 {
-		t.Errorf("behind 9 comes 8: %v, and it has %d", err, r.moment)
+	if err := r.follow(ctx); !errors.Is(err, errWrong) || r.timestamp != 9 {
+		t.Errorf("behind 9 comes 8: %v, and it has %d", err, r.timestamp)
 	}
 }
 
@@ -173,7 +173,7 @@ func TestTilesThatFail(t *testing.T) {
 		t.Helper()
 		r := readers[0]
 		readers = readers[1:]
-		if err := r.follow(context.Background()); err == nil || errors.Is(err, errWrong) != wrong || r.last.N != 5 || r.moment != 7 {
+		if err := r.follow(context.Background()); err == nil || errors.Is(err, errWrong) != wrong || r.last.N != 5 || r.timestamp != 7 {
 			t.Errorf("%s: %v, and %d entries are read", what, err, r.last.N)
 		}
 	}
@@ -195,8 +195,8 @@ func TestTilesThatFail(t *testing.T) {
 		delete(status, name)
 	}
 	must(t, readers[0].follow(context.Background()))
-	if readers[0].last.N != 300 || readers[0].moment != 8 {
-		t.Errorf("%v at %d", readers[0].last, readers[0].moment)
+	if readers[0].last.N != 300 || readers[0].timestamp != 8 {
+		t.Errorf("%v at %d", readers[0].last, readers[0].timestamp)
 	}
 }
 

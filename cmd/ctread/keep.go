@@ -38,10 +38,10 @@ func (r *reader) resume(folder string) error {
 	}
 	node := r.node
 	r.node = folder
-	last, moment, err := r.checkpoint(string(text))
+	last, timestamp, err := r.checkpoint(string(text))
 	r.node = node
 	if err == nil {
-		r.last, r.moment = last, moment
+		r.last, r.timestamp = last, timestamp
 	}
 	return err
 }
@@ -77,7 +77,7 @@ func (r *reader) beginsAsKept(ctx context.Context, tile tlog.Tile, content []byt
 	if before.W = int(r.last.N % tileWidth); tile.N != r.last.N/tileWidth || before.W == 0 {
 		return nil
 	}
-	kept, err := r.mirror.objects.Get(ctx, nameOf(before), mostObject)
+	kept, err := r.mirror.objects.Get(ctx, nameOf(before), maxObject)
 	if err == nil && !bytes.HasPrefix(content, kept) {
 		return wrong("%s: %s doesn't begin with the bytes that are kept of it", r.node, nameOf(tile))
 	}
@@ -87,7 +87,7 @@ func (r *reader) beginsAsKept(ctx context.Context, tile tlog.Tile, content []byt
 // keepIssuer keeps a certificate under its fingerprint.
 func (r *reader) keepIssuer(ctx context.Context, fingerprint []byte) error {
 	name := "issuer/" + hex.EncodeToString(fingerprint)
-	if _, err := r.mirror.objects.Get(ctx, name, mostObject); !errors.Is(err, stores.ErrAbsent) {
+	if _, err := r.mirror.objects.Get(ctx, name, maxObject); !errors.Is(err, stores.ErrAbsent) {
 		return err
 	}
 	content, err := r.get(ctx, "/"+name)

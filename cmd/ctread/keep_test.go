@@ -74,7 +74,7 @@ func leafOf(entry []byte, text string) []byte {
 }
 
 // grow has so many entries, and publishes them at a moment.
-func (g *grown) grow(size int64, moment uint64) tlog.Tree {
+func (g *grown) grow(size int64, timestamp uint64) tlog.Tree {
 	g.t.Helper()
 	g.mu.Lock()
 	defer g.mu.Unlock()
@@ -106,7 +106,7 @@ func (g *grown) grow(size int64, moment uint64) tlog.Tree {
 		root = sha256.Sum256(nil)
 	}
 	tree := tlog.Tree{N: size, Hash: root}
-	g.objects["/checkpoint"] = []byte(noteOf(tree, "— "+origin+" ", blobOf(g.t, g.key, g.keyID, tree, moment)))
+	g.objects["/checkpoint"] = []byte(noteOf(tree, "— "+origin+" ", blobOf(g.t, g.key, g.keyID, tree, timestamp)))
 	return tree
 }
 
@@ -357,8 +357,8 @@ func TestCheckpointThatIsCutShort(t *testing.T) {
 	g.grow(1, 8)
 	// (nothing else of a log of one entry is as long)
 	err := trial.ShortFiles(t, uint64(len(before)-20), func() error { return r.follow(context.Background()) })
-	if !errors.Is(err, syscall.EFBIG) || r.moment != 7 {
-		t.Errorf("%v, and the last moment is %d", err, r.moment)
+	if !errors.Is(err, syscall.EFBIG) || r.timestamp != 7 {
+		t.Errorf("%v, and the last moment is %d", err, r.timestamp)
 	}
 	kept := func(want []byte) {
 		t.Helper()

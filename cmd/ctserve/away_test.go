@@ -13,8 +13,9 @@ import (
 	"wagtenib/internal/trial"
 )
 
-// TestReadsGoOn has a log's register be away, be locked by another process, and the file system below the whole log not be written any more: submissions are
-// refused by name, and heads, tiles, entries and proofs are answered all the while. Where it comes back submissions are taken again.
+// TestReadsGoOn has a log's register be missing, be locked by another process, and the file system be read-only.
+// Submissions are refused by name. Heads, tiles, entries and proofs are answered all the time. Afterwards submissions
+// are accepted again.
 func TestReadsGoOn(t *testing.T) {
 	t.Parallel()
 	for what, takes := range map[string]func(t *testing.T, disk string) (back func()){
@@ -63,7 +64,7 @@ func TestReadsGoOn(t *testing.T) {
 			disk, more := at.path("log"), []string{"--signing-key", at.path("log.pem"), "--submission-timeout", "3s"}
 			if strings.Contains(what, "disk") {
 				disk = at.mount(t)
-				// (SQLite has files open for writing, with which no file system is made one to read alone)
+				// SQLite has files open for writing, so the file system could not be made read-only.
 				more = append(more, "--index", "sqlite:"+at.path("places"), "--guard-state", "file:"+at.path("log/guard"), "--latest-head", at.path("log/latest-head"))
 			}
 			words := at.realWords(more...)
@@ -74,7 +75,7 @@ func TestReadsGoOn(t *testing.T) {
 				if status == 200 {
 					answers = append(answers, one)
 				} else if status != 503 || time.Now().After(until) {
-					// (where a submission waits for some seconds alone a busy machine has it be late)
+					// On a busy machine a submission that waits for only some seconds may be late.
 					t.Fatalf("%d %s", status, text)
 				}
 			}

@@ -52,13 +52,14 @@ func TestEachBound(t *testing.T) {
 		}
 	}
 	for all, ofOne := range map[int]int{1: 1, 3: 1, 4: 1, 8: 2, 64: 16, 67: 16} {
-		if s, err := with("max-proofs", all); err != nil || s.limits.ProofsByAddress != ofOne || s.node.mostProofs != all {
+		if s, err := with("max-proofs", all); err != nil || s.limits.ProofsByAddress != ofOne || s.node.maxProofs != all {
 			t.Errorf("of %d proofs an address has another share than %d: %v", all, ofOne, err)
 		}
 	}
 }
 
-// TestWhatCantBeOpened: where one thing can't be opened that a log stands on, the start ends with status 1, says so, and leaves nothing open.
+// TestWhatCantBeOpened: if one of the things that a log needs cannot be opened, the start ends with status 1, names it,
+// and leaves nothing open.
 func TestWhatCantBeOpened(t *testing.T) {
 	t.Parallel()
 	at := newPlace(t)
@@ -79,7 +80,7 @@ func TestWhatCantBeOpened(t *testing.T) {
 		if status, told := runs(whole); status != 1 || !strings.Contains(told, what) {
 			t.Errorf("%s: status %d: %s", what, status, told)
 		}
-		// What was opened before it is closed: no signer is left, whose words have this folder.
+		// What was opened before it is closed: no signer whose arguments have this folder is left.
 		for _, left := range processesOf(t, at.folder) {
 			t.Errorf("%s: there is still %s", what, left)
 		}

@@ -6,18 +6,18 @@ import (
 )
 
 // Between two collections of garbage a process allocates up to collectsAt percent of what it holds: that is little, and a collection costs by it. From
-// mostHeld bytes on, all together, it collects more often: ctserve and its signer have 2 GB of their unit.
+// maxHeld bytes on, all together, it collects more often: ctserve and its signer have 2 GB of their unit.
 const (
 	collectsAt = 400
-	mostHeld   = 768 << 20
+	maxHeld    = 768 << 20
 )
 
-// settleCollector says so to the collector, but for what the environment says to it (GOGC, GOMEMLIMIT).
+// settleCollector sets the limits of the garbage collector, unless the environment sets them (GOGC, GOMEMLIMIT).
 func settleCollector() {
 	if os.Getenv("GOGC") == "" {
 		debug.SetGCPercent(collectsAt)
 	}
 	if os.Getenv("GOMEMLIMIT") == "" {
-		debug.SetMemoryLimit(mostHeld)
+		debug.SetMemoryLimit(maxHeld)
 	}
 }

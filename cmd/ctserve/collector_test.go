@@ -6,7 +6,7 @@ import (
 	"testing"
 )
 
-// TestCollector: the collector of garbage is told how much may be allocated, and from where on less, but for what the environment says.
+// TestCollector: the garbage collector has a target and a memory limit, unless the environment sets them.
 func TestCollector(t *testing.T) {
 	percent, held := debug.SetGCPercent(100), debug.SetMemoryLimit(math.MaxInt64)
 	t.Cleanup(func() {
@@ -16,7 +16,7 @@ func TestCollector(t *testing.T) {
 	for _, c := range []struct {
 		percent, held         string
 		wantPercent, wantHeld int64
-	}{{"", "", collectsAt, mostHeld}, {"50", "", 100, mostHeld}, {"", "5GiB", collectsAt, math.MaxInt64}} {
+	}{{"", "", collectsAt, maxHeld}, {"50", "", 100, maxHeld}, {"", "5GiB", collectsAt, math.MaxInt64}} {
 		t.Setenv("GOGC", c.percent)
 		t.Setenv("GOMEMLIMIT", c.held)
 		settleCollector()

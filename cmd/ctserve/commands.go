@@ -51,7 +51,7 @@ func runCommand(name string, words []string, answers, faults io.Writer) int {
 	}
 }
 
-// commandFlags are those of one command, whose page stands before them.
+// commandFlags returns the flags of one command. Its help prints the page and then the flags.
 func commandFlags(name, page string, faults io.Writer) *flag.FlagSet {
 	return settingsfile.Flags("ctserve "+name, page, faults)
 }
@@ -65,14 +65,14 @@ func parseFlags(flags *flag.FlagSet, words []string, others int) error {
 	case err != nil:
 		return fmt.Errorf("%w: %v", errUsage, err)
 	case flags.NArg() != others:
-		return fmt.Errorf("%w: %s --help says which words it takes", errUsage, flags.Name())
+		return fmt.Errorf("%w: wrong number of arguments (see %s --help)", errUsage, flags.Name())
 	}
 	return nil
 }
 
 // runKey makes a log's key in a file that isn't there yet, or shows the one that is: the log's id (RFC 6962, section 3.2) and its public key.
 func runKey(words []string, answers, faults io.Writer) error {
-	flags := commandFlags("key", "ctserve key FILE makes a log's key, of P-256, in a FILE that isn't there yet and that its owner alone may read, and prints the log's id and public key.", faults)
+	flags := commandFlags("key", "ctserve key FILE creates a log's P-256 key, and prints the log's id and public key. FILE must not exist yet. Only its owner may read it.", faults)
 	show := flags.Bool("show", false, "show those of the key in FILE, and make none")
 	if err := parseFlags(flags, words, 1); err != nil {
 		return err
@@ -164,7 +164,7 @@ func runListEntry(words []string, answers, faults io.Writer) error {
 	config := flags.String("config", "", "the log's `file` of settings")
 	name := flags.String("operator", "", "the operator's `name`")
 	email := flags.String("email", "", "the operator's `addresses` of mail, with commas between them")
-	publicAt := flags.String("key", "", "`file` with the log's public key in PEM, where the settings name no signing-key")
+	publicAt := flags.String("key", "", "`file` with the log's public key in PEM, if the settings have no signing-key")
 	if err := parseFlags(flags, words, 0); err != nil {
 		return err
 	}
@@ -237,13 +237,13 @@ func publicKey(s *settings, path string) ([]byte, error) {
 		return nil, fmt.Errorf("%s: %w", path, err)
 	}
 	if of, ok := key.(*ecdsa.PublicKey); !ok || of.Curve != elliptic.P256() {
-		return nil, fmt.Errorf("%s isn't a key of P-256", path)
+		return nil, fmt.Errorf("%s has no P-256 key", path)
 	}
 	return block.Bytes, nil
 }
 
-// runCheck looks at all that a log's settings name, and starts nothing: the settings, the key, the roots and TLS.
-// Each gets a line; the first fault of each is told, and all are looked at.
+// runCheck checks everything that a log's settings name, and starts nothing: the settings, the key, the roots and TLS.
+// It prints a line for each. It checks all of them, and reports the first fault of each.
 func runCheck(words []string, answers, faults io.Writer) error {
 	if len(words) == 1 && !strings.HasPrefix(words[0], "-") {
 		words = []string{"--config", words[0]}
@@ -309,10 +309,10 @@ func runCheck(words []string, answers, faults io.Writer) error {
 		look(address.of, kind+", not opened", address.check(address.text))
 	}
 	if about, err := os.Stat(s.node.folder); err == nil && !about.IsDir() {
-		look("folder", "", fmt.Errorf("%s isn't a folder (name a folder, or one that isn't there yet)", s.node.folder))
+		look("folder", "", fmt.Errorf("%s is not a folder (name a folder, or a path that does not exist yet)", s.node.folder))
 	}
 	if wrong > 0 {
-		return fmt.Errorf("%d settings don't hold", wrong)
+		return fmt.Errorf("%d settings are wrong", wrong)
 	}
 	return nil
 }
@@ -347,9 +347,10 @@ func runIndex(words []string, answers, faults io.Writer) (err error) {
 	})
 }
 
-// runClock names the day to a log that stood for more than one, on a machine of which nothing else says what time it is. The log may run meanwhile.
+// runClock confirms the day for a log that was stopped for more than one day, on a machine with no other source of
+// time. The log may run in the meantime.
 func runClock(words []string, answers, faults io.Writer) error {
-	flags := commandFlags("clock", "ctserve clock FILE DAY says that it is DAY (2026-11-27) by another clock than this machine's, to the log whose settings are FILE: on that day it goes on, though its newest head is older than a day and neither the kernel nor another machine says what time it is.", faults)
+	flags := commandFlags("clock", "ctserve clock FILE DAY confirms the day (2026-11-27) for the log with the settings FILE. Read the day from another clock than this machine's. On that day the log continues, although its newest head is older than a day and neither the kernel nor another machine confirms the time.", faults)
 	if err := parseFlags(flags, words, 2); err != nil {
 		return err
 	}
@@ -361,6 +362,6 @@ func runClock(words []string, answers, faults io.Writer) error {
 	if err := serve.NameDay(s.node.namedDay, flags.Arg(1), now); err != nil {
 		return err
 	}
-	fmt.Fprintf(answers, "%s: on %s it goes on; this machine's clock says %s\n", s.node.origin, flags.Arg(1), now.UTC().Format(time.RFC3339))
+	fmt.Fprintf(answers, "%s: on %s the log continues. This machine's clock says %s\n", s.node.origin, flags.Arg(1), now.UTC().Format(time.RFC3339))
 	return nil
 }

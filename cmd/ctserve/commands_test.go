@@ -147,7 +147,7 @@ func TestListEntry(t *testing.T) {
 	}
 }
 
-// TestCheck: each setting that doesn't hold is told, and nothing is made.
+// TestCheck: each wrong setting is reported, and nothing is created.
 func TestCheck(t *testing.T) {
 	folder, file := settingsFile(t)
 	status, said, told := does("check", file)
@@ -209,14 +209,14 @@ func TestCheckOfAFolder(t *testing.T) {
 	}
 }
 
-// TestClock: the day is named as the machine's clock has it, for the log of the settings, where its node reads it; no other day is, nor for settings
-// that don't hold.
+// TestClock: the day of the machine's clock is stored where the log's node reads it. Another day is refused, and so are
+// wrong settings.
 func TestClock(t *testing.T) {
 	folder, file := settingsFile(t)
 	now := time.Now().UTC()
 	today := now.Format("2006-01-02")
 	status, said, told := does("clock", file, today)
-	if status != 0 || told != "" || !strings.HasPrefix(said, "log.example/2027h1: on "+today+" it goes on; this machine's clock says "+now.Format("2006-01")) {
+	if status != 0 || told != "" || !strings.HasPrefix(said, "log.example/2027h1: on "+today+" the log continues. This machine's clock says "+now.Format("2006-01")) {
 		t.Fatalf("status %d: %s%s", status, said, told)
 	}
 	s, err := parse([]string{"--config", file}, io.Discard)

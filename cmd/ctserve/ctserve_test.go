@@ -82,9 +82,9 @@ func started(t *testing.T, every string, words ...string) *program {
 	}
 }
 
-// isLate says of what a start was given up for that one of its programs gave no reply in the seconds that it has, which a busy machine may need: then it is begun
-// anew.
-func isLate(told string) bool { return strings.Contains(told, "gives no reply: none in ") }
+// isLate reports whether a start failed because one of its programs did not reply in time, which may happen on a busy
+// machine. Then the test starts it again.
+func isLate(told string) bool { return strings.Contains(told, "no reply from the signer: none in ") }
 
 // begun starts one, and gives the line by which it serves or ends.
 func begun(t *testing.T, every string, words ...string) (p *program, line map[string]any) {
@@ -235,7 +235,7 @@ func (p *place) write(name string, content []byte) {
 	}
 }
 
-// patient are words by which nothing is given up that takes long, where a test doesn't look at that.
+// patient returns arguments with long time limits, for tests of something other than these limits.
 func patient() (words []string) {
 	for _, name := range []string{"open-timeout", "shutdown-timeout", "submission-timeout", "header-timeout", "request-timeout", "response-timeout", "idle-timeout"} {
 		words = append(words, "--"+name, trial.Longest.String())
@@ -265,7 +265,8 @@ func post(address string, body []byte) (int, string) {
 
 func get(address, path string) (int, string) { return whole(http.Get("http://" + address + path)) }
 
-// read is get, again where a reading is late: it has some seconds alone, in which a busy machine starts no program of proofs.
+// read is get, repeated if a reading is late. A reading has a limit of some seconds, in which a busy machine starts no
+// program.
 func read(address, path string) (int, string) {
 	return unlessLate(func() (int, string) { return get(address, path) })
 }
@@ -279,7 +280,7 @@ func unlessLate(ask func() (int, string)) (status int, text string) {
 	}
 }
 
-// whole is an answer's status and text; where none comes, 0 and why.
+// whole returns a response's status and text, or 0 and the error.
 func whole(answer *http.Response, err error) (int, string) {
 	if err != nil {
 		return 0, err.Error()
@@ -332,7 +333,7 @@ func TestEndBySIGTERM(t *testing.T) {
 	}
 }
 
-// Where who waits can't be answered within the time, it ends all the same, and says so.
+// TestEndWithinItsBound: if waiting requests cannot be answered in time, the program ends anyway, and logs it.
 func TestEndWithinItsBound(t *testing.T) {
 	at := newPlace(t)
 	for within := 300 * time.Millisecond; ; within *= 4 {
@@ -485,7 +486,8 @@ func TestReaderOfLinesGoes(t *testing.T) {
 	}
 }
 
-// TestRootsThatArentRead: a root that crypto/x509 doesn't read keeps neither a start nor a reload from going on with the others, and each tells which one it is.
+// TestRootsThatArentRead: a root that crypto/x509 cannot parse prevents neither a start nor a reload with the others,
+// and each logs which one it is.
 func TestRootsThatArentRead(t *testing.T) {
 	at := newPlace(t)
 	strange := pem.EncodeToMemory(&pem.Block{Type: "CERTIFICATE", Bytes: []byte("of a curve that nobody reads")})
@@ -541,7 +543,7 @@ func TestServesTLSAndAWindow(t *testing.T) {
 	}
 }
 
-// What the words and the file of settings have to be.
+// TestSettings: the rules for arguments and the config file.
 func TestSettings(t *testing.T) {
 	at := newPlace(t)
 	files := 0
@@ -607,7 +609,7 @@ func TestSettings(t *testing.T) {
 	if err != nil {
 		t.Fatal(err)
 	}
-	if s.node.origin != "z" || s.node.mostSkew != 3*time.Second || !s.node.synchronized || s.limits.Idle != 5*time.Second || fmt.Sprint(s.proxies) != "[127.0.0.1/32 10.0.0.0/8]" || !s.node.create ||
+	if s.node.origin != "z" || s.node.maxSkew != 3*time.Second || !s.node.synchronized || s.limits.Idle != 5*time.Second || fmt.Sprint(s.proxies) != "[127.0.0.1/32 10.0.0.0/8]" || !s.node.create ||
 		s.rules.Window.From.Year() != 2027 ||
 		s.node.guardState != "file:ct-log.guard" || s.node.latestHead != "ct-log.latest-head" || s.node.namedDay != "ct-log.day" || !s.node.isGuarded() || s.node.store != "folder:ct-log/objects" || s.node.register != "file:ct-log/register" || s.node.places != "sqlite:ct-log/places" {
 		t.Errorf("%+v", s)
@@ -660,8 +662,8 @@ func (p *place) realWords(more ...string) []string {
 		"--folder", p.path("log"), "--interval", "50ms"), more...)
 }
 
-// Over the real log, on a folder: a start makes no log unasked; what was answered is there after a kill, and a repeat has its
-// place; and all that is read fits together.
+// TestRealLog: over the real log on a folder, a start creates a log only if it is asked to. What was answered exists
+// after a kill, and a duplicate gets the same place. Everything that is read is consistent.
 func TestRealLog(t *testing.T) {
 	t.Parallel()
 	var at *place
@@ -730,7 +732,7 @@ func TestRealLog(t *testing.T) {
 	if !strings.HasPrefix(checkpoint, "log.example/test\n21\n") {
 		t.Errorf("/checkpoint: %q", checkpoint)
 	}
-	// What it asks its stores is counted, of each kind.
+	// Calls to its stores are counted, for each kind.
 	for _, call := range []string{`call="get",store="objects"`, `call="read",store="lock"`, `call="find",store="index"`} {
 		if asked, failed := figure(t, p, "ctserve_store_seconds_count{"+call+"}"), figure(t, p, "ctserve_store_failures_total{"+call+"}"); asked < 1 || failed != 0 {
 			t.Errorf("{%s}: %v calls, of which %v failed", call, asked, failed)
@@ -770,8 +772,8 @@ func TestRealLog(t *testing.T) {
 	}
 }
 
-// TestKeyInAToken: a log whose key is in a token of PKCS#11, over the whole of it: a signer of its own logs in, and what is answered and published is
-// signed by the token's key, also behind another start.
+// TestKeyInAToken: a log whose key is in a PKCS#11 token. Its signer logs in to the token, and the token's key signs
+// everything that is answered and published, also after another start.
 func TestKeyInAToken(t *testing.T) {
 	module, pin := softhsm.Token(t)
 	at := newPlace(t)
@@ -856,7 +858,7 @@ func TestFolderPutBack(t *testing.T) {
 	move("log", "copy")
 	move("newest", "log")
 	serves()
-	// The latest head alone says so, too.
+	// The file of the latest head has the same result.
 	move("log.latest-head", "latest-head")
 	if err := os.RemoveAll(at.path("log")); err != nil {
 		t.Fatal(err)
@@ -867,7 +869,8 @@ func TestFolderPutBack(t *testing.T) {
 	}
 }
 
-// TestPlacesAnew: where a log's places are lost the start is refused by a status of its own; built anew, they have a repeat's first place.
+// TestPlacesAnew: if a log's index is lost, the start is refused with a status of its own. After the index was built
+// again, it has the first place of a duplicate.
 func TestPlacesAnew(t *testing.T) {
 	t.Parallel()
 	at := newPlace(t)
@@ -925,14 +928,14 @@ func TestGuardStateAway(t *testing.T) {
 		if status == 1 && strings.Contains(told.String(), "the guard's state (guard-state, of etcd) isn't read") {
 			return
 		}
-		late := isLate(told.String()) || strings.Contains(told.String(), "gives no reply: context deadline exceeded")
+		late := isLate(told.String()) || strings.Contains(told.String(), "no reply from the signer: context deadline exceeded")
 		if status != 1 || !late || time.Now().After(until) {
 			t.Fatalf("status %d: %s", status, told.String())
 		}
 	}
 }
 
-// A signer that is started again makes no state of the guard, where that is gone.
+// A signer that is started again does not create the state of its guard if the state is missing.
 func TestSignerIsCreatedOnce(t *testing.T) {
 	t.Parallel()
 	at := newPlace(t)
@@ -969,8 +972,8 @@ func TestSignerIsCreatedOnce(t *testing.T) {
 	}
 }
 
-// A damaged tile that no step wants: who submits its entry again is refused, the log is ready all the same, and its name is told until it is
-// put right.
+// TestDamageIsTold: a damaged tile that no step needs. A duplicate of its entry is refused, the log stays ready, and
+// the tile's name is logged until it is repaired.
 func TestDamageIsTold(t *testing.T) {
 	t.Parallel()
 	at := newPlace(t)
@@ -1124,7 +1127,7 @@ func TestSignerAtASocket(t *testing.T) {
 	}
 }
 
-// What a log's signing may lack is said at its start; without a guard it signs where it is told to.
+// TestGuards: a start logs what the log's signing lacks. Without a guard a log signs only if the settings say so.
 func TestGuards(t *testing.T) {
 	t.Parallel()
 	at := newPlace(t)
@@ -1145,7 +1148,7 @@ func TestGuards(t *testing.T) {
 		}
 	}
 	lacks(`"no-such-guard" is neither true nor false`, "--guard=no-such-guard")
-	lacks("no state of the guard: there is none", "--create=false")
+	lacks("no valid guard state: there is none", "--create=false")
 	lacks("no such file", "--signing-key", at.path("nowhere"))
 	words = at.realWords("--create")
 	lacks("no such file", "--signer-socket", at.path("nowhere"))
@@ -1158,7 +1161,7 @@ func TestGuards(t *testing.T) {
 	if status := p.ends(); status != 0 {
 		t.Errorf("it ended with status %d", status)
 	}
-	// A log that was made without one isn't taken up behind one that knows no head of it.
+	// A log that was created without the file does not start with a file that has no head of it.
 	lacks("it is older than the log", "--create")
 }
 

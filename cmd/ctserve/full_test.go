@@ -47,8 +47,9 @@ func fill(t *testing.T, folder string, but int64) (room func()) {
 	}
 }
 
-// A disk that is full below a whole log (objects, register, places, the guard's state, the latest head), up to a few bytes: submissions are refused by name,
-// reads go on, and with room again so do submissions. What was answered is in its place.
+// TestFullDisk: a disk that is full except for a few bytes, below a whole log (objects, register, index, the guard's
+// state, the latest head). Submissions are refused by name, and reads are answered. After there is space again,
+// submissions are accepted. What was answered is in its place.
 func TestFullDisk(t *testing.T) {
 	t.Parallel()
 	at := newPlace(t)
@@ -86,7 +87,8 @@ func TestFullDisk(t *testing.T) {
 	for _, but := range []int64{0, 64 << 10} {
 		before := figure(t, p, failures)
 		room := fill(t, disk, but)
-		// (where a few bytes are left, a step of no entries may still find room, and then nothing keeps the log from going on until the next submission)
+		// If a few bytes are left, a step without entries may still succeed. Then nothing stops the log until the next
+		// submission.
 		var ready, metrics string
 		atFault := func() bool {
 			var status int

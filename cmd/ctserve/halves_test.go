@@ -16,7 +16,7 @@ import (
 	"wagtenib/internal/trial"
 )
 
-// asOnPage is Debian's own nginx.conf behind the line by which docs/OPERATING.md changes it, run so often.
+// asOnPage returns Debian's nginx.conf after the command of docs/OPERATING.md that changes it, run so many times.
 func asOnPage(t *testing.T, often int) string {
 	t.Helper()
 	nginxFound(t)
@@ -43,8 +43,8 @@ func asOnPage(t *testing.T, often int) string {
 	return string(changed)
 }
 
-// TestMoreConnectionsOfNginx: the page's line leaves Debian's nginx.conf as it was but for how many connections a worker has, for which it may open
-// files; also where it is run once more.
+// TestMoreConnectionsOfNginx: the page's command changes only the number of connections of a worker, and of the files
+// that it may open. It may be run twice.
 func TestMoreConnectionsOfNginx(t *testing.T) {
 	for _, often := range []int{1, 2} {
 		changed := asOnPage(t, often)
@@ -80,8 +80,8 @@ func from(t *testing.T, own, address, path string) (int, string) {
 	return whole(client.Get("http://" + address + path))
 }
 
-// TestHalfBodiesAtNginx: who has as many requests at nginx as one address may, of which no body comes to its end, is refused by nginx itself; others are
-// answered, and so is that address once they are gone.
+// TestHalfBodiesAtNginx: a client with as many requests at nginx as one address may have, none with a whole body, is
+// refused by nginx itself. Others are answered, and so is this address after its requests have ended.
 func TestHalfBodiesAtNginx(t *testing.T) {
 	t.Parallel()
 	at, most := newPlace(t), 5
@@ -129,8 +129,9 @@ func TestHalfBodiesAtNginx(t *testing.T) {
 	}
 }
 
-// TestHalfHeadersAtNginx: with as many connections a worker as the page's line gives it, more half headers of one address than Debian's 768 keep nobody else out; and nginx
-// closes them behind the site's ten seconds, and not its own sixty.
+// TestHalfHeadersAtNginx: with the number of connections of the page's command, more half headers of one address than
+// Debian's limit of 768 keep no other client out. nginx closes them after the site's ten seconds, and not after its own
+// sixty.
 func TestHalfHeadersAtNginx(t *testing.T) {
 	t.Parallel()
 	var connections, files int

@@ -114,8 +114,8 @@ func TestLargeTileByMany(t *testing.T) {
 	}
 }
 
-// statusOf asks for something from an address, over a connection that takes little, and reads no more than the status. Then it tells that it came this far, and
-// waits until it may close.
+// statusOf requests something over a connection with a small buffer, and reads only the status. Then it reports this,
+// and waits until it may close.
 func statusOf(address, own, path string, closes <-chan struct{}, came func()) string {
 	status, connection := statusAlone(address, own, path)
 	if connection != nil {

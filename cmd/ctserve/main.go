@@ -1,11 +1,10 @@
-// Command ctserve serves a Certificate Transparency log over HTTP: RFC 6962's calls, and C2SP static-ct-api.
+// Command ctserve serves a Certificate Transparency log over HTTP, with the calls of RFC 6962 and C2SP static-ct-api.
 //
-// SIGHUP has it read the roots and the certificate of TLS anew. SIGTERM and SIGINT end it: it takes no more, publishes, answers
-// who waits, and ends with status 0; where that isn't done within its time, with 1. A second one ends it at once.
-//
-// The key is read by a process of its own, `ctserve signer`, which it starts, or finds at a socket. `ctserve key`, `check` and
-// `list-entry` make a key, look at settings, and write a log list's entry; `index` builds a log's deduplication index again from its tiles,
-// and `clock` names the day.
+// At SIGHUP it reads the roots and the TLS certificate again. At SIGTERM or SIGINT it ends: it accepts no more
+// submissions, publishes, answers the waiting requests, and exits with status 0, or with 1 if this takes too long. A
+// second signal ends it at once. A process of its own has the key: `ctserve signer`, which ctserve starts, or finds at
+// a socket. `ctserve key`, `check` and `list-entry` create a key, check settings, and write the entry of a log list.
+// `index` builds a log's deduplication index again from its tiles, and `clock` confirms the day.
 package main
 
 import (
@@ -51,7 +50,7 @@ type opened struct {
 
 type opener func(context.Context, node) (*opened, error)
 
-// looksEvery is how often the log is looked at for what an operator is to be told.
+// looksEvery is the time between two checks of the log for something that an operator must know.
 const looksEvery = time.Second
 
 func main() {
@@ -174,7 +173,7 @@ func serveLog(s *settings, lines *web.Lines, signals <-chan os.Signal, open open
 		go front.Tell(telling, looksEvery)
 		ending, err = wait(func() { reload(s, front, checker, []*web.Certificate{certificate, of.secured.its()}, lines) }, signals, failed)
 	}
-	// From here on another signal ends the process; that it ends is told behind that.
+	// From now on another signal ends the process. The end is logged after that.
 	signal.Reset(syscall.SIGTERM, syscall.SIGINT)
 	front.Refuse()
 	if ending != nil {
@@ -199,14 +198,14 @@ func awaitHead(s *settings, of log.Log) {
 	}
 }
 
-// tellLeftOut tells which certificates of the files of roots aren't roots of the log.
+// tellLeftOut logs which certificates in the files of roots are not roots of the log.
 func tellLeftOut(roots *chains.Roots, lines *web.Lines) {
 	for _, each := range roots.LeftOut() {
 		lines.Warn("root-left-out", "root", each)
 	}
 }
 
-// tellHead tells what is served, from where it goes on.
+// tellHead logs the published head at a start.
 func tellHead(s *settings, of log.Log, lines *web.Lines) {
 	ctx, cancel := context.WithTimeout(context.Background(), s.limits.Reading)
 	defer cancel()
@@ -244,7 +243,7 @@ func wait(reload func(), signals <-chan os.Signal, failed <-chan error) (os.Sign
 	}
 }
 
-// reload reads the roots and the certificate again, and tells what came of it.
+// reload reads the roots and the certificate again, and logs the result.
 func reload(s *settings, front *web.Front, checker *chains.Checker, certificates []*web.Certificate, lines *web.Lines) {
 	reloaded := func(of string, err error, more ...any) {
 		front.Reloaded(of, err)
@@ -279,7 +278,7 @@ func ended(s *settings, of log.Log, servers []*served, why error) error {
 			continue
 		}
 		if err := each.server.End(ctx); why == nil && err != nil {
-			why = fmt.Errorf("who waits at the listener for %s isn't answered: %w", each.of, err)
+			why = fmt.Errorf("the requests at the listener for %s were not answered in time: %w", each.of, err)
 		}
 	}
 	return why

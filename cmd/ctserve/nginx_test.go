@@ -66,7 +66,7 @@ func nginxWith(t *testing.T, site, address string) {
 	nginxHaving(t, site, address, "events {}")
 }
 
-// nginxHaving starts nginx with a site, and with these lines of its own beside that.
+// nginxHaving starts nginx with a site, and with additional lines of its own.
 func nginxHaving(t *testing.T, site, address, main string) {
 	t.Helper()
 	nginx, folder := nginxFound(t), t.TempDir()
@@ -122,7 +122,8 @@ func nginxBefore(t *testing.T, clients string, atOnce int) string {
 	return address
 }
 
-// TestFolderOfTiles: Debian's nginx can make the folder in which the example keeps tiles. nginx makes that folder alone, and none above it.
+// TestFolderOfTiles: Debian's nginx can create the folder in which the example keeps tiles. nginx creates only that
+// folder, and none above it.
 func TestFolderOfTiles(t *testing.T) {
 	nginxFound(t)
 	if !isThere("/etc/nginx/nginx.conf") {
@@ -160,7 +161,7 @@ func TestExampleHasTheDefaults(t *testing.T) {
 	}
 }
 
-// TestExampleOverTLS: the example as it stands, but for addresses and folders, answers HTTP/2 over TLS with the log's calls.
+// TestExampleOverTLS: the example, with other addresses and folders, answers the log's calls with HTTP/2 over TLS.
 func TestExampleOverTLS(t *testing.T) {
 	nginxFound(t)
 	at, address := newPlace(t), trial.Free(t)
@@ -223,7 +224,7 @@ func TestBehindNginx(t *testing.T) {
 			t.Errorf("no tile: %d", status)
 		}
 	}
-	// Whatever stands behind a question mark, and whatever a client takes, it is the same tile.
+	// Whatever the query and the accepted encodings are, it is the same tile.
 	plain := http.Client{Transport: &http.Transport{DisableCompression: true}}
 	for i, takes := range []string{"", "gzip", "br", "gzip, br", "identity"} {
 		request, _ := http.NewRequest("GET", fmt.Sprintf("http://%s/tile/data/000.p/2?%d", address, i), nil)
@@ -239,7 +240,7 @@ func TestBehindNginx(t *testing.T) {
 			t.Errorf("to who takes %q: %d %v", takes, answer.StatusCode, answer.Header)
 		}
 	}
-	// .. and so are its parts.
+	// Its parts are the same too.
 	_, whole := get(address, "/tile/data/000.p/2")
 	request, _ = http.NewRequest("GET", "http://"+address+"/tile/data/000.p/2", nil)
 	request.Header.Set("Range", "bytes=7-20")
@@ -254,7 +255,7 @@ func TestBehindNginx(t *testing.T) {
 	if _, text := get(p.operator, "/metrics"); !strings.Contains(text, `ctserve_requests_total{call="tile",status="404"} 3`+"\n") {
 		t.Error("a tile that isn't there is kept as one")
 	}
-	// What a client says of its address isn't believed: nginx says 127.0.0.1, whatever stands there.
+	// An address that a client claims is ignored: nginx says 127.0.0.1.
 	request, _ = http.NewRequest("GET", "http://"+address+"/ct/v1/get-roots", nil)
 	request.Header.Set("X-Forwarded-For", "203.0.113.7")
 	answer, err := http.DefaultClient.Do(request)
@@ -273,8 +274,9 @@ func TestBehindNginx(t *testing.T) {
 	}
 }
 
-// A full tile that was bent on the disk is 503 behind nginx, too, which keeps neither that nor the bent one: once it is put right it is the tree's, and what
-// nginx has then stays, whatever becomes of the disk.
+// TestBentTileBehindNginx: a full tile that was damaged on the disk is a 503 through nginx too. nginx caches neither
+// that nor the damaged tile. After the tile is repaired, nginx serves and caches it, whatever happens to the disk
+// later.
 func TestBentTileBehindNginx(t *testing.T) {
 	t.Parallel()
 	at := newPlace(t)

@@ -32,7 +32,8 @@ func defaults(t *testing.T, words ...string) map[string]string {
 	return found
 }
 
-// TestPagesNameSettings: what docs/OPERATING.md and INCIDENTS.md call a setting is one, and has the default that they say.
+// TestPagesNameSettings: each setting that docs/OPERATING.md and INCIDENTS.md name exists, and has the default that
+// they state.
 func TestPagesNameSettings(t *testing.T) {
 	settings := defaults(t)
 	for name, said := range defaults(t, "signer", "--help") {
@@ -45,7 +46,7 @@ func TestPagesNameSettings(t *testing.T) {
 			t.Fatalf("--help doesn't list %s: %d settings", name, len(settings))
 		}
 	}
-	// What has a hyphen and is no setting.
+	// These have a hyphen and are not settings.
 	others := map[string]bool{"list-entry": true, "made-again": true, "root-left-out": true, "read-only": true, "too-often": true, "statement_timeout": true, "pre-vote": true, "auto-compaction-mode=periodic": true}
 	for _, refusal := range chains.Refusals {
 		others[string(refusal)] = true
@@ -90,14 +91,15 @@ func TestPageSaysBounds(t *testing.T) {
 	s, err := parse([]string{"--roots", "r", "--origin", "o.example", "--signing-key", "k"}, &bytes.Buffer{})
 	trial.Must(t, err)
 	trial.Says(t, trial.Page(t, "../../docs/SERVICE.md"), map[string]bool{
-		"more than `max-write-rate` allows in a second (16 MiB)": s.node.mostWritten == 16<<20,
+		"more than `max-write-rate` allows in a second (16 MiB)": s.node.maxWritten == 16<<20,
 	})
-	if s.node.mostProofs != 64 || s.limits.ProofsByAddress != 16 {
-		t.Errorf("%d proofs at once, of one address %d", s.node.mostProofs, s.limits.ProofsByAddress)
+	if s.node.maxProofs != 64 || s.limits.ProofsByAddress != 16 {
+		t.Errorf("%d proofs at once, of one address %d", s.node.maxProofs, s.limits.ProofsByAddress)
 	}
 }
 
-// TestScraped: Prometheus is told to read where a log's figures are, by the name that the alarms ask for, and the alarms beside.
+// TestScraped: Prometheus's configuration reads a log's metrics, with the job name of the alert rules, and includes the
+// rules.
 func TestScraped(t *testing.T) {
 	s, err := parse([]string{"--roots", "r", "--origin", "o.example", "--signing-key", "k"}, &bytes.Buffer{})
 	trial.Must(t, err)
@@ -123,8 +125,8 @@ func TestScraped(t *testing.T) {
 	})
 }
 
-// TestUnit: systemd doesn't end or start a log against what it says of itself: it waits for longer than an end takes, starts none anew whose settings
-// aren't ones or whose stores were set back, lets it open as many connections as it takes, and starts it once the clock is right.
+// TestUnit: the systemd unit waits for longer than an end takes. It does not restart a log with wrong settings or
+// rolled back stores. It allows as many connections as ctserve accepts, and starts after the clock is synchronized.
 func TestUnit(t *testing.T) {
 	text, err := os.ReadFile("../../release/ctserve@.service")
 	trial.Must(t, err)

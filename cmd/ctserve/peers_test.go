@@ -105,8 +105,8 @@ func (p *program) metric(name string) string {
 	return ""
 }
 
-// Of two nodes, the one that does not make the steps forwards what it gets, and takes it itself after the other one was
-// killed. Nobody else gets in at the address for nodes.
+// TestForwards: of two nodes, the one that does not make the steps forwards its submissions, and accepts them itself
+// after the other one was killed. Nobody else can use the address for nodes.
 func TestForwards(t *testing.T) {
 	t.Parallel()
 	at := newPlace(t)

@@ -97,7 +97,7 @@ func openNode(ctx context.Context, n node) (of *opened, err error) {
 	if err != nil {
 		return nil, err
 	}
-	of.log, of.proofs, of.close = log, tile.NewProver(log.Object, n.mostProofs), closeAll
+	of.log, of.proofs, of.close = log, tile.NewProver(log.Object, n.maxProofs), closeAll
 	if of.secured != nil {
 		forwarder := log.Forward(of.secured.dials)
 		of.forward, of.nodes = forwarder, log.OfNodes
@@ -124,12 +124,12 @@ func (n *node) config(of serve.Stores) serve.Config {
 	return serve.Config{
 		Origin: n.origin, Address: n.peers.address, Create: n.create, Stores: of, Witnesses: n.witnesses,
 		Quorums: n.quorums,
-		Pace: serve.Pace{Interval: interval, Refresh: n.refresh, MaxWritten: n.mostWritten, MaxBatch: n.mostBatch,
-			MaxQueue: n.mostQueue},
+		Pace: serve.Pace{Interval: interval, Refresh: n.refresh, MaxWritten: n.maxWritten, MaxBatch: n.maxBatch,
+			MaxQueue: n.maxQueue},
 		Keep: serve.Keep{Heads: n.sweepAfter, Tiles: n.sweepTilesAfter, Every: n.readEvery, Reread: n.readAllWithin},
 		Machine: serve.MachineConfig{
 			Files: serve.Files{LatestHead: n.latestHead, NamedDay: n.namedDay},
-			Clock: serve.ClockBounds{MaxSkew: n.mostSkew, Synchronized: n.synchronized},
+			Clock: serve.ClockBounds{MaxSkew: n.maxSkew, Synchronized: n.synchronized},
 		},
 	}
 }

@@ -46,14 +46,14 @@ type node struct {
 	guardState, signerAt             string
 	folder, store, register, places  string
 	latestHead, namedDay             string
-	mostSkew                         time.Duration
+	maxSkew                         time.Duration
 	synchronized                     bool
 	interval, refresh, maxMergeDelay time.Duration
 	openWithin                       time.Duration
 	sweepAfter, sweepTilesAfter      time.Duration
 	readEvery, readAllWithin         time.Duration
-	mostQueue, mostBatch, mostProofs int
-	mostWritten                      int
+	maxQueue, maxBatch, maxProofs    int
+	maxWritten                       int
 	create, makesFolder              bool
 	peers                            peers
 	witnesses                        []witness.One
@@ -103,7 +103,7 @@ func parse(words []string, help io.Writer) (*settings, error) {
 func (s *settings) frontFlags(flags *flag.FlagSet) {
 	flags.StringVar(&s.listen, "listen", "127.0.0.1:8618", "`address` for clients")
 	flags.StringVar(&s.operator, "operator-listen", "127.0.0.1:8619", "`address` for /metrics, /healthz and /readyz. If it is empty, they are not served")
-	flags.StringVar(&s.monitoringURL, "monitoring-url", "", "`URL` below which the log is read, if that is another one than where it is submitted to. /log.v3.json and list-entry have it (default https://ORIGIN/)")
+	flags.StringVar(&s.monitoringURL, "monitoring-url", "", "`URL` below which the log is read, if it differs from the one for submissions. /log.v3.json and list-entry have it (default https://ORIGIN/)")
 	flags.StringVar(&s.notice, "notice", "", "`text` that the log's page and /log.v3.json show")
 	flags.StringVar(&s.certificate, "tls-certificate", "", "`file` with the TLS certificate chain in PEM. It is read again at SIGHUP. Without it, the log serves plain HTTP")
 	flags.StringVar(&s.key, "tls-key", "", "`file` with the key of the TLS certificate in PEM")
@@ -116,8 +116,8 @@ func (s *settings) frontFlags(flags *flag.FlagSet) {
 		return nil
 	})
 	flags.StringVar(&s.roots.Without, "excluded-roots", "", "`file` with the SHA-256 fingerprint of one root on each line. These roots are not accepted")
-	flags.Func("not-after-start", "`time` (2026-07-01 or 2026-07-01T00:00:00Z). Certificates that expire before it are refused", moment(&s.rules.Window.From))
-	flags.Func("not-after-limit", "`time`. Certificates that expire at this time or later are refused", moment(&s.rules.Window.To))
+	flags.Func("not-after-start", "`time` (2026-07-01 or 2026-07-01T00:00:00Z). Certificates that expire before it are refused", timestamp(&s.rules.Window.From))
+	flags.Func("not-after-limit", "`time`. Certificates that expire at this time or later are refused", timestamp(&s.rules.Window.To))
 	flags.BoolVar(&s.anyPurpose, "any-purpose", false, "accept certificates of any purpose. Without it, those whose extended key usage excludes TLS servers are refused")
 	flags.BoolVar(&s.rules.RefuseExpired, "refuse-expired", false, "refuse certificates that have expired")
 	flags.BoolVar(&s.rules.RefuseNotYetValid, "refuse-not-yet-valid", false, "refuse certificates whose validity has not begun")
@@ -164,7 +164,7 @@ func (n *node) storeFlags(flags *flag.FlagSet) {
 
 // paceFlags defines when a node acts, and how much it does at once.
 func (n *node) paceFlags(flags *flag.FlagSet) {
-	flags.DurationVar(&n.mostSkew, "max-clock-skew", 10*time.Second, "maximum difference of the machine's clock from the newest head, the stores' machines, the other nodes and the elapsed time. Beyond it, submissions are refused")
+	flags.DurationVar(&n.maxSkew, "max-clock-skew", 10*time.Second, "maximum difference of the machine's clock from the newest head, the stores' machines, the other nodes and the elapsed time. Beyond it, submissions are refused")
 	flags.BoolVar(&n.synchronized, "require-synchronized-clock", false, "refuse submissions until the kernel reports that its clock is synchronized (timedatectl)")
 	flags.Func("interval", "minimum `duration` between two heads. 50ms means at most twenty a second. By default, 50ms with witnesses and with stores on other machines, and 5ms for a folder", above0(&n.interval))
 	flags.DurationVar(&n.maxMergeDelay, "max-merge-delay", time.Minute, "maximum merge delay (MMD) that the log publishes, in whole seconds. No head that the log serves is older")
@@ -173,10 +173,10 @@ func (n *node) paceFlags(flags *flag.FlagSet) {
 	flags.DurationVar(&n.sweepTilesAfter, "delete-tiles-after", 5*time.Minute, "age of a full tile at which its partial tiles are deleted. Of heads that are older than ten seconds, one in each five seconds is kept. At most delete-heads-after")
 	flags.DurationVar(&n.readEvery, "scrub-interval", time.Second, "time between two checks of old tiles")
 	flags.DurationVar(&n.readAllWithin, "scrub-period", 7*24*time.Hour, "time within which every old tile is checked. In a larger log, more tiles are checked each time, up to 16")
-	flags.IntVar(&n.mostQueue, "max-queue", 4096, "maximum number of waiting submissions")
-	flags.IntVar(&n.mostWritten, "max-write-rate", 16<<20, "maximum number of bytes that steps write in a second, on average. If large certificates must be written again, heads are made less often")
-	flags.IntVar(&n.mostBatch, "max-batch", 1024, "maximum number of entries of one step")
-	flags.IntVar(&n.mostProofs, "max-proofs", 64, "maximum number of proofs that are made at the same time")
+	flags.IntVar(&n.maxQueue, "max-queue", 4096, "maximum number of waiting submissions")
+	flags.IntVar(&n.maxWritten, "max-write-rate", 16<<20, "maximum number of bytes that steps write in a second, on average. If large certificates must be written again, heads are made less often")
+	flags.IntVar(&n.maxBatch, "max-batch", 1024, "maximum number of entries of one step")
+	flags.IntVar(&n.maxProofs, "max-proofs", 64, "maximum number of proofs that are made at the same time")
 }
 
 // witnessFlags defines the witnesses, and how many must cosign.
@@ -227,7 +227,7 @@ func (s *settings) settle() error {
 	if window := s.rules.Window; !window.From.IsZero() && !window.To.IsZero() && !window.From.Before(window.To) {
 		return errors.New("--not-after-start must be before --not-after-limit")
 	}
-	for _, time := range []time.Duration{s.endWithin, l.Headers, l.Request, l.Submission, l.Answer, l.Idle, n.maxMergeDelay, n.openWithin, n.sweepAfter, n.sweepTilesAfter, n.readEvery, n.readAllWithin, n.mostSkew} {
+	for _, time := range []time.Duration{s.endWithin, l.Headers, l.Request, l.Submission, l.Answer, l.Idle, n.maxMergeDelay, n.openWithin, n.sweepAfter, n.sweepTilesAfter, n.readEvery, n.readAllWithin, n.maxSkew} {
 		if time <= 0 {
 			return errors.New("a duration must be above 0")
 		}
@@ -236,11 +236,11 @@ func (s *settings) settle() error {
 		return err
 	}
 	// One address may use a quarter of the proofs.
-	if l.ProofsByAddress = n.mostProofs / 4; l.ProofsByAddress < 1 {
+	if l.ProofsByAddress = n.maxProofs / 4; l.ProofsByAddress < 1 {
 		l.ProofsByAddress = 1
 	}
-	if l.Connections < 1 || l.ConnectionsByAddress < 1 || l.Checks < 1 || l.WaitingBytes < web.MostBody || l.AnswerBytes < stores.MostObject || n.mostQueue < 1 || n.mostBatch < 1 || n.mostWritten < 1 || n.mostProofs < 1 {
-		return fmt.Errorf("a bound must be above 0, --max-queued-bytes at least %d, and --max-response-bytes at least %d", web.MostBody, stores.MostObject)
+	if l.Connections < 1 || l.ConnectionsByAddress < 1 || l.Checks < 1 || l.WaitingBytes < web.MaxBody || l.AnswerBytes < stores.MaxObject || n.maxQueue < 1 || n.maxBatch < 1 || n.maxWritten < 1 || n.maxProofs < 1 {
+		return fmt.Errorf("a bound must be above 0, --max-queued-bytes at least %d, and --max-response-bytes at least %d", web.MaxBody, stores.MaxObject)
 	}
 	if l.SubmissionRate < 0 || l.ReadRate < 0 {
 		return errors.New("a rate must be 0 (no bound) or above")
@@ -432,7 +432,7 @@ func above0(into *time.Duration) func(string) error {
 	}
 }
 
-func moment(into *time.Time) func(string) error {
+func timestamp(into *time.Time) func(string) error {
 	return func(text string) (err error) {
 		if *into, err = time.Parse("2006-01-02", text); err != nil {
 			*into, err = time.Parse(time.RFC3339, text)

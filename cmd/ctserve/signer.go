@@ -26,7 +26,7 @@ const (
 // askSigner starts the log's signer, which is a process of its own, or connects to the one at a socket. A signer that is started again does not create the
 // guard's state, because the log may have grown since.
 func askSigner(ctx context.Context, n node) (*signer.Client, error) {
-	open := func(ctx context.Context) (*signer.End, error) { return signer.Dial(ctx, n.signerAt) }
+	open := func(ctx context.Context) (*signer.Peer, error) { return signer.Dial(ctx, n.signerAt) }
 	if n.signerAt == "" {
 		self, err := os.Executable()
 		if err != nil {
@@ -38,13 +38,13 @@ func askSigner(ctx context.Context, n node) (*signer.Client, error) {
 			words = append(words, "--open-timeout", (n.openWithin * 4 / 5).String())
 		}
 		create := n.create
-		open = func(context.Context) (*signer.End, error) {
+		open = func(context.Context) (*signer.Peer, error) {
 			these := append(append([]string{}, words...), "--create="+strconv.FormatBool(create))
 			create = false
 			return signer.Start(these, guardStateKey+"="+n.guardState)
 		}
 	}
-	return signer.Ask(ctx, open, signsWithin)
+	return signer.NewClient(ctx, open, signsWithin)
 }
 
 // runSigner answers the lines of a node until they end, or those of all nodes that connect to a socket. It returns the exit status: 0 at the end of the lines, 1 after a
@@ -62,7 +62,7 @@ func runSigner(given []string, from io.Reader, answers, to io.Writer) int {
 		return 0
 	}
 	if err != nil || flags.NArg() > 0 || *key == "" {
-		fmt.Fprintln(to, "ctserve signer: --signing-key is missing, or there are words that are not settings (see --help)")
+		fmt.Fprintln(to, "ctserve signer: --signing-key is missing, or an argument is not a setting (see --help)")
 		return 2
 	}
 	if err := serveSigner(*key, *guard, *state, *create, *openWithin, *listen, from, answers); err != nil {
@@ -86,13 +86,13 @@ func serveSigner(keyAt string, guard bool, stateAt string, create bool, openWith
 		}
 		defer state.Close()
 		opening, cancel := context.WithTimeout(ctx, openWithin)
-		guarded, err := signer.Behind(opening, key, signer.Guard{State: state, Create: create})
+		guarded, err := signer.NewGuarded(opening, key, signer.Guard{State: state, Create: create})
 		late := opening.Err()
 		cancel()
 		if err != nil && late != nil {
 			// (who operates it knows what doesn't answer: an address may have a password)
 			kind, _, _ := strings.Cut(stateAt, ":")
-			return fmt.Errorf("the guard's state (guard-state, of %s) isn't read: %w", kind, err)
+			return fmt.Errorf("the guard's state (guard-state, of %s) cannot be read: %w", kind, err)
 		}
 		if errors.Is(err, signer.ErrState) && listen == "" {
 			if told := signer.ServeState(err, from, answers); told != nil {

@@ -79,7 +79,8 @@ func (p *place) goesOn(words []string) {
 	}
 }
 
-// A log that an earlier ctserve made goes on: what was answered is answered again, and its list grows.
+// TestTakesOver: a log that an earlier ctserve created continues. What was answered is answered again, and its list
+// grows.
 func TestTakesOver(t *testing.T) {
 	t.Parallel()
 	p, words := takenOver(t)
@@ -115,7 +116,7 @@ func TestTakesOverNothingOlder(t *testing.T) {
 		{"the lock is gone", func(p *place) error { return os.RemoveAll(p.path("log/register")) },
 			"the lock is older than the log"},
 		{"the guard's state is gone", func(p *place) error { return os.RemoveAll(p.path("log.guard")) },
-			"no state of the guard"},
+			"no valid guard state"},
 		{"the index is gone", func(p *place) error { return os.RemoveAll(p.path("log/places")) },
 			"the index is not the log's"},
 		{"this machine saw more", func(p *place) error {

@@ -49,8 +49,8 @@ func (p *place) aWitness(name string, with ...func(log *witness.Log)) (one strin
 	return over.URL + "," + s.VerifierKey(), witness.OfCosigner(name, public)
 }
 
-// comesIn submits a certificate until it is answered. (A witness that is late on a slow machine is a 503, and the entry may stand; sent again, it is answered
-// once its head is cosigned.)
+// comesIn submits a certificate until it is answered. If a witness is late on a slow machine, the response is a 503
+// although the entry may be in the log. Sent again, it is answered after its head is cosigned.
 func (p *place) comesIn(at *program) {
 	p.t.Helper()
 	submission := p.submission()
@@ -116,7 +116,7 @@ func TestWitnessedLog(t *testing.T) {
 			p.signal(syscall.SIGKILL)
 		}
 		status := p.ends()
-		// (where both witnesses are late, which have some seconds alone, it serves, and takes nothing)
+		// If both witnesses are late, which have a limit of some seconds, the log serves and accepts nothing.
 		if (serves || isLate(told)) && time.Now().Before(until) {
 			continue
 		}

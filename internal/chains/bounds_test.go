@@ -24,21 +24,21 @@ func TestBounds(t *testing.T) {
 		}
 		return chain
 	}
-	const rest = MostBytes - 2*LongestCertificate
+	const rest = MaxBytes - 2*LongestCertificate
 	for _, test := range []struct {
 		chain [][]byte
 		why   Refusal
 	}{
 		{of(LongestCertificate), NoCertificate}, {of(LongestCertificate + 1), CertificateTooLong},
 		{of(LongestCertificate, LongestCertificate, rest), NoCertificate}, {of(LongestCertificate, LongestCertificate, rest+1), ChainTooLong},
-		{of(make([]int, MostCertificates)...), NoCertificate}, {of(make([]int, MostCertificates+1)...), ChainTooLong},
+		{of(make([]int, MaxCertificates)...), NoCertificate}, {of(make([]int, MaxCertificates+1)...), ChainTooLong},
 	} {
 		if _, err := c.Certificate(test.chain); RefusalOf(err) != test.why {
 			t.Errorf("%d certificates: %v, and not %s", len(test.chain), err, test.why)
 		}
 	}
 	// An RSA key of as many bits as may be is worked with, and one of a bit more isn't.
-	for bits, why := range map[uint]Refusal{MostKeyBits: BadSignature, MostKeyBits + 1: KeyTooLong} {
+	for bits, why := range map[uint]Refusal{MaxKeyBits: BadSignature, MaxKeyBits + 1: KeyTooLong} {
 		modulus := new(big.Int).Lsh(big.NewInt(1), bits-1)
 		modulus.SetBit(modulus, 0, 1)
 		key := newKey(t)
@@ -171,7 +171,7 @@ func TestMostRoots(t *testing.T) {
 	root := signedBy(t, authority("root"), authority("root"), &key.PublicKey, key)
 	text := inPEM(root)
 	for more, right := range map[int]bool{0: true, 1: false} {
-		long := append(text[:len(text):len(text)], bytes.Repeat([]byte("\n"), MostRootBytes+more-len(text))...)
+		long := append(text[:len(text):len(text)], bytes.Repeat([]byte("\n"), MaxRootBytes+more-len(text))...)
 		file := filepath.Join(t.TempDir(), "roots.pem")
 		if err := os.WriteFile(file, long, 0o600); err != nil {
 			t.Fatal(err)
@@ -186,7 +186,7 @@ func TestMostRoots(t *testing.T) {
 			t.Errorf("a text of %d bytes is read", len(long))
 		}
 	}
-	roots := &Roots{byHash: map[[32]byte]bool{}, bySubject: map[string][]*x509.Certificate{}, certificates: make([]*x509.Certificate, MostRoots-1)}
+	roots := &Roots{byHash: map[[32]byte]bool{}, bySubject: map[string][]*x509.Certificate{}, certificates: make([]*x509.Certificate, MaxRoots-1)}
 	if err := roots.take(root, nil, LeftOut{}); err != nil {
 		t.Errorf("the last that may be: %v", err)
 	}

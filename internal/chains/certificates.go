@@ -150,20 +150,20 @@ func (c *certificate) readTBS(tbs, algorithm cryptobyte.String) error {
 
 // readValidity returns the beginning and the end of a validity.
 func readValidity(validity cryptobyte.String) (notBefore, notAfter time.Time, err error) {
-	var moments [2]time.Time
-	for i := range moments {
+	var timestamps [2]time.Time
+	for i := range timestamps {
 		read := validity.ReadASN1GeneralizedTime
 		if validity.PeekASN1Tag(tags.UTCTime) {
 			read = validity.ReadASN1UTCTime
 		}
-		if !read(&moments[i]) {
+		if !read(&timestamps[i]) {
 			return time.Time{}, time.Time{}, noDER("a moment of the validity")
 		}
 	}
 	if !validity.Empty() {
 		return time.Time{}, time.Time{}, noDER("a validity")
 	}
-	return moments[0], moments[1], nil
+	return timestamps[0], timestamps[1], nil
 }
 
 func (c *certificate) readExtensions(extensions cryptobyte.String) error {
@@ -184,7 +184,7 @@ var anyKey = append([]byte("\x30\x2a\x30\x05\x06\x03\x2b\x65\x70\x03\x21\x00"), 
 // readSignature has crypto/x509 read the algorithm and the signature, out of a certificate that has nothing else of this one. A signature
 // whose last byte isn't whole is refused: it would be one more form of the same.
 func (c *certificate) readSignature(algorithm, signature cryptobyte.String) error {
-	name, moment := []byte{0x30, 0}, []byte("\x17\x0d700101000000Z")
+	name, timestamp := []byte{0x30, 0}, []byte("\x17\x0d700101000000Z")
 	var b cryptobyte.Builder
 	b.AddASN1(tags.SEQUENCE, func(b *cryptobyte.Builder) {
 		b.AddASN1(tags.SEQUENCE, func(b *cryptobyte.Builder) {
@@ -192,8 +192,8 @@ func (c *certificate) readSignature(algorithm, signature cryptobyte.String) erro
 			b.AddBytes(algorithm)
 			b.AddBytes(name)
 			b.AddASN1(tags.SEQUENCE, func(b *cryptobyte.Builder) {
-				b.AddBytes(moment)
-				b.AddBytes(moment)
+				b.AddBytes(timestamp)
+				b.AddBytes(timestamp)
 			})
 			b.AddBytes(name)
 			b.AddBytes(anyKey)

@@ -245,15 +245,15 @@ func (b built) der() []byte {
 // TestUnreadCertificates: bytes that are no certificate in DER, in each place that is looked at.
 func TestUnreadCertificates(t *testing.T) {
 	const (
-		algorithm = "\x30\x05\x06\x03\x2b\x65\x70"
-		name      = "\x30\x00"
-		moments   = "\x17\x0d700101000000Z\x18\x0f20500101000000Z"
-		signature = "\x03\x02\x00\x01"
-		number    = "\x02\x01\x01"
-		version   = "\xa0\x03\x02\x01\x02"
-		item      = "\x30\x08\x06\x02\x2a\x03\x04\x02\x05\x00"
+		algorithm  = "\x30\x05\x06\x03\x2b\x65\x70"
+		name       = "\x30\x00"
+		timestamps = "\x17\x0d700101000000Z\x18\x0f20500101000000Z"
+		signature  = "\x03\x02\x00\x01"
+		number     = "\x02\x01\x01"
+		version    = "\xa0\x03\x02\x01\x02"
+		item       = "\x30\x08\x06\x02\x2a\x03\x04\x02\x05\x00"
 	)
-	validity, list := element(0x30, moments), element(0xa3, element(0x30, item))
+	validity, list := element(0x30, timestamps), element(0xa3, element(0x30, item))
 	sound := func(change func(*built)) []byte {
 		b := built{[]string{version, number, algorithm, name, validity, name, string(anyKey), list}, algorithm, signature, ""}
 		if change != nil {
@@ -283,10 +283,10 @@ func TestUnreadCertificates(t *testing.T) {
 		"a signature with too many":        func(b *built) { b.signature = "\x03\x02\x09\x02" },
 		"no serial number":                 field(1, ""),
 		"an issuer that is a set":          field(3, "\x31\x00"),
-		"a validity of one moment":         field(4, element(0x30, moments[:15])),
-		"a validity of three":              field(4, element(0x30, moments, moments[:15])),
-		"a moment that isn't one":          field(4, element(0x30, "\x17\x0d701301000000Z", moments[15:])),
-		"a moment of another kind":         field(4, element(0x30, "\x13\x0d700101000000Z", moments[15:])),
+		"a validity of one moment":         field(4, element(0x30, timestamps[:15])),
+		"a validity of three":              field(4, element(0x30, timestamps, timestamps[:15])),
+		"a moment that isn't one":          field(4, element(0x30, "\x17\x0d701301000000Z", timestamps[15:])),
+		"a moment of another kind":         field(4, element(0x30, "\x13\x0d700101000000Z", timestamps[15:])),
 		"a subject that is a set":          field(5, "\x31\x00"),
 		"no key":                           field(6, ""),
 		"a field behind the extensions":    field(7, list+"\x05\x00"),

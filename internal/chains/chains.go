@@ -21,14 +21,14 @@ import (
 
 // The bounds of a chain.
 const (
-	// MostCertificates is how many certificates may be submitted in one chain.
-	MostCertificates = 16
+	// MaxCertificates is how many certificates may be submitted in one chain.
+	MaxCertificates = 16
 	// LongestCertificate is how many bytes one may have.
 	LongestCertificate = 256 << 10
-	// MostBytes is how many bytes they may have together.
-	MostBytes = 700 << 10
-	// MostKeyBits is how many bits the RSA key of an issuer may have. (The time of a signature's check grows with their square.)
-	MostKeyBits = 8192
+	// MaxBytes is how many bytes they may have together.
+	MaxBytes = 700 << 10
+	// MaxKeyBits is how many bits the RSA key of an issuer may have. (The time of a signature's check grows with their square.)
+	MaxKeyBits = 8192
 )
 
 // EntryType is the type of an entry (RFC 6962, section 3.1, LogEntryType).
@@ -88,8 +88,8 @@ type Window struct {
 	From, To time.Time
 }
 
-func (w Window) has(moment time.Time) bool {
-	return (w.From.IsZero() || !moment.Before(w.From)) && (w.To.IsZero() || moment.Before(w.To))
+func (w Window) has(timestamp time.Time) bool {
+	return (w.From.IsZero() || !timestamp.Before(w.From)) && (w.To.IsZero() || timestamp.Before(w.To))
 }
 
 // Checker checks chains against a log's roots and its rules. Its methods may be called at once.
@@ -213,7 +213,7 @@ func parse(chain [][]byte) (*certificate, []*x509.Certificate, error) {
 	if len(chain) == 0 {
 		return nil, nil, fmt.Errorf("%w: no certificate", EmptyChain)
 	}
-	if len(chain) > MostCertificates {
+	if len(chain) > MaxCertificates {
 		return nil, nil, fmt.Errorf("%w: %d certificates", ChainTooLong, len(chain))
 	}
 	total := 0
@@ -223,7 +223,7 @@ func parse(chain [][]byte) (*certificate, []*x509.Certificate, error) {
 		}
 		total += len(der)
 	}
-	if total > MostBytes {
+	if total > MaxBytes {
 		return nil, nil, fmt.Errorf("%w: %d bytes", ChainTooLong, total)
 	}
 	first, err := readCertificate(chain[0])
@@ -269,7 +269,7 @@ func (c *Checker) issued(certificate *certificate, issuer *x509.Certificate) err
 	if !authority || issuer.KeyUsage != 0 && issuer.KeyUsage&x509.KeyUsageCertSign == 0 {
 		return fmt.Errorf("%w: the issuer", NotAnAuthority)
 	}
-	if key, ok := issuer.PublicKey.(*rsa.PublicKey); ok && key.N.BitLen() > MostKeyBits {
+	if key, ok := issuer.PublicKey.(*rsa.PublicKey); ok && key.N.BitLen() > MaxKeyBits {
 		return fmt.Errorf("%w: the issuer's, of %d bits", KeyTooLong, key.N.BitLen())
 	}
 	return c.signed(certificate, issuer)

@@ -78,7 +78,7 @@ func wrongly(der []byte) []byte {
 func refusals(t testing.TB, a *authorities) []refused {
 	chain := func(names ...string) [][]byte { return a.chain(t, names...) }
 	leaf, middle, root := chain("leaf")[0], chain("middle")[0], chain("root")[0]
-	seventeen := make([][]byte, MostCertificates+1)
+	seventeen := make([][]byte, MaxCertificates+1)
 	for i := range seventeen {
 		seventeen[i] = root
 	}
@@ -137,7 +137,7 @@ func TestChainsAreRefused(t *testing.T) {
 		if test.roots == "" {
 			test.roots = "root"
 		}
-		window := Window{moment(t, test.from), moment(t, test.til)}
+		window := Window{timestamp(t, test.from), timestamp(t, test.til)}
 		c := NewChecker(rootsNamed(t, a, test), Rules{Window: window}, byASN1{})
 		call := c.Certificate
 		if test.precert {
@@ -171,7 +171,7 @@ func rootsNamed(t testing.TB, a *authorities, test refused) *Roots {
 	return roots
 }
 
-func moment(t testing.TB, text string) time.Time {
+func timestamp(t testing.TB, text string) time.Time {
 	if text == "" {
 		return time.Time{}
 	}
@@ -209,7 +209,7 @@ func signedBy(t testing.TB, template, parent *x509.Certificate, public any, key 
 
 // ofALargeKey gives an authority whose RSA key is too large, and a certificate in its name.
 func ofALargeKey(t testing.TB) (large, of []byte) {
-	modulus := new(big.Int).Lsh(big.NewInt(1), MostKeyBits)
+	modulus := new(big.Int).Lsh(big.NewInt(1), MaxKeyBits)
 	modulus.SetBit(modulus, 0, 1)
 	key, parent := newKey(t), authority("large")
 	large = signedBy(t, authority("large"), parent, &rsa.PublicKey{N: modulus, E: 65537}, key)
@@ -260,7 +260,7 @@ func TestChainOfSixteen(t *testing.T) {
 	if err != nil {
 		t.Fatal(err)
 	}
-	for i := 1; i < MostCertificates+1; i++ {
+	for i := 1; i < MaxCertificates+1; i++ {
 		child := authority(fmt.Sprint(i))
 		chain = append([][]byte{signedBy(t, child, parent, &key.PublicKey, key)}, chain...)
 		parent = child
@@ -269,13 +269,13 @@ func TestChainOfSixteen(t *testing.T) {
 	if _, err := c.Certificate(chain); RefusalOf(err) != ChainTooLong {
 		t.Errorf("17: %v", err)
 	}
-	for _, submitted := range [][][]byte{chain[:MostCertificates], chain[1:]} {
+	for _, submitted := range [][][]byte{chain[:MaxCertificates], chain[1:]} {
 		entry, err := c.Certificate(submitted)
 		if err != nil {
 			t.Fatal(err)
 		}
 		full := append([][]byte{entry.Certificate}, entry.Issuers...)
-		if want := chain[MostCertificates+1-len(full):]; !reflect.DeepEqual(full, want) {
+		if want := chain[MaxCertificates+1-len(full):]; !reflect.DeepEqual(full, want) {
 			t.Errorf("an entry of %d certificates", len(full))
 		}
 	}
@@ -295,7 +295,7 @@ func TestWindow(t *testing.T) {
 		{"", "2027-01-01T00:00:00Z", false},
 		{"", "2027-01-01T00:00:01Z", true},
 	} {
-		_, err := NewChecker(roots, Rules{Window: Window{moment(t, test.from), moment(t, test.to)}}, byASN1{}).Certificate(chain)
+		_, err := NewChecker(roots, Rules{Window: Window{timestamp(t, test.from), timestamp(t, test.to)}}, byASN1{}).Certificate(chain)
 		if (err == nil) != test.taken || err != nil && RefusalOf(err) != OutsideWindow {
 			t.Errorf("from %q to %q: %v", test.from, test.to, err)
 		}
@@ -318,7 +318,7 @@ func TestRoots(t *testing.T) {
 		"a block that isn't read": append([]byte("-----BEGIN CERTIFICATE-----\n*\n-----END CERTIFICATE-----\n"), root...),
 		"a block cut off":         append(root[:len(root):len(root)], other[:200]...),
 		"a block cut off first":   append(append([]byte{}, other[:200]...), root...),
-		"too long":                make([]byte, MostRootBytes+1),
+		"too long":                make([]byte, MaxRootBytes+1),
 	} {
 		if _, err := ParseRoots(text); err == nil {
 			t.Errorf("%s: roots are read", what)

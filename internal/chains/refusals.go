@@ -11,7 +11,7 @@ func (r Refusal) Error() string { return string(r) }
 const (
 	// EmptyChain: there is no certificate.
 	EmptyChain Refusal = "empty-chain"
-	// ChainTooLong: there are more than MostCertificates, or they have more than MostBytes together.
+	// ChainTooLong: there are more than MaxCertificates, or they have more than MaxBytes together.
 	ChainTooLong Refusal = "chain-too-long"
 	// CertificateTooLong: one has more than LongestCertificate bytes.
 	CertificateTooLong Refusal = "certificate-too-long"
@@ -23,7 +23,7 @@ const (
 	UnknownRoot Refusal = "unknown-root"
 	// NotAnAuthority: an issuer may not issue certificates (basicConstraints, keyUsage).
 	NotAnAuthority Refusal = "not-an-authority"
-	// KeyTooLong: an issuer has an RSA key of more than MostKeyBits.
+	// KeyTooLong: an issuer has an RSA key of more than MaxKeyBits.
 	KeyTooLong Refusal = "key-too-long"
 	// BadSignature: a signature isn't the issuer's, or is of a kind that crypto/x509 doesn't check (MD5, DSA).
 	BadSignature Refusal = "bad-signature"

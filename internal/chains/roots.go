@@ -17,10 +17,10 @@ import (
 
 // The bounds of roots.
 const (
-	// MostRoots is how many roots a log has.
-	MostRoots = 4096
-	// MostRootBytes is how many bytes a file of them has.
-	MostRootBytes = 16 << 20
+	// MaxRoots is how many roots a log has.
+	MaxRoots = 4096
+	// MaxRootBytes is how many bytes a file of them has.
+	MaxRootBytes = 16 << 20
 )
 
 // Roots are the certificates that a log takes chains to. They don't change.
@@ -141,12 +141,12 @@ func readBounded(path string) ([]byte, error) {
 		return nil, fmt.Errorf("chains: roots: %w", err)
 	}
 	defer file.Close()
-	text, err := io.ReadAll(io.LimitReader(file, MostRootBytes+1))
+	text, err := io.ReadAll(io.LimitReader(file, MaxRootBytes+1))
 	if err != nil {
 		return nil, fmt.Errorf("chains: roots: %w", err)
 	}
-	if len(text) > MostRootBytes {
-		return nil, fmt.Errorf("chains: roots: %s has more than %d bytes", path, MostRootBytes)
+	if len(text) > MaxRootBytes {
+		return nil, fmt.Errorf("chains: roots: %s has more than %d bytes", path, MaxRootBytes)
 	}
 	return text, nil
 }
@@ -197,8 +197,8 @@ func (r *Roots) take(der []byte, removed map[[32]byte]bool, of LeftOut) error {
 		return nil
 	}
 	r.add(certificate)
-	if len(r.certificates) > MostRoots {
-		return fmt.Errorf("chains: roots: more than %d", MostRoots)
+	if len(r.certificates) > MaxRoots {
+		return fmt.Errorf("chains: roots: more than %d", MaxRoots)
 	}
 	return nil
 }
@@ -272,8 +272,8 @@ func certificatesIn(text []byte) ([][]byte, error) {
 // ParseRoots reads roots in PEM: one CERTIFICATE or more, each counted once, and whatever text between them. A block of another kind, or
 // that isn't a certificate, is an error, and so is a text without roots.
 func ParseRoots(text []byte) (*Roots, error) {
-	if len(text) > MostRootBytes {
-		return nil, fmt.Errorf("chains: roots: more than %d bytes", MostRootBytes)
+	if len(text) > MaxRootBytes {
+		return nil, fmt.Errorf("chains: roots: more than %d bytes", MaxRootBytes)
 	}
 	blocks, err := certificatesIn(text)
 	if err != nil {

@@ -77,7 +77,7 @@ func TestRootFiles(t *testing.T) {
 		"all taken out":              {Paths: []string{pemAt}, Without: list},
 		"a key":                      {Paths: []string{put("key.pem", append(append([]byte{}, root...), read(t, a.path("root.key"))...))}},
 		"cut off":                    {Paths: []string{put("cut.pem", append(append([]byte{}, root...), other[:200]...))}},
-		"too long":                   {Paths: []string{put("long.pem", append(make([]byte, MostRootBytes), root...))}},
+		"too long":                   {Paths: []string{put("long.pem", append(make([]byte, MaxRootBytes), root...))}},
 		"a table without PEM":        {Paths: []string{put("none.csv", []byte("a,b\n1,2\n"))}},
 		"a table of uneven rows":     {Paths: []string{put("rows.csv", []byte("a,PEM\n1\n"))}},
 		"a table without rows":       {Paths: []string{pemAt, put("head.csv", []byte("a,PEM\n"))}},

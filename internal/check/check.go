@@ -148,10 +148,10 @@ func (f *folder) read(path string) error {
 }
 
 type head struct {
-	size, moment uint64
-	root         hash
-	signature    []byte
-	name         string
+	size, timestamp uint64
+	root            hash
+	signature       []byte
+	name            string
 }
 
 // furtherLine is a line of a signature behind the log's: a name, and a key's four bytes and more in base64.
@@ -174,14 +174,14 @@ func (f *folder) heads() ([]head, error) {
 		if err != nil {
 			return nil, fmt.Errorf("%s: %w", name, err)
 		}
-		if h.name = name; fmt.Sprintf("heads/%020d-%020d", h.size, h.moment) != name {
-			return nil, wrong("%s: it is the head of %d leaves at %d", name, h.size, h.moment)
+		if h.name = name; fmt.Sprintf("heads/%020d-%020d", h.size, h.timestamp) != name {
+			return nil, wrong("%s: it is the head of %d leaves at %d", name, h.size, h.timestamp)
 		}
 		heads = append(heads, h)
 	}
 	sort.Slice(heads, func(i, j int) bool { return heads[i].name < heads[j].name })
 	for i := 1; i < len(heads); i++ {
-		if heads[i].moment <= heads[i-1].moment {
+		if heads[i].timestamp <= heads[i-1].timestamp {
 			return nil, wrong("%s isn't later than %s", heads[i].name, heads[i-1].name)
 		}
 	}
@@ -222,10 +222,10 @@ func (f *folder) note(text string) (head, error) {
 	if !bytes.Equal(id[:4], blob[:4]) {
 		return head{}, wrong("the signature is another key's")
 	}
-	h := head{size: size, moment: binary.BigEndian.Uint64(blob[4:12]), signature: blob[12:]}
+	h := head{size: size, timestamp: binary.BigEndian.Uint64(blob[4:12]), signature: blob[12:]}
 	copy(h.root[:], root)
 	message := []byte{0, 1}
-	message = binary.BigEndian.AppendUint64(message, h.moment)
+	message = binary.BigEndian.AppendUint64(message, h.timestamp)
 	message = binary.BigEndian.AppendUint64(message, h.size)
 	return h, f.signed(append(message, root...), h.signature)
 }

@@ -119,22 +119,22 @@ func (p *published) signature(t testing.TB, message []byte) []byte {
 }
 
 // line is that of the log's signature over a head (C2SP static-ct-api: type 5).
-func (p *published) line(t testing.TB, size int, moment uint64, root tlog.Hash) string {
-	message := binary.BigEndian.AppendUint64([]byte{0, 1}, moment)
+func (p *published) line(t testing.TB, size int, timestamp uint64, root tlog.Hash) string {
+	message := binary.BigEndian.AppendUint64([]byte{0, 1}, timestamp)
 	message = append(binary.BigEndian.AppendUint64(message, uint64(size)), root[:]...)
 	id := sha256.Sum256(p.der)
 	name := sha256.Sum256(append([]byte(origin+"\n\x05"), id[:]...))
-	blob := append(binary.BigEndian.AppendUint64(append([]byte{}, name[:4]...), moment), p.signature(t, message)...)
+	blob := append(binary.BigEndian.AppendUint64(append([]byte{}, name[:4]...), timestamp), p.signature(t, message)...)
 	return "— " + origin + " " + base64.StdEncoding.EncodeToString(blob) + "\n"
 }
 
-func nameOfHead(size int, moment uint64) string {
-	return fmt.Sprintf("heads/%020d-%020d", size, moment)
+func nameOfHead(size int, timestamp uint64) string {
+	return fmt.Sprintf("heads/%020d-%020d", size, timestamp)
 }
 
 // head publishes a head.
-func (p *published) head(t testing.TB, size int, moment uint64, root tlog.Hash) {
-	p.objects[nameOfHead(size, moment)] = []byte(fmt.Sprintf("%s\n%d\n%v\n\n%s", origin, size, root, p.line(t, size, moment, root)))
+func (p *published) head(t testing.TB, size int, timestamp uint64, root tlog.Hash) {
+	p.objects[nameOfHead(size, timestamp)] = []byte(fmt.Sprintf("%s\n%d\n%v\n\n%s", origin, size, root, p.line(t, size, timestamp, root)))
 }
 
 // tiles publishes those of a tree.
@@ -165,8 +165,8 @@ func (p *published) tiles(t testing.TB, size int) {
 // hasHead says whether a partial tile is of one of the heads' trees.
 func (p *published) hasHead(name string) bool {
 	for head := range p.objects {
-		var size, moment int
-		if n, _ := fmt.Sscanf(head, "heads/%d-%d", &size, &moment); n < 2 || size == 0 {
+		var size, timestamp int
+		if n, _ := fmt.Sscanf(head, "heads/%d-%d", &size, &timestamp); n < 2 || size == 0 {
 			continue
 		}
 		for _, of := range []string{fmt.Sprintf("tile/0/%03d.p/%d", size/256, size%256), fmt.Sprintf("tile/data/%03d.p/%d", size/256, size%256), fmt.Sprintf("tile/1/000.p/%d", size/256)} {

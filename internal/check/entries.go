@@ -83,12 +83,12 @@ func (e *evidence) lateMerge() (string, error) {
 		return "", err
 	}
 	timestamp, _, ok := timestampOf(e.files["leaf"])
-	if !ok || index < first.size || first.moment < timestamp || first.moment-timestamp <= e.MaxMergeDelay {
-		return "", notShown("entry %d of %d, and a head of %d leaves at %d", index, timestamp, first.size, first.moment)
+	if !ok || index < first.size || first.timestamp < timestamp || first.timestamp-timestamp <= e.MaxMergeDelay {
+		return "", notShown("entry %d of %d, and a head of %d leaves at %d", index, timestamp, first.size, first.timestamp)
 	}
 	return fmt.Sprintf("entry %d has the timestamp %d, and the head of %d leaves that the log signed at %d does not "+
 		"cover it. It must be believed that the maximum merge delay is %d ms",
-		index, timestamp, first.size, first.moment, e.MaxMergeDelay), nil
+		index, timestamp, first.size, first.timestamp, e.MaxMergeDelay), nil
 }
 
 func (e *evidence) laterEntry() (string, error) {
@@ -96,8 +96,8 @@ func (e *evidence) laterEntry() (string, error) {
 	if err != nil {
 		return "", err
 	}
-	if timestamp, _, ok := timestampOf(e.files["leaf"]); !ok || timestamp <= second.moment {
-		return "", notShown("entry %d has the timestamp %d, and the head has %d", index, timestamp, second.moment)
+	if timestamp, _, ok := timestampOf(e.files["leaf"]); !ok || timestamp <= second.timestamp {
+		return "", notShown("entry %d has the timestamp %d, and the head has %d", index, timestamp, second.timestamp)
 	}
 	return fmt.Sprintf("entry %d is later than the head of %d leaves that covers it. Nothing else must be believed",
 		index, second.size), nil
@@ -162,12 +162,12 @@ func (e *evidence) brokenPromise() (string, error) {
 		if err != nil {
 			return "", err
 		}
-		if second.moment < timestamp || second.moment-timestamp <= e.MaxMergeDelay {
-			return "", notShown("the timestamp is %d, and the head was signed at %d", timestamp, second.moment)
+		if second.timestamp < timestamp || second.timestamp-timestamp <= e.MaxMergeDelay {
+			return "", notShown("the timestamp is %d, and the head was signed at %d", timestamp, second.timestamp)
 		}
 		return fmt.Sprintf("the log promised an entry at %d. It must be believed that its maximum merge delay is %d ms, and "+
 			"that the %d leaves of its head of %d lack it: ask for it by its hash",
-			timestamp, e.MaxMergeDelay, second.size, second.moment), nil
+			timestamp, e.MaxMergeDelay, second.size, second.timestamp), nil
 	}
 	_, of, err := e.included()
 	if err != nil {

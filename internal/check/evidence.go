@@ -178,7 +178,7 @@ func (e *evidence) head(name string) (head, error) {
 		message := binary.BigEndian.AppendUint64([]byte{0, 1}, one.timestamp)
 		message = append(binary.BigEndian.AppendUint64(message, found.size), found.root[:]...)
 		if e.verify(message, one.signature) {
-			found.moment = one.timestamp
+			found.timestamp = one.timestamp
 			return found, nil
 		}
 	}
@@ -212,11 +212,11 @@ func (e *evidence) shrunk() (string, error) {
 	if err != nil {
 		return "", err
 	}
-	if second.size >= first.size || second.moment < first.moment {
-		return "", notShown("%d leaves at %d, and %d leaves at %d", first.size, first.moment, second.size, second.moment)
+	if second.size >= first.size || second.timestamp < first.timestamp {
+		return "", notShown("%d leaves at %d, and %d leaves at %d", first.size, first.timestamp, second.size, second.timestamp)
 	}
 	return fmt.Sprintf("the log signed %d leaves at %d, and %d leaves at %d. Nothing else must be believed", first.size,
-		first.moment, second.size, second.moment), nil
+		first.timestamp, second.size, second.timestamp), nil
 }
 
 func (e *evidence) notLater() (string, error) {
@@ -224,11 +224,11 @@ func (e *evidence) notLater() (string, error) {
 	if err != nil {
 		return "", err
 	}
-	if second.size <= first.size || second.moment > first.moment {
-		return "", notShown("%d leaves at %d, and %d leaves at %d", first.size, first.moment, second.size, second.moment)
+	if second.size <= first.size || second.timestamp > first.timestamp {
+		return "", notShown("%d leaves at %d, and %d leaves at %d", first.size, first.timestamp, second.size, second.timestamp)
 	}
 	return fmt.Sprintf("the log signed %d leaves at %d, and more, %d, at %d, which is not later. Nothing else must be "+
-		"believed", first.size, first.moment, second.size, second.moment), nil
+		"believed", first.size, first.timestamp, second.size, second.timestamp), nil
 }
 
 // twoViews judges two heads of one log that different observers saw: neither tree can have begun with the other one if
@@ -285,11 +285,11 @@ func (e *evidence) oldHead() (string, error) {
 	if err != nil {
 		return "", notShown("evidence.json has no time")
 	}
-	if age := at.UnixMilli() - int64(second.moment); age <= int64(e.MaxMergeDelay) {
+	if age := at.UnixMilli() - int64(second.timestamp); age <= int64(e.MaxMergeDelay) {
 		return "", notShown("the head was %d ms old, and the maximum merge delay is %d ms", age, e.MaxMergeDelay)
 	}
 	return fmt.Sprintf("the log signed its head at %d. It must be believed that this was its newest head at %s, and that "+
-		"its maximum merge delay is %d ms", second.moment, e.Time, e.MaxMergeDelay), nil
+		"its maximum merge delay is %d ms", second.timestamp, e.Time, e.MaxMergeDelay), nil
 }
 
 func (e *evidence) badSignature() (string, error) {

@@ -43,8 +43,8 @@ type Held struct {
 	// Bundle is the name of the staged batch of the text's step.
 	Bundle string
 	// Moment is the head's timestamp in milliseconds, and Size the number of entries.
-	Moment uint64
-	Size   uint64
+	Timestamp uint64
+	Size      uint64
 }
 
 // known is a lock's text with its state.
@@ -59,7 +59,7 @@ func readText(text string) (known, error) {
 	if err != nil {
 		return known{}, fmt.Errorf("%w: %w", ErrRefused, err)
 	}
-	return known{Held{Text: text, Bundle: wagtenib.BatchName(state), Moment: state.Timestamp, Size: size}, state}, nil
+	return known{Held{Text: text, Bundle: wagtenib.BatchName(state), Timestamp: state.Timestamp, Size: size}, state}, nil
 }
 
 // Command is what a node does next, and all that is to be known of the node.
@@ -124,7 +124,7 @@ func (o *Outcome) read(command *Command) (told wagtenib.NodeOutcome, came known,
 		told.State = came.state
 	case wagtenib.StepMade:
 		var text []byte
-		if text, err = wagtenib.LockText([]byte(o.line), []byte(o.node), command.Seen.Moment, o.salt); err == nil {
+		if text, err = wagtenib.LockText([]byte(o.line), []byte(o.node), command.Seen.Timestamp, o.salt); err == nil {
 			came, err = readText(string(text))
 		}
 		told.State = came.state
@@ -137,7 +137,7 @@ func (o *Outcome) read(command *Command) (told wagtenib.NodeOutcome, came known,
 }
 
 // Point is how far a log is by one of its heads: its entries, and its timestamp in milliseconds.
-type Point struct{ Size, Moment uint64 }
+type Point struct{ Size, Timestamp uint64 }
 
 // Rooted is a head.
 type Rooted struct {
@@ -164,7 +164,7 @@ func (f Found) inCall() wagtenib.NodeFound {
 		if of == nil {
 			return nil
 		}
-		return &wagtenib.TreeHead{TreeSize: of.Size, Timestamp: of.Moment, Root: of.Root}
+		return &wagtenib.TreeHead{TreeSize: of.Size, Timestamp: of.Timestamp, Root: of.Root}
 	}
 	return wagtenib.NodeFound{
 		Seen: head(f.Seen), Signed: head(f.Guard), Published: f.Published.sized(), Listed: f.Listed.sized(),
@@ -177,7 +177,7 @@ func (p *Point) sized() *wagtenib.HeadSize {
 	if p == nil {
 		return nil
 	}
-	return &wagtenib.HeadSize{TreeSize: p.Size, Timestamp: p.Moment}
+	return &wagtenib.HeadSize{TreeSize: p.Size, Timestamp: p.Timestamp}
 }
 
 // Refusal is why a node does not continue from what it finds.

@@ -13,19 +13,19 @@ import (
 var must = trial.Must
 
 // line is a state's, of so many entries at a moment.
-func line(size, moment uint64) string {
-	return fmt.Sprintf("growth %016x%016x%s", size, moment, strings.Repeat("0", 256))
+func line(size, timestamp uint64) string {
+	return fmt.Sprintf("growth %016x%016x%s", size, timestamp, strings.Repeat("0", 256))
 }
 
-func textOf(size, moment, before, salt uint64) string {
-	return fmt.Sprintf("%s\nnode -\nsalt %016x%016x\n", line(size, moment), before, salt)
+func textOf(size, timestamp, before, salt uint64) string {
+	return fmt.Sprintf("%s\nnode -\nsalt %016x%016x\n", line(size, timestamp), before, salt)
 }
 
 // TestWay goes all the way of a node that has a step made, with what each command is about.
 func TestWay(t *testing.T) {
 	t.Parallel()
 	c := New()
-	seen, new := Held{Text: textOf(3, 7, 5, 1), Moment: 7, Size: 3}, Held{Text: textOf(4, 9, 7, 2), Moment: 9, Size: 4}
+	seen, new := Held{Text: textOf(3, 7, 5, 1), Timestamp: 7, Size: 3}, Held{Text: textOf(4, 9, 7, 2), Timestamp: 9, Size: 4}
 	seen.Bundle, new.Bundle = "staging/000000000000000700000000000000050000000000000001", "staging/000000000000000900000000000000070000000000000002"
 	objects := []string{"tile/0/000.p/4 aa", "tile/data/000.p/4 bb"}
 	command := Begin()
@@ -85,8 +85,8 @@ func TestStarts(t *testing.T) {
 	t.Parallel()
 	c := New()
 	root, other := [32]byte{}, [32]byte{1}
-	at := func(size, moment uint64) *Point { return &Point{size, moment} }
-	rooted := func(size, moment uint64, root [32]byte) *Rooted { return &Rooted{*at(size, moment), root} }
+	at := func(size, timestamp uint64) *Point { return &Point{size, timestamp} }
+	rooted := func(size, timestamp uint64, root [32]byte) *Rooted { return &Rooted{*at(size, timestamp), root} }
 	text := textOf(3, 7, 5, 1)
 	for _, it := range []struct {
 		found Found

@@ -97,7 +97,7 @@ func logOf256(t *testing.T) (kept, signer.Head) {
 	if err != nil {
 		t.Fatal(err)
 	}
-	return objects, signer.Head{Size: tile.Width, Moment: 1800000001000, Root: root}
+	return objects, signer.Head{Size: tile.Width, Timestamp: 1800000001000, Root: root}
 }
 
 // TestKeepsPartialTilesOfDamagedTile bends a full tile, of the data or of the hashes. Its partial ones must stay, and go once it is right again.
@@ -139,7 +139,7 @@ func TestRefusesConfigurationWithoutTimes(t *testing.T) {
 // TestSettledHeadIsOldEnough has a head become settled only after it was seen for the whole time, however often newer ones come.
 func TestSettledHeadIsOldEnough(t *testing.T) {
 	var s settled
-	head := func(size uint64) signer.Head { return signer.Head{Size: size, Moment: 10 * size} }
+	head := func(size uint64) signer.Head { return signer.Head{Size: size, Timestamp: 10 * size} }
 	for second, expected := range []uint64{0, 0, 0, 1, 1, 1, 4, 4, 4, 7} {
 		s.look(head(uint64(second+1)), time.Duration(second)*time.Second, 3*time.Second)
 		if s.head.Size != expected {
@@ -150,9 +150,9 @@ func TestSettledHeadIsOldEnough(t *testing.T) {
 
 // TestNamesOfHeads reads the names that it writes, and no others.
 func TestNamesOfHeads(t *testing.T) {
-	name := headName(signer.Head{Size: 12, Moment: 1800000000123})
-	if moment, ok := momentOf(name); name != "heads/00000000000000000012-00000001800000000123" || !ok || moment != 1800000000123 {
-		t.Errorf("%s is read as %d, %v", name, moment, ok)
+	name := headName(signer.Head{Size: 12, Timestamp: 1800000000123})
+	if timestamp, ok := momentOf(name); name != "heads/00000000000000000012-00000001800000000123" || !ok || timestamp != 1800000000123 {
+		t.Errorf("%s is read as %d, %v", name, timestamp, ok)
 	}
 	for _, wrong := range []string{"heads/", "heads/12-13", name + "0", name[:len(name)-1], "tile/0/000"} {
 		if _, ok := momentOf(wrong); ok {

@@ -86,7 +86,7 @@ func (j *Janitor) call(ctx context.Context, do func(context.Context) error) erro
 func (j *Janitor) read(ctx context.Context, name string) ([]byte, error) {
 	return tile.Stored(func(ctx context.Context, name string) (content []byte, err error) {
 		err = j.call(ctx, func(ctx context.Context) (err error) {
-			content, err = j.config.Objects.Get(ctx, name, stores.MostObject)
+			content, err = j.config.Objects.Get(ctx, name, stores.MaxObject)
 			return err
 		})
 		return content, err
@@ -96,7 +96,7 @@ func (j *Janitor) read(ctx context.Context, name string) ([]byte, error) {
 // list lists names after a name.
 func (j *Janitor) list(ctx context.Context, prefix, after string) (names []string, err error) {
 	err = j.call(ctx, func(ctx context.Context) (err error) {
-		names, err = j.config.Objects.List(ctx, prefix, after, stores.MostListed)
+		names, err = j.config.Objects.List(ctx, prefix, after, stores.MaxListed)
 		return err
 	})
 	return names, err
@@ -186,10 +186,10 @@ func (j *Janitor) deleteHeads(ctx context.Context, _ Newest) error {
 	old, crowded := headName(j.heads.head), headName(j.thin.head)
 	kept, left := uint64(0), maxDeleted
 	for _, name := range names {
-		moment, ok := momentOf(name)
-		isThin := name < crowded && kept > 0 && moment < kept+uint64(j.config.Keep.Apart.Milliseconds())
+		timestamp, ok := momentOf(name)
+		isThin := name < crowded && kept > 0 && timestamp < kept+uint64(j.config.Keep.Apart.Milliseconds())
 		if !ok || name >= old && !isThin {
-			kept = moment
+			kept = timestamp
 			continue
 		}
 		if left--; left < 0 {
@@ -199,7 +199,7 @@ func (j *Janitor) deleteHeads(ctx context.Context, _ Newest) error {
 			return err
 		}
 	}
-	if len(names) < stores.MostListed {
+	if len(names) < stores.MaxListed {
 		j.thinned.due = now + j.config.Keep.Thin
 	}
 	return nil
@@ -207,14 +207,14 @@ func (j *Janitor) deleteHeads(ctx context.Context, _ Newest) error {
 
 // headName returns the name of a head's object. Names are in the order of states.
 func headName(head signer.Head) string {
-	return fmt.Sprintf("%s%020d-%020d", headsPrefix, head.Size, head.Moment)
+	return fmt.Sprintf("%s%020d-%020d", headsPrefix, head.Size, head.Timestamp)
 }
 
 // momentOf reads the timestamp in a head's name, and reports false for any other name.
-func momentOf(name string) (moment uint64, ok bool) {
+func momentOf(name string) (timestamp uint64, ok bool) {
 	var size uint64
-	_, err := fmt.Sscanf(name, headsPrefix+"%020d-%020d", &size, &moment)
-	return moment, err == nil && headName(signer.Head{Size: size, Moment: moment}) == name
+	_, err := fmt.Sscanf(name, headsPrefix+"%020d-%020d", &size, &timestamp)
+	return timestamp, err == nil && headName(signer.Head{Size: size, Timestamp: timestamp}) == name
 }
 
 // batchName matches the names of staged batches. The janitor leaves an object with any other name: no node put it.
@@ -250,7 +250,7 @@ func (j *Janitor) deleteStaged(ctx context.Context, newest Newest) error {
 	j.report.Lock()
 	j.report.Listed = listed
 	j.report.Unlock()
-	if j.staged.after = ""; len(names) == stores.MostListed {
+	if j.staged.after = ""; len(names) == stores.MaxListed {
 		j.staged.after = names[len(names)-1]
 		return nil
 	}

@@ -57,8 +57,8 @@ type Head struct {
 
 // Figures are what an operator looks at. Those that count, count since the start of the process.
 type Figures struct {
-	// Queue is how many submissions wait, and MostQueue at how many no more is taken.
-	Queue, MostQueue int
+	// Queue is how many submissions wait, and MaxQueue at how many no more is taken.
+	Queue, MaxQueue int
 	// Entries is the size of the newest published head, and HeadAge its age by the machine's clock.
 	Entries uint64
 	HeadAge time.Duration

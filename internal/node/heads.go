@@ -23,7 +23,7 @@ type Head struct {
 }
 
 func (h Head) published() stores.Published {
-	return stores.Published{Size: h.Size, Moment: h.Moment}
+	return stores.Published{Size: h.Size, Timestamp: h.Timestamp}
 }
 
 func (h Head) before(other Head) bool { return h.published().Before(other.published()) }
@@ -77,7 +77,7 @@ func (l *Loop) isPublished(ctx context.Context, k *state) (bool, error) {
 
 // headOf reads the head of a state. A head that is not the state's is an error.
 func (l *Loop) headOf(ctx context.Context, k *state) (Head, error) {
-	head, err := l.readHead(ctx, headName(k.Size, k.Moment))
+	head, err := l.readHead(ctx, headName(k.Size, k.Timestamp))
 	if err != nil {
 		return Head{}, err
 	}
@@ -86,9 +86,9 @@ func (l *Loop) headOf(ctx context.Context, k *state) (Head, error) {
 
 // matches returns an error unless a head is a state's.
 func matches(head Head, k *state) error {
-	name := headName(k.Size, k.Moment)
-	if head.Size != k.Size || head.Moment != k.Moment {
-		return fmt.Errorf("%w: %w: %s has the head of %d entries at %d ms", ErrDamaged, errOtherHead, name, head.Size, head.Moment)
+	name := headName(k.Size, k.Timestamp)
+	if head.Size != k.Size || head.Timestamp != k.Timestamp {
+		return fmt.Errorf("%w: %w: %s has the head of %d entries at %d ms", ErrDamaged, errOtherHead, name, head.Size, head.Timestamp)
 	}
 	if head.Root != k.Root {
 		return fmt.Errorf("%w: the lock's text has another root than the signed head %s", ErrDamaged, name)
@@ -139,7 +139,7 @@ func (l *Loop) restore(ctx context.Context, k *state) (Head, error) {
 	if err := l.cosign(ctx, k, &head, resumed.Objects); err != nil {
 		return Head{}, err
 	}
-	if err := l.putRight(ctx, headName(k.Size, k.Moment), head.Note); err != nil {
+	if err := l.putRight(ctx, headName(k.Size, k.Timestamp), head.Note); err != nil {
 		return Head{}, fmt.Errorf("node: %w", err)
 	}
 	return head, nil
@@ -166,7 +166,7 @@ func (l *Loop) putHead(
 		return Head{}, err
 	}
 	put := func(ctx context.Context) error {
-		return l.config.Stores.Objects.Put(ctx, headName(k.Size, k.Moment), made.Note)
+		return l.config.Stores.Objects.Put(ctx, headName(k.Size, k.Timestamp), made.Note)
 	}
 	err = l.config.Machine.Parallel(ctx, put, beside)
 	if errors.Is(err, stores.ErrOther) {
@@ -199,11 +199,11 @@ func (l *Loop) signedHead(ctx context.Context, k *state, of step.Head, objects [
 			break
 		}
 		if try+1 == maxAsked || !l.moved(ctx, lastHead, err) {
-			return Head{}, fmt.Errorf("node: the signer: a head of %d entries at %d ms: %w", k.Size, k.Moment, err)
+			return Head{}, fmt.Errorf("node: the signer: a head of %d entries at %d ms: %w", k.Size, k.Timestamp, err)
 		}
 	}
 	blob := binary.BigEndian.AppendUint32(nil, l.verifier.KeyHash())
-	blob = append(binary.BigEndian.AppendUint64(blob, k.Moment), signed...)
+	blob = append(binary.BigEndian.AppendUint64(blob, k.Timestamp), signed...)
 	made, err := l.parseNote([]byte(of.Checkpoint + "\n" + l.signatureLine() + base64.StdEncoding.EncodeToString(blob) + "\n"))
 	if err != nil || matches(made, k) != nil {
 		return Head{}, fmt.Errorf("node: the step's note is not one of %s: %w", l.config.Origin, errNote)
@@ -284,5 +284,5 @@ func (n *Node) parseNote(content []byte) (Head, error) {
 	if err != nil || len(blob) < 12 {
 		return Head{}, errNote
 	}
-	return Head{signer.Head{Size: size, Moment: binary.BigEndian.Uint64(blob[4:12]), Root: root}, content}, nil
+	return Head{signer.Head{Size: size, Timestamp: binary.BigEndian.Uint64(blob[4:12]), Root: root}, content}, nil
 }

@@ -20,7 +20,7 @@ func (p *pass) index(ctx context.Context) error {
 	}
 	replaced := p.made.replaced
 	for placed := p.made.placed; len(placed) > 0; {
-		some := placed[:min(len(placed), stores.MostPlaces)]
+		some := placed[:min(len(placed), stores.MaxPlaces)]
 		if err := p.config.Stores.Index.Add(ctx, some); err != nil {
 			return fmt.Errorf("node: the index: %w", err)
 		}
@@ -34,7 +34,7 @@ func (p *pass) index(ctx context.Context) error {
 		placed = placed[len(some):]
 	}
 	for len(replaced) > 0 {
-		some := replaced[:min(len(replaced), stores.MostPlaces)]
+		some := replaced[:min(len(replaced), stores.MaxPlaces)]
 		if err := p.config.Stores.Index.Replace(ctx, some); err != nil {
 			return fmt.Errorf("node: the index: %w", err)
 		}
@@ -46,7 +46,7 @@ func (p *pass) index(ctx context.Context) error {
 // addAll adds places, so many at once as an index takes.
 func addAll(ctx context.Context, to Index, placed []stores.Placed) error {
 	for len(placed) > 0 {
-		some := placed[:min(len(placed), stores.MostPlaces)]
+		some := placed[:min(len(placed), stores.MaxPlaces)]
 		if err := to.Add(ctx, some); err != nil {
 			return fmt.Errorf("node: the index: %w", err)
 		}

@@ -154,7 +154,7 @@ func (l *Loop) round(ctx context.Context) error {
 		l.pool.move()
 	}
 	// A state that is decided is published by any clock. With a wrong clock the node takes no submission.
-	skewed := l.clock.check(k.Moment)
+	skewed := l.clock.check(k.Timestamp)
 	p := &pass{Loop: l, from: k, command: k.look}
 	ready, err := p.reach(ctx)
 	if err == nil && ready && skewed != nil {
@@ -190,7 +190,7 @@ func (l *Loop) round(ctx context.Context) error {
 
 // isStale reports whether a head without new entries is due: none was ever published, or the newest is too old.
 func (l *Loop) isStale(k *state) bool {
-	return k.IsBegin() || l.config.Machine.Clock.Now().UnixMilli()-int64(k.Moment) > l.config.Pace.Refresh.Milliseconds()
+	return k.IsBegin() || l.config.Machine.Clock.Now().UnixMilli()-int64(k.Timestamp) > l.config.Pace.Refresh.Milliseconds()
 }
 
 // withoutKnown returns those of a batch that the log does not have. The others have come into it since they were looked up, and their tickets say so.
@@ -223,7 +223,7 @@ func (l *Loop) learn(ctx context.Context) (*state, error) {
 	before := l.seen.newest
 	text, err := l.config.Stores.Lock.Read(ctx)
 	if errors.Is(err, stores.ErrAbsent) {
-		return nil, fmt.Errorf("%w: it is gone, and had %d entries at %d ms (stop all nodes, and see \"Backup\" in OPERATING.md)", ErrRolledBack, before.Size, before.Moment)
+		return nil, fmt.Errorf("%w: it is gone, and had %d entries at %d ms (stop all nodes, and see \"Backup\" in OPERATING.md)", ErrRolledBack, before.Size, before.Timestamp)
 	}
 	if err != nil {
 		l.seen.isVouched = false
@@ -237,8 +237,8 @@ func (l *Loop) learn(ctx context.Context) (*state, error) {
 		if k, err = l.read(text); err != nil {
 			return nil, err
 		}
-		if k.head() != before.head() && !follows(k.Size, k.Moment, before.head()) {
-			return nil, fmt.Errorf("%w: it had %d entries at %d ms, and has %d at %d ms", ErrRolledBack, before.Size, before.Moment, k.Size, k.Moment)
+		if k.head() != before.head() && !follows(k.Size, k.Timestamp, before.head()) {
+			return nil, fmt.Errorf("%w: it had %d entries at %d ms, and has %d at %d ms", ErrRolledBack, before.Size, before.Timestamp, k.Size, k.Timestamp)
 		}
 	}
 	if l.config.Machine.Clock.Elapsed()-l.seen.heard > maxUnheard {
@@ -261,7 +261,7 @@ func (l *Loop) read(text string) (*state, error) {
 	if errors.Is(err, decider.ErrRefused) {
 		return nil, fmt.Errorf("%w: the lock's text is not one of a log: %.40q", ErrDamaged, text)
 	}
-	if err == nil && (k.look.Do != decider.Look || k.look.Seen.Text != text || k.look.Seen.Size != k.Size || k.look.Seen.Moment != k.Moment) {
+	if err == nil && (k.look.Do != decider.Look || k.look.Seen.Text != text || k.look.Seen.Size != k.Size || k.look.Seen.Timestamp != k.Timestamp) {
 		err = fmt.Errorf("%w: %s after a text that was read", errCommand, k.look.Do)
 	}
 	if err != nil {
@@ -335,5 +335,5 @@ func (t *timekeeper) timestamp(newest uint64) (now, ahead uint64, err error) {
 		return 0, 0, err
 	}
 	now = max(uint64(max(t.of.Now().UnixMilli(), 1)), newest+1)
-	return now, max(step.MostAhead, now-newest), nil
+	return now, max(step.MaxAhead, now-newest), nil
 }

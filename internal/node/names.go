@@ -26,17 +26,17 @@ const (
 )
 
 // headName returns the name of a head's object. Names are in the order of states.
-func headName(size, moment uint64) string {
-	return fmt.Sprintf("%s%020d-%020d", headsPrefix, size, moment)
+func headName(size, timestamp uint64) string {
+	return fmt.Sprintf("%s%020d-%020d", headsPrefix, size, timestamp)
 }
 
 // headNamed reads a head's name.
-func headNamed(name string) (size, moment uint64, err error) {
-	_, err = fmt.Sscanf(strings.TrimPrefix(name, headsPrefix), "%020d-%020d", &size, &moment)
-	if err != nil || headName(size, moment) != name {
+func headNamed(name string) (size, timestamp uint64, err error) {
+	_, err = fmt.Sscanf(strings.TrimPrefix(name, headsPrefix), "%020d-%020d", &size, &timestamp)
+	if err != nil || headName(size, timestamp) != name {
 		return 0, 0, fmt.Errorf("%w: %.100q is not the name of a head", ErrDamaged, name)
 	}
-	return size, moment, nil
+	return size, timestamp, nil
 }
 
 // state is a text of the lock: three lines, which are a state's line, the node that set it, and a random number.
@@ -53,12 +53,12 @@ type state struct {
 
 // head returns the head of a state.
 func (k *state) head() signer.Head {
-	return signer.Head{Size: k.Size, Moment: k.Moment, Root: k.Root}
+	return signer.Head{Size: k.Size, Timestamp: k.Timestamp, Root: k.Root}
 }
 
 // published returns how far the log is published once the state is.
 func (k *state) published() stores.Published {
-	return stores.Published{Size: k.Size, Moment: k.Moment}
+	return stores.Published{Size: k.Size, Timestamp: k.Timestamp}
 }
 
 // parseText reads a text of the lock.
@@ -103,12 +103,12 @@ func (c *Config) where() string {
 // textAfter returns the lock's text of a step, and the name of its staged batch, as the decider makes them (docs/NODE.md).
 func (c *Config) textAfter(before uint64, line string, to step.State, salt uint64) (text, bundle string) {
 	return fmt.Sprintf("%s\n%s%s\n%s%016x%016x\n", line, nodeWord, c.where(), saltWord, before, salt),
-		fmt.Sprintf("%s%016x%016x%016x", stagingPrefix, to.Moment, before, salt)
+		fmt.Sprintf("%s%016x%016x%016x", stagingPrefix, to.Timestamp, before, salt)
 }
 
 // follows reports whether a head may come after another one of the same history.
-func follows(size, moment uint64, before signer.Head) bool {
-	return size >= before.Size && moment > before.Moment
+func follows(size, timestamp uint64, before signer.Head) bool {
+	return size >= before.Size && timestamp > before.Timestamp
 }
 
 // reference names an object in the decider's commands: its name, and the digest of its content.

@@ -81,9 +81,9 @@ func (n *Node) readPublished(ctx context.Context, isBrief bool) (stores.Publishe
 // headAt reads the head that is published. If no head has that timestamp, it is the newest one of that size, whose
 // timestamp is published now.
 func (n *Node) headAt(ctx context.Context, published stores.Published) (Head, error) {
-	name := headName(published.Size, published.Moment)
+	name := headName(published.Size, published.Timestamp)
 	head, err := Head{}, error(stores.ErrAbsent)
-	if published.Moment > 0 {
+	if published.Timestamp > 0 {
 		head, err = n.readHead(ctx, name)
 	}
 	if errors.Is(err, stores.ErrAbsent) {
@@ -94,12 +94,12 @@ func (n *Node) headAt(ctx context.Context, published stores.Published) (Head, er
 	switch {
 	case err != nil:
 		return Head{}, err
-	case headName(head.Size, head.Moment) != name:
+	case headName(head.Size, head.Timestamp) != name:
 		return Head{}, fmt.Errorf("%w: %s has the head of %d entries at %d ms", ErrDamaged, name, head.Size,
-			head.Moment)
+			head.Timestamp)
 	case head.published().Before(published):
 		return Head{}, fmt.Errorf("%w: the published head of %d entries at %d ms is missing", ErrDamaged,
-			published.Size, published.Moment)
+			published.Size, published.Timestamp)
 	}
 	return head, nil
 }
@@ -108,7 +108,7 @@ func (n *Node) headAt(ctx context.Context, published stores.Published) (Head, er
 func (n *Node) newestOf(ctx context.Context, size uint64) (string, error) {
 	newest, prefix := "", fmt.Sprintf("%s%020d-", headsPrefix, size)
 	for after := prefix; ; after = newest {
-		names, err := n.config.Stores.Objects.List(ctx, headsPrefix, after, stores.MostListed)
+		names, err := n.config.Stores.Objects.List(ctx, headsPrefix, after, stores.MaxListed)
 		if err != nil {
 			return "", fmt.Errorf("node: the heads: %w", err)
 		}
@@ -116,7 +116,7 @@ func (n *Node) newestOf(ctx context.Context, size uint64) (string, error) {
 		for ; ours < len(names) && strings.HasPrefix(names[ours], prefix); ours++ {
 			newest = names[ours]
 		}
-		if ours < stores.MostListed {
+		if ours < stores.MaxListed {
 			break
 		}
 	}

@@ -108,7 +108,7 @@ type Decider interface {
 
 // Steps makes the proved steps of a log (step.Stepper, docs/GROWTH.md).
 type Steps interface {
-	Begin(moment uint64) (string, error)
+	Begin(timestamp uint64) (string, error)
 	Needs(line string) ([]string, error)
 	Step(line string, edge [][]byte, batch []step.Submission, now, most uint64) (*step.Stepped, error)
 	Resume(line string, bundle []byte) (*step.Resumed, error)

@@ -225,7 +225,7 @@ func (p *pass) step(ctx context.Context) error {
 	}
 	m := &p.made
 	m.isNew, m.content, m.objects, m.head, m.receipts = true, stepped.Bundle, stepped.Objects, stepped.Head, stepped.Receipts
-	m.text, m.bundle = p.config.textAfter(p.from.Moment, stepped.Line, stepped.State, salt)
+	m.text, m.bundle = p.config.textAfter(p.from.Timestamp, stepped.Line, stepped.State, salt)
 	told := decider.Stepped(stepped.Line, p.config.where(), salt, references(stepped.Objects))
 	if err := p.goOn(told); err != nil {
 		return err
@@ -257,14 +257,14 @@ func (p *pass) stepOver(ctx context.Context) (*step.Stepped, error) {
 	for _, t := range p.batch {
 		batch = append(batch, t.submission)
 	}
-	now, ahead, err := p.clock.timestamp(p.from.Moment)
+	now, ahead, err := p.clock.timestamp(p.from.Timestamp)
 	if err != nil {
 		return nil, err
 	}
 	stepped, err := p.config.Proved.Steps.Step(p.from.line, contents, batch, now, ahead)
 	switch {
 	case errors.Is(err, step.TooFar) || errors.Is(err, step.ClockBack):
-		return nil, fmt.Errorf("%w: the step refuses %d ms after %d ms: %v", ErrClock, now, p.from.Moment, err)
+		return nil, fmt.Errorf("%w: the step refuses %d ms after %d ms: %v", ErrClock, now, p.from.Timestamp, err)
 	case errors.Is(err, step.Edge) || errors.Is(err, step.Entries):
 		return nil, fmt.Errorf("%w: %s: %v", ErrDamaged, strings.Join(names, ", "), err)
 	case err != nil:

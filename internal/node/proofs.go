@@ -15,7 +15,7 @@ import (
 // stored reads an object out of the store. One that is missing is ErrDamaged.
 func (n *Node) stored(ctx context.Context, name string) ([]byte, error) {
 	return tile.Stored(func(ctx context.Context, name string) ([]byte, error) {
-		return n.config.Stores.Objects.Get(ctx, name, stores.MostObject)
+		return n.config.Stores.Objects.Get(ctx, name, stores.MaxObject)
 	})(ctx, name)
 }
 

@@ -69,7 +69,7 @@ func (l *Loop) descends(ctx context.Context, k *state, objects []step.Object) er
 func (l *Loop) compare(ctx context.Context, k *state, objects []step.Object) error {
 	accepted := l.seen.accepted
 	// This is decided again below, after the store was read. Here the refusal says in which way the state is older.
-	if k.head() != accepted.head() && !follows(k.Size, k.Moment, accepted.head()) {
+	if k.head() != accepted.head() && !follows(k.Size, k.Timestamp, accepted.head()) {
 		return isOlder(k, accepted.head())
 	}
 	isNext := accepted.line != "" && k.Before == step.Digest(accepted.line)
@@ -93,21 +93,21 @@ func (l *Loop) compare(ctx context.Context, k *state, objects []step.Object) err
 
 // isOlder is the refusal of a state that is older than a head that this node accepted.
 func isOlder(k *state, accepted signer.Head) error {
-	if k.Size == accepted.Size && k.Moment == accepted.Moment {
-		return fmt.Errorf("%w: it has another root of %d entries at %d ms than this node accepted", ErrRolledBack, k.Size, k.Moment)
+	if k.Size == accepted.Size && k.Timestamp == accepted.Timestamp {
+		return fmt.Errorf("%w: it has another root of %d entries at %d ms than this node accepted", ErrRolledBack, k.Size, k.Timestamp)
 	}
-	return fmt.Errorf("%w: it has %d entries at %d ms, and this node accepted %d at %d ms", ErrRolledBack, k.Size, k.Moment, accepted.Size, accepted.Moment)
+	return fmt.Errorf("%w: it has %d entries at %d ms, and this node accepted %d at %d ms", ErrRolledBack, k.Size, k.Timestamp, accepted.Size, accepted.Timestamp)
 }
 
 // headsUpTo compares the names of the store's heads from the newest accepted one on. In one history they are in the order of their timestamps and end with the
 // state's, unless other nodes went on meanwhile. If the state is the very next, there is none between. The last one before the state's is returned.
 func (l *Loop) headsUpTo(ctx context.Context, k *state, isNext bool) (last string, err error) {
-	after, before, own := "", l.seen.accepted.head(), headName(k.Size, k.Moment)
-	if before.Moment > 0 {
-		after = headName(before.Size, before.Moment)
+	after, before, own := "", l.seen.accepted.head(), headName(k.Size, k.Timestamp)
+	if before.Timestamp > 0 {
+		after = headName(before.Size, before.Timestamp)
 	}
 	for {
-		names, err := l.config.Stores.Objects.List(ctx, headsPrefix, after, stores.MostListed)
+		names, err := l.config.Stores.Objects.List(ctx, headsPrefix, after, stores.MaxListed)
 		if err != nil {
 			return "", fmt.Errorf("node: the heads: %w", err)
 		}
@@ -118,16 +118,16 @@ func (l *Loop) headsUpTo(ctx context.Context, k *state, isNext bool) (last strin
 			if name == own {
 				continue
 			}
-			size, moment, err := headNamed(name)
+			size, timestamp, err := headNamed(name)
 			if err != nil {
 				return "", err
 			}
-			if isNext || !follows(size, moment, before) || !follows(k.Size, k.Moment, signer.Head{Size: size, Moment: moment}) {
+			if isNext || !follows(size, timestamp, before) || !follows(k.Size, k.Timestamp, signer.Head{Size: size, Timestamp: timestamp}) {
 				return "", foreign(k, name)
 			}
-			last, before = name, signer.Head{Size: size, Moment: moment}
+			last, before = name, signer.Head{Size: size, Timestamp: timestamp}
 		}
-		if len(names) < stores.MostListed {
+		if len(names) < stores.MaxListed {
 			return last, nil
 		}
 		after = names[len(names)-1]
@@ -136,7 +136,7 @@ func (l *Loop) headsUpTo(ctx context.Context, k *state, isNext bool) (last strin
 
 // foreign is the refusal of a state beside which the store has a head of another history.
 func foreign(k *state, name string) error {
-	return fmt.Errorf("%w: it has %d entries at %d ms, and the store has %s", ErrRolledBack, k.Size, k.Moment, name)
+	return fmt.Errorf("%w: it has %d entries at %d ms, and the store has %s", ErrRolledBack, k.Size, k.Timestamp, name)
 }
 
 // isLater says what a later head than a state's is: other nodes went on meanwhile, or the lock was rolled back.
@@ -165,20 +165,20 @@ func (l *Loop) extends(ctx context.Context, k *state, head signer.Head, objects 
 		}
 	}
 	if err := wagtenib.NodeAccept(treeHead(head), treeHead(k.head()), proof); err != nil {
-		return fmt.Errorf("%w: its %d entries at %d ms do not continue the %d at %d ms that the log had: %v", ErrRolledBack, k.Size, k.Moment, head.Size, head.Moment, err)
+		return fmt.Errorf("%w: its %d entries at %d ms do not continue the %d at %d ms that the log had: %v", ErrRolledBack, k.Size, k.Timestamp, head.Size, head.Timestamp, err)
 	}
 	return nil
 }
 
 // treeHead returns a head as the library has it.
 func treeHead(head signer.Head) wagtenib.TreeHead {
-	return wagtenib.TreeHead{TreeSize: head.Size, Timestamp: head.Moment, Root: head.Root}
+	return wagtenib.TreeHead{TreeSize: head.Size, Timestamp: head.Timestamp, Root: head.Root}
 }
 
 // looksBack checks that neither the store nor the lock knows a later head than the state of the lock's text. This node could not read the lock for a while, so
 // it does not know what was decided meanwhile.
 func (l *Loop) looksBack(ctx context.Context, k *state) error {
-	later, err := l.config.Stores.Objects.List(ctx, headsPrefix, headName(k.Size, k.Moment), 1)
+	later, err := l.config.Stores.Objects.List(ctx, headsPrefix, headName(k.Size, k.Timestamp), 1)
 	if err != nil {
 		return fmt.Errorf("node: the heads: %w", err)
 	}
@@ -199,5 +199,5 @@ func (l *Loop) looksBack(ctx context.Context, k *state) error {
 	if again != k.text {
 		return errMoves
 	}
-	return fmt.Errorf("%w: it has %d entries at %d ms, and %d at %d ms are published", ErrRolledBack, k.Size, k.Moment, published.Size, published.Moment)
+	return fmt.Errorf("%w: it has %d entries at %d ms, and %d at %d ms are published", ErrRolledBack, k.Size, k.Timestamp, published.Size, published.Timestamp)
 }

@@ -16,7 +16,7 @@ var errNoBundle = errors.New("node: no staged batch")
 // resume reads the staged batch of a state.
 func (l *Loop) resume(ctx context.Context, k *state) (*step.Resumed, error) {
 	name := k.look.Seen.Bundle
-	bundle, err := l.config.Stores.Objects.Get(ctx, name, stores.MostObject)
+	bundle, err := l.config.Stores.Objects.Get(ctx, name, stores.MaxObject)
 	if errors.Is(err, stores.ErrAbsent) {
 		return nil, fmt.Errorf("%w: %s: %w (put it back from a backup)", ErrDamaged, name, errNoBundle)
 	}
@@ -36,7 +36,7 @@ func (l *Loop) resume(ctx context.Context, k *state) (*step.Resumed, error) {
 
 // putRight puts an object whose only content is known over anything else under its name.
 func (l *Loop) putRight(ctx context.Context, name string, content []byte) error {
-	stored, err := l.config.Stores.Objects.Get(ctx, name, stores.MostObject)
+	stored, err := l.config.Stores.Objects.Get(ctx, name, stores.MaxObject)
 	if err == nil && bytes.Equal(stored, content) {
 		return nil
 	}

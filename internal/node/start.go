@@ -24,7 +24,7 @@ func Start(ctx context.Context, config Config) (*Node, *Loop, error) {
 		return nil, nil, fmt.Errorf("node: the memory: %w", err)
 	}
 	if remembered != nil {
-		l.seen.accepted.Size, l.seen.accepted.Moment, l.seen.accepted.Root = remembered.Size, remembered.Moment, remembered.Root
+		l.seen.accepted.Size, l.seen.accepted.Timestamp, l.seen.accepted.Root = remembered.Size, remembered.Timestamp, remembered.Root
 	}
 	for range startOver {
 		started, err := l.takeUp(ctx, remembered)
@@ -81,7 +81,7 @@ func rooted(head *signer.Head) *decider.Rooted {
 	if head == nil {
 		return nil
 	}
-	return &decider.Rooted{Point: decider.Point{Size: head.Size, Moment: head.Moment}, Root: head.Root}
+	return &decider.Rooted{Point: decider.Point{Size: head.Size, Timestamp: head.Timestamp}, Root: head.Root}
 }
 
 // find reads the lock, and after that everything that may be ahead of it.
@@ -102,7 +102,7 @@ func (l *Loop) find(ctx context.Context, remembered *signer.Head) (f found, err 
 		return f, fmt.Errorf("node: the lock: %w", err)
 	}
 	if f.published != (stores.Published{}) {
-		f.Published = &decider.Point{Size: f.published.Size, Moment: f.published.Moment}
+		f.Published = &decider.Point{Size: f.published.Size, Timestamp: f.published.Timestamp}
 	}
 	if f.last, err = l.config.Signer.Last(ctx); err != nil {
 		return f, fmt.Errorf("node: the signer: %w", err)
@@ -143,22 +143,22 @@ func (l *Loop) newestListed(ctx context.Context, f found) (*decider.Point, error
 	after := ""
 	switch {
 	case f.k != nil && f.last != nil:
-		after = min(headName(f.k.Size, f.k.Moment), headName(f.last.Size, f.last.Moment))
+		after = min(headName(f.k.Size, f.k.Timestamp), headName(f.last.Size, f.last.Timestamp))
 	case f.k != nil && !f.Guarded:
-		after = headName(f.k.Size, f.k.Moment)
+		after = headName(f.k.Size, f.k.Timestamp)
 	}
 	newest, err := l.newestHead(ctx, after)
 	if err != nil || newest == "" {
 		return nil, err
 	}
-	size, moment, err := headNamed(newest)
-	return &decider.Point{Size: size, Moment: moment}, err
+	size, timestamp, err := headNamed(newest)
+	return &decider.Point{Size: size, Timestamp: timestamp}, err
 }
 
 // newestHead returns the name of the newest head in the store after a name, or nothing.
 func (l *Loop) newestHead(ctx context.Context, after string) (newest string, err error) {
 	for {
-		names, err := l.config.Stores.Objects.List(ctx, headsPrefix, after, stores.MostListed)
+		names, err := l.config.Stores.Objects.List(ctx, headsPrefix, after, stores.MaxListed)
 		if err != nil {
 			return "", fmt.Errorf("node: the heads: %w", err)
 		}
@@ -191,20 +191,20 @@ func refused(refusal decider.Refusal, f found) error {
 	if f.k == nil {
 		return fmt.Errorf("%w: %s: there is no lock, and this is no new log (see \"Backup\" in OPERATING.md)", ErrRolledBack, refusal)
 	}
-	of := fmt.Sprintf("the lock has %d entries at %d ms", f.k.Size, f.k.Moment)
+	of := fmt.Sprintf("the lock has %d entries at %d ms", f.k.Size, f.k.Timestamp)
 	switch refusal {
 	case decider.TwoRoots:
 		return fmt.Errorf("%w: %s, and the signer approved another root of these", ErrDamaged, of)
 	case decider.GuardBehind:
-		return fmt.Errorf("%w: it is older than the log, whose store has a head of %d entries at %d ms (see \"Backup\" in OPERATING.md)", signer.ErrState, f.Listed.Size, f.Listed.Moment)
+		return fmt.Errorf("%w: it is older than the log, whose store has a head of %d entries at %d ms (see \"Backup\" in OPERATING.md)", signer.ErrState, f.Listed.Size, f.Listed.Timestamp)
 	case decider.BehindGuard:
-		return fmt.Errorf("%w: %s, and the signer approved %d at %d ms", ErrRolledBack, of, f.last.Size, f.last.Moment)
+		return fmt.Errorf("%w: %s, and the signer approved %d at %d ms", ErrRolledBack, of, f.last.Size, f.last.Timestamp)
 	case decider.BehindSeen:
-		return fmt.Errorf("%w: %s, and this machine accepted %d at %d ms, or another root", ErrRolledBack, of, f.Seen.Size, f.Seen.Moment)
+		return fmt.Errorf("%w: %s, and this machine accepted %d at %d ms, or another root", ErrRolledBack, of, f.Seen.Size, f.Seen.Timestamp)
 	case decider.BehindListed:
-		return fmt.Errorf("%w: %s, and the store has a head of %d at %d ms", ErrRolledBack, of, f.Listed.Size, f.Listed.Moment)
+		return fmt.Errorf("%w: %s, and the store has a head of %d at %d ms", ErrRolledBack, of, f.Listed.Size, f.Listed.Timestamp)
 	case decider.BehindPublished:
-		return fmt.Errorf("%w: %s, and %d at %d ms are published", ErrRolledBack, of, f.published.Size, f.published.Moment)
+		return fmt.Errorf("%w: %s, and %d at %d ms are published", ErrRolledBack, of, f.published.Size, f.published.Timestamp)
 	}
 	return fmt.Errorf("%w: %s: %s", ErrRolledBack, refusal, of)
 }

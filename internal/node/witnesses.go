@@ -180,7 +180,7 @@ func (l *Loop) gather(ctx context.Context, a *asking) ([]byte, error) {
 	case a.behind != nil:
 		return nil, l.unwitnessed(ctx, a)
 	}
-	return nil, fmt.Errorf("%w: of %d entries at %d ms: %d of %d did, and %d are needed: %w", ErrWitnesses, a.k.Size, a.k.Moment, a.given, len(all), a.least, a.other)
+	return nil, fmt.Errorf("%w: of %d entries at %d ms: %d of %d did, and %d are needed: %w", ErrWitnesses, a.k.Size, a.k.Timestamp, a.given, len(all), a.least, a.other)
 }
 
 // unwitnessed returns what it means that a witness saw more: other nodes went on meanwhile, or the log was rolled back.
@@ -192,7 +192,7 @@ func (l *Loop) unwitnessed(ctx context.Context, a *asking) error {
 	if again != a.k.text {
 		return errMoves
 	}
-	return fmt.Errorf("%w: it has %d entries at %d ms: %v", ErrRolledBack, a.k.Size, a.k.Moment, a.behind)
+	return fmt.Errorf("%w: it has %d entries at %d ms: %v", ErrRolledBack, a.k.Size, a.k.Timestamp, a.behind)
 }
 
 // cosignature has one witness cosign a head. It is asked from the size that it is known to have cosigned last, and then from the one that it says. Only the

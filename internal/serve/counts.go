@@ -152,14 +152,14 @@ func (c *counts) into(f *log.Figures) {
 
 // Figures is log.Log's.
 func (l *Log) Figures() log.Figures {
-	f := log.Figures{Queue: l.node.Waiting(), MostQueue: l.config.Pace.MaxQueue}
+	f := log.Figures{Queue: l.node.Waiting(), MaxQueue: l.config.Pace.MaxQueue}
 	if counted, ok := l.config.Signer.(interface{ Starts() uint64 }); ok {
 		f.SignerStarts = counted.Starts()
 	}
 	l.counts.into(&f)
 	if head := l.node.Known(); head != nil {
 		f.Entries = head.Size
-		f.HeadAge = time.Duration(l.config.Machine.Of.Now().UnixMilli()-int64(head.Moment)) * time.Millisecond
+		f.HeadAge = time.Duration(l.config.Machine.Of.Now().UnixMilli()-int64(head.Timestamp)) * time.Millisecond
 	}
 	if decided := l.node.Decided(); decided.Size > f.Entries {
 		f.Unpublished = decided.Size - f.Entries

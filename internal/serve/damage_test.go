@@ -44,32 +44,32 @@ func TestDamagedTilesAreNotGiven(t *testing.T) {
 			content, err := os.ReadFile(p.object(name))
 			must(t, err)
 			must(t, damage(p.object(name)))
-			_, err = l.Object(ctx, name, stores.MostObject)
+			_, err = l.Object(ctx, name, stores.MaxObject)
 			wants(t, err, log.ErrStore, node.ErrDamaged)
 			if f := l.Figures(); f.Damaged == 0 || i == 0 && !strings.Contains(f.Damage, name) {
 				t.Errorf("%s, %s: %d tiles are damaged, %q", name, how, f.Damaged, f.Damage)
 			}
-			if _, err := l.Object(ctx, full[(i+2)%len(full)], stores.MostObject); err != nil {
+			if _, err := l.Object(ctx, full[(i+2)%len(full)], stores.MaxObject); err != nil {
 				t.Errorf("%s is %s, and another one: %v", name, how, err)
 			}
 			must(t, os.WriteFile(p.object(name), content, 0o644))
-			if given, err := l.Object(ctx, name, stores.MostObject); err != nil || !bytes.Equal(given, content) {
+			if given, err := l.Object(ctx, name, stores.MaxObject); err != nil || !bytes.Equal(given, content) {
 				t.Errorf("%s after it was %s: %v", name, how, err)
 			}
 		}
 	}
 	for _, name := range []string{"tile/data/002", "tile/0/007", "tile/2/000", "tile/data/000.p/7"} {
-		if _, err := l.Object(ctx, name, stores.MostObject); !errors.Is(err, stores.ErrAbsent) || errors.Is(err,
+		if _, err := l.Object(ctx, name, stores.MaxObject); !errors.Is(err, stores.ErrAbsent) || errors.Is(err,
 			log.ErrStore) {
 			t.Errorf("%s, which the tree does not have: %v", name, err)
 		}
 	}
 	for _, name := range []string{"register", "heads/x", "staging/x", "../key.pem"} {
-		_, err := l.Object(ctx, name, stores.MostObject)
+		_, err := l.Object(ctx, name, stores.MaxObject)
 		wants(t, err, stores.ErrName)
 	}
 	must(t, os.Remove(p.object("tile/data/002.p/88")))
-	_, err := l.Object(ctx, "tile/data/002.p/88", stores.MostObject)
+	_, err := l.Object(ctx, "tile/data/002.p/88", stores.MaxObject)
 	wants(t, err, log.ErrStore)
 }
 

@@ -58,7 +58,7 @@ func (f *finder) Find(ctx context.Context, identities []stores.Identity) (map[st
 func (f *finder) join(identities []stores.Identity) *lookup {
 	f.mu.Lock()
 	defer f.mu.Unlock()
-	if f.next != nil && len(f.next.identities)+len(identities) > stores.MostPlaces {
+	if f.next != nil && len(f.next.identities)+len(identities) > stores.MaxPlaces {
 		full := f.next
 		f.next = nil
 		go f.call(full)

@@ -80,7 +80,7 @@ func (p *place) config() serve.Config {
 	config.Stores = serve.Stores{Objects: objects, Lock: lock, Index: index}
 	state, err := stores.OpenFile(p.path("guard"))
 	must(p.t, err)
-	config.Signer, err = signer.Behind(ctx, p.key, signer.Guard{State: state, Create: true})
+	config.Signer, err = signer.NewGuarded(ctx, p.key, signer.Guard{State: state, Create: true})
 	must(p.t, err)
 	return config
 }

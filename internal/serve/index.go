@@ -45,8 +45,8 @@ func newID(ctx context.Context, in stores.Places) (id stores.Place, err error) {
 	if _, err := rand.Read(chance[:]); err != nil {
 		return id, fmt.Errorf("serve: %w", err)
 	}
-	id.Index, id.Timestamp = binary.BigEndian.Uint64(chance[:8])&stores.MostNumber,
-		binary.BigEndian.Uint64(chance[8:])&stores.MostNumber
+	id.Index, id.Timestamp = binary.BigEndian.Uint64(chance[:8])&stores.MaxNumber,
+		binary.BigEndian.Uint64(chance[8:])&stores.MaxNumber
 	if err := in.Add(ctx, []stores.Placed{{Identity: ownIdentity, Place: id}}); err != nil {
 		return id, fmt.Errorf("serve: the index: %w", err)
 	}
@@ -59,7 +59,7 @@ func newID(ctx context.Context, in stores.Places) (id stores.Place, err error) {
 
 // storedIDs lists the ids that the store has. It has one, except before the first start.
 func storedIDs(ctx context.Context, in stores.Objects) ([]string, error) {
-	names, err := in.List(ctx, placesPrefix, "", stores.MostListed)
+	names, err := in.List(ctx, placesPrefix, "", stores.MaxListed)
 	if err != nil {
 		return nil, fmt.Errorf("serve: the objects: %w", err)
 	}
@@ -145,7 +145,7 @@ func RebuildIndex(ctx context.Context, of Stores, told func(left uint64)) error 
 	if err != nil {
 		return fmt.Errorf("serve: the lock: %w", err)
 	}
-	if published.Before(stores.Published{Size: head.Size, Moment: head.Moment}) {
+	if published.Before(stores.Published{Size: head.Size, Timestamp: head.Timestamp}) {
 		return fmt.Errorf("%w: the newest state is not published "+
 			"(start a node, which publishes it, and run this again)", node.ErrIndex)
 	}
@@ -153,7 +153,7 @@ func RebuildIndex(ctx context.Context, of Stores, told func(left uint64)) error 
 		return err
 	}
 	read := tile.Stored(func(ctx context.Context, name string) ([]byte, error) {
-		return of.Objects.Get(ctx, name, stores.MostObject)
+		return of.Objects.Get(ctx, name, stores.MaxObject)
 	})
 	for number := (head.Size + tile.Width - 1) / tile.Width; number > 0; number-- {
 		leaves, err := tile.LeavesOf(ctx, tile.Data((number-1)*tile.Width, head.Size), head, read)

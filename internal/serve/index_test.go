@@ -23,7 +23,7 @@ func TestIndexByItsID(t *testing.T) {
 	config.Stores.Index = other.config().Stores.Index
 	_, err := serve.Open(limited(t), config)
 	wants(t, err, node.ErrIndex)
-	if names, err := p.config().Stores.Objects.List(limited(t), "places/", "", stores.MostListed); err != nil ||
+	if names, err := p.config().Stores.Objects.List(limited(t), "places/", "", stores.MaxListed); err != nil ||
 		len(names) != 1 {
 		t.Errorf("%v %v", names, err)
 	}

@@ -48,7 +48,7 @@ func TestOneNode(t *testing.T) {
 		f.Fault != "" || f.Steps == 0 || f.Batches.Submissions != 300 || f.Written == 0 {
 		t.Errorf("%+v %+v", head, f)
 	}
-	must(t, signer.CheckHead(p.key.Key(), signer.Head{Size: head.TreeSize, Moment: head.Timestamp,
+	must(t, signer.CheckHead(p.key.Key(), signer.Head{Size: head.TreeSize, Timestamp: head.Timestamp,
 		Root: head.RootHash}, head.Signature))
 	for _, phase := range f.Phases {
 		if phase.Count == 0 && phase.Name != "delete" {
@@ -56,7 +56,7 @@ func TestOneNode(t *testing.T) {
 		}
 	}
 	for _, name := range []string{"tile/0/000", "tile/1/000.p/2", "tile/data/001", "tile/data/002.p/188"} {
-		if content, err := l.Object(limited(t), name, stores.MostObject); err != nil || len(content) == 0 {
+		if content, err := l.Object(limited(t), name, stores.MaxObject); err != nil || len(content) == 0 {
 			t.Errorf("%s: %v", name, err)
 		}
 	}

@@ -45,7 +45,7 @@ func (m memory) Load(context.Context) (*signer.Head, error) {
 		return nil, fmt.Errorf("%w: %s has a head of a log with another key (name another file by --latest-head)",
 			node.ErrConfig, m.path)
 	}
-	return &signer.Head{Size: read.TreeSize, Moment: read.Timestamp, Root: [32]byte(read.RootHash)}, nil
+	return &signer.Head{Size: read.TreeSize, Timestamp: read.Timestamp, Root: [32]byte(read.RootHash)}, nil
 }
 
 // Save replaces the file. It returns after the file is on the disk.
@@ -53,7 +53,7 @@ func (m memory) Save(_ context.Context, head signer.Head) error {
 	if m.path == "" {
 		return nil
 	}
-	content, err := json.Marshal(latestHead{m.logID[:], head.Root[:], head.Moment, head.Size})
+	content, err := json.Marshal(latestHead{m.logID[:], head.Root[:], head.Timestamp, head.Size})
 	if err != nil {
 		return fmt.Errorf("serve: the latest head: %w", err)
 	}

@@ -28,7 +28,7 @@ func (l *Log) Object(ctx context.Context, name string, most int64) ([]byte, erro
 	}
 	content, err := l.config.Stores.Objects.Get(ctx, name, most)
 	var long stores.TooLong
-	if errors.Is(err, stores.ErrName) || errors.As(err, &long) && long.Length <= stores.MostObject {
+	if errors.Is(err, stores.ErrName) || errors.As(err, &long) && long.Length <= stores.MaxObject {
 		return nil, err
 	}
 	isMissing := errors.Is(err, stores.ErrAbsent)
@@ -90,7 +90,7 @@ func (l *Log) headWith(ctx context.Context, of tlog.Tile) (signer.Head, error) {
 		return now.Head, nil
 	}
 	head, err := l.Checkpoint(ctx)
-	return signer.Head{Size: head.TreeSize, Moment: head.Timestamp, Root: head.RootHash}, err
+	return signer.Head{Size: head.TreeSize, Timestamp: head.Timestamp, Root: head.RootHash}, err
 }
 
 // read reads an object of the log.
@@ -98,7 +98,7 @@ func (l *Log) read(ctx context.Context, name string) ([]byte, error) {
 	return tile.Stored(func(ctx context.Context, name string) ([]byte, error) {
 		ctx, cancel := context.WithTimeout(ctx, patience)
 		defer cancel()
-		return l.config.Stores.Objects.Get(ctx, name, stores.MostObject)
+		return l.config.Stores.Objects.Get(ctx, name, stores.MaxObject)
 	})(ctx, name)
 }
 

@@ -44,17 +44,17 @@ func TestPageSaysBounds(t *testing.T) {
 	})
 	// 255 of the largest entries and a step's new ones, with what a tile and a line have beside them, and a tile of the
 	// largest.
-	const beside = 10 + 32 + 2*3 + 2 + 8 + 2 + 32*chains.MostCertificates
+	const beside = 10 + 32 + 2*3 + 2 + 8 + 2 + 32*chains.MaxCertificates
 	largest, answers := int64(tile.Width*(MaxEntry+beside)), web.DefaultLimits().AnswerBytes
-	ofOne := max(answers/8, stores.MostObject+1<<20)
+	ofOne := max(answers/8, stores.MaxObject+1<<20)
 	// Half of what is written are partial tiles, and these stay for as long again as they have to.
 	partials := float64(maxWritten) / 2 * 2 * keepTiles.Seconds()
 	trial.Says(t, trial.Page(t, "../../docs/SERVICE.md"), map[string]bool{
 		"An entry has at most 128 KiB because a step holds 255 of them, in the partial data tile, beside 12 MiB of new ones": MaxEntry == 128<<10 && tile.Width-1 == 255 && MaxBatchBytes == 12<<20,
-		"So a data tile has at most 34 MB. Answers hold at most 15 of these at once, and two for one address": math.Round(float64(largest)/1e6) == 34 && largest < stores.MostObject &&
+		"So a data tile has at most 34 MB. Answers hold at most 15 of these at once, and two for one address": math.Round(float64(largest)/1e6) == 34 && largest < stores.MaxObject &&
 			answers/largest == 15 && ofOne/largest == 2,
 		"which stay for five to ten minutes until they are deleted: up to 5 GB": partials >= 5e9 && partials < 5.1e9,
-		"| the tree | 2^40 entries: `full` |":                                   step.MostLeaves == 1<<40,
+		"| the tree | 2^40 entries: `full` |":                                   step.MaxLeaves == 1<<40,
 	})
 	trial.Says(t, trial.Page(t, "../../docs/OPERATING.md"), map[string]bool{
 		"(the last name in heads/ is SIZE-TIMESTAMP)": true,

@@ -117,7 +117,7 @@ func (l *Log) headOf(head node.Head) (log.Head, error) {
 	if err != nil {
 		return log.Head{}, fault{log.ErrStore, err}
 	}
-	return log.Head{Note: head.Note, TreeSize: head.Size, Timestamp: head.Moment, RootHash: head.Root,
+	return log.Head{Note: head.Note, TreeSize: head.Size, Timestamp: head.Timestamp, RootHash: head.Root,
 		Signature: signature}, nil
 }
 

@@ -163,7 +163,7 @@ func (s *sources) hearNode(address string, at time.Time, before time.Duration) {
 
 // hearWitness keeps the time of a witness's cosignature.
 func (s *sources) hearWitness(name, line string, before time.Duration) {
-	if _, at, ok := witness.MomentOf(line); ok {
+	if _, at, ok := witness.TimestampOf(line); ok {
 		s.hear(s.cosigned, name, at, time.Second, before)
 	}
 }

@@ -109,7 +109,7 @@ func submissionOf(entry log.Entry) (step.Submission, error) {
 		return s, fmt.Errorf("%w: it has %d bytes, and may have %d", log.ErrTooLarge, bytes, MaxEntry)
 	}
 	isWhole := len(s.LeafCertificate) > 0 || len(s.PreCertificate) > 0 && len(s.TBSCertificate) > 0
-	if !isWhole || len(entry.Issuers) > chains.MostCertificates {
+	if !isWhole || len(entry.Issuers) > chains.MaxCertificates {
 		return s, fmt.Errorf("%w: the entry is neither a certificate nor a precertificate, or its chain is too long",
 			node.ErrConfig)
 	}

@@ -9,63 +9,63 @@ import (
 	"time"
 )
 
-// asker has one end, one exchange at a time, and opens it again if it is gone. Its methods may be called at once.
+// asker has one peer, for one exchange at a time, and opens it again if it has ended. Its methods may be called concurrently.
 type asker struct {
-	open  func(context.Context) (*End, error)
+	open  func(context.Context) (*Peer, error)
 	limit time.Duration
 	opens atomic.Uint64
-	// turn holds the end, or nil if none is open. The goroutine that took it asks.
-	turn chan *End
+	// turn holds the peer, or nil if none is open. The goroutine that has received from it may ask.
+	turn chan *Peer
 	mu   sync.Mutex
-	// stop ends the exchange that runs; nil before the first.
+	// stop ends the running exchange. It is nil before the first exchange.
 	stop context.CancelFunc
 }
 
-// newAsker takes what opens an end, and how long an exchange may take. The first exchange opens it.
-func newAsker(open func(context.Context) (*End, error), limit time.Duration) *asker {
-	c := &asker{open: open, limit: limit, turn: make(chan *End, 1)}
+// newAsker returns an asker of the peer that open returns. The first exchange opens it. limit is the timeout of an exchange.
+func newAsker(open func(context.Context) (*Peer, error), limit time.Duration) *asker {
+	c := &asker{open: open, limit: limit, turn: make(chan *Peer, 1)}
 	c.turn <- nil
 	return c
 }
 
-// close closes the end, and doesn't wait for an exchange that runs.
+// close closes the peer. It interrupts a running exchange.
 func (c *asker) close() {
 	c.mu.Lock()
 	if c.stop != nil {
 		c.stop()
 	}
 	c.mu.Unlock()
-	if e := <-c.turn; e != nil {
-		e.Close()
+	if peer := <-c.turn; peer != nil {
+		peer.Close()
 	}
 	c.turn <- nil
 }
 
-// ask has the end, which is opened if none is, reply to a line, gives the reply to read, and returns the error of that. If that is an ErrReply, the end is closed before
-// anybody else asks it.
+// ask sends a line to the peer, calls read with the reply, and returns read's error. It opens the peer first if none is open. If the error is an ErrReply, the peer is
+// closed before the next exchange.
 //
-// ask returns once the context ends, but the exchange goes on until its reply or its limit: the end is shared, so a caller that leaves must not close it
-// for the others. Until then the line may still be read, and read may be called: a caller must use nothing that read sets if ask returns an error.
+// ask returns if the context ends, but the exchange continues until its reply or its limit: other callers share the peer, so a caller that leaves must not close it.
+// Until then the line may still be read, and read may be called. So if ask returns an error, a caller must not use anything that read sets.
 func (c *asker) ask(ctx context.Context, line []byte, read func(reply []byte) error) error {
-	var e *End
+	var peer *Peer
 	select {
-	case e = <-c.turn:
+	case peer = <-c.turn:
 	case <-ctx.Done():
 		return fmt.Errorf("%w: %v", ErrGone, ctx.Err())
 	}
-	// (select may have taken the turn although the context has ended)
+	// select may have received the turn although the context has ended.
 	if ctx.Err() != nil {
-		c.turn <- e
+		c.turn <- peer
 		return fmt.Errorf("%w: %v", ErrGone, ctx.Err())
 	}
-	own, stop := context.WithCancel(context.Background())
+	exchanging, stop := context.WithCancel(context.Background())
 	c.mu.Lock()
 	c.stop = stop
 	c.mu.Unlock()
 	done := make(chan error, 1)
 	go func() {
 		defer stop()
-		left, err := c.asks(own, e, line, read)
+		left, err := c.askInTurn(exchanging, peer, line, read)
 		c.turn <- left
 		done <- err
 	}()
@@ -77,26 +77,26 @@ func (c *asker) ask(ctx context.Context, line []byte, read func(reply []byte) er
 	}
 }
 
-// asks asks with the turn, and returns the end that is left for the next one, or nil.
-func (c *asker) asks(ctx context.Context, e *End, line []byte, read func([]byte) error) (left *End, err error) {
-	if e != nil && e.hasUnread() {
-		// Nothing is lost yet: another one is asked in its place.
-		e.Close()
-		e = nil
+// askInTurn asks while this goroutine has the turn. It returns the peer for the next exchange, or nil.
+func (c *asker) askInTurn(ctx context.Context, peer *Peer, line []byte, read func([]byte) error) (left *Peer, err error) {
+	if peer != nil && peer.hasUnread() {
+		// No request has been sent yet, so a new peer can take this one's place.
+		peer.Close()
+		peer = nil
 	}
-	if e == nil {
-		if e, err = c.open(ctx); err != nil {
+	if peer == nil {
+		if peer, err = c.open(ctx); err != nil {
 			return nil, err
 		}
 		c.opens.Add(1)
 	}
-	came, err := e.exchange(ctx, c.limit, line)
+	reply, err := peer.exchange(ctx, c.limit, line)
 	if err != nil {
 		return nil, err
 	}
-	if err = read(came); errors.Is(err, ErrReply) {
-		e.Close()
+	if err = read(reply); errors.Is(err, ErrReply) {
+		peer.Close()
 		return nil, err
 	}
-	return e, err
+	return peer, err
 }

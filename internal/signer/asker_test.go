@@ -18,7 +18,7 @@ import (
 	"wagtenib/internal/trial"
 )
 
-func cat(context.Context) (*End, error) { return Start([]string{"cat"}) }
+func cat(context.Context) (*Peer, error) { return Start([]string{"cat"}) }
 
 // said returns what an asker reads.
 func said(c *asker, ctx context.Context, line string) (reply string, err error) {
@@ -40,7 +40,7 @@ func TestUnaskedReply(t *testing.T) {
 	second := filepath.Join(folder, "second")
 	must(t, syscall.Mkfifo(second, 0o600))
 	program := []string{"sh", "-c", `read -r x; echo "$x"; echo stale; echo said >"$1"; while read -r x; do echo "$x"; done`, "sh", second}
-	c := newAsker(func(context.Context) (*End, error) { return Start(program) }, trial.Longest)
+	c := newAsker(func(context.Context) (*Peer, error) { return Start(program) }, trial.Longest)
 	defer c.close()
 	for i := 1; i <= 3; i++ {
 		reply, err := said(c, limited(t), "asked\n")
@@ -65,7 +65,7 @@ func TestUnaskedReply(t *testing.T) {
 // TestWrongReplyEndsTheProgram has what reads a reply refuse it: the program is ended for a reply that is none, and for nothing else, before anybody else asks it.
 func TestWrongReplyEndsTheProgram(t *testing.T) {
 	t.Parallel()
-	c := newAsker(func(context.Context) (*End, error) {
+	c := newAsker(func(context.Context) (*Peer, error) {
 		return Start([]string{"sh", "-c", "while read -r x; do echo $$; done"})
 	}, trial.Longest)
 	defer c.close()
@@ -88,7 +88,7 @@ func TestWrongReplyEndsTheProgram(t *testing.T) {
 	}
 }
 
-// TestRestart kills the process between two exchanges: the first one behind that fails, and the next is answered.
+// TestRestart kills the process between two exchanges. The next exchange fails, and the one after it is answered.
 func TestRestart(t *testing.T) {
 	ctx, c := context.Background(), newAsker(cat, trial.Longest)
 	defer c.close()
@@ -109,13 +109,14 @@ func TestRestart(t *testing.T) {
 	}
 }
 
-// TestWhoIsGoneAsksNothing: who asks with a context that has ended gets nothing, and no end is killed for that, nor opened.
-func TestWhoIsGoneAsksNothing(t *testing.T) {
+// TestCallerWithAnEndedContext has callers ask with a context that has ended. They get no reply, and no peer is closed
+// or opened for them.
+func TestCallerWithAnEndedContext(t *testing.T) {
 	c := newAsker(cat, trial.Longest)
 	defer c.close()
 	gone, cancel := context.WithCancel(context.Background())
 	cancel()
-	// (of two that can be chosen one is by chance)
+	// (select chooses at random between two ready cases)
 	for i := 0; i < 100; i++ {
 		if reply, err := said(c, gone, "one\n"); !errors.Is(err, ErrGone) {
 			t.Fatalf("%q, %v", reply, err)
@@ -145,16 +146,16 @@ func TestCallerLeaves(t *testing.T) {
 	}
 	// The program says in one FIFO that it has read a line, and replies once the other one says so.
 	program := []string{"sh", "-c", `while read -r x; do echo "$x" >"$1"; read -r y <"$2"; echo "$x"; done`, "sh", reads, goes}
-	c := newAsker(func(context.Context) (*End, error) { return Start(program) }, trial.Longest)
+	c := newAsker(func(context.Context) (*Peer, error) { return Start(program) }, trial.Longest)
 	defer c.close()
 	for i := 0; i < 5; i++ {
 		ctx, leave := context.WithCancel(context.Background())
 		left := make(chan error, 1)
 		go func() {
-			_, err := said(c, ctx, "of who leaves\n")
+			_, err := said(c, ctx, "of a caller that leaves\n")
 			left <- err
 		}()
-		if read, err := os.ReadFile(reads); err != nil || string(read) != "of who leaves\n" {
+		if read, err := os.ReadFile(reads); err != nil || string(read) != "of a caller that leaves\n" {
 			t.Fatalf("%q, %v", read, err)
 		}
 		leave()
@@ -162,13 +163,13 @@ func TestCallerLeaves(t *testing.T) {
 		must(t, os.WriteFile(goes, []byte("\n"), 0))
 		stays := make(chan error, 1)
 		go func() {
-			reply, err := said(c, context.Background(), "of who stays\n")
-			if err == nil && reply != "of who stays" {
+			reply, err := said(c, context.Background(), "of a caller that stays\n")
+			if err == nil && reply != "of a caller that stays" {
 				err = errors.New(reply)
 			}
 			stays <- err
 		}()
-		if read, err := os.ReadFile(reads); err != nil || string(read) != "of who stays\n" {
+		if read, err := os.ReadFile(reads); err != nil || string(read) != "of a caller that stays\n" {
 			t.Fatalf("%q, %v", read, err)
 		}
 		must(t, os.WriteFile(goes, []byte("\n"), 0))
@@ -179,12 +180,13 @@ func TestCallerLeaves(t *testing.T) {
 	}
 }
 
-// TestCloseInterrupts closes a client while its program works on what a caller asked that left: Close must not wait for the limit.
+// TestCloseInterrupts closes an asker while its program works on the request of a caller that has left. Close must not
+// wait for the limit.
 func TestCloseInterrupts(t *testing.T) {
 	t.Parallel()
 	reads := filepath.Join(t.TempDir(), "reads")
 	must(t, syscall.Mkfifo(reads, 0o600))
-	c := newAsker(func(context.Context) (*End, error) {
+	c := newAsker(func(context.Context) (*Peer, error) {
 		return Start([]string{"sh", "-c", `read -r x; echo $$ >"$1"; sleep 100000`, "sh", reads})
 	}, 24*time.Hour)
 	ctx, leave := context.WithCancel(context.Background())
@@ -218,7 +220,7 @@ func TestLongLine(t *testing.T) {
 // TestSocket asks at a socket, which is closed and opened again.
 func TestSocket(t *testing.T) {
 	path, ctx := filepath.Join(t.TempDir(), "socket"), context.Background()
-	c := newAsker(func(ctx context.Context) (*End, error) { return Dial(ctx, path) }, trial.Longest)
+	c := newAsker(func(ctx context.Context) (*Peer, error) { return Dial(ctx, path) }, trial.Longest)
 	defer c.close()
 	if _, err := said(c, ctx, "one\n"); !errors.Is(err, ErrGone) {
 		t.Fatal(err)
@@ -250,14 +252,14 @@ func TestSocket(t *testing.T) {
 	}
 }
 
-// TestEndIsClosed: what gave no reply in time doesn't go on.
-func TestEndIsClosed(t *testing.T) {
+// TestClosesAPeerWithoutAReply: a process that sends no reply in time is killed.
+func TestClosesAPeerWithoutAReply(t *testing.T) {
 	file := filepath.Join(t.TempDir(), "pid")
 	e, err := Start([]string{"sh", "-c", "echo $$ >" + file + "; read -r x; echo; exec sleep 60"})
 	if err != nil {
 		t.Fatal(err)
 	}
-	// (one line it gives: by then it runs, and has written its number)
+	// After its first reply the program has written its process number.
 	if _, err := e.exchange(context.Background(), trial.Longest, []byte("x\n")); err != nil {
 		t.Fatal(err)
 	}

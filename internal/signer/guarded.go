@@ -11,41 +11,41 @@ import (
 )
 
 const (
-	// mostSwaps is how often a swap of unknown outcome is made.
-	mostSwaps = 5
-	// mostSkew is how far two clocks may be apart.
-	mostSkew = time.Minute
-	// boundAhead is how far a head that is ahead of this machine's time of day may be after the last one, in milliseconds.
-	boundAhead = 3_600_000
+	// maxSwaps is the maximum number of attempts of a swap whose outcome is unknown.
+	maxSwaps = 5
+	// maxSkew is the maximum difference between two clocks.
+	maxSkew = time.Minute
+	// maxAheadOfClock is how far a head that is ahead of this machine's clock may be after the last one, in milliseconds.
+	maxAheadOfClock = 3_600_000
 )
 
-// Guard says which guard is before a key.
+// Guard has the settings of a key's guard.
 type Guard struct {
-	// State keeps the text of the state, with the head that the guard approved last. The signers of one log, if they are several, have one: of two that
-	// move it to two heads one wins. (Two that move it to the same head write one text, and both sign that head. No state comes again: timestamps rise.)
+	// State keeps the text of the state, with the head that the guard approved last. All signers of one log share it. If two signers approve two heads at
+	// once, one of them wins. If they approve the same head, both write the same text, and both sign that head. No state occurs twice, since timestamps rise.
 	State stores.Register
-	// Create makes the state of a new log if there is none.
+	// Create creates the state of a new log if there is none.
 	Create bool
 }
 
-// Guarded is a key behind the guard, which is proved code in this process. It signs the bytes that the guard wrote, and only after the register has
+// Guarded is a key with a guard, which is proved code in this process. It signs the bytes that the guard wrote, and only after the register has
 // the state with these bytes in place of the one that the guard judged over.
 type Guarded struct {
-	key *Key
-	of  Guard
+	key   *Key
+	guard Guard
 	// turn is held by the goroutine that asks. The fields below belong to it.
 	turn chan struct{}
-	// state is what the register had when it was last looked at, or nil if that must be done. seen is the newest that it had.
+	// state is the state in the register, or nil if the register must be read. seen is the newest state that was read.
 	state *State
 	seen  State
 	test  hooks
 }
 
-// Behind puts a guard before a key. A state that is missing, or whose text is not one, is ErrState.
-func Behind(ctx context.Context, key *Key, of Guard) (*Guarded, error) {
-	g := &Guarded{key: key, of: of, turn: make(chan struct{}, 1)}
-	if of.Create {
-		if err := of.State.Create(ctx, NoHead); err != nil && !errors.Is(err, stores.ErrExists) {
+// NewGuarded returns a key with a guard. A state that is missing or damaged is ErrState.
+func NewGuarded(ctx context.Context, key *Key, guard Guard) (*Guarded, error) {
+	g := &Guarded{key: key, guard: guard, turn: make(chan struct{}, 1)}
+	if guard.Create {
+		if err := guard.State.Create(ctx, NoHead); err != nil && !errors.Is(err, stores.ErrExists) {
 			return nil, fmt.Errorf("signer: %w", err)
 		}
 	}
@@ -65,11 +65,11 @@ func (g *Guarded) take(ctx context.Context) error {
 	}
 }
 
-// look reads the state in the register. It is ErrState only if there is none, if its text is not one, or if it was rolled back: a register that
-// does not answer may have it.
+// look reads the state in the register. The error is ErrState only if the state is missing, damaged or rolled back. A register that does not answer may have a
+// valid state.
 func (g *Guarded) look(ctx context.Context) (State, error) {
 	g.state = nil
-	text, err := g.of.State.Read(ctx)
+	text, err := g.guard.State.Read(ctx)
 	if errors.Is(err, stores.ErrAbsent) {
 		return State{}, fmt.Errorf("%w: there is none", ErrState)
 	}
@@ -83,9 +83,9 @@ func (g *Guarded) look(ctx context.Context) (State, error) {
 	if err != nil {
 		return State{}, err
 	}
-	// (as an operator writes it, with a line's end)
+	// An operator may have written the state with a line end.
 	if state.text != text {
-		if err := g.of.State.Swap(ctx, text, state.text); err != nil {
+		if err := g.guard.State.Swap(ctx, text, state.text); err != nil {
 			return State{}, fmt.Errorf("signer: the guard's state: %w", err)
 		}
 	}
@@ -93,7 +93,7 @@ func (g *Guarded) look(ctx context.Context) (State, error) {
 	return state, nil
 }
 
-// known returns the state in the register, or the one that it had when it was last looked at.
+// known returns the state in the register. It reads the register only if it must.
 func (g *Guarded) known(ctx context.Context) (State, error) {
 	if g.state != nil {
 		return *g.state, nil
@@ -101,19 +101,19 @@ func (g *Guarded) known(ctx context.Context) (State, error) {
 	return g.look(ctx)
 }
 
-// maxAhead returns how far a head's timestamp may be after the last one's, in milliseconds. A log may have stood still, so a head that is not ahead of this
-// machine's time of day may be as far as its timestamp says. Another clock must agree with a signer on another machine.
+// maxAhead returns how far a head's timestamp may be after the last one's, in milliseconds. A head that is not ahead of this machine's clock may be as far as its
+// timestamp says, since the log may have been stopped. A head that is ahead of it may have been made by a wrong clock, so it may be an hour after the last one.
 func maxAhead(head Head) uint64 {
-	if now := time.Now().Add(mostSkew).UnixMilli(); now < 0 || head.Moment > uint64(now) {
-		return boundAhead
+	if now := time.Now().Add(maxSkew).UnixMilli(); now < 0 || head.Timestamp > uint64(now) {
+		return maxAheadOfClock
 	}
-	return head.Moment
+	return head.Timestamp
 }
 
-// swap puts a state into the register in place of the one that it was approved over. If that fails, the register is looked at again.
+// swap replaces a state in the register by the next one. If that fails, the register is read again before the next use.
 func (g *Guarded) swap(ctx context.Context, old, next State) (err error) {
-	for try := 0; try < mostSwaps; try++ {
-		if err = g.of.State.Swap(ctx, old.text, next.text); err == nil {
+	for try := 0; try < maxSwaps; try++ {
+		if err = g.guard.State.Swap(ctx, old.text, next.text); err == nil {
 			g.state, g.seen = &next, next
 			return nil
 		}
@@ -128,13 +128,13 @@ func (g *Guarded) swap(ctx context.Context, old, next State) (err error) {
 	return fmt.Errorf("signer: the guard's state: %w", err)
 }
 
-// Key is Signer's.
+// Key returns the log's public key, as Signer says.
 func (g *Guarded) Key() []byte { return g.key.Key() }
 
 // IsGuarded returns true.
 func (g *Guarded) IsGuarded() bool { return true }
 
-// Last is Signer's: the head in the register now.
+// Last returns the head in the register now.
 func (g *Guarded) Last(ctx context.Context) (*Head, error) {
 	if err := g.take(ctx); err != nil {
 		return nil, err
@@ -162,7 +162,8 @@ func (g *Guarded) begun(ctx context.Context, head Head) (State, error) {
 	return empty, nil
 }
 
-// SignHead is Signer's. The register has the state before the head is signed. A process that dies in between has let a head through that nobody signed.
+// SignHead returns the signature of a head, as Signer says. The register has the new state before the head is signed. If the process ends in between, the head is
+// approved but not signed.
 func (g *Guarded) SignHead(ctx context.Context, head Head, consistency [][32]byte) ([]byte, error) {
 	if err := g.take(ctx); err != nil {
 		return nil, err
@@ -176,15 +177,15 @@ func (g *Guarded) SignHead(ctx context.Context, head Head, consistency [][32]byt
 	if err != nil {
 		return nil, err
 	}
-	g.phase("let through")
+	g.phase("approved")
 	if err := g.swap(ctx, state, next); err != nil {
 		return nil, err
 	}
-	g.phase("kept")
+	g.phase("stored")
 	return g.key.sign(next.signed)
 }
 
-// SignTimestamps is Signer's.
+// SignTimestamps returns the signatures of timestamps, as Signer says.
 func (g *Guarded) SignTimestamps(ctx context.Context, receipts []Receipt) ([][]byte, error) {
 	if err := g.take(ctx); err != nil {
 		return nil, err

@@ -31,7 +31,7 @@ import (
 
 var must, wants = trial.Must, trial.Wants
 
-// refused sees that something was refused by a name.
+// refused checks that an error is the refusal of this name.
 func refused(t testing.TB, name string, err error) {
 	t.Helper()
 	var refusal Refusal
@@ -48,13 +48,13 @@ func textOf(last *Head) string {
 	if last == nil {
 		return none
 	}
-	return fmt.Sprintf(`{"guard":1,"last":{"sha256_root_hash":"%s","timestamp":%d,"tree_size":%d}}`, base64.StdEncoding.EncodeToString(last.Root[:]), last.Moment, last.Size)
+	return fmt.Sprintf(`{"guard":1,"last":{"sha256_root_hash":"%s","timestamp":%d,"tree_size":%d}}`, base64.StdEncoding.EncodeToString(last.Root[:]), last.Timestamp, last.Size)
 }
 
 // kept returns what the register of a guard's state has.
 func kept(t *testing.T, g *Guarded) string {
 	t.Helper()
-	text, err := g.of.State.Read(limited(t))
+	text, err := g.guard.State.Read(limited(t))
 	must(t, err)
 	return text
 }
@@ -111,7 +111,8 @@ func naming(text string, index byte) []byte {
 	return append(bytes[:len(bytes)-2], 0, 8, 0, 0, 5, 0, 0, 0, 0, index)
 }
 
-// listOf has leaves 0, 1, .. to size, and behind the first so many those of a fork.
+// listOf returns a list of leaves. The first ones, as many as same says, are those of every list, and the others are
+// those of a fork.
 func listOf(t testing.TB, size, same int) *list {
 	l := &list{}
 	for i := 0; i < size; i++ {
@@ -124,7 +125,7 @@ func listOf(t testing.TB, size, same int) *list {
 	return l
 }
 
-func (l *list) head(t testing.TB, size int, moment uint64) Head {
+func (l *list) head(t testing.TB, size int, timestamp uint64) Head {
 	root, err := tlog.TreeHash(int64(size), l)
 	must(t, err)
 	if size == 0 {
@@ -132,7 +133,7 @@ func (l *list) head(t testing.TB, size int, moment uint64) Head {
 		root, err = tlog.ParseHash("47DEQpj8HBSa+/TImW+5JCeuQeRkm5NMpJWZG3hSuFU=")
 		must(t, err)
 	}
-	return Head{uint64(size), moment, root}
+	return Head{uint64(size), timestamp, root}
 }
 
 func (l *list) proof(t testing.TB, from, to int) (proof [][32]byte) {
@@ -157,24 +158,24 @@ func (l *list) receipt(t testing.TB, index, size int) Receipt {
 	return r
 }
 
-// behind puts the proved guard before a key, with a state in a folder.
-func behind(t testing.TB, key *Key, folder string) *Guarded {
+// guardedIn returns a key with the proved guard, whose state is in a folder.
+func guardedIn(t testing.TB, key *Key, folder string) *Guarded {
 	t.Helper()
-	g, err := Behind(limited(t), key, Guard{State: register(t, folder), Create: true})
+	g, err := NewGuarded(limited(t), key, Guard{State: register(t, folder), Create: true})
 	must(t, err)
 	return g
 }
 
-// through runs a test of a signer behind the guard: in this process, and one that is asked by lines.
+// through runs a test of a signer with a guard twice: in this process, and through a socket.
 func through(t *testing.T, test func(t *testing.T, s Signer, key *Key)) {
 	t.Run("here", func(t *testing.T) {
 		key := newKey(t)
-		test(t, behind(t, key, t.TempDir()), key)
+		test(t, guardedIn(t, key, t.TempDir()), key)
 	})
 	t.Run("at a socket", func(t *testing.T) {
 		folder, key := t.TempDir(), newKey(t)
 		path, ctx := filepath.Join(folder, "socket"), limited(t)
-		g := behind(t, key, folder)
+		g := guardedIn(t, key, folder)
 		go func() { _ = Listen(ctx, g, path) }()
 		for i := 0; ; i++ {
 			if info, err := os.Stat(path); err == nil {
@@ -185,22 +186,22 @@ func through(t *testing.T, test func(t *testing.T, s Signer, key *Key)) {
 			}
 			time.Sleep(time.Millisecond)
 		}
-		c, err := Ask(ctx, func(ctx context.Context) (*End, error) { return Dial(ctx, path) }, trial.Longest)
+		c, err := NewClient(ctx, func(ctx context.Context) (*Peer, error) { return Dial(ctx, path) }, trial.Longest)
 		must(t, err)
 		t.Cleanup(func() { c.Close() })
 		test(t, c, key)
 	})
 }
 
-// askedAtASocket asks a signer as a node asks one of another process, at a socket.
+// askedAtASocket returns a client of a signer at a socket, as a node has one.
 func askedAtASocket(ctx context.Context, t *testing.T, of Signer) *Client {
 	t.Helper()
 	path := filepath.Join(t.TempDir(), "socket")
 	listener, err := listenAt(path)
 	must(t, err)
 	t.Cleanup(func() { listener.Close() })
-	go func() { _ = newClients().serve(ctx, of, listener) }()
-	c, err := Ask(ctx, func(ctx context.Context) (*End, error) { return Dial(ctx, path) }, trial.Longest)
+	go func() { _ = newServer().serve(ctx, of, listener) }()
+	c, err := NewClient(ctx, func(ctx context.Context) (*Peer, error) { return Dial(ctx, path) }, trial.Longest)
 	must(t, err)
 	t.Cleanup(func() { c.Close() })
 	return c
@@ -228,7 +229,8 @@ func (w wrongly) SignTimestamps(ctx context.Context, receipts []Receipt) ([][]by
 	return w.change(signed), nil
 }
 
-// TestWrongSigner asks a signer in another process whose signatures are none of its key's over what was asked, or too few: none is taken.
+// TestWrongSigner asks a signer in another process that returns wrong signatures, or too few. The client returns none
+// of them.
 func TestWrongSigner(t *testing.T) {
 	t.Parallel()
 	ctx, key, l := limited(t), newKey(t), listOf(t, 3, 3)
@@ -262,8 +264,8 @@ func TestWrongSigner(t *testing.T) {
 	}
 }
 
-// TestHeads asks for heads that go on, and between them for forked ones, older ones, and ones with false proofs: none of these is
-// signed, and none changes what may be signed.
+// TestHeads asks for heads that follow each other, and between them for forks, older heads and heads with false proofs.
+// None of these is signed, and none changes what may be signed.
 func TestHeads(t *testing.T) {
 	t.Parallel()
 	through(t, func(t *testing.T, s Signer, key *Key) {
@@ -273,8 +275,8 @@ func TestHeads(t *testing.T) {
 		}
 		before := 0
 		for at, size := range []int{0, 5, 5, 7, 20} {
-			moment := uint64(100 + 10*at)
-			head := right.head(t, size, moment)
+			timestamp := uint64(100 + 10*at)
+			head := right.head(t, size, timestamp)
 			for again := 0; again < 2; again++ {
 				signed, err := s.SignHead(ctx, head, right.proof(t, before, size))
 				must(t, err)
@@ -284,20 +286,20 @@ func TestHeads(t *testing.T) {
 			if size == 0 {
 				continue
 			}
-			_, err := s.SignHead(ctx, right.head(t, size-1, moment+1), nil)
+			_, err := s.SignHead(ctx, right.head(t, size-1, timestamp+1), nil)
 			refused(t, "size-falls", err)
-			_, err = s.SignHead(ctx, right.head(t, size, moment-1), nil)
-			refused(t, "moment-not-later", err)
-			_, err = s.SignHead(ctx, fork.head(t, size, moment+1), nil)
+			_, err = s.SignHead(ctx, right.head(t, size, timestamp-1), nil)
+			refused(t, "timestamp-not-later", err)
+			_, err = s.SignHead(ctx, fork.head(t, size, timestamp+1), nil)
 			refused(t, "fork", err)
-			_, err = s.SignHead(ctx, fork.head(t, size, moment), nil)
-			refused(t, "moment-not-later", err)
+			_, err = s.SignHead(ctx, fork.head(t, size, timestamp), nil)
+			refused(t, "timestamp-not-later", err)
 			if size < 20 {
-				_, err = s.SignHead(ctx, fork.head(t, 20, moment+1), fork.proof(t, size, 20))
+				_, err = s.SignHead(ctx, fork.head(t, 20, timestamp+1), fork.proof(t, size, 20))
 				refused(t, "inconsistent", err)
-				_, err = s.SignHead(ctx, right.head(t, 20, moment+1), fork.proof(t, size, 20))
+				_, err = s.SignHead(ctx, right.head(t, 20, timestamp+1), fork.proof(t, size, 20))
 				refused(t, "inconsistent", err)
-				_, err = s.SignHead(ctx, right.head(t, 20, moment+1), nil)
+				_, err = s.SignHead(ctx, right.head(t, 20, timestamp+1), nil)
 				refused(t, "inconsistent", err)
 			}
 			if last, err := s.Last(ctx); err != nil || *last != head {
@@ -307,17 +309,17 @@ func TestHeads(t *testing.T) {
 	})
 }
 
-// TestMomentTooFar has a log that stood still for long go on in its own time, and no head pass that is more than an hour beyond the last one and ahead
-// of this machine's time of day, whatever else it is.
-func TestMomentTooFar(t *testing.T) {
+// TestTimestampTooFar has a log continue that was stopped for long. No head passes that is more than an hour after the
+// last one and ahead of this machine's clock.
+func TestTimestampTooFar(t *testing.T) {
 	t.Parallel()
 	through(t, func(t *testing.T, s Signer, key *Key) {
 		ctx, right, fork := limited(t), listOf(t, 20, 20), listOf(t, 20, 3)
 		const hour = 3_600_000
 		now := uint64(time.Now().UnixMilli())
 		for _, one := range []struct {
-			size   int
-			moment uint64
+			size      int
+			timestamp uint64
 		}{{5, 100}, {7, now + 30_000}, {9, now + hour}} {
 			last, err := s.Last(ctx)
 			must(t, err)
@@ -325,14 +327,14 @@ func TestMomentTooFar(t *testing.T) {
 			if last != nil {
 				before = int(last.Size)
 			}
-			head := right.head(t, one.size, one.moment)
+			head := right.head(t, one.size, one.timestamp)
 			signed, err := s.SignHead(ctx, head, right.proof(t, before, one.size))
 			must(t, err)
 			must(t, CheckHead(key.Key(), head, signed))
 		}
 		for _, head := range []Head{right.head(t, 20, now+2*hour+1), right.head(t, 9, now+2*hour+1), right.head(t, 8, 1<<63), fork.head(t, 9, now+3*hour)} {
 			_, err := s.SignHead(ctx, head, right.proof(t, 9, 20))
-			refused(t, "moment-too-far", err)
+			refused(t, "timestamp-too-far", err)
 			wants(t, err, TooFar)
 		}
 		_, err := s.SignHead(ctx, right.head(t, 20, now+2*hour), right.proof(t, 9, 20))
@@ -340,7 +342,7 @@ func TestMomentTooFar(t *testing.T) {
 	})
 }
 
-// TestTimestamps asks for those of leaves that are in the last head's tree, and of others.
+// TestTimestamps asks for the timestamps of leaves in the last head's tree, and of other leaves.
 func TestTimestamps(t *testing.T) {
 	t.Parallel()
 	through(t, func(t *testing.T, s Signer, key *Key) {
@@ -361,7 +363,7 @@ func TestTimestamps(t *testing.T) {
 		if none, err := s.SignTimestamps(ctx, nil); err != nil || len(none) != 0 {
 			t.Errorf("%d, %v", len(none), err)
 		}
-		// Wrong ones, each among right ones: of all of them nothing is signed.
+		// If one of several receipts is wrong, none is signed.
 		moved := all[7]
 		moved.Index = 8
 		head := fork.head(t, 290, 11)
@@ -385,9 +387,9 @@ func TestTimestamps(t *testing.T) {
 	})
 }
 
-// TestPlaces asks for the timestamps of leaves that are in the last head's tree: not of one that is later than that head, and not of
-// one whose extension names another leaf's place.
-func TestPlaces(t *testing.T) {
+// TestLeafIndexes asks for the timestamps of leaves in the last head's tree. A leaf that is later than that head is
+// refused, and so is one whose extension has another leaf's index.
+func TestLeafIndexes(t *testing.T) {
 	t.Parallel()
 	through(t, func(t *testing.T, s Signer, key *Key) {
 		ctx, l, later := limited(t), &list{}, leaf("later")
@@ -411,50 +413,51 @@ func TestPlaces(t *testing.T) {
 	})
 }
 
-// TestStates begins with states that are missing, or none.
+// TestStates starts signers with states that are missing or damaged.
 func TestStates(t *testing.T) {
 	t.Parallel()
 	ctx, key, right := limited(t), newKey(t), listOf(t, 9, 9)
 	first := right.head(t, 5, 100)
-	_, err := Behind(ctx, key, Guard{State: register(t, t.TempDir())})
+	_, err := NewGuarded(ctx, key, Guard{State: register(t, t.TempDir())})
 	wants(t, err, ErrState)
 	for _, text := range []string{"x", `{"guard":2,"last":null}`, `{"guard":1,"last":{}}`, `{"last":null,"guard":1}`, `{"guard": 1, "last": null}`, textOf(&first)[1:],
 		strings.ReplaceAll(textOf(&first), ":", ": "), " " + textOf(&first), textOf(&first) + " ",
 		strings.Replace(textOf(&first), `"tree_size":5`, `"tree_size":05`, 1), strings.Replace(textOf(&first), `"timestamp"`, `"x":1,"timestamp"`, 1)} {
 		of := Guard{State: register(t, t.TempDir())}
 		must(t, of.State.Create(ctx, text))
-		if _, err := Behind(ctx, key, of); !errors.Is(err, ErrState) {
+		if _, err := NewGuarded(ctx, key, of); !errors.Is(err, ErrState) {
 			t.Errorf("%s: %v", text, err)
 		}
 	}
-	// With a line's end, as an operator writes it, and what is no state stays as it stands.
+	// An operator's text with a line end is accepted. A text that is not a state stays as it is.
 	of := Guard{State: register(t, t.TempDir())}
 	must(t, of.State.Create(ctx, "x\n"))
-	_, err = Behind(ctx, key, of)
+	_, err = NewGuarded(ctx, key, of)
 	wants(t, err, ErrState)
 	text, err := of.State.Read(ctx)
 	if must(t, err); text != "x\n" {
 		t.Errorf("%q", text)
 	}
 	must(t, of.State.Swap(ctx, "x\n", textOf(&first)+"\n"))
-	g, err := Behind(ctx, key, of)
+	g, err := NewGuarded(ctx, key, of)
 	must(t, err)
 	_, err = g.SignHead(ctx, right.head(t, 9, 101), right.proof(t, 5, 9))
 	must(t, err)
 	full := &unsure.Register{Register: register(t, t.TempDir()), Every: 3, Fails: errors.New("a disk is full")}
-	_, err = Behind(ctx, key, Guard{State: full, Create: true})
+	_, err = NewGuarded(ctx, key, Guard{State: full, Create: true})
 	wants(t, err, full.Fails)
 	must(t, full.Register.Create(ctx, textOf(&first)+"\n"))
-	_, err = Behind(ctx, key, Guard{State: full})
+	_, err = NewGuarded(ctx, key, Guard{State: full})
 	wants(t, err, full.Fails)
 }
 
-// TestStateSetBack puts a guard's state back below a signer that runs, or writes another form of it there: nothing is signed until it comes back.
-func TestStateSetBack(t *testing.T) {
+// TestRolledBackState rolls back the guard's state while a signer runs, or writes another form of it. Nothing is signed
+// until the newest state is back.
+func TestRolledBackState(t *testing.T) {
 	t.Parallel()
 	folder, l, fork, ctx := t.TempDir(), listOf(t, 8, 8), listOf(t, 8, 0), limited(t)
 	text := filepath.Join(folder, "guard", "text")
-	g := behind(t, newKey(t), folder)
+	g := guardedIn(t, newKey(t), folder)
 	_, err := g.SignHead(ctx, l.head(t, 3, 30), nil)
 	must(t, err)
 	old, err := os.ReadFile(text)
@@ -475,8 +478,8 @@ func TestStateSetBack(t *testing.T) {
 		}
 	}
 	must(t, stores.KeepFile(text, newest))
-	// One that has only looked at the newest knows it too.
-	other, err := Behind(ctx, newKey(t), Guard{State: register(t, folder)})
+	// A signer that has only read the newest state knows it too.
+	other, err := NewGuarded(ctx, newKey(t), Guard{State: register(t, folder)})
 	must(t, err)
 	must(t, stores.KeepFile(text, old))
 	_, err = other.Last(ctx)
@@ -486,17 +489,18 @@ func TestStateSetBack(t *testing.T) {
 	must(t, err)
 }
 
-// TestTwoSigners has two with one state. Who is behind is told, and goes on from the other's head; of two forks at once one is signed.
+// TestTwoSigners has two signers with one state. The one with an older head gets ErrMoved, and continues from the
+// other's head. Of two forks at once only one is signed.
 func TestTwoSigners(t *testing.T) {
 	t.Parallel()
 	ctx, key, folder, right, fork := limited(t), newKey(t), t.TempDir(), listOf(t, 20, 20), listOf(t, 20, 4)
-	one := behind(t, key, folder)
+	one := guardedIn(t, key, folder)
 	_, err := one.SignHead(ctx, right.head(t, 0, 99), nil)
 	must(t, err)
-	two := behind(t, key, folder)
+	two := guardedIn(t, key, folder)
 	_, err = one.SignHead(ctx, right.head(t, 5, 100), nil)
 	must(t, err)
-	// The same head, of which the second didn't know: it isn't another one.
+	// The second signer has not seen this head, but it is the same one.
 	_, err = two.SignHead(ctx, right.head(t, 5, 100), nil)
 	must(t, err)
 	_, err = one.SignHead(ctx, right.head(t, 9, 101), right.proof(t, 5, 9))
@@ -516,22 +520,22 @@ func TestTwoSigners(t *testing.T) {
 		t.Errorf("%v, %v", last, err)
 	}
 	apart := listOf(t, 20, 13)
-	for moment := uint64(200); moment < 230; moment++ {
+	for timestamp := uint64(200); timestamp < 230; timestamp++ {
 		folder := t.TempDir()
-		a, b := behind(t, key, folder), behind(t, key, folder)
+		a, b := guardedIn(t, key, folder), guardedIn(t, key, folder)
 		failed := make(chan error, 2)
 		go func() {
-			_, err := a.SignHead(ctx, right.head(t, 20, moment), nil)
+			_, err := a.SignHead(ctx, right.head(t, 20, timestamp), nil)
 			failed <- err
 		}()
 		go func() {
-			_, err := b.SignHead(ctx, apart.head(t, 20, moment), nil)
+			_, err := b.SignHead(ctx, apart.head(t, 20, timestamp), nil)
 			failed <- err
 		}()
 		if x, y := <-failed, <-failed; (x == nil) == (y == nil) || !errors.Is(fmt.Errorf("%w", orElse(x, y)), ErrMoved) {
 			t.Errorf("%v and %v", x, y)
 		}
-		if moment > 202 {
+		if timestamp > 202 {
 			break
 		}
 	}
@@ -544,12 +548,12 @@ func orElse(one, other error) error {
 	return other
 }
 
-// TestUnkept has the state not be kept: nothing is signed, and the guard's own head is forgotten.
-func TestUnkept(t *testing.T) {
+// TestFailedSwap has the swap of the state fail. Nothing is signed, and the signer forgets the head.
+func TestFailedSwap(t *testing.T) {
 	t.Parallel()
 	ctx, key, right, fork := limited(t), newKey(t), listOf(t, 20, 20), listOf(t, 20, 3)
 	state := &unsure.Register{Register: register(t, t.TempDir()), Every: 3}
-	g, err := Behind(ctx, key, Guard{State: state, Create: true})
+	g, err := NewGuarded(ctx, key, Guard{State: state, Create: true})
 	must(t, err)
 	_, err = g.SignHead(ctx, right.head(t, 4, 100), nil)
 	must(t, err)
@@ -559,7 +563,7 @@ func TestUnkept(t *testing.T) {
 		refused(t, "inconsistent", err)
 		_, err = g.SignHead(ctx, right.head(t, 8, 101), right.proof(t, 4, 8))
 		wants(t, err, fails)
-		// A leaf of the head that wasn't kept.
+		// A leaf of the head that was not stored.
 		_, err = g.SignTimestamps(ctx, []Receipt{right.receipt(t, 7, 8)})
 		refused(t, "not-there", err)
 		if last, err := g.Last(ctx); err != nil || last.Size != 4 {
@@ -571,7 +575,7 @@ func TestUnkept(t *testing.T) {
 	must(t, err)
 }
 
-// lying is a register that reads as something else than what stands.
+// lying is a register whose Read returns another text than the one that it has.
 type lying struct {
 	stores.Register
 	reads string
@@ -584,15 +588,15 @@ func (l *lying) Read(ctx context.Context) (string, error) {
 	return l.Register.Read(ctx)
 }
 
-// TestLyingRegister has the state's register read as an older state, as one of a fork, as none that was ever let through, and as one that comes later:
-// the guard lets heads through behind these, the swap shows that they don't stand, and nothing is signed.
+// TestLyingRegister has the register return an older state, one of a fork, one before the first head, and a later one.
+// The guard approves heads after these states, but the swap fails, so nothing is signed.
 func TestLyingRegister(t *testing.T) {
 	t.Parallel()
 	ctx, key, right, fork := limited(t), newKey(t), listOf(t, 20, 20), listOf(t, 20, 3)
 	older, other, later := right.head(t, 5, 100), fork.head(t, 9, 101), right.head(t, 12, 103)
 	for _, reads := range []string{none, textOf(&older), textOf(&other), textOf(&later)} {
 		state := &lying{Register: register(t, t.TempDir())}
-		g, err := Behind(ctx, key, Guard{State: state, Create: true})
+		g, err := NewGuarded(ctx, key, Guard{State: state, Create: true})
 		must(t, err)
 		_, err = g.SignHead(ctx, older, nil)
 		must(t, err)
@@ -601,7 +605,7 @@ func TestLyingRegister(t *testing.T) {
 		stood, err := state.Read(ctx)
 		must(t, err)
 		state.reads = reads
-		g, err = Behind(ctx, key, Guard{State: state})
+		g, err = NewGuarded(ctx, key, Guard{State: state})
 		must(t, err)
 		last, err := g.Last(ctx)
 		must(t, err)
@@ -616,18 +620,18 @@ func TestLyingRegister(t *testing.T) {
 			}
 		}
 		if last != nil {
-			// The head that the register is said to have, once more.
+			// The head that the register seems to have, again.
 			if signed, err := g.SignHead(ctx, *last, nil); !errors.Is(err, ErrMoved) || signed != nil {
 				t.Errorf("%s once more: %v", reads, err)
 			}
 		}
 		if text, err := state.Register.Read(ctx); err != nil || text != stood {
-			t.Errorf("%s: %s stands, %v", reads, text, err)
+			t.Errorf("%s: the register has %s, %v", reads, text, err)
 		}
 	}
 }
 
-// failing is a register that isn't read as long as fails is an error.
+// failing is a register that cannot be read while fails is an error.
 type failing struct {
 	stores.Register
 	mu    sync.Mutex
@@ -650,19 +654,19 @@ func (f *failing) Read(ctx context.Context) (string, error) {
 	return f.Register.Read(ctx)
 }
 
-// TestUnreadStates has the state's register not be read for a moment: that isn't a state that is gone, here and by lines, and behind it
-// heads are signed as before.
+// TestUnreadStates has reading the register fail for a while. The state does not count as missing, and heads are signed
+// again afterwards.
 func TestUnreadStates(t *testing.T) {
 	t.Parallel()
 	ctx, key, right := limited(t), newKey(t), listOf(t, 20, 20)
 	state := &failing{Register: register(t, t.TempDir())}
-	g, err := Behind(ctx, key, Guard{State: state, Create: true})
+	g, err := NewGuarded(ctx, key, Guard{State: state, Create: true})
 	must(t, err)
 	path := filepath.Join(t.TempDir(), "socket")
 	go func() { _ = Listen(ctx, g, path) }()
 	var c *Client
 	for c == nil {
-		if c, err = Ask(ctx, func(ctx context.Context) (*End, error) { return Dial(ctx, path) }, trial.Longest); err != nil {
+		if c, err = NewClient(ctx, func(ctx context.Context) (*Peer, error) { return Dial(ctx, path) }, trial.Longest); err != nil {
 			wants(t, err, ErrGone)
 			time.Sleep(time.Millisecond)
 		}
@@ -686,12 +690,12 @@ func TestUnreadStates(t *testing.T) {
 	}
 }
 
-// TestManyAsk has many ask one signer at once: each is answered for what it asked.
-func TestManyAsk(t *testing.T) {
+// TestConcurrentRequests has many goroutines ask one signer. Each gets the answer to its request.
+func TestConcurrentRequests(t *testing.T) {
 	t.Parallel()
 	ctx, right := limited(t), listOf(t, 8, 8)
 	key := newKey(t)
-	g := behind(t, key, t.TempDir())
+	g := guardedIn(t, key, t.TempDir())
 	head := right.head(t, 8, 100)
 	_, err := g.SignHead(ctx, head, nil)
 	must(t, err)
@@ -723,10 +727,10 @@ func TestManyAsk(t *testing.T) {
 	}
 }
 
-// childWords is where a child process is told what to do, in JSON.
+// childWords is the environment variable with the task of a child process, in JSON.
 const childWords = "SIGNER_CHILD"
 
-// child signs heads of a list and of a fork in turn, and writes each that was signed as a line. At a phase it is killed (-9).
+// child signs heads of a list and of forks, and prints each signed head as a line. It is killed (-9) at a phase.
 type child struct {
 	Folder, Phase string
 	On            int
@@ -759,7 +763,7 @@ func beChild(words string) error {
 	if err != nil {
 		return err
 	}
-	g, err := Behind(ctx, key, Guard{State: state, Create: true})
+	g, err := NewGuarded(ctx, key, Guard{State: state, Create: true})
 	if err != nil {
 		return err
 	}
@@ -780,19 +784,19 @@ func beChild(words string) error {
 		if err != nil {
 			return err
 		}
-		size, from, moment := 1, 0, uint64(1)
+		size, from, timestamp := 1, 0, uint64(1)
 		if last != nil {
-			from, moment = int(last.Size), last.Moment+uint64(chance.Intn(2))
+			from, timestamp = int(last.Size), last.Timestamp+uint64(chance.Intn(2))
 			size = from + chance.Intn(4)
 		}
 		if size > 64 {
 			return nil
 		}
 		of := lists[chance.Intn(len(lists))]
-		head := of.head(t, size, moment)
+		head := of.head(t, size, timestamp)
 		signed, err := g.SignHead(ctx, head, of.proof(t, from, size))
 		if err == nil {
-			line, _ := json.Marshal(map[string]any{"head": lineOf(&head), "signed": signed})
+			line, _ := json.Marshal(map[string]any{"head": headLineOf(&head), "signed": signed})
 			fmt.Printf("%s\n", line)
 		} else if !errors.Is(err, ErrRefused) {
 			return err
@@ -801,13 +805,13 @@ func beChild(words string) error {
 	return nil
 }
 
-// TestKilled kills (-9) a signer that is asked for three lists by turns, between the guard's answer and its state on the disk, and behind
-// that, and starts it again each time. Whatever was signed is of beginnings of one list.
+// TestKilled kills (-9) a signer that is asked for heads of three lists, before and after its state is stored, and
+// starts it again each time. All signed heads are of one list.
 func TestKilled(t *testing.T) {
 	t.Parallel()
 	program, err := os.Executable()
 	must(t, err)
-	for _, phase := range []string{"let through", "kept"} {
+	for _, phase := range []string{"approved", "stored"} {
 		phase := phase
 		t.Run(phase, func(t *testing.T) {
 			t.Parallel()
@@ -849,7 +853,7 @@ func TestKilled(t *testing.T) {
 					head, err := one.Head.head()
 					must(t, err)
 					must(t, CheckHead(key.Key(), *head, one.Signed))
-					fits[i] = fits[i] && l.head(t, int(head.Size), head.Moment) == *head
+					fits[i] = fits[i] && l.head(t, int(head.Size), head.Timestamp) == *head
 				}
 			}
 			if !fits[0] && !fits[1] && !fits[2] {
@@ -859,19 +863,19 @@ func TestKilled(t *testing.T) {
 	}
 }
 
-// otherGuard is a signer that reports a guard where there is none.
+// otherGuard is a signer that reports a guard if it has none.
 type otherGuard struct{ Signer }
 
 func (o otherGuard) IsGuarded() bool { return !o.Signer.IsGuarded() }
 
-// TestOtherKey has a client whose signer comes back with another key, or has a guard that it did not have: that one isn't asked, and where the first
-// one is back, it is.
+// TestOtherKey has a client whose signer comes back with another key, or with a guard. The client does not use it, and
+// continues after the first one is back.
 func TestOtherKey(t *testing.T) {
 	t.Parallel()
 	ctx, key := limited(t), newKey(t)
 	for what, other := range map[string]Signer{"another key": newKey(t), "a guard": otherGuard{key}} {
 		signers, opened := []Signer{key, other}, 0
-		c, err := Ask(ctx, func(ctx context.Context) (*End, error) {
+		c, err := NewClient(ctx, func(ctx context.Context) (*Peer, error) {
 			path, next := filepath.Join(t.TempDir(), "socket"), signers[opened%2]
 			go func() { _ = Listen(ctx, next, path) }()
 			for {
@@ -892,13 +896,14 @@ func TestOtherKey(t *testing.T) {
 	}
 	var eight [8]byte
 	binary.BigEndian.PutUint64(eight[:], 5)
-	if message := (Head{Moment: 5}).message(); len(message) != 50 || string(message[2:10]) != string(eight[:]) {
+	if message := (Head{Timestamp: 5}).message(); len(message) != 50 || string(message[2:10]) != string(eight[:]) {
 		t.Errorf("%x", message)
 	}
 }
 
-// TestSocketOfASigner: a signer's socket is of its user and group alone; it takes the place of a socket, and of no file.
-func TestSocketOfASigner(t *testing.T) {
+// TestSocketMode: only a signer's user and group can connect to its socket. The socket replaces a socket, but no other
+// file.
+func TestSocketMode(t *testing.T) {
 	t.Parallel()
 	folder := t.TempDir()
 	path, file := filepath.Join(folder, "socket"), filepath.Join(folder, "file")
@@ -922,7 +927,7 @@ func TestSocketOfASigner(t *testing.T) {
 	}
 }
 
-// timely is a signer that says how long it has for an answer.
+// timely is a signer that reports how much time it has for an answer.
 type timely struct {
 	Signer
 	has chan time.Duration
@@ -937,17 +942,17 @@ func (s timely) Last(ctx context.Context) (*Head, error) {
 	return nil, nil
 }
 
-// TestRequestHasAnEnd: whoever asks, a signer has its time for an answer, so that a register that doesn't answer holds no line for ever.
-func TestRequestHasAnEnd(t *testing.T) {
+// TestRequestTimeout: each request has a time limit, so a register that does not answer blocks no connection for ever.
+func TestRequestTimeout(t *testing.T) {
 	t.Parallel()
 	of := timely{newKey(t), make(chan time.Duration, 1)}
 	must(t, Serve(context.Background(), of, strings.NewReader(`{"last":true}`+"\n"), io.Discard))
-	if has := <-of.has; has > answersWithin || has < answersWithin/2 {
+	if has := <-of.has; has > requestTimeout || has < requestTimeout/2 {
 		t.Errorf("it has %v", has)
 	}
 }
 
-// moody is a listener that fails some times before a connection comes.
+// moody is a listener whose first calls of Accept fail.
 type moody struct {
 	net.Listener
 	fails int
@@ -960,8 +965,9 @@ func (m *moody) Accept() (net.Conn, error) {
 	return m.Listener.Accept()
 }
 
-// served has clients be served at a socket, by a listener that fails so often before the first comes. Its end is looked at.
-func served(t *testing.T, all *clients, fails int) (path string, end func()) {
+// served has a server serve clients at a socket. The listener fails so many times before the first connection. end
+// stops it and checks its error.
+func served(t *testing.T, all *server, fails int) (path string, end func()) {
 	t.Helper()
 	path = filepath.Join(t.TempDir(), "socket")
 	ctx, cancel := context.WithCancel(limited(t))
@@ -977,35 +983,35 @@ func served(t *testing.T, all *clients, fails int) (path string, end func()) {
 	}
 }
 
-// asks is a client at a socket.
+// asks returns a client of a socket.
 func asks(t *testing.T, path string) *Client {
 	t.Helper()
-	c, err := Ask(limited(t), func(ctx context.Context) (*End, error) { return Dial(ctx, path) }, trial.Longest)
+	c, err := NewClient(limited(t), func(ctx context.Context) (*Peer, error) { return Dial(ctx, path) }, trial.Longest)
 	must(t, err)
 	t.Cleanup(func() { c.Close() })
 	return c
 }
 
-// TestClients has more connect to a signer than it serves, at a listener that fails now and then: who asks is answered, and of those who say
-// nothing the first has to go.
-func TestClients(t *testing.T) {
+// TestTooManyConnections opens more connections than a server has slots, at a listener that fails now and then. Clients
+// are answered, and the connection that was idle for the longest is closed.
+func TestTooManyConnections(t *testing.T) {
 	t.Parallel()
-	ctx, all := limited(t), newClients()
+	ctx, all := limited(t), newServer()
 	path, end := served(t, all, 3)
 	first := asks(t, path)
 	var silent []net.Conn
-	for len(silent) < mostClients-1 {
+	for len(silent) < maxConnections-1 {
 		connection, err := net.Dial("unix", path)
 		must(t, err)
 		t.Cleanup(func() { connection.Close() })
 		silent = append(silent, connection)
 	}
-	for there := 0; there < mostClients; time.Sleep(time.Millisecond) {
+	for there := 0; there < maxConnections; time.Sleep(time.Millisecond) {
 		all.mu.Lock()
-		there = len(all.there)
+		there = len(all.open)
 		all.mu.Unlock()
 	}
-	// (so that it isn't the one that asked nothing for the longest)
+	// After this request it is not the connection that was idle for the longest.
 	_, err := first.Last(ctx)
 	must(t, err)
 	second := asks(t, path)
@@ -1025,24 +1031,25 @@ func TestClients(t *testing.T) {
 	end()
 }
 
-// TestHalfLines has as many as are served at once begin a line and never end it: each has its time, and who comes behind them is answered.
-func TestHalfLines(t *testing.T) {
+// TestHalfRequests has every slot taken by a request that never ends. Each has its timeout, and a later client is
+// answered.
+func TestHalfRequests(t *testing.T) {
 	t.Parallel()
-	all := newClients()
-	all.within = 50 * time.Millisecond
+	all := newServer()
+	all.timeout = 50 * time.Millisecond
 	path, end := served(t, all, 0)
-	for i := 0; i < mostClients; i++ {
+	for i := 0; i < maxConnections; i++ {
 		connection, err := net.Dial("unix", path)
 		must(t, err)
 		t.Cleanup(func() { connection.Close() })
 		_, err = connection.Write([]byte(`{"last":`))
 		must(t, err)
 	}
-	// (who asks has no more time than they have: on a busy machine it comes again)
+	// The client has the same timeout as the others, so on a busy machine it must try again.
 	ctx, err := limited(t), errTried
 	for err != nil && ctx.Err() == nil {
 		var c *Client
-		if c, err = Ask(ctx, func(ctx context.Context) (*End, error) { return Dial(ctx, path) }, trial.Longest); err == nil {
+		if c, err = NewClient(ctx, func(ctx context.Context) (*Peer, error) { return Dial(ctx, path) }, trial.Longest); err == nil {
 			_, err = c.Last(ctx)
 			c.Close()
 		}
@@ -1051,11 +1058,12 @@ func TestHalfLines(t *testing.T) {
 	end()
 }
 
-// TestLines sends a signer lines that ask for nothing, or for what can't be: each is replied to, and nothing is signed.
-func TestLines(t *testing.T) {
+// TestWrongRequests sends a signer requests that ask for nothing, or are invalid. Each gets a reply, and nothing is
+// signed.
+func TestWrongRequests(t *testing.T) {
 	t.Parallel()
-	g, right := behind(t, newKey(t), t.TempDir()), listOf(t, 2, 2)
-	head := lineOf(&Head{2, 5, right.head(t, 2, 5).Root})
+	g, right := guardedIn(t, newKey(t), t.TempDir()), listOf(t, 2, 2)
+	head := headLineOf(&Head{2, 5, right.head(t, 2, 5).Root})
 	short := *head
 	short.Root = short.Root[1:]
 	text := func(asked request) string {
@@ -1064,30 +1072,30 @@ func TestLines(t *testing.T) {
 		return string(line)
 	}
 	lines := []string{"x", "[]", `{"head":7}`, text(request{Head: &short}), text(request{Head: head, Consistency: [][]byte{{1}}}),
-		text(request{Receipts: []receiptLine{{Leaf: right.leaves[0], Path: [][]byte{make([]byte, 33)}}}}), text(request{Receipts: make([]receiptLine, MostReceipts+1)}),
+		text(request{Receipts: []receiptLine{{Leaf: right.leaves[0], Path: [][]byte{make([]byte, 33)}}}}), text(request{Receipts: make([]receiptLine, MaxReceipts+1)}),
 		text(request{Receipts: make([]receiptLine, 1)}), "{}", text(request{Head: head})}
-	var told strings.Builder
-	must(t, Serve(limited(t), g, strings.NewReader(strings.Join(lines, "\n")+"\n"), &told))
-	replies := strings.Split(strings.TrimSuffix(told.String(), "\n"), "\n")
+	var output strings.Builder
+	must(t, Serve(limited(t), g, strings.NewReader(strings.Join(lines, "\n")+"\n"), &output))
+	replies := strings.Split(strings.TrimSuffix(output.String(), "\n"), "\n")
 	if len(replies) != len(lines) {
 		t.Fatalf("%d replies to %d lines", len(replies), len(lines))
 	}
 	for i, line := range replies {
 		var came reply
 		must(t, json.Unmarshal([]byte(line), &came))
-		if i == 6 && !strings.Contains(came.Failed, "4097 timestamps at once") {
+		if i == 6 && !strings.Contains(came.Failed, "a request for 4097 timestamps") {
 			t.Errorf("more than may be asked for at once: %s", line)
 		}
 		if wanted := i == len(lines)-1; (len(came.Signatures) == 1) != wanted || !wanted && i != len(lines)-2 && came.Failed+came.Refused == "" {
 			t.Errorf("%.80s: %s", lines[i], line)
 		}
 	}
-	if err := Serve(limited(t), g, strings.NewReader("half a line"), &told); err != nil {
+	if err := Serve(limited(t), g, strings.NewReader("half a line"), &output); err != nil {
 		t.Error(err)
 	}
 }
 
-// unable is a signer that signs no head, and says why.
+// unable is a signer that signs no head, and returns an error.
 type unable struct {
 	Signer
 	why error
@@ -1095,9 +1103,9 @@ type unable struct {
 
 func (s unable) SignHead(context.Context, Head, [][32]byte) ([]byte, error) { return nil, s.why }
 
-// TestFailuresByLines: why a signer in another process signs nothing comes through as what it is: another head that was let through, a state that isn't one, a refusal with
-// its name, and anything else as a process that is gone.
-func TestFailuresByLines(t *testing.T) {
+// TestErrorsThroughASocket: an error of a signer in another process keeps its kind: ErrMoved, ErrState, a refusal with
+// its name, and ErrGone for every other one.
+func TestErrorsThroughASocket(t *testing.T) {
 	t.Parallel()
 	ctx, key := limited(t), newKey(t)
 	for _, of := range []struct{ why, kind, not error }{
@@ -1107,7 +1115,7 @@ func TestFailuresByLines(t *testing.T) {
 		{errors.New("x"), ErrGone, ErrRefused},
 	} {
 		c := askedAtASocket(ctx, t, unable{key, of.why})
-		if _, err := c.SignHead(ctx, Head{Size: 1, Moment: 1}, nil); !errors.Is(err, of.kind) || errors.Is(err, of.not) {
+		if _, err := c.SignHead(ctx, Head{Size: 1, Timestamp: 1}, nil); !errors.Is(err, of.kind) || errors.Is(err, of.not) {
 			t.Errorf("%v comes as %v", of.why, err)
 		}
 	}

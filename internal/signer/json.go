@@ -6,10 +6,10 @@ import (
 	"strconv"
 )
 
-// Lines about timestamps are JSON of one fixed form: without spaces, and without escapes in what is base64. encoding/json goes over a line several times, and this goes
-// over it once. A line of another form is read by encoding/json.
+// Lines about timestamps are JSON of one fixed form, without spaces and without escapes in base64. This code reads such a line once, whereas encoding/json
+// reads it several times. encoding/json reads the lines of every other form.
 
-// appendBase64 appends bytes as a text of base64.
+// appendBase64 appends bytes as a JSON string in base64.
 func appendBase64(line, content []byte) []byte {
 	line = append(line, '"')
 	begin := len(line)
@@ -18,7 +18,7 @@ func appendBase64(line, content []byte) []byte {
 	return append(line, '"')
 }
 
-// appendBase64List appends an array of bytes, as texts of base64.
+// appendBase64List appends a JSON array of byte strings in base64.
 func appendBase64List(line []byte, contents [][]byte) []byte {
 	line = append(line, '[')
 	for i, content := range contents {
@@ -30,7 +30,7 @@ func appendBase64List(line []byte, contents [][]byte) []byte {
 	return append(line, ']')
 }
 
-// appendHashes appends an array of hashes, as texts of base64.
+// appendHashes appends a JSON array of hashes in base64.
 func appendHashes(line []byte, hashes [][32]byte) []byte {
 	line = append(line, '[')
 	for i := range hashes {
@@ -42,17 +42,17 @@ func appendHashes(line []byte, hashes [][32]byte) []byte {
 	return append(line, ']')
 }
 
-// cursor reads a line from its beginning on. Once something isn't there that was wanted, all that is read behind it isn't either.
+// cursor reads a line from its beginning. After the first mismatch, everything that it reads is missing too.
 type cursor struct {
 	rest []byte
 	bad  bool
 }
 
-// over begins to read a line, whose bytes are to stay as they are.
-func over(line []byte) *cursor { return &cursor{rest: line} }
+// newCursor returns a cursor at the beginning of a line. The line's bytes must not change.
+func newCursor(line []byte) *cursor { return &cursor{rest: line} }
 
-// has says whether a text comes next, and goes behind it.
-func (c *cursor) has(text string) bool {
+// skip reports whether a text comes next, and moves past it.
+func (c *cursor) skip(text string) bool {
 	if c.bad || len(c.rest) < len(text) || string(c.rest[:len(text)]) != text {
 		return false
 	}
@@ -60,9 +60,9 @@ func (c *cursor) has(text string) bool {
 	return true
 }
 
-// want goes behind a text, which has to come next.
-func (c *cursor) want(text string) {
-	if !c.has(text) {
+// expect moves past a text, which must come next.
+func (c *cursor) expect(text string) {
+	if !c.skip(text) {
 		c.bad = true
 	}
 }
@@ -82,9 +82,9 @@ func (c *cursor) number() uint64 {
 	return number
 }
 
-// text gives the bytes of a text without escapes, as they stand.
+// text returns the bytes of a JSON string without escapes.
 func (c *cursor) text() []byte {
-	c.want(`"`)
+	c.expect(`"`)
 	end := bytes.IndexByte(c.rest, '"')
 	if c.bad || end < 0 || bytes.IndexByte(c.rest[:end], '\\') >= 0 {
 		c.bad = true
@@ -95,12 +95,12 @@ func (c *cursor) text() []byte {
 	return text
 }
 
-// bytes reads a text of base64.
+// bytes reads a JSON string in base64.
 func (c *cursor) bytes() []byte {
 	text := c.text()
 	content := make([]byte, base64.StdEncoding.DecodedLen(len(text)))
 	length, err := base64.StdEncoding.Decode(content, text)
-	// (what decoding passes over would be of another form)
+	// The decoder ignores line ends, so a text that has one is longer than its bytes need.
 	if c.bad || err != nil || base64.StdEncoding.EncodedLen(length) != len(text) {
 		c.bad = true
 		return nil
@@ -110,14 +110,14 @@ func (c *cursor) bytes() []byte {
 
 // each reads the elements of an array, whose bracket comes next.
 func (c *cursor) each(element func()) {
-	c.want("[")
-	for first := true; !c.bad && !c.has("]"); first = false {
+	c.expect("[")
+	for first := true; !c.bad && !c.skip("]"); first = false {
 		if !first {
-			c.want(",")
+			c.expect(",")
 		}
 		element()
 	}
 }
 
-// atEnd says whether all was read, and there is no more.
+// atEnd reports whether everything was read without a mismatch.
 func (c *cursor) atEnd() bool { return !c.bad && len(c.rest) == 0 }

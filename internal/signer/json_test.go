@@ -30,19 +30,19 @@ func TestAppendsBase64(t *testing.T) {
 
 // readForm reads an object of one form.
 func readForm(line string) (numbers []uint64, texts []string, ok bool) {
-	c := over([]byte(line))
-	c.want(`{"of":`)
+	c := newCursor([]byte(line))
+	c.expect(`{"of":`)
 	c.each(func() {
-		c.want(`{`)
-		if c.has(`"text":`) {
+		c.expect(`{`)
+		if c.skip(`"text":`) {
 			texts = append(texts, string(c.bytes()))
-			c.want(`,`)
+			c.expect(`,`)
 		}
-		c.want(`"number":`)
+		c.expect(`"number":`)
 		numbers = append(numbers, c.number())
-		c.want(`}`)
+		c.expect(`}`)
 	})
-	c.want(`}`)
+	c.expect(`}`)
 	return numbers, texts, c.atEnd()
 }
 

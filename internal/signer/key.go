@@ -17,21 +17,21 @@ import (
 	"golang.org/x/sync/errgroup"
 )
 
-// mostFile is how many bytes a key's file may have.
-const mostFile = 64 << 10
+// maxKeyFile is the maximum size of a key's file in bytes.
+const maxKeyFile = 64 << 10
 
 // algorithms are the two bytes before a signature: sha256 and ecdsa (RFC 5246, section 7.4.1.4.1).
 var algorithms = [2]byte{4, 3}
 
-// Key is a log's private key, out of a file or in a token. As a Signer it is unguarded: it signs whatever it is asked for.
+// Key is a log's private key, from a file or in a PKCS#11 token. As a Signer it has no guard, so it signs everything that a caller asks for.
 type Key struct {
 	private crypto.Signer
 	public  []byte
-	// module leads to the key's token; nil of a key out of a file.
+	// module has the key's token. It is nil for a key from a file.
 	module io.Closer
 }
 
-// Close lets the key's token go.
+// Close releases the key's token.
 func (k *Key) Close() error {
 	if k.module == nil {
 		return nil
@@ -39,8 +39,8 @@ func (k *Key) Close() error {
 	return k.module.Close()
 }
 
-// OpenKey reads a private key of P-256 in PEM (EC PRIVATE KEY or PRIVATE KEY) from a file that none but its owner may read; or, where
-// the path is a URI of PKCS#11 (RFC 7512), finds it in a token, which it never leaves.
+// OpenKey reads a private key of P-256 in PEM (EC PRIVATE KEY or PRIVATE KEY) from a file that only its owner may read. If the path is a PKCS#11 URI (RFC 7512),
+// it finds the key in a token. Such a key never leaves the token.
 func OpenKey(path string) (*Key, error) {
 	if IsToken(path) {
 		return openToken(path)
@@ -56,7 +56,7 @@ func OpenKey(path string) (*Key, error) {
 	return FromKey(private)
 }
 
-// readPrivate reads a file that none but its owner may read or write.
+// readPrivate reads a file that only its owner may read or write.
 func readPrivate(path string) ([]byte, error) {
 	opened, err := os.Open(path)
 	if err != nil {
@@ -68,29 +68,29 @@ func readPrivate(path string) ([]byte, error) {
 		return nil, fmt.Errorf("signer: %w", err)
 	}
 	if info.Mode().Perm()&0o077 != 0 {
-		return nil, fmt.Errorf("%w: others than its owner may read or write %s", ErrKey, path)
+		return nil, fmt.Errorf("%w: users other than the owner may read or write %s (run chmod 600)", ErrKey, path)
 	}
-	content, err := io.ReadAll(io.LimitReader(opened, mostFile))
+	content, err := io.ReadAll(io.LimitReader(opened, maxKeyFile))
 	if err != nil {
 		return nil, fmt.Errorf("signer: %w", err)
 	}
 	return content, nil
 }
 
-// FromKey takes a private key of P-256.
+// FromKey returns the Key of a private key of P-256.
 func FromKey(private crypto.Signer) (*Key, error) {
-	of, ok := private.Public().(*ecdsa.PublicKey)
-	if !ok || of.Curve != elliptic.P256() {
-		return nil, fmt.Errorf("%w: it isn't of P-256", ErrKey)
+	public, ok := private.Public().(*ecdsa.PublicKey)
+	if !ok || public.Curve != elliptic.P256() {
+		return nil, fmt.Errorf("%w: it is not a P-256 key", ErrKey)
 	}
-	public, err := x509.MarshalPKIXPublicKey(of)
+	der, err := x509.MarshalPKIXPublicKey(public)
 	if err != nil {
 		return nil, fmt.Errorf("%w: %v", ErrKey, err)
 	}
-	return &Key{private: private, public: public}, nil
+	return &Key{private: private, public: der}, nil
 }
 
-// parse finds the first private key in PEM. (Files of openssl have the curve's parameters before it.)
+// parse returns the first private key in PEM. A file that openssl wrote may have the curve's parameters before it.
 func parse(content []byte) (*ecdsa.PrivateKey, error) {
 	for {
 		block, rest := pem.Decode(content)
@@ -113,12 +113,12 @@ func parse(content []byte) (*ecdsa.PrivateKey, error) {
 			if key, ok := key.(*ecdsa.PrivateKey); ok {
 				return key, nil
 			}
-			return nil, fmt.Errorf("%w: it isn't one of ECDSA", ErrKey)
+			return nil, fmt.Errorf("%w: it is not an ECDSA key", ErrKey)
 		}
 	}
 }
 
-// sign gives the DigitallySigned over bytes.
+// sign returns the DigitallySigned of a message.
 func (k *Key) sign(message []byte) ([]byte, error) {
 	hash := sha256.Sum256(message)
 	signature, err := k.private.Sign(rand.Reader, hash[:], crypto.SHA256)
@@ -128,16 +128,16 @@ func (k *Key) sign(message []byte) ([]byte, error) {
 	return append([]byte{algorithms[0], algorithms[1], byte(len(signature) >> 8), byte(len(signature))}, signature...), nil
 }
 
-// Key is Signer's.
+// Key returns the log's public key, as Signer says.
 func (k *Key) Key() []byte { return append([]byte{}, k.public...) }
 
 // IsGuarded returns false: a key signs whatever it is asked for.
 func (k *Key) IsGuarded() bool { return false }
 
-// Last is Signer's.
+// Last returns nil: a key keeps no head.
 func (k *Key) Last(context.Context) (*Head, error) { return nil, nil }
 
-// SignHead is Signer's. The proof isn't looked at.
+// SignHead returns the signature of a head, as Signer says. It ignores the proof.
 func (k *Key) SignHead(ctx context.Context, head Head, _ [][32]byte) ([]byte, error) {
 	if err := ctx.Err(); err != nil {
 		return nil, fmt.Errorf("signer: %w", err)
@@ -145,7 +145,7 @@ func (k *Key) SignHead(ctx context.Context, head Head, _ [][32]byte) ([]byte, er
 	return k.sign(head.message())
 }
 
-// SignTimestamps is Signer's. Neither leaves nor paths are looked at.
+// SignTimestamps returns the signatures of timestamps, as Signer says. It checks neither leaves nor paths.
 func (k *Key) SignTimestamps(ctx context.Context, receipts []Receipt) ([][]byte, error) {
 	messages := make([][]byte, 0, len(receipts))
 	for _, receipt := range receipts {
@@ -154,10 +154,10 @@ func (k *Key) SignTimestamps(ctx context.Context, receipts []Receipt) ([][]byte,
 	return k.signAll(ctx, messages)
 }
 
-// signAll gives the DigitallySigned over each of these, or over none.
+// signAll returns the DigitallySigned of each message, or an error.
 func (k *Key) signAll(ctx context.Context, messages [][]byte) ([][]byte, error) {
 	signatures := make([][]byte, len(messages))
-	err := sideBySide(ctx, len(messages), func(at int) (err error) {
+	err := inParallel(ctx, len(messages), func(at int) (err error) {
 		signatures[at], err = k.sign(messages[at])
 		return err
 	})
@@ -167,11 +167,11 @@ func (k *Key) signAll(ctx context.Context, messages [][]byte) ([][]byte, error) 
 	return signatures, nil
 }
 
-// sideBySide does so many things that keep a processor busy, as many at once as there are processors, until the context ends, and gives the first error.
-func sideBySide(ctx context.Context, many int, do func(at int) error) error {
+// inParallel calls do for each index below count, in as many goroutines as there are processors. It returns the first error, and stops if the context ends.
+func inParallel(ctx context.Context, count int, do func(at int) error) error {
 	all, ctx := errgroup.WithContext(ctx)
 	all.SetLimit(runtime.GOMAXPROCS(0))
-	for at := 0; at < many; at++ {
+	for at := 0; at < count; at++ {
 		at := at
 		all.Go(func() error {
 			if err := ctx.Err(); err != nil {

@@ -2,8 +2,8 @@
 
 package signer
 
-// hooks are the tests' alone, which are built by the tag phases (phases_hooked.go): a program has none.
+// hooks is empty in a program. Tests are built with the tag phases, and have the hooks of phases_hooked.go.
 type hooks struct{}
 
-// phase names what is done by now.
+// phase does nothing in a program.
 func (g *Guarded) phase(string) {}

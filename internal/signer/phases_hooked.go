@@ -2,7 +2,7 @@
 
 package signer
 
-// hooks are the tests': phase is called between what is done. No program is built with them.
+// hooks has a function that a test has called between two operations. No program is built with it.
 type hooks struct{ phase func(string) }
 
 func (g *Guarded) phase(name string) {

@@ -5,66 +5,66 @@ import (
 	"strconv"
 )
 
-// Lines about timestamps have a leaf and a path for each, and a step may have a thousand. They are written and read once here; what another program writes
-// in another form is read by encoding/json.
+// A line about timestamps has a leaf and a path for each one, and a step may have a thousand. This code writes and reads such a line once. encoding/json reads
+// the lines of other programs, which may have another form.
 
-// appendReceipts writes the line that asks for timestamps, without its end.
+// appendReceipts appends the request for timestamps, without its line end.
 func appendReceipts(line []byte, receipts []Receipt) []byte {
 	line = append(line, `{"receipts":[`...)
-	for i, one := range receipts {
+	for i, receipt := range receipts {
 		if i > 0 {
 			line = append(line, ',')
 		}
 		line = append(line, '{')
-		if len(one.Path) > 0 {
-			line = append(appendHashes(append(line, `"audit_path":`...), one.Path), ',')
+		if len(receipt.Path) > 0 {
+			line = append(appendHashes(append(line, `"audit_path":`...), receipt.Path), ',')
 		}
-		line = strconv.AppendUint(append(line, `"leaf_index":`...), one.Index, 10)
-		line = append(appendBase64(append(line, `,"leaf_input":`...), one.Leaf), '}')
+		line = strconv.AppendUint(append(line, `"leaf_index":`...), receipt.Index, 10)
+		line = append(appendBase64(append(line, `,"leaf_input":`...), receipt.Leaf), '}')
 	}
 	return append(line, "]}"...)
 }
 
-// readReceipts reads such a line, where it is of that form.
+// readReceipts reads a line that appendReceipts wrote. ok is false if the line has another form.
 func readReceipts(line []byte) (receipts []Receipt, ok bool) {
-	c, wrong := over(line), false
-	c.want(`{"receipts":`)
+	c, wrong := newCursor(line), false
+	c.expect(`{"receipts":`)
 	c.each(func() {
-		var one Receipt
-		if c.want(`{`); c.has(`"audit_path":`) {
+		var receipt Receipt
+		if c.expect(`{`); c.skip(`"audit_path":`) {
 			c.each(func() {
 				var hash [32]byte
 				content := c.bytes()
 				wrong = wrong || len(content) != len(hash)
 				copy(hash[:], content)
-				one.Path = append(one.Path, hash)
+				receipt.Path = append(receipt.Path, hash)
 			})
-			c.want(`,`)
+			c.expect(`,`)
 		}
-		c.want(`"leaf_index":`)
-		one.Index = c.number()
-		c.want(`,"leaf_input":`)
-		one.Leaf = c.bytes()
-		c.want(`}`)
-		receipts = append(receipts, one)
+		c.expect(`"leaf_index":`)
+		receipt.Index = c.number()
+		c.expect(`,"leaf_input":`)
+		receipt.Leaf = c.bytes()
+		c.expect(`}`)
+		receipts = append(receipts, receipt)
 	})
-	c.want(`}`)
+	c.expect(`}`)
 	return receipts, c.atEnd() && !wrong
 }
 
-// appendSignatures writes the reply that has signatures alone.
+// appendSignatures appends the reply that has only signatures.
 func appendSignatures(line []byte, signatures [][]byte) []byte {
 	return append(appendBase64List(append(line, `{"signatures":`...), signatures), '}')
 }
 
-// readReply reads a reply.
-func readReply(line []byte) (came reply, err error) {
-	c := over(line)
-	c.want(`{"signatures":`)
-	c.each(func() { came.Signatures = append(came.Signatures, c.bytes()) })
-	if c.want(`}`); c.atEnd() {
-		return came, nil
+// readReply reads a reply of any form.
+func readReply(line []byte) (rep reply, err error) {
+	c := newCursor(line)
+	c.expect(`{"signatures":`)
+	c.each(func() { rep.Signatures = append(rep.Signatures, c.bytes()) })
+	if c.expect(`}`); c.atEnd() {
+		return rep, nil
 	}
-	came = reply{}
-	return came, json.Unmarshal(line, &came)
+	rep = reply{}
+	return rep, json.Unmarshal(line, &rep)
 }

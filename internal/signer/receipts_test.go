@@ -18,12 +18,12 @@ func someReceipts() []Receipt {
 	}
 }
 
-// TestReceiptsAreWritten: the lines of receipts are what encoding/json makes of the same, and are read as they were written.
+// TestReceiptsAreWritten: a request's line is what encoding/json writes, and is read back.
 func TestReceiptsAreWritten(t *testing.T) {
 	for _, receipts := range [][]Receipt{{}, someReceipts()[:1], someReceipts()} {
 		asked := request{Receipts: []receiptLine{}}
 		for _, one := range receipts {
-			asked.Receipts = append(asked.Receipts, receiptLine{hashesOf(one.Path), one.Index, one.Leaf})
+			asked.Receipts = append(asked.Receipts, receiptLine{hashBytes(one.Path), one.Index, one.Leaf})
 		}
 		want, err := json.Marshal(asked)
 		must(t, err)
@@ -48,7 +48,8 @@ func TestReceiptsAreWritten(t *testing.T) {
 	}
 }
 
-// TestReceiptsOfAnotherForm: what is of another form, or isn't whole, isn't read as receipts, and the replies are read by encoding/json.
+// TestReceiptsOfAnotherForm: readReceipts reads no line of another form, and encoding/json reads replies of another
+// form.
 func TestReceiptsOfAnotherForm(t *testing.T) {
 	line := string(appendReceipts(nil, someReceipts()))
 	for _, other := range []string{"", "{}", `{"open":true}`, line[:len(line)-1], line + " ", " " + line, strings.Replace(line, `"leaf_index":7`, `"leaf_index":"7"`, 1), strings.Replace(line, `"leaf_index":7,`, "", 1),
@@ -72,14 +73,14 @@ func TestReceiptsOfAnotherForm(t *testing.T) {
 	}
 }
 
-// TestHashesOfAnotherLength: a line of receipts one of whose paths has a hash of more or fewer bytes than 32, wherever it stands, is refused.
+// TestHashesOfAnotherLength: a request is refused if any hash of a path has another length than 32 bytes.
 func TestHashesOfAnotherLength(t *testing.T) {
 	for _, lengths := range [][]int{{31}, {33}, {64}, {0}, {31, 32}, {33, 32}, {32, 31}, {32, 33}} {
 		var path [][]byte
 		for _, length := range lengths {
 			path = append(path, bytes.Repeat([]byte{7}, length))
 		}
-		line, err := json.Marshal(request{Receipts: []receiptLine{{path, 7, []byte("a leaf")}, {hashesOf([][32]byte{{1}}), 8, []byte("another")}}})
+		line, err := json.Marshal(request{Receipts: []receiptLine{{path, 7, []byte("a leaf")}, {hashBytes([][32]byte{{1}}), 8, []byte("another")}}})
 		must(t, err)
 		if read, ok := readReceipts(line); ok {
 			t.Errorf("hashes of %d bytes are read as %+v", lengths, read)

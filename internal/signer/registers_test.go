@@ -11,7 +11,7 @@ import (
 	"wagtenib/internal/stores"
 )
 
-// asked is a register that counts what it is asked for; does may fail in its place, or wait.
+// asked is a register that counts its calls. The function does may fail instead of a call, or wait.
 type asked struct {
 	stores.Register
 	mu    sync.Mutex
@@ -56,16 +56,16 @@ func (a *asked) Swap(ctx context.Context, old, next string) error {
 
 var errTried = errors.New("tried")
 
-// TestFaultyState: whatever the state's register does in place of one call, nothing is signed whose state isn't kept; only what is unknown is swapped again; and behind
-// that a head is signed that goes on from what stands.
+// TestFaultyState has calls of the register fail. Nothing is signed unless its state is stored. Only a swap with an
+// unknown outcome is tried again. Afterwards a head is signed that follows the state in the register.
 func TestFaultyState(t *testing.T) {
 	t.Parallel()
 	ctx, key, l := limited(t), newKey(t), listOf(t, 20, 20)
 	state := &asked{Register: register(t, t.TempDir())}
-	g, err := Behind(ctx, key, Guard{State: state, Create: true})
+	g, err := NewGuarded(ctx, key, Guard{State: state, Create: true})
 	must(t, err)
-	size, moment := 0, uint64(100)
-	_, err = g.SignHead(ctx, l.head(t, 0, moment), nil)
+	size, timestamp := 0, uint64(100)
+	_, err = g.SignHead(ctx, l.head(t, 0, timestamp), nil)
 	must(t, err)
 	for _, of := range []struct {
 		what  string
@@ -75,7 +75,7 @@ func TestFaultyState(t *testing.T) {
 		swaps int
 	}{
 		{"it can't be swapped", errTried, 1, errTried, 1},
-		{"another stands", stores.ErrLost, 1, ErrMoved, 1},
+		{"it has another text", stores.ErrLost, 1, ErrMoved, 1},
 		{"it is gone", stores.ErrAbsent, 1, stores.ErrAbsent, 1},
 		{"it isn't known once", stores.ErrUnknown, 1, nil, 2},
 		{"it isn't known four times", stores.ErrUnknown, 4, nil, 5},
@@ -91,8 +91,8 @@ func TestFaultyState(t *testing.T) {
 			return nil
 		}
 		state.mu.Unlock()
-		moment++
-		head := l.head(t, size+2, moment)
+		timestamp++
+		head := l.head(t, size+2, timestamp)
 		signed, err := g.SignHead(ctx, head, l.proof(t, size, size+2))
 		if !errors.Is(err, of.kind) || (signed == nil) != (err != nil) || err == nil && CheckHead(key.Key(), head, signed) != nil {
 			t.Errorf("%s: %v", of.what, err)
@@ -105,13 +105,13 @@ func TestFaultyState(t *testing.T) {
 		}
 		last, err := g.Last(ctx)
 		if must(t, err); last == nil || last.Size != uint64(size) {
-			t.Errorf("%s: behind it %+v stands", of.what, last)
+			t.Errorf("%s: the last head is then %+v", of.what, last)
 		}
 	}
 }
 
-// TestFaultyStart: where the state's register fails as a guard begins, there is no signer, and why is told as it is; one that stands is gone on from, whether or not it
-// was to be created.
+// TestFaultyStart: if the register fails at a start, there is no signer, and the error says why. An existing state is
+// used whether or not Create is set.
 func TestFaultyStart(t *testing.T) {
 	t.Parallel()
 	ctx, key, head := limited(t), newKey(t), listOf(t, 2, 2).head(t, 2, 5)
@@ -136,26 +136,26 @@ func TestFaultyStart(t *testing.T) {
 			}
 			return nil
 		}
-		if g, err := Behind(ctx, key, Guard{State: state, Create: true}); !errors.Is(err, of.kind) || g != nil {
+		if g, err := NewGuarded(ctx, key, Guard{State: state, Create: true}); !errors.Is(err, of.kind) || g != nil {
 			t.Errorf("%s: %v", what, err)
 		}
 	}
 	for _, creates := range []bool{false, true} {
 		state := register(t, t.TempDir())
 		must(t, state.Create(ctx, textOf(&head)))
-		g, err := Behind(ctx, key, Guard{State: state, Create: creates})
+		g, err := NewGuarded(ctx, key, Guard{State: state, Create: creates})
 		must(t, err)
 		if state, err := g.known(ctx); err != nil || state.Text() != textOf(&head) {
-			t.Errorf("it is to be created: %t: it goes on from %s, %v", creates, state.Text(), err)
+			t.Errorf("with Create %t: its state is %s, %v", creates, state.Text(), err)
 		}
 	}
 }
 
-// TestTurn: while one asks a guard, who waits for the turn goes with its context, and gets nothing.
+// TestTurn: a caller that waits for another caller's request leaves if its context ends.
 func TestTurn(t *testing.T) {
 	t.Parallel()
 	ctx, l := limited(t), listOf(t, 2, 2)
-	g := behind(t, newKey(t), t.TempDir())
+	g := guardedIn(t, newKey(t), t.TempDir())
 	gone, cancel := context.WithCancel(ctx)
 	cancel()
 	must(t, g.take(ctx))
@@ -168,7 +168,7 @@ func TestTurn(t *testing.T) {
 		case err := <-came:
 			wants(t, err, context.Canceled)
 		case <-limited(t).Done():
-			t.Error("who is gone waits for the turn")
+			t.Error("a caller whose context has ended waits")
 		}
 	}
 	<-g.turn
@@ -176,13 +176,13 @@ func TestTurn(t *testing.T) {
 	must(t, err)
 }
 
-// TestUnguardedEnds: a key alone signs nothing for who is gone.
-func TestUnguardedEnds(t *testing.T) {
+// TestKeyWithAnEndedContext: a key without a guard signs nothing for a context that has ended.
+func TestKeyWithAnEndedContext(t *testing.T) {
 	t.Parallel()
 	gone, cancel := context.WithCancel(context.Background())
 	cancel()
 	key := newKey(t)
-	if signed, err := key.SignHead(gone, Head{Size: 1, Moment: 1}, nil); !errors.Is(err, context.Canceled) || signed != nil {
+	if signed, err := key.SignHead(gone, Head{Size: 1, Timestamp: 1}, nil); !errors.Is(err, context.Canceled) || signed != nil {
 		t.Errorf("a head: %v", err)
 	}
 	if signed, err := key.SignTimestamps(gone, []Receipt{{Leaf: leaf("x")}}); !errors.Is(err, context.Canceled) || signed != nil {
@@ -190,19 +190,19 @@ func TestUnguardedEnds(t *testing.T) {
 	}
 }
 
-// TestMaxAhead: a head that is not ahead of this machine's time of day, except by as much as two clocks may be apart, may be as far after the last one
+// TestMaxAhead: a head that is not ahead of this machine's clock by more than maxSkew may be as far after the last one
 // as its timestamp says. Another head may be an hour after it.
 func TestMaxAhead(t *testing.T) {
 	t.Parallel()
 	now := uint64(time.Now().UnixMilli())
-	for _, moment := range []uint64{0, 1, now - 86_400_000, now, now + 30_000} {
-		if max := maxAhead(Head{Moment: moment}); max != moment {
-			t.Errorf("at %d the moment %d may be %d ahead", now, moment, max)
+	for _, timestamp := range []uint64{0, 1, now - 86_400_000, now, now + 30_000} {
+		if max := maxAhead(Head{Timestamp: timestamp}); max != timestamp {
+			t.Errorf("at %d a head of %d may be %d ahead", now, timestamp, max)
 		}
 	}
-	for _, moment := range []uint64{now + 120_000 + 60_000, now + 3_600_000, 1 << 62, 1 << 63, 1<<64 - 1} {
-		if max := maxAhead(Head{Moment: moment}); max != 3_600_000 {
-			t.Errorf("at %d the moment %d may be %d ahead", now, moment, max)
+	for _, timestamp := range []uint64{now + 120_000 + 60_000, now + 3_600_000, 1 << 62, 1 << 63, 1<<64 - 1} {
+		if max := maxAhead(Head{Timestamp: timestamp}); max != 3_600_000 {
+			t.Errorf("at %d a head of %d may be %d ahead", now, timestamp, max)
 		}
 	}
 }

@@ -1,5 +1,5 @@
-// Package signer has what signs for a log: ECDSA over P-256 with SHA-256 (RFC 6962, section 2.1.4), behind a guard that says what may
-// be signed (docs/GUARD.md), in a process of its own.
+// Package signer signs for a log with ECDSA over P-256 and SHA-256 (RFC 6962, section 2.1.4). A guard decides what may be signed (docs/GUARD.md). The signer
+// of ctserve is a process of its own, which Client asks.
 package signer
 
 import (
@@ -15,30 +15,29 @@ import (
 
 // Signer signs heads and timestamps. Its methods may be called at once.
 type Signer interface {
-	// Key is the log's public key: its SubjectPublicKeyInfo in DER.
+	// Key returns the log's public key, a SubjectPublicKeyInfo in DER.
 	Key() []byte
 	// IsGuarded reports whether a guard approves each head, and each timestamp's leaf by its path in the last head's tree, before it is signed.
 	IsGuarded() bool
-	// Last is the head that was let through last; nil where none was, or nobody looks.
+	// Last returns the head that the guard approved last. It returns nil before the first head, and if there is no guard.
 	Last(ctx context.Context) (*Head, error)
-	// SignHead gives the DigitallySigned of a head (RFC 6962, section 3.5): two bytes of the algorithms, two of length, and the
-	// signature. The proof leads from the last head to it (section 2.1.2). The last one once more is signed again, and what isn't let
-	// through is a Refusal.
+	// SignHead returns the DigitallySigned of a head (RFC 6962, section 3.5): two bytes of algorithms, two bytes of length, and the signature. The proof leads
+	// from the last head to this one (section 2.1.2). The last head may be signed again. A head that the guard does not approve is a Refusal.
 	SignHead(ctx context.Context, head Head, consistency [][32]byte) ([]byte, error)
-	// SignTimestamps gives those of timestamps (section 3.2), all or none.
+	// SignTimestamps returns the DigitallySigned of each timestamp (section 3.2), or an error.
 	SignTimestamps(ctx context.Context, receipts []Receipt) ([][]byte, error)
 }
 
-// Head is a tree head; its moment is in milliseconds since 1970.
+// Head is a tree head. Its timestamp is in milliseconds since 1970.
 type Head struct {
-	Size, Moment uint64
-	Root         [32]byte
+	Size, Timestamp uint64
+	Root            [32]byte
 }
 
-// message are the bytes under its signature: version 1 is 0, tree_hash is 1 (RFC 6962, section 3.5).
+// message returns the bytes that are signed: version 1 is 0, tree_hash is 1 (RFC 6962, section 3.5).
 func (h Head) message() []byte {
 	message := make([]byte, 0, 50)
-	for _, number := range []uint64{h.Moment, h.Size} {
+	for _, number := range []uint64{h.Timestamp, h.Size} {
 		var eight [8]byte
 		binary.BigEndian.PutUint64(eight[:], number)
 		message = append(message, eight[:]...)
@@ -46,18 +45,18 @@ func (h Head) message() []byte {
 	return append(append([]byte{0, 1}, message...), h.Root[:]...)
 }
 
-// CheckHead says whether a DigitallySigned is the key's over a head.
+// CheckHead reports whether a DigitallySigned is the key's signature of a head.
 func CheckHead(key []byte, head Head, signed []byte) error { return Check(key, head.message(), signed) }
 
-// Receipt is a timestamp: its bytes are those of its leaf (RFC 6962, sections 3.2 and 3.4). Where receipts are in-head, the path leads
-// from the leaf's index to the root of the last head.
+// Receipt is a timestamp to sign. Its bytes are those of its leaf (RFC 6962, sections 3.2 and 3.4). The path leads from the leaf's index to the root of the last
+// head.
 type Receipt struct {
 	Leaf  []byte
 	Index uint64
 	Path  [][32]byte
 }
 
-// Refusal is why a head or a timestamp isn't let through, by the guard's names. Nothing was signed then.
+// Refusal is the reason why the guard does not approve a head or a timestamp (docs/GUARD.md has the names). Nothing was signed.
 type Refusal struct{ Name, Fault string }
 
 func (r Refusal) Error() string {
@@ -67,54 +66,55 @@ func (r Refusal) Error() string {
 	return "signer: refused: " + r.Name
 }
 
-// Is says that every refusal is ErrRefused.
+// Is reports whether the target is ErrRefused, which every refusal is.
 func (r Refusal) Is(target error) bool { return target == ErrRefused }
 
-// TooFar is the refusal of a head whose moment is too far beyond the last one's.
-var TooFar = Refusal{Name: "moment-too-far"}
+// TooFar is the refusal of a head whose timestamp is too far after the last one's.
+var TooFar = Refusal{Name: "timestamp-too-far"}
 
-// What signing fails by. Each is found by errors.Is.
+// The kinds of errors. Use errors.Is.
 var (
-	// ErrRefused: the guard lets it not through.
+	// ErrRefused: the guard does not approve the head or the timestamp.
 	ErrRefused = errors.New("signer: refused")
-	// ErrMoved: another signer let a head through meanwhile: ask which, and again.
-	ErrMoved = errors.New("signer: another head was let through meanwhile")
-	// ErrState: the guard's state is missing, or isn't one that it takes up.
-	ErrState = errors.New("signer: no state of the guard")
-	// ErrGone: the signer's process doesn't start, ended, or gave no reply in time.
-	ErrGone = errors.New("signer: the signer gives no reply")
-	// ErrReply: a reply isn't one to the request. The process, or the connection, is closed then: what it says next may be a reply to something else, too.
-	ErrReply = errors.New("signer: not a reply")
-	// ErrKey: a file is no key of a log.
-	ErrKey = errors.New("signer: no key of a log")
-	// ErrSignature: a signature isn't the key's over these bytes.
+	// ErrMoved: another signer has approved a head in between. Call Last, and then sign again.
+	ErrMoved = errors.New("signer: another signer has approved a head in between")
+	// ErrState: the guard's state is missing, damaged or rolled back.
+	ErrState = errors.New("signer: no valid guard state")
+	// ErrGone: the signer's process does not start, has ended, or sent no reply in time.
+	ErrGone = errors.New("signer: no reply from the signer")
+	// ErrReply: a reply does not belong to the request. The process is then ended, or the connection closed, since its next reply may not belong to its request
+	// either.
+	ErrReply = errors.New("signer: the reply does not belong to the request")
+	// ErrKey: a file has no key that a log can use.
+	ErrKey = errors.New("signer: not a log's key")
+	// ErrSignature: a signature is not the key's signature of these bytes.
 	ErrSignature = errors.New("signer: not the key's signature")
 )
 
-// Check says whether a DigitallySigned is the key's over these bytes; the key is a SubjectPublicKeyInfo in DER.
+// Check reports whether a DigitallySigned is the key's signature of a message. The key is a SubjectPublicKeyInfo in DER.
 func Check(key, message, signed []byte) error {
-	public, err := publicOf(key)
+	public, err := parsePublicKey(key)
 	if err != nil {
 		return err
 	}
 	return check(public, message, signed)
 }
 
-func publicOf(key []byte) (*ecdsa.PublicKey, error) {
+func parsePublicKey(key []byte) (*ecdsa.PublicKey, error) {
 	parsed, err := x509.ParsePKIXPublicKey(key)
 	if err != nil {
 		return nil, fmt.Errorf("%w: %v", ErrKey, err)
 	}
 	public, ok := parsed.(*ecdsa.PublicKey)
 	if !ok || public.Curve != elliptic.P256() {
-		return nil, fmt.Errorf("%w: it isn't of P-256", ErrKey)
+		return nil, fmt.Errorf("%w: it is not a P-256 key", ErrKey)
 	}
 	return public, nil
 }
 
 func check(public *ecdsa.PublicKey, message, signed []byte) error {
 	if len(signed) < 4 || signed[0] != algorithms[0] || signed[1] != algorithms[1] || int(signed[2])<<8|int(signed[3]) != len(signed)-4 {
-		return fmt.Errorf("%w: it is none of ECDSA with SHA-256", ErrSignature)
+		return fmt.Errorf("%w: it is not ECDSA with SHA-256", ErrSignature)
 	}
 	if hash := sha256.Sum256(message); !ecdsa.VerifyASN1(public, hash[:], signed[4:]) {
 		return ErrSignature

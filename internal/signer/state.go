@@ -14,16 +14,16 @@ const NoHead = `{"guard":1,"last":null}`
 
 // headLine is a head in JSON, with its keys in byte order.
 type headLine struct {
-	Root   []byte `json:"sha256_root_hash"`
-	Moment uint64 `json:"timestamp"`
-	Size   uint64 `json:"tree_size"`
+	Root      []byte `json:"sha256_root_hash"`
+	Timestamp uint64 `json:"timestamp"`
+	Size      uint64 `json:"tree_size"`
 }
 
-func lineOf(head *Head) *headLine {
+func headLineOf(head *Head) *headLine {
 	if head == nil {
 		return nil
 	}
-	return &headLine{head.Root[:], head.Moment, head.Size}
+	return &headLine{head.Root[:], head.Timestamp, head.Size}
 }
 
 func (l *headLine) head() (*Head, error) {
@@ -33,7 +33,7 @@ func (l *headLine) head() (*Head, error) {
 	if len(l.Root) != 32 {
 		return nil, fmt.Errorf("a root of %d bytes", len(l.Root))
 	}
-	return &Head{l.Size, l.Moment, *(*[32]byte)(l.Root)}, nil
+	return &Head{l.Size, l.Timestamp, *(*[32]byte)(l.Root)}, nil
 }
 
 // stateLine is the text of a guard's state, with its keys in byte order.
@@ -53,7 +53,7 @@ type State struct {
 
 // stateOf returns the state whose last head is this one.
 func stateOf(last *Head) (State, error) {
-	text, err := json.Marshal(stateLine{1, lineOf(last)})
+	text, err := json.Marshal(stateLine{1, headLineOf(last)})
 	if err != nil {
 		return State{}, fmt.Errorf("signer: %w", err)
 	}
@@ -108,8 +108,8 @@ func (s State) Since(seen State) error {
 // only a state without one begins.
 func (s State) Begin(first Head) (State, error) {
 	empty := wagtenib.TreeHead{Root: sha256.Sum256(nil)}
-	if first.Moment > 0 {
-		empty.Timestamp = first.Moment - 1
+	if first.Timestamp > 0 {
+		empty.Timestamp = first.Timestamp - 1
 	}
 	return s.afterFirst(empty)
 }
@@ -132,7 +132,7 @@ func (s State) afterFirst(head wagtenib.TreeHead) (State, error) {
 // After returns the state after a head, whose signed bytes may then be signed. The proof leads from the last head to it. The head's timestamp may be at most
 // maxAhead milliseconds after the last one's. A head that the guard does not approve is a Refusal.
 func (s State) After(head Head, consistency [][32]byte, maxAhead uint64) (State, error) {
-	next := wagtenib.TreeHead{TreeSize: head.Size, Timestamp: head.Moment, Root: head.Root}
+	next := wagtenib.TreeHead{TreeSize: head.Size, Timestamp: head.Timestamp, Root: head.Root}
 	if s.last == nil {
 		return s.afterFirst(next)
 	}
@@ -164,7 +164,7 @@ func (s State) Receipt(receipt Receipt) error {
 
 // headRefusals and receiptRefusals are the names of what the guard refuses (docs/GUARD.md). proofFaults and leafFaults are the faults in these refusals.
 var (
-	headRefusals = map[wagtenib.Code]string{wagtenib.ErrSizeFalls: "size-falls", wagtenib.ErrTimestampNotLater: "moment-not-later", wagtenib.ErrFork: "fork",
+	headRefusals = map[wagtenib.Code]string{wagtenib.ErrSizeFalls: "size-falls", wagtenib.ErrTimestampNotLater: "timestamp-not-later", wagtenib.ErrFork: "fork",
 		wagtenib.ErrTimestampTooFar: TooFar.Name, wagtenib.ErrNotFirst: "not-first"}
 	receiptRefusals = map[wagtenib.Code]string{wagtenib.ErrLaterLeaf: "later-leaf", wagtenib.ErrOtherIndex: "other-index"}
 	proofFaults     = map[wagtenib.Code]string{wagtenib.ErrIndexOutOfRange: "index-out-of-range", wagtenib.ErrPathTooLong: "path-too-long", wagtenib.ErrPathTooShort: "path-too-short",

@@ -75,7 +75,7 @@ func TestIsRolledBack(t *testing.T) {
 func TestFirstHead(t *testing.T) {
 	t.Parallel()
 	ctx, l := limited(t), listOf(t, 9, 9)
-	g := behind(t, newKey(t), t.TempDir())
+	g := guardedIn(t, newKey(t), t.TempDir())
 	wrong := l.head(t, 0, 100)
 	wrong.Root[0] ^= 1
 	signed, err := g.SignHead(ctx, wrong, nil)
@@ -84,10 +84,10 @@ func TestFirstHead(t *testing.T) {
 	}
 	// (no head of the empty tree is before it)
 	signed, err = g.SignHead(ctx, l.head(t, 5, 0), nil)
-	if refused(t, "moment-not-later", err); signed != nil {
+	if refused(t, "timestamp-not-later", err); signed != nil {
 		t.Error("a head of the year 1970 is signed")
 	}
-	g = behind(t, newKey(t), t.TempDir())
+	g = guardedIn(t, newKey(t), t.TempDir())
 	var texts []string
 	g.test.phase = func(string) { texts = append(texts, kept(t, g)) }
 	head, empty := l.head(t, 5, 100), l.head(t, 0, 99)
@@ -147,14 +147,14 @@ func readText(t *testing.T, folder string) []byte {
 	return text
 }
 
-// TestDamagedRegister: a register whose text was damaged or emptied below a running signer, or before it starts, is never one without a head. Nothing is signed,
-// and the text stays.
+// TestDamagedRegister: a register whose text is damaged or emptied, before a start or while a signer runs, never counts
+// as one without a head. Nothing is signed, and the text stays the same.
 func TestDamagedRegister(t *testing.T) {
 	t.Parallel()
 	ctx, l, fork := limited(t), listOf(t, 9, 9), listOf(t, 9, 0)
 	for _, damaged := range []string{"", "\n", " ", "{", "null", "{}", `{"guard":1}`, `{"guard":1,"last":{}}`, `{"guard":1,"last":null} `, "\x00"} {
 		folder := t.TempDir()
-		g := behind(t, newKey(t), folder)
+		g := guardedIn(t, newKey(t), folder)
 		_, err := g.SignHead(ctx, l.head(t, 5, 100), nil)
 		must(t, err)
 		must(t, stores.KeepFile(filepath.Join(folder, "guard", "text"), []byte(damaged)))
@@ -162,7 +162,7 @@ func TestDamagedRegister(t *testing.T) {
 			t.Errorf("%q: the last head is %+v, %v", damaged, last, err)
 		}
 		for _, create := range []bool{false, true} {
-			if _, err := Behind(ctx, newKey(t), Guard{State: register(t, folder), Create: create}); !errors.Is(err, ErrState) {
+			if _, err := NewGuarded(ctx, newKey(t), Guard{State: register(t, folder), Create: create}); !errors.Is(err, ErrState) {
 				t.Errorf("%q: a signer starts, %v", damaged, err)
 			}
 		}
@@ -175,16 +175,16 @@ func TestDamagedRegister(t *testing.T) {
 			t.Errorf("%q: a timestamp: %v", damaged, err)
 		}
 		if text := readText(t, folder); string(text) != damaged {
-			t.Errorf("%q: %q stands", damaged, text)
+			t.Errorf("%q: the text is %q", damaged, text)
 		}
 	}
 }
 
-// TestRefusedStays: what the guard refuses is not signed, and the register's text stays.
+// TestRefusedStays: a head that the guard refuses is not signed, and the register's text stays the same.
 func TestRefusedStays(t *testing.T) {
 	t.Parallel()
 	ctx, l, fork := limited(t), listOf(t, 9, 9), listOf(t, 9, 3)
-	g := behind(t, newKey(t), t.TempDir())
+	g := guardedIn(t, newKey(t), t.TempDir())
 	_, err := g.SignHead(ctx, l.head(t, 5, 100), nil)
 	must(t, err)
 	before := kept(t, g)
@@ -249,7 +249,7 @@ func TestTimestampsEndBetween(t *testing.T) {
 	l, judged := listOf(t, 4, 4), 0
 	ctx, leave := context.WithCancel(limited(t))
 	defer leave()
-	g := behind(t, newKey(t), t.TempDir())
+	g := guardedIn(t, newKey(t), t.TempDir())
 	_, err := g.SignHead(ctx, l.head(t, 4, 100), nil)
 	must(t, err)
 	g.test.phase = func(name string) {

@@ -12,22 +12,22 @@ import (
 	"wagtenib/internal/softhsm"
 )
 
-// TestToken: a key in a token signs, openssl finds its signatures right, and what isn't there is named.
+// TestToken: a key in a token makes signatures that openssl accepts. A key that does not exist is an error.
 func TestToken(t *testing.T) {
 	module, pin := softhsm.Token(t)
-	behind := "?module-path=" + module + "&pin-source=file:" + pin
-	// (before any key is open: who is logged in to a token isn't asked for a PIN again)
+	query := "?module-path=" + module + "&pin-source=file:" + pin
+	// This must be done before any key is open, since a session that is logged in to a token needs no PIN.
 	wrong := filepath.Join(t.TempDir(), "pin")
 	if err := os.WriteFile(wrong, []byte("0000"), 0o600); err != nil {
 		t.Fatal(err)
 	}
 	for what, uri := range map[string]string{
-		"another key":    "pkcs11:token=log-token;object=other" + behind,
-		"another token":  "pkcs11:token=other;object=key" + behind,
+		"another key":    "pkcs11:token=log-token;object=other" + query,
+		"another token":  "pkcs11:token=other;object=key" + query,
 		"another module": "pkcs11:token=log-token;object=key?module-path=/nowhere.so&pin-source=" + pin,
 		"another PIN":    "pkcs11:token=log-token;object=key?module-path=" + module + "&pin-source=" + wrong,
 		"no PIN":         "pkcs11:token=log-token;object=key?module-path=" + module + "&pin-source=" + wrong + ".absent",
-		"of P-384":       "pkcs11:token=log-token;object=large" + behind,
+		"of P-384":       "pkcs11:token=log-token;object=large" + query,
 	} {
 		if _, err := OpenKey(uri); err == nil {
 			t.Errorf("%s: it is taken", what)
@@ -36,7 +36,7 @@ func TestToken(t *testing.T) {
 	message := []byte("what is signed")
 	var public []byte
 	for _, of := range []string{"pkcs11:token=log-token;object=key", "pkcs11:token=log-token;id=%01", "pkcs11:token=log-token;object=key;id=%01"} {
-		key, err := OpenKey(of + behind)
+		key, err := OpenKey(of + query)
 		if err != nil {
 			t.Fatalf("%s: %v", of, err)
 		}
@@ -67,13 +67,14 @@ func TestToken(t *testing.T) {
 	if err := os.Chmod(pin, 0o644); err != nil {
 		t.Fatal(err)
 	}
-	if _, err := OpenKey("pkcs11:token=log-token;object=key" + behind); !errors.Is(err, ErrKey) {
+	if _, err := OpenKey("pkcs11:token=log-token;object=key" + query); !errors.Is(err, ErrKey) {
 		t.Errorf("a PIN that others may read: %v", err)
 	}
 }
 
-// TestTokenIsLetGo: a token is named by its serial number too; behind the last key that is closed, and behind one that wasn't found, nobody is logged in to it.
-func TestTokenIsLetGo(t *testing.T) {
+// TestTokenIsReleased: a token can be named by its serial number. After the last key is closed, or was not found, no
+// session is logged in to the token.
+func TestTokenIsReleased(t *testing.T) {
 	module, pin := softhsm.Token(t)
 	said, err := exec.Command("softhsm2-util", "--show-slots").CombinedOutput()
 	must(t, err)
@@ -88,7 +89,7 @@ func TestTokenIsLetGo(t *testing.T) {
 		t.Helper()
 		if key, err := OpenKey(of("token=log-token;object=key", wrong)); err == nil {
 			key.Close()
-			t.Errorf("behind %s a wrong PIN opens it", what)
+			t.Errorf("after %s a wrong PIN opens it", what)
 		}
 	}
 	isLetGo("nothing")
@@ -114,9 +115,10 @@ func TestTokenIsLetGo(t *testing.T) {
 	}
 }
 
+// TestTokenURIs: a URI has each attribute once, and the required ones.
 func TestTokenURIs(t *testing.T) {
 	of, err := parseToken("pkcs11:token=A%20token;serial=12;object=key;id=%00%01?module-path=/m.so&pin-source=file:/pin")
-	if err != nil || of.label != "A token" || of.serial != "12" || of.object != "key" || string(of.id) != "\x00\x01" || of.module != "/m.so" || of.pinAt != "/pin" {
+	if err != nil || of.label != "A token" || of.serial != "12" || of.object != "key" || string(of.id) != "\x00\x01" || of.module != "/m.so" || of.pinFile != "/pin" {
 		t.Errorf("%v: %+v", err, of)
 	}
 	for _, uri := range []string{

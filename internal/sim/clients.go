@@ -149,8 +149,8 @@ func (w *world) reader() {
 				w.judge.treeOf(now.Head, m.name+" shows a head whose tree is not whole")
 			}
 			if now.Head != last[i].head {
-				if line := cells(m.node.Snapshot().Line + "\nnode -\nsalt " + strings.Repeat("0", 32) + "\n"); line == nil || line.size != now.Size || line.moment != now.Moment {
-					w.judge.breaks("a reader sees a head with its state", "%s shows the head of %d entries at %d ms with another state", m.name, now.Size, now.Moment)
+				if line := cells(m.node.Snapshot().Line + "\nnode -\nsalt " + strings.Repeat("0", 32) + "\n"); line == nil || line.size != now.Size || line.timestamp != now.Timestamp {
+					w.judge.breaks("a reader sees a head with its state", "%s shows the head of %d entries at %d ms with another state", m.name, now.Size, now.Timestamp)
 				}
 				w.judge.read(m, now.Head, string(now.Note), last[i].head)
 			}

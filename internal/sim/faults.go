@@ -144,8 +144,8 @@ func (w *world) swapsHead(which int) bool {
 
 // bendsEdge changes a byte of a partial tile of the newest head's tree.
 func (w *world) bendsEdge() bool {
-	size, moment := w.judge.newest.Size, w.judge.newest.Moment
-	if w.stores.published != (stores.Published{Size: size, Moment: moment}) {
+	size, timestamp := w.judge.newest.Size, w.judge.newest.Timestamp
+	if w.stores.published != (stores.Published{Size: size, Timestamp: timestamp}) {
 		// A node may not put another content over the tile of a state that is not published: the lock may have been rolled back.
 		return false
 	}
@@ -228,7 +228,7 @@ func (w *world) rollsBack(f Fault) bool {
 // allRemember reports whether every machine's memory has the newest head that is published.
 func (w *world) allRemember() bool {
 	for _, m := range w.machines {
-		if m.remembered == nil || m.remembered.Size < uint64(len(w.judge.leaves)) || m.remembered.Moment < w.judge.newest.Moment {
+		if m.remembered == nil || m.remembered.Size < uint64(len(w.judge.leaves)) || m.remembered.Timestamp < w.judge.newest.Timestamp {
 			return false
 		}
 	}

@@ -75,7 +75,7 @@ var ownVerifier = verifier{witness.OfRFC6962(Origin, keyDER), func(text, signatu
 	if err != nil || !bytes.HasPrefix(text, []byte(Origin+"\n")) || len(signature) <= 8 {
 		return false
 	}
-	return isSigned(headMessage(signer.Head{Size: size, Moment: binary.BigEndian.Uint64(signature), Root: root}), signature[8:])
+	return isSigned(headMessage(signer.Head{Size: size, Timestamp: binary.BigEndian.Uint64(signature), Root: root}), signature[8:])
 }}
 
 // Verifier is what a node verifies the log's signatures of notes by.
@@ -98,7 +98,7 @@ func isSigned(message, signed []byte) bool { return signatures.isSigned(message,
 
 // headMessage is what is signed of a tree head (RFC 6962, section 3.5).
 func headMessage(head signer.Head) []byte {
-	message := binary.BigEndian.AppendUint64([]byte{0, 1}, head.Moment)
+	message := binary.BigEndian.AppendUint64([]byte{0, 1}, head.Timestamp)
 	return append(binary.BigEndian.AppendUint64(message, head.Size), head.Root[:]...)
 }
 
@@ -184,7 +184,7 @@ func (g *guarded) SignHead(ctx context.Context, head signer.Head, consistency []
 		}
 		state = empty
 	}
-	next, err := state.After(head, consistency, head.Moment)
+	next, err := state.After(head, consistency, head.Timestamp)
 	if err != nil {
 		return nil, err
 	}

@@ -96,7 +96,7 @@ func (j *judge) putHead(name, note string) {
 		j.breaks("a head is signed", "%s: %v", name, err)
 		return
 	}
-	if want := fmt.Sprintf("heads/%020d-%020d", head.Size, head.Moment); name != want {
+	if want := fmt.Sprintf("heads/%020d-%020d", head.Size, head.Timestamp); name != want {
 		j.breaks("a head has its name", "%s has the head %s", name, want)
 	}
 	added, ok := j.treeOf(head, name)
@@ -109,30 +109,30 @@ func (j *judge) putHead(name, note string) {
 		j.breaks("a head is the list's", "%s has the root %x and not %x", name, head.Root[:4], root[:4])
 	}
 	j.judgeTime(head, name)
-	if head.Moment == j.newest.Moment && head != j.newest {
+	if head.Timestamp == j.newest.Timestamp && head != j.newest {
 		j.breaks("one head a timestamp", "%s and the head of %d entries have one timestamp", name, j.newest.Size)
 	}
-	if head.Moment > j.newest.Moment != (head.Size >= j.newest.Size) && head.Size != j.newest.Size {
-		j.breaks("heads do not go back", "%s is put after the head of %d entries at %d ms", name, j.newest.Size, j.newest.Moment)
+	if head.Timestamp > j.newest.Timestamp != (head.Size >= j.newest.Size) && head.Size != j.newest.Size {
+		j.breaks("heads do not go back", "%s is put after the head of %d entries at %d ms", name, j.newest.Size, j.newest.Timestamp)
 	}
-	if head.Moment > j.newest.Moment {
+	if head.Timestamp > j.newest.Timestamp {
 		j.newest = head
 	}
-	j.standing = append(j.standing, standing{head.Size, head.Moment, j.w.now})
+	j.standing = append(j.standing, standing{head.Size, head.Timestamp, j.w.now})
 	j.stats.Heads++
 }
 
 // judgeTime judges a head's timestamp by the true time.
 func (j *judge) judgeTime(head signer.Head, name string) {
 	now := epoch.Add(j.w.now)
-	if ahead := time.UnixMilli(int64(head.Moment)).Sub(now); ahead > maxSkew && !j.w.excuses.ahead {
+	if ahead := time.UnixMilli(int64(head.Timestamp)).Sub(now); ahead > maxSkew && !j.w.excuses.ahead {
 		j.breaks("no timestamp of the future", "%s is %v ahead of the true time", name, ahead)
 	}
 }
 
 // signs judges a head that the key signs. All of its tree must be in the store by then.
 func (j *judge) signs(head signer.Head) {
-	j.isLists(head, fmt.Sprintf("a signed head of %d entries at %d ms", head.Size, head.Moment), "a signed head is the list's")
+	j.isLists(head, fmt.Sprintf("a signed head of %d entries at %d ms", head.Size, head.Timestamp), "a signed head is the list's")
 }
 
 // swaps judges a step on which the lock decides: it is made of the text before, whose head is published, and its staged batch is in the store.
@@ -149,7 +149,7 @@ func (j *judge) swaps(old, new string) {
 	if digest := sha256.Sum256(staged); !j.w.excuses.missing && (!ok || hex.EncodeToString(digest[:]) != after.bundle) {
 		j.breaks("a step is staged", "the lock gets the text of %d entries, whose staged batch %s is not in the store", after.size, after.name)
 	}
-	if _, ok := j.w.stores.objects[fmt.Sprintf("heads/%020d-%020d", before.size, before.moment)]; !ok && !before.isBegin() && !j.w.excuses.missing {
+	if _, ok := j.w.stores.objects[fmt.Sprintf("heads/%020d-%020d", before.size, before.timestamp)]; !ok && !before.isBegin() && !j.w.excuses.missing {
 		j.breaks("a step is made of a published state", "the lock gets the text of %d entries, and the state before has no head", after.size)
 	}
 }
@@ -157,7 +157,7 @@ func (j *judge) swaps(old, new string) {
 // cell is a text of the lock, read by its digits (docs/NODE.md).
 type cell struct {
 	line, before, bundle, name string
-	size, moment               uint64
+	size, timestamp            uint64
 }
 
 func (c *cell) isBegin() bool { return c.bundle == strings.Repeat("0", 64) }
@@ -172,7 +172,7 @@ func cells(text string) *cell {
 		return nil
 	}
 	c := &cell{line: lines[0], bundle: digits[32+64 : 32+128], before: digits[32+192:], name: digits[16:32] + salt}
-	if _, err := fmt.Sscanf(digits[:32], "%016x%016x", &c.size, &c.moment); err != nil {
+	if _, err := fmt.Sscanf(digits[:32], "%016x%016x", &c.size, &c.timestamp); err != nil {
 		return nil
 	}
 	return c
@@ -180,7 +180,7 @@ func cells(text string) *cell {
 
 // raises judges how far the lock says that the log is published: the head is in the store.
 func (j *judge) raises(p stores.Published) {
-	name := fmt.Sprintf("heads/%020d-%020d", p.Size, p.Moment)
+	name := fmt.Sprintf("heads/%020d-%020d", p.Size, p.Timestamp)
 	if _, ok := j.w.stores.objects[name]; !ok && !j.w.excuses.missing {
 		j.breaks("a published size has a head", "%s is published and not in the store", name)
 	}
@@ -209,7 +209,7 @@ func (j *judge) answered(m *machine, number int, index, timestamp uint64, signed
 // read judges a head that a reader sees.
 func (j *judge) read(m *machine, head signer.Head, note string, before signer.Head) {
 	j.stats.Reads++
-	what := fmt.Sprintf("%s shows the head of %d entries at %d ms", m.name, head.Size, head.Moment)
+	what := fmt.Sprintf("%s shows the head of %d entries at %d ms", m.name, head.Size, head.Timestamp)
 	j.witnessed(what, note)
 	read, err := readNote(note)
 	switch {
@@ -217,9 +217,9 @@ func (j *judge) read(m *machine, head signer.Head, note string, before signer.He
 		j.breaks("a head is signed", "%s: %v", what, err)
 	case head.Size >= uint64(len(j.roots)) || j.roots[head.Size] != head.Root:
 		j.breaks("a reader sees the list", "%s, which is not the list's", what)
-	case head.Size < before.Size || head.Moment < before.Moment:
-		j.breaks("a reader sees no older head", "%s after one of %d entries at %d ms", what, before.Size, before.Moment)
-	case !j.w.excuses.loss && j.w.stores.published.Before(stores.Published{Size: head.Size, Moment: head.Moment}):
+	case head.Size < before.Size || head.Timestamp < before.Timestamp:
+		j.breaks("a reader sees no older head", "%s after one of %d entries at %d ms", what, before.Size, before.Timestamp)
+	case !j.w.excuses.loss && j.w.stores.published.Before(stores.Published{Size: head.Size, Timestamp: head.Timestamp}):
 		j.breaks("a reader sees published heads", "%s, which is not published", what)
 	}
 }
@@ -244,7 +244,7 @@ func readNote(note string) (head signer.Head, err error) {
 	if err != nil || len(blob) < 12 {
 		return head, fmt.Errorf("no signature: %v", err)
 	}
-	head.Moment = binary.BigEndian.Uint64(blob[4:12])
+	head.Timestamp = binary.BigEndian.Uint64(blob[4:12])
 	id := sha256.Sum256(keyDER)
 	if want := sha256.Sum256(append([]byte(Origin+"\n\x05"), id[:]...)); !bytes.Equal(blob[:4], want[:4]) {
 		return head, fmt.Errorf("a signature of another key")

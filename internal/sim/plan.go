@@ -284,7 +284,7 @@ var quorums = []Witnesses{
 }
 
 // moments are the calls between which a step may be cut off, as their lines begin.
-var moments = []string{
+var timestamps = []string{
 	"objects: put staging", "lock: swap", "lock: swap", "lock: read", "objects: put tile", "index: add", "memory: save", "guard: swap", "objects: put heads", "lock: raise",
 	"witness1: add", "witness2: add", "objects: delete", "objects: list",
 }
@@ -293,7 +293,7 @@ var moments = []string{
 func newFault(random *rand.Rand, kind Kind, calls int) Fault {
 	f := Fault{At: 1 + random.Intn(calls), Kind: kind, Count: 1 + random.Intn(12)}
 	if kind <= Paused && random.Intn(2) == 0 {
-		f.On = moments[random.Intn(len(moments))]
+		f.On = timestamps[random.Intn(len(timestamps))]
 	}
 	switch kind {
 	case ClockForward, ClockBack:

@@ -14,12 +14,12 @@ func (w *world) refuses(m *machine) string {
 	if k == nil || w.stores.text == "" {
 		return ""
 	}
-	of := fmt.Sprintf("the lock has %d entries at %d ms", k.size, k.moment)
-	ahead := func(size, moment uint64) bool { return size > k.size || moment > k.moment }
+	of := fmt.Sprintf("the lock has %d entries at %d ms", k.size, k.timestamp)
+	ahead := func(size, timestamp uint64) bool { return size > k.size || timestamp > k.timestamp }
 	var listed signer.Head
 	if heads := w.stores.list("heads/", ""); len(heads) > 0 {
 		// A name that cannot be read is no head's, so both stay 0.
-		_, _ = fmt.Sscanf(heads[len(heads)-1], "heads/%020d-%020d", &listed.Size, &listed.Moment)
+		_, _ = fmt.Sscanf(heads[len(heads)-1], "heads/%020d-%020d", &listed.Size, &listed.Timestamp)
 	}
 	guard, err := signer.ReadState(w.stores.guard)
 	if err != nil {
@@ -27,16 +27,16 @@ func (w *world) refuses(m *machine) string {
 	}
 	last, published, seen := guard.Last(), w.stores.published, m.remembered
 	switch {
-	case ahead(listed.Size, listed.Moment):
-		return fmt.Sprintf("%s, and the store has a head of %d at %d ms", of, listed.Size, listed.Moment)
-	case ahead(published.Size, published.Moment):
-		return fmt.Sprintf("%s, and %d at %d ms are published", of, published.Size, published.Moment)
-	case seen != nil && ahead(seen.Size, seen.Moment):
-		return fmt.Sprintf("%s, and the machine remembers %d at %d ms", of, seen.Size, seen.Moment)
-	case last != nil && ahead(last.Size, last.Moment):
-		return fmt.Sprintf("%s, and %d at %d ms were signed", of, last.Size, last.Moment)
-	case last == nil && listed.Moment > 0, last != nil && (last.Size < listed.Size || last.Moment < listed.Moment):
-		return fmt.Sprintf("the guard is older than the head of %d entries at %d ms", listed.Size, listed.Moment)
+	case ahead(listed.Size, listed.Timestamp):
+		return fmt.Sprintf("%s, and the store has a head of %d at %d ms", of, listed.Size, listed.Timestamp)
+	case ahead(published.Size, published.Timestamp):
+		return fmt.Sprintf("%s, and %d at %d ms are published", of, published.Size, published.Timestamp)
+	case seen != nil && ahead(seen.Size, seen.Timestamp):
+		return fmt.Sprintf("%s, and the machine remembers %d at %d ms", of, seen.Size, seen.Timestamp)
+	case last != nil && ahead(last.Size, last.Timestamp):
+		return fmt.Sprintf("%s, and %d at %d ms were signed", of, last.Size, last.Timestamp)
+	case last == nil && listed.Timestamp > 0, last != nil && (last.Size < listed.Size || last.Timestamp < listed.Timestamp):
+		return fmt.Sprintf("the guard is older than the head of %d entries at %d ms", listed.Size, listed.Timestamp)
 	case w.lacksNewest(k, published):
 		return fmt.Sprintf("the index lacks the newest entry, %d", k.size-1)
 	}
@@ -45,7 +45,7 @@ func (w *world) refuses(m *machine) string {
 
 // lacksNewest reports whether the index lacks the newest entry of a published state whose tiles are whole.
 func (w *world) lacksNewest(k *cell, published stores.Published) bool {
-	if k.size == 0 || k.size > uint64(len(w.judge.leaves)) || w.excuses.missing || published != (stores.Published{Size: k.size, Moment: k.moment}) {
+	if k.size == 0 || k.size > uint64(len(w.judge.leaves)) || w.excuses.missing || published != (stores.Published{Size: k.size, Timestamp: k.timestamp}) {
 		return false
 	}
 	_, ok := w.stores.index[stores.Identity(w.judge.leaves[k.size-1].identity)]
@@ -57,7 +57,7 @@ func (j *judge) remembers(m *machine, name string) {
 	if !strings.HasPrefix(name, "heads/") || strings.HasPrefix(name, fmt.Sprintf("heads/%020d-", 0)) {
 		return
 	}
-	if seen := m.remembered; seen == nil || fmt.Sprintf("heads/%020d-%020d", seen.Size, seen.Moment) < name {
+	if seen := m.remembered; seen == nil || fmt.Sprintf("heads/%020d-%020d", seen.Size, seen.Timestamp) < name {
 		j.breaks("a head that is put is remembered", "%s puts %s, and does not remember it", m.name, name)
 	}
 }

@@ -234,7 +234,7 @@ func (l lock) Published(ctx context.Context) (published stores.Published, err er
 
 func (l lock) Raise(ctx context.Context, published stores.Published) error {
 	s := &l.m.w.stores
-	return l.m.call(ctx, "lock", fmt.Sprintf("raise %d %d", published.Size, published.Moment), true, func() error {
+	return l.m.call(ctx, "lock", fmt.Sprintf("raise %d %d", published.Size, published.Timestamp), true, func() error {
 		if s.text == "" {
 			return stores.ErrAbsent
 		}

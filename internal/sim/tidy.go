@@ -46,8 +46,8 @@ func (m *machine) tidies() {
 
 // standing is a head that was put, and when.
 type standing struct {
-	size, moment uint64
-	at           time.Duration
+	size, timestamp uint64
+	at              time.Duration
 }
 
 // deletes judges a name that is deleted: a staged batch that is not the newest state's, an object that has a wrong content, a partial tile whose full one is
@@ -87,19 +87,19 @@ func (j *judge) deletes(name string) {
 
 // keepsHead says why a head must stay, or nothing.
 func (j *judge) keepsHead(name string) string {
-	var size, moment uint64
-	if _, err := fmt.Sscanf(name, "heads/%020d-%020d", &size, &moment); err != nil {
+	var size, timestamp uint64
+	if _, err := fmt.Sscanf(name, "heads/%020d-%020d", &size, &timestamp); err != nil {
 		return err.Error()
 	}
 	why := "no later head stood long enough"
 	for _, later := range j.standing {
-		if later.moment <= moment {
+		if later.timestamp <= timestamp {
 			continue
 		}
 		if later.at <= j.w.now-keep.Heads {
 			return ""
 		}
-		if later.at <= j.w.now-keep.Thin && j.hasNeighbour(moment) {
+		if later.at <= j.w.now-keep.Thin && j.hasNeighbour(timestamp) {
 			why = ""
 		}
 	}
@@ -107,10 +107,10 @@ func (j *judge) keepsHead(name string) string {
 }
 
 // hasNeighbour reports whether the store has a head that came less than Apart before a timestamp.
-func (j *judge) hasNeighbour(moment uint64) bool {
+func (j *judge) hasNeighbour(timestamp uint64) bool {
 	for _, before := range j.standing {
-		if before.moment < moment && moment < before.moment+uint64(keep.Apart.Milliseconds()) {
-			if _, ok := j.w.stores.objects[fmt.Sprintf("heads/%020d-%020d", before.size, before.moment)]; ok {
+		if before.timestamp < timestamp && timestamp < before.timestamp+uint64(keep.Apart.Milliseconds()) {
+			if _, ok := j.w.stores.objects[fmt.Sprintf("heads/%020d-%020d", before.size, before.timestamp)]; ok {
 				return true
 			}
 		}
@@ -164,7 +164,7 @@ func (j *judge) garbage() string {
 // isOld reports whether a head must be gone by now: another one stood for twice as long as heads stay, and some passes.
 func (j *judge) isOld(name string) bool {
 	for _, later := range j.standing {
-		if name < fmt.Sprintf("heads/%020d-%020d", later.size, later.moment) && later.at <= j.w.now-2*keep.Heads-10*keep.Every {
+		if name < fmt.Sprintf("heads/%020d-%020d", later.size, later.timestamp) && later.at <= j.w.now-2*keep.Heads-10*keep.Every {
 			return true
 		}
 	}

@@ -197,7 +197,7 @@ func (w *world) mayRoll() bool {
 func (j *judge) cosigns(by *observer, head signer.Head) {
 	j.stats.Cosigned++
 	if !by.rolled {
-		j.isLists(head, fmt.Sprintf("%s cosigns a head of %d entries at %d ms, which", by.name, head.Size, head.Moment), "a cosigned head is the list's")
+		j.isLists(head, fmt.Sprintf("%s cosigns a head of %d entries at %d ms, which", by.name, head.Size, head.Timestamp), "a cosigned head is the list's")
 	}
 }
 

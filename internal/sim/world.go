@@ -209,7 +209,7 @@ func (r remembering) Load(ctx context.Context) (head *signer.Head, err error) {
 }
 
 func (r remembering) Save(ctx context.Context, head signer.Head) error {
-	return r.m.call(ctx, "memory", fmt.Sprintf("save %d %d", head.Size, head.Moment), false, func() error {
+	return r.m.call(ctx, "memory", fmt.Sprintf("save %d %d", head.Size, head.Timestamp), false, func() error {
 		r.m.remembered = &head
 		return nil
 	})

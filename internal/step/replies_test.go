@@ -13,8 +13,8 @@ import (
 )
 
 // lineOf is a state's line: its size and moment, and of its four hashes the first bytes.
-func lineOf(size, moment uint64, hashes ...[32]byte) string {
-	line := fmt.Sprintf("growth %016x%016x", size, moment)
+func lineOf(size, timestamp uint64, hashes ...[32]byte) string {
+	line := fmt.Sprintf("growth %016x%016x", size, timestamp)
 	for i := 0; i < 4; i++ {
 		var hash [32]byte
 		if i < len(hashes) {
@@ -63,9 +63,9 @@ func TestWrongNeeds(t *testing.T) {
 }
 
 // signedOf returns the TreeHeadSignature of a head (RFC 6962, section 3.5).
-func signedOf(size, moment uint64, root [32]byte) (signed wagtenib.SignedBytes) {
+func signedOf(size, timestamp uint64, root [32]byte) (signed wagtenib.SignedBytes) {
 	signed[1] = 1
-	binary.BigEndian.PutUint64(signed[2:], moment)
+	binary.BigEndian.PutUint64(signed[2:], timestamp)
 	binary.BigEndian.PutUint64(signed[10:], size)
 	copy(signed[18:], root[:])
 	return signed
@@ -89,7 +89,7 @@ func TestWrongHeads(t *testing.T) {
 		bent := right
 		bend(&bent)
 		due := what == "as it is"
-		if _, err := steps(&wagtenib.Step{Published: bent, State: line, Bundle: bundle}).Step(before, nil, nil, 7, MostAhead); due != (err == nil) || !due && !errors.Is(err, ErrReply) {
+		if _, err := steps(&wagtenib.Step{Published: bent, State: line, Bundle: bundle}).Step(before, nil, nil, 7, MaxAhead); due != (err == nil) || !due && !errors.Is(err, ErrReply) {
 			t.Errorf("a step's head has %s: %v", what, err)
 		}
 		of := Proved()
@@ -104,12 +104,12 @@ func TestWrongHeads(t *testing.T) {
 		before string
 		now    uint64
 	}{"of another moment": {before, 8}, "of another size": {lineOf(2, 5), 7}, "behind another line": {lineOf(3, 6), 7}} {
-		if _, err := steps(&whole).Step(of.before, nil, nil, of.now, MostAhead); !errors.Is(err, ErrReply) {
+		if _, err := steps(&whole).Step(of.before, nil, nil, of.now, MaxAhead); !errors.Is(err, ErrReply) {
 			t.Errorf("a step %s: %v", what, err)
 		}
 	}
 	whole.Bundle = []byte("another")
-	if _, err := steps(&whole).Step(before, nil, nil, 7, MostAhead); !errors.Is(err, ErrReply) {
+	if _, err := steps(&whole).Step(before, nil, nil, 7, MaxAhead); !errors.Is(err, ErrReply) {
 		t.Errorf("a step with another bundle: %v", err)
 	}
 	if _, err := New(origin).Resume("growth", bundle); !errors.Is(err, ErrState) {
@@ -139,7 +139,7 @@ func TestWrongClaims(t *testing.T) {
 		if _, err := c.Claim(lineOf(3, 7), 1, 6, nil, s); !errors.Is(err, BadBatch) {
 			t.Errorf("%s: %v", what, err)
 		}
-		if _, err := c.Step(lineOf(0, 5, sha256.Sum256(nil)), nil, []Submission{{LeafCertificate: []byte("x")}, s}, 6, MostAhead); !errors.Is(err, BadBatch) {
+		if _, err := c.Step(lineOf(0, 5, sha256.Sum256(nil)), nil, []Submission{{LeafCertificate: []byte("x")}, s}, 6, MaxAhead); !errors.Is(err, BadBatch) {
 			t.Errorf("%s: %v", what, err)
 		}
 	}
@@ -171,10 +171,10 @@ func TestClaimOfOne(t *testing.T) {
 
 // TestBounds: as many entries as a log has are taken, and no more.
 func TestBounds(t *testing.T) {
-	if s, err := ParseState(lineOf(MostLeaves, 1)); err != nil || s.Size != MostLeaves || s.Moment != 1 {
+	if s, err := ParseState(lineOf(MaxLeaves, 1)); err != nil || s.Size != MaxLeaves || s.Timestamp != 1 {
 		t.Errorf("%+v, %v", s, err)
 	}
-	if s, err := ParseState(lineOf(MostLeaves+1, 1)); !errors.Is(err, ErrState) {
+	if s, err := ParseState(lineOf(MaxLeaves+1, 1)); !errors.Is(err, ErrState) {
 		t.Errorf("%+v, %v", s, err)
 	}
 }
@@ -187,16 +187,16 @@ func TestLinesThatAreNone(t *testing.T) {
 		Published: wagtenib.Published{Checkpoint: "a note", Signed: signedOf(3, 7, [32]byte{1})},
 		State:     lineOf(3, 7, [32]byte{1}, sha256.Sum256(bundle), [32]byte{}, Digest(before)), Bundle: bundle,
 	}
-	if _, err := steps(&whole).Step(before, nil, nil, 7, MostAhead); err != nil {
+	if _, err := steps(&whole).Step(before, nil, nil, 7, MaxAhead); err != nil {
 		t.Fatal(err)
 	}
-	if _, err := steps(&whole).Step(before+"0", nil, nil, 7, MostAhead); !errors.Is(err, ErrState) {
+	if _, err := steps(&whole).Step(before+"0", nil, nil, 7, MaxAhead); !errors.Is(err, ErrState) {
 		t.Errorf("from no line: %v", err)
 	}
 	for _, line := range []string{"", "growth", whole.State + "0"} {
 		other := whole
 		other.State = line
-		if _, err := steps(&other).Step(before, nil, nil, 7, MostAhead); !errors.Is(err, ErrReply) {
+		if _, err := steps(&other).Step(before, nil, nil, 7, MaxAhead); !errors.Is(err, ErrReply) {
 			t.Errorf("to %q: %v", line, err)
 		}
 	}

@@ -11,8 +11,8 @@ import (
 	"wagtenib/bindings/go/wagtenib"
 )
 
-// MostAhead is how many milliseconds a step's timestamp is beyond its line's at most, unless a caller has a reason for more: an hour.
-const MostAhead = 3_600_000
+// MaxAhead is how many milliseconds a step's timestamp is beyond its line's at most, unless a caller has a reason for more: an hour.
+const MaxAhead = 3_600_000
 
 // ErrReply is the error of a reply that isn't one to the request.
 var ErrReply = errors.New("step: not a reply to the request")
@@ -116,7 +116,7 @@ func headOf(p wagtenib.Published, s State) (h Head, err error) {
 	h.Head.Timestamp = binary.BigEndian.Uint64(h.Sign[2:])
 	h.Head.TreeSize = binary.BigEndian.Uint64(h.Sign[10:])
 	h.Head.RootHash = h.Sign[18:]
-	if h.Sign[0] != 0 || h.Sign[1] != 1 || h.Head.TreeSize != s.Size || h.Head.Timestamp != s.Moment || !bytes.Equal(h.Head.RootHash, s.Root[:]) {
+	if h.Sign[0] != 0 || h.Sign[1] != 1 || h.Head.TreeSize != s.Size || h.Head.Timestamp != s.Timestamp || !bytes.Equal(h.Head.RootHash, s.Root[:]) {
 		return Head{}, fmt.Errorf("%w: the head isn't the state's", ErrReply)
 	}
 	if h.Checkpoint == "" {
@@ -126,12 +126,12 @@ func headOf(p wagtenib.Published, s State) (h Head, err error) {
 }
 
 // Begin returns the line of a log without entries.
-func (s *Stepper) Begin(moment uint64) (string, error) {
-	line, err := s.functions.Begin(moment)
+func (s *Stepper) Begin(timestamp uint64) (string, error) {
+	line, err := s.functions.Begin(timestamp)
 	if err != nil {
 		return "", refused(err)
 	}
-	if state, err := ParseState(line); err != nil || state.Size != 0 || state.Moment != moment || !state.IsBegin() {
+	if state, err := ParseState(line); err != nil || state.Size != 0 || state.Timestamp != timestamp || !state.IsBegin() {
 		return "", fmt.Errorf("%w: the state isn't that of a log without entries", ErrReply)
 	}
 	return line, nil
@@ -200,7 +200,7 @@ func stepped(reply *wagtenib.Step, line string, size uint64, batch int, now uint
 		}
 		receipts[i] = Receipt{r.LeafIndex, r.Timestamp, r.Signed}
 	}
-	if state.Size != size || state.Moment != now || state.Before != Digest(line) || state.Bundle != sha256.Sum256(reply.Bundle) {
+	if state.Size != size || state.Timestamp != now || state.Before != Digest(line) || state.Bundle != sha256.Sum256(reply.Bundle) {
 		return nil, fmt.Errorf("%w: the state isn't the one behind this batch", ErrReply)
 	}
 	objects, err := objectsIn(reply.Bundle, reply.Objects)

@@ -25,7 +25,7 @@ func TestSteps(t *testing.T) {
 	if err != nil || len(names) != 0 {
 		t.Fatalf("%v, %v", names, err)
 	}
-	one, err := c.Step(line, nil, []Submission{{LeafCertificate: []byte("one")}}, 7, MostAhead)
+	one, err := c.Step(line, nil, []Submission{{LeafCertificate: []byte("one")}}, 7, MaxAhead)
 	must(t, err)
 	// The root of one leaf is the leaf's hash: by hand, from RFC 6962, sections 2.1 and 3.4, and static-ct-api's extension.
 	leaf := "\x00\x00\x00" + "\x00\x00\x00\x00\x00\x00\x00\x07" + "\x00\x00" + "\x00\x00\x03one" + "\x00\x08\x00\x00\x05\x00\x00\x00\x00\x00"
@@ -38,7 +38,7 @@ func TestSteps(t *testing.T) {
 	}
 	objects := one.Objects
 	edge := [][]byte{objects[0].Content, objects[1].Content}
-	two, err := c.Step(one.Line, edge, []Submission{{IssuerKeyHash: make([]byte, 32), PreCertificate: []byte("p"), TBSCertificate: []byte("t")}}, 8, MostAhead)
+	two, err := c.Step(one.Line, edge, []Submission{{IssuerKeyHash: make([]byte, 32), PreCertificate: []byte("p"), TBSCertificate: []byte("t")}}, 8, MaxAhead)
 	must(t, err)
 	resumed, err := c.Resume(two.Line, two.Bundle)
 	must(t, err)
@@ -62,10 +62,10 @@ func TestSteps(t *testing.T) {
 	bent := append([]byte{}, edge[0]...)
 	bent[3] ^= 1
 	refusals := map[Refusal]func() error{
-		Edge:      func() error { _, err := c.Step(one.Line, [][]byte{bent, edge[1]}, nil, 8, MostAhead); return err },
-		Entries:   func() error { _, err := c.Step(one.Line, [][]byte{edge[0], {1}}, nil, 8, MostAhead); return err },
+		Edge:      func() error { _, err := c.Step(one.Line, [][]byte{bent, edge[1]}, nil, 8, MaxAhead); return err },
+		Entries:   func() error { _, err := c.Step(one.Line, [][]byte{edge[0], {1}}, nil, 8, MaxAhead); return err },
 		TooFar:    func() error { _, err := c.Step(one.Line, edge, nil, 11, 3); return err },
-		ClockBack: func() error { _, err := c.Step(one.Line, edge, nil, 7, MostAhead); return err },
+		ClockBack: func() error { _, err := c.Step(one.Line, edge, nil, 7, MaxAhead); return err },
 		BadState:  func() error { _, err := c.Needs("growth"); return err },
 		Bundle:    func() error { _, err := c.Resume(two.Line, one.Bundle); return err },
 		NoClaim:   func() error { _, err := c.Claim(two.Line, 1, 7, path, entry); return err },
@@ -75,7 +75,7 @@ func TestSteps(t *testing.T) {
 			t.Errorf("%v, and not %s", err, want)
 		}
 	}
-	if _, err := c.Step(one.Line, edge, []Submission{{}}, 8, MostAhead); !errors.Is(err, BadBatch) {
+	if _, err := c.Step(one.Line, edge, []Submission{{}}, 8, MaxAhead); !errors.Is(err, BadBatch) {
 		t.Error(err)
 	}
 }
@@ -98,7 +98,7 @@ func oneEntry(t *testing.T) (c *Stepper, before string, first *Stepped) {
 	c = New(origin)
 	before, err := c.Begin(5)
 	must(t, err)
-	first, err = c.Step(before, nil, oneSubmission, 7, MostAhead)
+	first, err = c.Step(before, nil, oneSubmission, 7, MaxAhead)
 	must(t, err)
 	return c, before, first
 }
@@ -112,7 +112,7 @@ func TestWrongStates(t *testing.T) {
 	asked := func(state string) error {
 		reply := *right
 		reply.State = state
-		_, err := steps(&reply).Step(line, nil, oneSubmission, 7, MostAhead)
+		_, err := steps(&reply).Step(line, nil, oneSubmission, 7, MaxAhead)
 		return err
 	}
 	must(t, asked(right.State))
@@ -135,11 +135,11 @@ func TestReceipts(t *testing.T) {
 	line, err := c.Begin(5)
 	must(t, err)
 	of := func(leaf string) Submission { return Submission{LeafCertificate: []byte(leaf)} }
-	before, err := c.Step(line, nil, []Submission{of("zero")}, 6, MostAhead)
+	before, err := c.Step(line, nil, []Submission{of("zero")}, 6, MaxAhead)
 	must(t, err)
 	edge := [][]byte{before.Objects[0].Content, before.Objects[1].Content}
 	batch := []Submission{of("one"), of("two"), of("one"), of("three"), of("two")}
-	right, err := c.Step(before.Line, edge, batch, 7, MostAhead)
+	right, err := c.Step(before.Line, edge, batch, 7, MaxAhead)
 	must(t, err)
 	for i, index := range []uint64{1, 2, 1, 3, 2} {
 		first := map[uint64]int{1: 0, 2: 1, 3: 3}[index]
@@ -150,7 +150,7 @@ func TestReceipts(t *testing.T) {
 	if right.State.Size != 4 {
 		t.Errorf("%d entries", right.State.Size)
 	}
-	reply, err := wagtenib.MakeStep(origin, before.Line, edgeBytes(edge), bytesOf(t, batch), 7, MostAhead)
+	reply, err := wagtenib.MakeStep(origin, before.Line, edgeBytes(edge), bytesOf(t, batch), 7, MaxAhead)
 	must(t, err)
 	for what, wrong := range map[string]func([]wagtenib.Receipt) []wagtenib.Receipt{
 		"none":                   func(r []wagtenib.Receipt) []wagtenib.Receipt { return nil },
@@ -166,7 +166,7 @@ func TestReceipts(t *testing.T) {
 	} {
 		bent := *reply
 		bent.Receipts = wrong(append([]wagtenib.Receipt{}, reply.Receipts...))
-		if _, err := steps(&bent).Step(before.Line, edge, batch, 7, MostAhead); !errors.Is(err, ErrReply) {
+		if _, err := steps(&bent).Step(before.Line, edge, batch, 7, MaxAhead); !errors.Is(err, ErrReply) {
 			t.Errorf("%s: %v", what, err)
 		}
 	}
@@ -192,7 +192,7 @@ func oneReply(t *testing.T) (line string, reply *wagtenib.Step) {
 	t.Helper()
 	line, err := wagtenib.StepBegin(5)
 	must(t, err)
-	reply, err = wagtenib.MakeStep(origin, line, nil, bytesOf(t, oneSubmission), 7, MostAhead)
+	reply, err = wagtenib.MakeStep(origin, line, nil, bytesOf(t, oneSubmission), 7, MaxAhead)
 	must(t, err)
 	return line, reply
 }
@@ -214,7 +214,7 @@ func TestReferences(t *testing.T) {
 	} {
 		bent := *one
 		bent.Objects = []wagtenib.Object{wrong}
-		if _, err := steps(&bent).Step(line, nil, oneSubmission, 7, MostAhead); !errors.Is(err, ErrReply) {
+		if _, err := steps(&bent).Step(line, nil, oneSubmission, 7, MaxAhead); !errors.Is(err, ErrReply) {
 			t.Errorf("a step, %s: %v", what, err)
 		}
 		of := Proved()

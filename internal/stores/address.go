@@ -12,7 +12,7 @@ import (
 )
 
 // ErrAddress: a text isn't an address of a store of this kind. It is wrapped with why, and without what may be secret in it.
-var ErrAddress = errors.New("stores: no such address can be")
+var ErrAddress = errors.New("stores: invalid address")
 
 // The environment's names of S3's credentials, for an address that has none.
 const (
@@ -46,8 +46,9 @@ func ObjectsAt(ctx context.Context, address string) (Objects, error) {
 	return nil, fmt.Errorf("%w: objects are at folder:PATH or s3://HOST/BUCKET, not at %.20q", ErrAddress, kind)
 }
 
-// ObjectsThere is ErrAbsent where objects are to be in a folder that isn't there, as one whose disk isn't mounted. ObjectsAt would make it, and who has
-// the folder open by its name would go on in the new one. (Of a bucket ObjectsAt says that itself.)
+// ObjectsThere returns ErrAbsent if the folder of an address is missing, for example because its disk is not mounted.
+// ObjectsAt would create that folder, and the log would continue in the new one. ObjectsAt itself checks that a bucket
+// exists.
 func ObjectsThere(address string) error {
 	kind, path, _ := strings.Cut(address, ":")
 	if kind != "folder" {
@@ -106,11 +107,12 @@ func PlacesAt(ctx context.Context, address string) (Places, error) {
 		}
 		return OpenPostgresPlaces(ctx, at)
 	}
-	return nil, fmt.Errorf("%w: places are at sqlite:PATH or postgres://.., not at %.20q", ErrAddress, kind)
+	return nil, fmt.Errorf("%w: an index is at sqlite:PATH or postgres://.., not at %.20q", ErrAddress, kind)
 }
 
-// pathOf takes a path as it stands: it isn't a URL's, and a percent sign is one.
-// CheckObjects returns why an address isn't one of objects, and nil if it is. Nothing is opened.
+// pathOf returns a path as it is: it is not part of a URL, so a percent sign has no meaning.
+//
+// CheckObjects returns the reason why an address is not one of objects, and nil if it is. It opens nothing.
 func CheckObjects(address string) error {
 	return checked(address, "objects", map[string]func() error{"folder": nil, "s3": func() error { _, err := parseS3(address); return err }})
 }
@@ -153,11 +155,11 @@ func pathOf(kind, path string) (string, error) {
 func parsed(address, kind string) (*url.URL, url.Values, error) {
 	u, err := url.Parse(address)
 	if err != nil || u.Host == "" || u.Fragment != "" {
-		return nil, nil, fmt.Errorf("%w: %s:// wants a host, and a path behind it", ErrAddress, kind)
+		return nil, nil, fmt.Errorf("%w: %s:// needs a host and a path after it", ErrAddress, kind)
 	}
 	query, err := url.ParseQuery(u.RawQuery)
 	if err != nil {
-		return nil, nil, fmt.Errorf("%w: %s: words behind the question mark", ErrAddress, kind)
+		return nil, nil, fmt.Errorf("%w: %s takes no parameters after a question mark", ErrAddress, kind)
 	}
 	return u, query, nil
 }
@@ -167,7 +169,7 @@ func word(query url.Values, name string) (string, error) {
 	values := query[name]
 	query.Del(name)
 	if len(values) > 1 {
-		return "", fmt.Errorf("%w: %s stands twice", ErrAddress, name)
+		return "", fmt.Errorf("%w: %s occurs twice", ErrAddress, name)
 	}
 	if len(values) == 0 {
 		return "", nil
@@ -187,7 +189,7 @@ func flag(query url.Values, name string) (bool, error) {
 // nothingElse refuses what is left of a query.
 func nothingElse(query url.Values, kind string) error {
 	for name := range query {
-		return fmt.Errorf("%w: %s has no word %.40q", ErrAddress, kind, name)
+		return fmt.Errorf("%w: %s has no parameter %.40q", ErrAddress, kind, name)
 	}
 	return nil
 }
@@ -199,7 +201,7 @@ func parseS3(address string) (at S3, err error) {
 	}
 	at.Endpoint, at.Bucket = u.Host, strings.Trim(u.Path, "/")
 	if at.Bucket == "" || strings.Contains(at.Bucket, "/") {
-		return S3{}, fmt.Errorf("%w: s3 wants one bucket behind the host", ErrAddress)
+		return S3{}, fmt.Errorf("%w: s3 needs one bucket after the host", ErrAddress)
 	}
 	at.Key, at.Secret = os.Getenv(environmentKey), os.Getenv(environmentSecret)
 	if u.User != nil {
@@ -207,7 +209,7 @@ func parseS3(address string) (at S3, err error) {
 		at.Secret, _ = u.User.Password()
 	}
 	if at.Key == "" || at.Secret == "" {
-		return S3{}, fmt.Errorf("%w: s3 wants a key and a secret, in the address or as %s and %s", ErrAddress, environmentKey, environmentSecret)
+		return S3{}, fmt.Errorf("%w: s3 needs a key and a secret, in the address or as %s and %s", ErrAddress, environmentKey, environmentSecret)
 	}
 	if at.Region, err = word(query, "region"); err != nil {
 		return S3{}, err
@@ -228,7 +230,7 @@ func parseEtcd(address string) (at Etcd, err error) {
 	}
 	at.Prefix = strings.Trim(u.Path, "/")
 	if at.Prefix == "" {
-		return Etcd{}, fmt.Errorf("%w: etcd wants a prefix behind the hosts", ErrAddress)
+		return Etcd{}, fmt.Errorf("%w: etcd needs a prefix after the hosts", ErrAddress)
 	}
 	at.Config = clientv3.Config{Endpoints: strings.Split(u.Host, ",")}
 	if u.User != nil {
@@ -247,7 +249,7 @@ func parsePostgres(address string) (at Postgres, err error) {
 		return Postgres{}, err
 	}
 	if at.Log == "" {
-		return Postgres{}, fmt.Errorf("%w: postgres wants a log's name: ?log=NAME", ErrAddress)
+		return Postgres{}, fmt.Errorf("%w: postgres needs a log's name: ?log=NAME", ErrAddress)
 	}
 	u.RawQuery = query.Encode()
 	at.Source = u.String()

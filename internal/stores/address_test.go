@@ -36,7 +36,7 @@ func TestAddresses(t *testing.T) {
 	}
 }
 
-// TestWrongAddresses sees that each is refused by name, and that no password stands in why.
+// TestWrongAddresses: each wrong address is refused by name, and no error contains a password.
 func TestWrongAddresses(t *testing.T) {
 	t.Setenv(environmentKey, "")
 	t.Setenv(environmentSecret, "")

@@ -12,7 +12,7 @@ import (
 	"time"
 )
 
-// again is the command that kills an engine's process (-9) and starts it once more, as tests/engines.sh tells it.
+// again is the command that kills an engine's process (-9) and starts it again. tests/engines.sh sets it.
 var again = os.Getenv("STORES_AGAIN")
 
 // processes are what is killed of an engine.
@@ -126,7 +126,7 @@ func TestRegisterOutlivesItsEngine(t *testing.T) {
 		if err != nil || number(text) < last || !strings.HasPrefix(text, "try ") {
 			t.Errorf("%q stands, %v, and %d was acknowledged", text, err, last)
 		}
-		if published, err := register.Published(ctx); err != nil || published.Size < uint64(last) || published.Moment != 2*published.Size {
+		if published, err := register.Published(ctx); err != nil || published.Size < uint64(last) || published.Timestamp != 2*published.Size {
 			t.Errorf("%v is published, %v, and %d was acknowledged", published, err, last)
 		}
 	})
@@ -139,7 +139,7 @@ func TestPlacesOutliveTheirEngine(t *testing.T) {
 			_, all, _ := someOf(perWrite*i, perWrite*(i+1))
 			return store.Add(ctx, all)
 		})
-		must(t, parts(perWrite*last, MostPlaces, func(from, to int) error {
+		must(t, parts(perWrite*last, MaxPlaces, func(from, to int) error {
 			asked, _, want := someOf(perWrite+from, perWrite+to)
 			finds(t, store, asked, want)
 			return nil

@@ -11,7 +11,7 @@ import (
 	"time"
 )
 
-// given is a store of each kind whose calls give one error, a while behind being asked, with what they would give without it.
+// given is a store of each kind whose calls return one error after a while, with the results that they have without it.
 type given struct {
 	err   error
 	takes time.Duration
@@ -87,8 +87,8 @@ func asksAll(ctx context.Context, objects Objects, register Register, places Pla
 	return errs, values
 }
 
-// TestCallsAreCounted: each call of each store counts by its name, with the time that it took, and as a failure where the store didn't do what it is there for; what it gives
-// is given on, whatever it is.
+// TestCallsAreCounted: each call of each store is counted by its name and duration. It counts as a failure if the store
+// did not do what it promises. Its results and errors are passed on.
 func TestCallsAreCounted(t *testing.T) {
 	broken := errors.New("the disk is gone")
 	gone, cancel := context.WithCancel(context.Background())

@@ -11,7 +11,7 @@ import (
 // Copy writes the objects whose names don't begin with one of these prefixes as files below a folder, and says how many there were.
 func Copy(ctx context.Context, from Objects, folder string, but ...string) (count int, err error) {
 	for after := ""; ; {
-		names, err := from.List(ctx, "", after, MostListed)
+		names, err := from.List(ctx, "", after, MaxListed)
 		if err != nil {
 			return count, err
 		}
@@ -19,7 +19,7 @@ func Copy(ctx context.Context, from Objects, folder string, but ...string) (coun
 			if after = name; beginsWithAny(name, but) {
 				continue
 			}
-			content, err := from.Get(ctx, name, MostObject)
+			content, err := from.Get(ctx, name, MaxObject)
 			if err != nil {
 				return count, err
 			}
@@ -32,7 +32,7 @@ func Copy(ctx context.Context, from Objects, folder string, but ...string) (coun
 			}
 			count++
 		}
-		if len(names) < MostListed {
+		if len(names) < MaxListed {
 			return count, nil
 		}
 	}

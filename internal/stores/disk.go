@@ -13,11 +13,12 @@ import (
 // temporary is the folder of files that aren't whole yet. No name of an object begins with a point.
 const temporary = ".writing"
 
-// abandoned is how old a file in it is that nobody writes any more. (Who still does, is told that it isn't there.)
+// abandoned is the age at which a temporary file counts as abandoned by its writer. A writer that is still running gets
+// an error.
 const abandoned = time.Hour
 
-// mostSynced is how many folders are remembered as written to the disk.
-const mostSynced = 4096
+// maxSynced is how many folders are remembered as written to the disk.
+const maxSynced = 4096
 
 // fsync is File.Sync; the tests look at what is synced when.
 var fsync = (*os.File).Sync
@@ -139,7 +140,7 @@ func (d *disk) isSynced(folder string) bool {
 func (d *disk) setSynced(folders []string) {
 	d.mu.Lock()
 	defer d.mu.Unlock()
-	if len(d.synced)+len(folders) > mostSynced {
+	if len(d.synced)+len(folders) > maxSynced {
 		d.synced = map[string]bool{}
 	}
 	for _, folder := range folders {

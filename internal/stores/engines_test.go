@@ -19,7 +19,7 @@ import (
 	"wagtenib/internal/trial"
 )
 
-// The engines that tests/engines.sh started, as it tells them; empty where it didn't.
+// The addresses of the engines that tests/engines.sh started. Each is empty if that script did not run.
 var (
 	etcdMembers = os.Getenv("STORES_ETCD")     // host:port,host:port,..
 	postgresURL = os.Getenv("STORES_POSTGRES") // a source of lib/pq
@@ -29,12 +29,12 @@ var (
 // implementation is how the suite opens one store. A place is a folder, or a name that no other test has.
 type implementation[T any] struct {
 	name string
-	// missing says what isn't there, where the engine isn't.
+	// missing names the missing program or variable if the engine is not available.
 	missing string
 	open    func(ctx context.Context, place string) (T, error)
 	// oneWins: of two puts at once of two contents, one wins.
 	oneWins bool
-	// folder: the place is one, and what is kept lies in it. inMemory: it lies in this process.
+	// folder: the place is a folder that contains the data. inMemory: the data is in this process.
 	folder, inMemory bool
 }
 
@@ -104,7 +104,7 @@ var identityStores = []implementation[Places]{
 		}},
 }
 
-// placeStores are those of identities, and behind them the leaves of each.
+// placeStores are the stores of identities, and the stores of leaves after them.
 var placeStores = withLeaves(identityStores)
 
 func withLeaves(identities []implementation[Places]) []implementation[Places] {
@@ -124,7 +124,7 @@ func withLeaves(identities []implementation[Places]) []implementation[Places] {
 	return all
 }
 
-// tried is one store under test: where it lies, and how it is opened again.
+// tried is a store under test, with its place and a function that opens it again.
 type tried[T interface{ Close() error }] struct {
 	implementation[T]
 	place string
@@ -189,7 +189,7 @@ func each(many int, do func(i int) error) []error {
 	return errs
 }
 
-// took tells how long each of many calls took, with go test -v.
+// took logs the average duration of many calls (go test -v).
 func took(t *testing.T, what string, many int, since time.Time) {
 	t.Logf("%s: %d, %.2f ms each", what, many, float64(time.Since(since).Microseconds())/1000/float64(many))
 }

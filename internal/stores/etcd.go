@@ -10,18 +10,18 @@ import (
 	"golang.org/x/sync/errgroup"
 )
 
-// Etcd says where a cluster is, and under which prefix a log's keys lie in it. TLS and names of users stand in the client's
-// own Config.
+// Etcd has the endpoints of a cluster, and the prefix of a log's keys in it. TLS settings and user names are in the
+// client's own Config.
 type Etcd struct {
 	Config clientv3.Config
 	Prefix string
 }
 
 const (
-	// mostOperations is how many operations go into one transaction: etcd takes 128 by default.
-	mostOperations = 100
-	// mostBeside is how many transactions of one call are made at once.
-	mostBeside = 4
+	// maxOperations is how many operations go into one transaction: etcd takes 128 by default.
+	maxOperations = 100
+	// maxConcurrent is how many transactions of one call are made at once.
+	maxConcurrent = 4
 )
 
 // open connects a client. The first call of it finds out whether a member answers.
@@ -33,11 +33,11 @@ func (at Etcd) open() (*members, error) {
 	if config.DialTimeout == 0 {
 		config.DialTimeout = 5 * time.Second
 	}
-	// A member that stopped answering is left behind.
+	// The client drops a member that has stopped answering.
 	if config.DialKeepAliveTime == 0 {
 		config.DialKeepAliveTime, config.DialKeepAliveTimeout = 5*time.Second, 5*time.Second
 	}
-	// What the client warns of, the calls say.
+	// The calls report what the client would log.
 	if config.LogConfig == nil {
 		quiet := zap.NewProductionConfig()
 		quiet.Level = zap.NewAtomicLevelAt(zap.ErrorLevel)
@@ -50,12 +50,12 @@ func (at Etcd) open() (*members, error) {
 	return newMembers(client), nil
 }
 
-// eachBeside has a list of n done in parts, each in a transaction, of which none stands on another one. It gives the error of the part that failed first, which
-// ends the others, and returns once none is made any more.
+// eachBeside processes a list of n in parts, each in a transaction of its own. The first error ends the other parts. It
+// returns after all parts have ended.
 func eachBeside(ctx context.Context, n int, each func(ctx context.Context, from, to int) error) error {
 	all, ctx := errgroup.WithContext(ctx)
-	all.SetLimit(mostBeside)
-	_ = parts(n, mostOperations, func(from, to int) error {
+	all.SetLimit(maxConcurrent)
+	_ = parts(n, maxOperations, func(from, to int) error {
 		all.Go(func() error {
 			if err := ctx.Err(); err != nil {
 				return err
@@ -154,7 +154,7 @@ func (e *inEtcd) Swap(ctx context.Context, old, new string) error {
 }
 
 // headInOrder writes a size and a moment so that the order of texts is that of heads.
-func headInOrder(p Published) string { return inOrder(p.Size) + "-" + inOrder(p.Moment) }
+func headInOrder(p Published) string { return inOrder(p.Size) + "-" + inOrder(p.Timestamp) }
 
 // headFormInOrder reads what headInOrder wrote.
 const headFormInOrder = "%020d-%020d"
@@ -165,15 +165,15 @@ func (e *inEtcd) Published(ctx context.Context) (published Published, err error)
 	if err != nil {
 		return published, err
 	}
-	if n, err := fmt.Sscanf(head, headFormInOrder, &published.Size, &published.Moment); n != 2 || err != nil {
-		return Published{}, fmt.Errorf("stores: etcd: %s has %.60q, and not how far the log is published", e.head, head)
+	if n, err := fmt.Sscanf(head, headFormInOrder, &published.Size, &published.Timestamp); n != 2 || err != nil {
+		return Published{}, fmt.Errorf("stores: etcd: %s has %.60q instead of the published head", e.head, head)
 	}
 	return published, nil
 }
 
 // Raise is Register's.
 func (e *inEtcd) Raise(ctx context.Context, published Published) error {
-	if err := checkNumbers(published.Size, published.Moment); err != nil {
+	if err := checkNumbers(published.Size, published.Timestamp); err != nil {
 		return err
 	}
 	head := headInOrder(published)

@@ -20,11 +20,10 @@ const (
 	headFile = "head"
 )
 
-// file keeps the register in a folder: a file with the text, one with what is published, and a file that whoever changes one of them
-// has locked. Several processes may use it at once, on one machine. Who reads waits for nobody.
-//
-// It asks of the file system: flock(2) excludes, and ends with its process; rename(2) is atomic; what fsync(2) of a file and
-// of the folder with its name acknowledged stays. (Not over NFS, where flock may lock the one machine alone.)
+// file keeps the register in a folder. The folder has a file with the text, one with the published head, and a lock
+// file. Several processes of one machine may use it at once. Reading takes no lock. The file system must promise that
+// flock(2) excludes other processes and ends with its process, that rename(2) is atomic, and that a file or a folder
+// persists after fsync(2). NFS is not enough, since its flock may exclude only processes of the same machine.
 type file struct {
 	disk *disk
 	mu   sync.Mutex
@@ -44,8 +43,8 @@ func OpenFile(root string) (Register, error) {
 
 func (f *file) path(name string) string { return filepath.Join(f.disk.root, name) }
 
-// alone calls do while the register is locked. It waits for the lock until the context ends.
-func (f *file) alone(ctx context.Context, do func() error) error {
+// locked calls do while this process has the lock. It waits for the lock until the context ends.
+func (f *file) locked(ctx context.Context, do func() error) error {
 	// (who may open it may keep all others waiting)
 	lock, err := os.OpenFile(f.path(lockFile), os.O_RDWR|os.O_CREATE, 0o600)
 	if err != nil {
@@ -84,8 +83,8 @@ func (f *file) raw(name string) (string, error) {
 	return string(content), nil
 }
 
-// keep sees to it that what was read is on the disk: who set it may have been killed before it was. (A file system that isn't written any
-// more has what it has.)
+// keep syncs the text that was read to the disk, since the process that wrote it may have been killed before its own
+// sync. If the file system is read-only, nothing can be lost.
 func (f *file) keep() error {
 	if err := syncFolder(f.disk.root); err != nil && !errors.Is(err, syscall.EROFS) {
 		return fmt.Errorf("stores: register: %w", err)
@@ -168,7 +167,7 @@ func (f *file) Create(ctx context.Context, text string) error {
 	if err := checkText(text); err != nil {
 		return err
 	}
-	return f.alone(ctx, func() error {
+	return f.locked(ctx, func() error {
 		if _, err := f.readText(); err == nil {
 			return ErrExists
 		} else if !errors.Is(err, ErrAbsent) {
@@ -177,7 +176,7 @@ func (f *file) Create(ctx context.Context, text string) error {
 		// A published head without a text was left by a process that was killed here, or the text was lost.
 		published, err := f.published()
 		if err == nil && published != (Published{}) {
-			return fmt.Errorf("%w: its text is gone, and %d is published", ErrExists, published.Size)
+			return fmt.Errorf("%w: its text is missing, but %d entries are published", ErrExists, published.Size)
 		}
 		if err != nil && !errors.Is(err, ErrAbsent) {
 			return err
@@ -200,7 +199,7 @@ func (f *file) Swap(ctx context.Context, old, new string) error {
 	if err := checkText(old, new); err != nil {
 		return err
 	}
-	return f.alone(ctx, func() error {
+	return f.locked(ctx, func() error {
 		// (what is replaced need not be on the disk)
 		standing, err := f.raw(textFile)
 		switch {
@@ -223,14 +222,14 @@ func (f *file) Swap(ctx context.Context, old, new string) error {
 func (f *file) published() (p Published, err error) {
 	head, err := f.raw(headFile)
 	if errors.Is(err, ErrAbsent) {
-		return p, fmt.Errorf("stores: register: %s, which says how far the log is published, is gone: %w", f.path(headFile), err)
+		return p, fmt.Errorf("stores: register: %s with the published head is missing: %w", f.path(headFile), err)
 	}
 	if err != nil {
 		return p, err
 	}
-	n, err := fmt.Sscanf(head, headForm, &p.Size, &p.Moment)
-	if n != 2 || err != nil || fmt.Sprintf(headForm, p.Size, p.Moment) != head {
-		return Published{}, fmt.Errorf("stores: register: %s has %.40q, and not how far the log is published", f.path(headFile), head)
+	n, err := fmt.Sscanf(head, headForm, &p.Size, &p.Timestamp)
+	if n != 2 || err != nil || fmt.Sprintf(headForm, p.Size, p.Timestamp) != head {
+		return Published{}, fmt.Errorf("stores: register: %s has %.40q instead of the published head", f.path(headFile), head)
 	}
 	return p, nil
 }
@@ -266,10 +265,10 @@ func (f *file) Published(ctx context.Context) (Published, error) {
 }
 
 func (f *file) Raise(ctx context.Context, published Published) error {
-	if err := checkNumbers(published.Size, published.Moment); err != nil {
+	if err := checkNumbers(published.Size, published.Timestamp); err != nil {
 		return err
 	}
-	return f.alone(ctx, func() error {
+	return f.locked(ctx, func() error {
 		standing, err := f.created()
 		if err != nil {
 			return err
@@ -277,7 +276,7 @@ func (f *file) Raise(ctx context.Context, published Published) error {
 		if !standing.Before(published) {
 			return f.keepRaised(standing)
 		}
-		if err := f.set(headFile, fmt.Sprintf(headForm, published.Size, published.Moment)); err != nil {
+		if err := f.set(headFile, fmt.Sprintf(headForm, published.Size, published.Timestamp)); err != nil {
 			return err
 		}
 		f.knowRaised(published)

@@ -14,10 +14,9 @@ import (
 	"syscall"
 )
 
-// folder keeps objects as files below a folder. Several processes may use it at once, on one machine.
-//
-// It asks of the file system: link(2) is atomic and fails where the name is there; what fsync(2) of a file and of the folders
-// with its name acknowledged stays.
+// folder keeps objects as files below a folder. Several processes of one machine may use it at once. The file system
+// must promise that link(2) is atomic and fails if the name exists, and that a file or a folder persists after
+// fsync(2).
 type folder struct {
 	disk *disk
 }
@@ -35,8 +34,8 @@ func (f *folder) path(name string) string {
 	return filepath.Join(f.disk.root, filepath.FromSlash(name))
 }
 
-// mostMade is how often a folder is made for one object.
-const mostMade = 16
+// maxMade is how often a folder is made for one object.
+const maxMade = 16
 
 func (f *folder) Put(ctx context.Context, name string, content []byte) error {
 	if err := checkObject(name, content); err != nil {
@@ -53,7 +52,7 @@ func (f *folder) Put(ctx context.Context, name string, content []byte) error {
 	defer os.Remove(whole)
 	err = os.Link(whole, path)
 	// (a folder that was made may be taken away again, as long as it is empty)
-	for try := 0; errors.Is(err, fs.ErrNotExist) && try < mostMade; try++ {
+	for try := 0; errors.Is(err, fs.ErrNotExist) && try < maxMade; try++ {
 		f.disk.forget(filepath.Dir(path))
 		// (one that goes while it is made is said to exist)
 		if err := os.MkdirAll(filepath.Dir(path), 0o755); err != nil && !errors.Is(err, fs.ErrNotExist) && !errors.Is(err, fs.ErrExist) {
@@ -71,7 +70,7 @@ func (f *folder) Put(ctx context.Context, name string, content []byte) error {
 	return f.disk.keep(filepath.Dir(path))
 }
 
-// compare says whether the content stands under the name.
+// compare reports whether the object of a name has this content.
 func (f *folder) compare(name string, content []byte) error {
 	standing, err := f.read(name, int64(len(content)))
 	if errors.Is(err, ErrTooLong) || err == nil && !bytes.Equal(standing, content) {
@@ -139,8 +138,8 @@ func (f *folder) Delete(ctx context.Context, name string) error {
 	return nil
 }
 
-// removeEmpty takes a folder away that has nothing any more, but for the root and those right below it: else each tile that was partial once
-// would leave one. Who puts into it again makes it again.
+// removeEmpty removes a folder that is empty, except the root and the folders in it. Otherwise each tile that was
+// partial once would leave a folder. A later Put creates the folder again.
 func (f *folder) removeEmpty(path string) {
 	if path == f.disk.root || filepath.Dir(path) == f.disk.root {
 		return
@@ -178,10 +177,11 @@ type listing struct {
 	found       []string
 }
 
-// below adds the names that begin with the prefix, a folder's name with a slash behind it, or none.
+// below adds the names that begin with the prefix. The prefix is empty, or the name of a folder with a slash at its
+// end.
 func (l *listing) below(prefix string, depth int) error {
-	if depth > mostParts {
-		return fmt.Errorf("%w: of more parts than %d", ErrName, mostParts)
+	if depth > maxParts {
+		return fmt.Errorf("%w: of more parts than %d", ErrName, maxParts)
 	}
 	for behind := ""; len(l.found) < l.most; {
 		entries, err := l.first(prefix, behind)
@@ -206,7 +206,7 @@ func (l *listing) below(prefix string, depth int) error {
 	return nil
 }
 
-// first gives the first entries of a folder behind one, in order; folders with a slash behind them, as they stand in names.
+// first returns the first entries of a folder after a name, in order. The names of folders have a slash at the end.
 func (l *listing) first(prefix, behind string) ([]string, error) {
 	opened, err := os.Open(filepath.Join(l.root, filepath.FromSlash(prefix)))
 	if isNoFile(err) {
@@ -243,7 +243,7 @@ func (l *listing) first(prefix, behind string) ([]string, error) {
 	}
 }
 
-// reaches says whether a name, or one below a folder's name, may come behind the text that was asked for.
+// reaches reports whether a name, or a name in that folder, may come after the requested text.
 func (l *listing) reaches(name string) bool {
 	return name > l.after || strings.HasSuffix(name, "/") && strings.HasPrefix(l.after, name)
 }

@@ -78,7 +78,7 @@ func TestFileOnAFullDisk(t *testing.T) {
 	must(t, register.Create(ctx, "first"))
 	must(t, register.Raise(ctx, Published{Size: 5}))
 	room := fill(t, disk)
-	long := strings.Repeat("x", MostText)
+	long := strings.Repeat("x", MaxText)
 	if err := register.Swap(ctx, "first", long); !isFull(err) || errors.Is(err, ErrUnknown) {
 		t.Errorf("Swap: %v", err)
 	}

@@ -9,13 +9,13 @@ import (
 	"time"
 )
 
-// MostKept is how many bytes a file has at most that KeepFile writes.
-const MostKept = 4 << 10
+// MaxKept is how many bytes a file has at most that KeepFile writes.
+const MaxKept = 4 << 10
 
-// KeepFile gives a file of this machine's own another content: all of it, or what stood there before. It is on the disk once this returns. The
-// folder has to be there.
+// KeepFile replaces the content of a file of this machine. After a crash the file has either the old content or the new
+// one. The new content is on the disk when KeepFile returns. The folder must exist.
 func KeepFile(path string, content []byte) error {
-	if len(content) > MostKept {
+	if len(content) > MaxKept {
 		return fmt.Errorf("%w: %d bytes for %s", ErrTooLong, len(content), path)
 	}
 	return keepFile(path, content, 0o600)
@@ -49,7 +49,7 @@ func keepFile(path string, content []byte, mode fs.FileMode) error {
 	return syncFolder(filepath.Dir(path))
 }
 
-// halfKept stands in the names of files that KeepFile and ShowFile haven't given their own yet.
+// halfKept is part of the names of temporary files that KeepFile and ShowFile have not renamed yet.
 const halfKept = ".writing-"
 
 // KeptFile reads what KeepFile or ShowFile wrote; ErrAbsent where there is no such file. It takes away what killed writers left beside it.

@@ -19,7 +19,7 @@ import (
 // were written before may be written again.
 type writer func(ctx context.Context, i int) error
 
-// killed is where a process is told, by its environment, what to write: KIND IMPLEMENTATION PLACE FIRST.
+// killed is the environment variable with the task of a writer process: KIND IMPLEMENTATION PLACE FIRST.
 const killed = "STORES_WRITER"
 
 func TestMain(m *testing.M) {
@@ -30,7 +30,7 @@ func TestMain(m *testing.M) {
 	os.Exit(m.Run())
 }
 
-// write writes until it is killed, and tells of each write that was acknowledged.
+// write writes until it is killed, and prints each acknowledged write.
 func write(words []string) error {
 	ctx, cancel := context.WithTimeout(context.Background(), trial.Longest)
 	defer cancel()
@@ -94,8 +94,8 @@ func placeWriter(ctx context.Context, name, place string) (writer, error) {
 	}, err
 }
 
-// killing starts a writer from a number on, kills it (-9) at a moment of chance behind one of its first acknowledged writes, and
-// gives the last number that it told.
+// killing starts a writer from a number on, kills it (-9) at a random time after one of its first acknowledged writes,
+// and returns the last number that it printed.
 func killing(t *testing.T, kind, name, place string, first int) (last int) {
 	t.Helper()
 	program, err := os.Executable()
@@ -157,7 +157,7 @@ func TestRegisterOutlivesKills(t *testing.T) {
 				t.Fatalf("%q stands, %v, and %d was acknowledged", text, err, last)
 			}
 			published, err := register.Published(ctx)
-			if n := published.Size; err != nil || n != uint64(last) && n != uint64(last)+1 || published.Moment != 2*n {
+			if n := published.Size; err != nil || n != uint64(last) && n != uint64(last)+1 || published.Timestamp != 2*n {
 				t.Fatalf("%v is published, %v, and %d was acknowledged", published, err, last)
 			}
 		}
@@ -172,7 +172,7 @@ func TestPlacesOutliveKills(t *testing.T) {
 		for kill := 0; kill < kills; kill++ {
 			last = killing(t, "places", at.name, at.place, last+1)
 			store := at.opened(t)
-			must(t, parts(perWrite*last, MostPlaces, func(from, to int) error {
+			must(t, parts(perWrite*last, MaxPlaces, func(from, to int) error {
 				asked, _, want := someOf(perWrite+from, perWrite+to)
 				finds(t, store, asked, want)
 				return nil

@@ -7,7 +7,7 @@ import (
 	"time"
 )
 
-// waits bounds what a server that answers nothing holds, behind the end of a call's context.
+// waits is the time after the end of a call's context for which a server that does not answer may hold resources.
 const waits = 30 * time.Second
 
 // outcome is what a call gave.

@@ -11,7 +11,8 @@ import (
 	"testing"
 )
 
-// TestFolderListsAsWalked: what a folder lists behind any text, however many at once, are the names that a walk over its files finds, in order.
+// TestFolderListsAsWalked: a list of a folder after any text, of any length, has the names that a walk over its files
+// finds, in order.
 func TestFolderListsAsWalked(t *testing.T) {
 	t.Parallel()
 	root, ctx := t.TempDir(), limited(t)
@@ -47,7 +48,7 @@ func TestFolderListsAsWalked(t *testing.T) {
 					want = append(want, name)
 				}
 			}
-			for _, most := range []int{1, 3, MostListed} {
+			for _, most := range []int{1, 3, MaxListed} {
 				some := want
 				if len(some) > most {
 					some = some[:most]
@@ -59,7 +60,7 @@ func TestFolderListsAsWalked(t *testing.T) {
 			}
 		}
 	}
-	// Below a file nothing stands.
+	// No object is below a file.
 	if got, err := store.List(ctx, all[0]+"/", "", 9); err != nil || len(got) > 0 {
 		t.Errorf("%q, %v", got, err)
 	}

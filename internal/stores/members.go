@@ -10,22 +10,22 @@ import (
 	"go.etcd.io/etcd/client/v3"
 )
 
-// A member of etcd that its peers can't reach takes calls, and answers none of them while that lasts: a call has mostCall there, and is then made
-// at the next member. The last of mostCalls has all that the caller's context leaves, for a cluster that is slow and whole.
+// A member of etcd that its peers can't reach takes calls, and answers none of them while that lasts: a call has maxCall there, and is then made
+// at the next member. The last of maxCalls has all that the caller's context leaves, for a cluster that is slow and whole.
 const (
-	mostCall  = 1500 * time.Millisecond
-	mostCalls = 5
+	maxCall  = 1500 * time.Millisecond
+	maxCalls = 5
 )
 
 const (
-	// mostStatus is how long a member has to say whether it knows a leader, and looksAfter how far two such looks are apart at least.
-	mostStatus = 750 * time.Millisecond
+	// maxStatus is how long a member has to say whether it knows a leader, and looksAfter how far two such looks are apart at least.
+	maxStatus  = 750 * time.Millisecond
 	looksAfter = time.Second
 	// leftOutFor is how long a member that knew no leader isn't asked, at least.
 	leftOutFor = 10 * time.Second
 )
 
-// members is a client that asks those members of a cluster alone that know a leader; all, where none does.
+// members is a client that asks only those members of a cluster that know a leader. If none of them does, it asks all.
 type members struct {
 	*clientv3.Client
 	all        []string
@@ -53,8 +53,8 @@ func atMembers[T any](ctx context.Context, m *members, call func(context.Context
 	var earlier error
 	for made := 1; ; made++ {
 		one, cancel := ctx, func() {}
-		if made < mostCalls {
-			one, cancel = context.WithTimeout(ctx, mostCall)
+		if made < maxCalls {
+			one, cancel = context.WithTimeout(ctx, maxCall)
 		}
 		answer, err = call(one)
 		cancel()
@@ -62,7 +62,7 @@ func atMembers[T any](ctx context.Context, m *members, call func(context.Context
 			// (what was sent before may have been done)
 			return answer, earlier
 		}
-		if err == nil || ctx.Err() != nil || made == mostCalls || isDenied(err) {
+		if err == nil || ctx.Err() != nil || made == maxCalls || isDenied(err) {
 			return answer, err
 		}
 		earlier = err
@@ -75,7 +75,7 @@ func (m *members) commit(ctx context.Context, made func(clientv3.Txn) clientv3.T
 	return atMembers(ctx, m, func(ctx context.Context) (*clientv3.TxnResponse, error) { return made(m.Txn(ctx)).Commit() })
 }
 
-// leaveOut looks which members are to be asked, behind a call that failed.
+// leaveOut looks for members to leave out after a failed call.
 func (m *members) leaveOut() {
 	m.mu.Lock()
 	defer m.mu.Unlock()
@@ -84,7 +84,7 @@ func (m *members) leaveOut() {
 	}
 }
 
-// takeBack looks, beside the calls, whether a member that was left out is to be asked again.
+// takeBack looks, in parallel with the calls, for members that can be asked again.
 func (m *members) takeBack() {
 	if !m.mu.TryLock() {
 		return
@@ -107,7 +107,7 @@ func (m *members) look() {
 		asked.Add(1)
 		go func(i int) {
 			defer asked.Done()
-			ctx, cancel := context.WithTimeout(m.Ctx(), mostStatus)
+			ctx, cancel := context.WithTimeout(m.Ctx(), maxStatus)
 			defer cancel()
 			status, err := m.Status(ctx, m.all[i])
 			knows[i] = err == nil && status.Leader != 0

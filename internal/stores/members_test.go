@@ -15,8 +15,8 @@ import (
 	"google.golang.org/grpc"
 )
 
-// member is a member of etcd as far as a register asks one: it has a text for each key, and takes each transaction. One that is parted from its
-// peers knows no leader, and takes calls that it never answers.
+// member is a member of etcd as a register sees it. It has a text for each key, and performs each transaction. A member
+// without contact to its peers knows no leader, and never answers the calls that it receives.
 type member struct {
 	etcdserverpb.KVServer
 	etcdserverpb.MaintenanceServer
@@ -47,7 +47,7 @@ func (m *member) Status(context.Context, *etcdserverpb.StatusRequest) (*etcdserv
 	return &etcdserverpb.StatusResponse{Leader: 1}, nil
 }
 
-// call is one that isn't answered where the member is parted.
+// call waits for ever if the member has no contact to its peers.
 func (m *member) call(ctx context.Context) error {
 	m.calls.Add(1)
 	if m.parted.Load() {
@@ -70,8 +70,8 @@ func (m *member) Txn(ctx context.Context, _ *etcdserverpb.TxnRequest) (*etcdserv
 	return &etcdserverpb.TxnResponse{Succeeded: true}, nil
 }
 
-// A member that its peers can't reach holds no call up for longer than its part of it, is left out behind the first, and is asked again once it
-// knows a leader.
+// TestPartitionedMember: a member without contact to its peers delays no call for longer than its share of the time, is
+// left out after the first call, and is asked again after it knows a leader.
 func TestPartedMember(t *testing.T) {
 	whole, parted := newMember(t, false), newMember(t, true)
 	opened, err := OpenEtcd(Etcd{clientv3.Config{Endpoints: []string{parted.address, whole.address}}, "log"})
@@ -106,7 +106,7 @@ func TestPartedMember(t *testing.T) {
 	}
 }
 
-// Where no member knows a leader all are asked, and the first that is whole answers.
+// TestPartitionedMembers: if no member knows a leader, all are asked, and the first that answers is used.
 func TestPartedMembers(t *testing.T) {
 	one, other := newMember(t, true), newMember(t, true)
 	opened, err := OpenEtcd(Etcd{clientv3.Config{Endpoints: []string{one.address, other.address}}, "log"})
@@ -128,7 +128,8 @@ func TestPartedMembers(t *testing.T) {
 	}
 }
 
-// What etcd refuses isn't asked again; and behind a call whose outcome is unknown it isn't said that nothing was done.
+// TestDeniedByMember: a call that etcd refuses is not repeated. After a call with an unknown outcome the error does not
+// claim that nothing was done.
 func TestDeniedByMember(t *testing.T) {
 	at := newMember(t, false)
 	opened, err := OpenEtcd(Etcd{clientv3.Config{Endpoints: []string{at.address}}, "log"})

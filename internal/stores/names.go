@@ -7,17 +7,17 @@ import (
 
 // The bounds of a name.
 const (
-	mostName  = 200
-	mostParts = 16
+	maxName  = 200
+	maxParts = 16
 )
 
 // checkName says whether a name is of the form that Objects states.
 func checkName(name string) error {
-	if len(name) > mostName {
+	if len(name) > maxName {
 		return fmt.Errorf("%w: of %d bytes", ErrName, len(name))
 	}
 	parts := strings.Split(name, "/")
-	if len(parts) > mostParts {
+	if len(parts) > maxParts {
 		return fmt.Errorf("%w: of %d parts", ErrName, len(parts))
 	}
 	for _, part := range parts {
@@ -35,13 +35,13 @@ func notInNames(c rune) bool {
 
 // checkObject checks what is put.
 func checkObject(name string, content []byte) error {
-	if len(content) > MostObject {
+	if len(content) > MaxObject {
 		return fmt.Errorf("%w: object %.80q of %d bytes", ErrTooLong, name, len(content))
 	}
 	return checkName(name)
 }
 
-// checkPrefix says whether names can begin so: with whole parts, and a slash behind them, or with anything (an empty text).
+// checkPrefix reports whether a text is the beginning of names: whole parts with a slash at the end, or the empty text.
 func checkPrefix(prefix string) error {
 	if prefix == "" {
 		return nil
@@ -52,9 +52,9 @@ func checkPrefix(prefix string) error {
 	return checkName(strings.TrimSuffix(prefix, "/"))
 }
 
-// checkAfter says whether a text is a name or the beginning of one, or none: what List begins behind.
+// checkAfter reports whether a text is a name, the beginning of a name, or empty. List returns the names after it.
 func checkAfter(text string) error {
-	if len(text) > mostName || strings.IndexFunc(strings.ReplaceAll(text, "/", ""), notInNames) >= 0 {
+	if len(text) > maxName || strings.IndexFunc(strings.ReplaceAll(text, "/", ""), notInNames) >= 0 {
 		return fmt.Errorf("%w: %.80q", ErrName, text)
 	}
 	return nil
@@ -65,15 +65,15 @@ func atMost(most int) int {
 	if most < 0 {
 		return 0
 	}
-	if most > MostListed {
-		return MostListed
+	if most > MaxListed {
+		return MaxListed
 	}
 	return most
 }
 
 func checkText(texts ...string) error {
 	for _, text := range texts {
-		if len(text) > MostText {
+		if len(text) > MaxText {
 			return fmt.Errorf("%w: text of %d bytes", ErrTooLong, len(text))
 		}
 		if text == "" {
@@ -85,16 +85,16 @@ func checkText(texts ...string) error {
 
 func checkNumbers(numbers ...uint64) error {
 	for _, number := range numbers {
-		if number > MostNumber {
+		if number > MaxNumber {
 			return fmt.Errorf("%w: %d", ErrNumber, number)
 		}
 	}
 	return nil
 }
 
-// firsts checks a list of places, and gives it without those whose identity stands earlier in it.
+// firsts checks a list of index entries, and returns the first entry of each identity.
 func firsts(placed []Placed) ([]Placed, error) {
-	if len(placed) > MostPlaces {
+	if len(placed) > MaxPlaces {
 		return nil, fmt.Errorf("%w: %d places", ErrTooLong, len(placed))
 	}
 	seen := make(map[Identity]bool, len(placed))
@@ -113,7 +113,7 @@ func firsts(placed []Placed) ([]Placed, error) {
 
 // distinct checks a list of identities, and gives each once.
 func distinct(identities []Identity) ([]Identity, error) {
-	if len(identities) > MostPlaces {
+	if len(identities) > MaxPlaces {
 		return nil, fmt.Errorf("%w: %d identities", ErrTooLong, len(identities))
 	}
 	seen := make(map[Identity]bool, len(identities))

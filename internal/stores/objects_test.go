@@ -46,7 +46,7 @@ func TestObjectsHaveOneContent(t *testing.T) {
 		if _, err := store.Get(ctx, "tile/0", manyBytes); !errors.Is(err, ErrAbsent) {
 			t.Errorf("Get of a beginning of names: %v", err)
 		}
-		if err := store.Put(ctx, "long", make([]byte, MostObject+1)); !errors.Is(err, ErrTooLong) {
+		if err := store.Put(ctx, "long", make([]byte, MaxObject+1)); !errors.Is(err, ErrTooLong) {
 			t.Errorf("Put of more than may be: %v", err)
 		}
 		must(t, store.Delete(ctx, "staging/x"))
@@ -65,7 +65,7 @@ func TestObjectsHaveOneContent(t *testing.T) {
 // wrongNames are refused by every call.
 var wrongNames = []string{
 	"", "/", ".", "..", "/a", "a/", "a//b", "../a", "a/../b", "a/..", "a/./b", ".a", "a/.b", ".writing/file-1", "a\x00b", "a\nb", "a b",
-	"a\\b", "a:b", "a%2fb", "a*", "~", "ä", "a\xff", strings.Repeat("a", mostName+1), strings.Repeat("a/", mostParts) + "a",
+	"a\\b", "a:b", "a%2fb", "a*", "~", "ä", "a\xff", strings.Repeat("a", maxName+1), strings.Repeat("a/", maxParts) + "a",
 }
 
 func TestObjectsRefuseWrongNames(t *testing.T) {
@@ -94,7 +94,7 @@ func TestObjectsRefuseWrongNames(t *testing.T) {
 				t.Errorf("beside the store lies something: %v, %v", beside, err)
 			}
 		}
-		longest := strings.Repeat("a/", mostParts-1) + strings.Repeat("b", mostName-2*(mostParts-1))
+		longest := strings.Repeat("a/", maxParts-1) + strings.Repeat("b", maxName-2*(maxParts-1))
 		must(t, store.Put(ctx, longest, []byte("x")))
 		if listed, err := store.List(ctx, "", "", 9); err != nil || len(listed) == 0 || listed[0] != longest {
 			t.Errorf("List gives %q, %v", listed, err)
@@ -105,7 +105,7 @@ func TestObjectsRefuseWrongNames(t *testing.T) {
 func TestObjectsAreListedInOrder(t *testing.T) {
 	eachOf(t, objectStores, func(t *testing.T, at tried[Objects]) {
 		store, ctx := at.opened(t), limited(t)
-		// Where a slash stands among other bytes, the order of names isn't that of folders.
+		// If other bytes than a slash are in names, the order of names differs from that of folders.
 		names := []string{"h/a-b", "h/a.b", "h/a/c", "h/a/c-d/e", "h/a/d/e", "h/a0", "h/ab/c", "h/A", "h/_", "h/0", "h/00", "h/z/z/z/z", "i/a", "g"}
 		sort.Strings(names)
 		for _, name := range names {
@@ -120,7 +120,7 @@ func TestObjectsAreListedInOrder(t *testing.T) {
 					want = append(want, name)
 				}
 			}
-			for _, most := range []int{1, 2, 5, len(names), MostListed + 1} {
+			for _, most := range []int{1, 2, 5, len(names), MaxListed + 1} {
 				got, err := store.List(ctx, "h/", after, most)
 				first := want
 				if len(first) > most {
@@ -136,7 +136,7 @@ func TestObjectsAreListedInOrder(t *testing.T) {
 				t.Errorf("List of %d: %q, %v", most, got, err)
 			}
 		}
-		for _, after := range []string{"\x00", "h/a\xff", "h/a b", strings.Repeat("h/", mostName)} {
+		for _, after := range []string{"\x00", "h/a\xff", "h/a b", strings.Repeat("h/", maxName)} {
 			if _, err := store.List(ctx, "h/", after, 5); !errors.Is(err, ErrName) {
 				t.Errorf("List after %.20q: %v", after, err)
 			}
@@ -151,18 +151,18 @@ func TestFolderListsMoreThanABound(t *testing.T) {
 	store, err := OpenFolder(t.TempDir())
 	must(t, err)
 	ctx := limited(t)
-	const many = MostListed + 200
+	const many = MaxListed + 200
 	start := time.Now()
 	for i := 0; i < many; i++ {
 		must(t, store.Put(ctx, fmt.Sprintf("heads/%06d", i), nil))
 	}
 	took(t, "folder: puts, one after the other", many, start)
 	first, err := store.List(ctx, "heads/", "", many)
-	if err != nil || len(first) != MostListed || first[MostListed-1] != fmt.Sprintf("heads/%06d", MostListed-1) {
+	if err != nil || len(first) != MaxListed || first[MaxListed-1] != fmt.Sprintf("heads/%06d", MaxListed-1) {
 		t.Errorf("List gives %d, %v", len(first), err)
 	}
-	rest, err := store.List(ctx, "", first[MostListed-1], many)
-	if err != nil || len(rest) != many-MostListed || rest[len(rest)-1] != fmt.Sprintf("heads/%06d", many-1) {
+	rest, err := store.List(ctx, "", first[MaxListed-1], many)
+	if err != nil || len(rest) != many-MaxListed || rest[len(rest)-1] != fmt.Sprintf("heads/%06d", many-1) {
 		t.Errorf("List gives %d more, %v", len(rest), err)
 	}
 }
@@ -200,7 +200,7 @@ func TestObjectsOfManyAtOnce(t *testing.T) {
 	})
 }
 
-// tryOneWins has 16 put 16 contents under one name at once: one is told that it did, and its content stands.
+// tryOneWins has 16 calls put 16 contents under one name at once. Exactly one succeeds, and the object has its content.
 func tryOneWins(t *testing.T, stores []Objects, name string) {
 	ctx := limited(t)
 	content := func(i int) []byte { return bytes.Repeat([]byte{byte(i)}, 1000) }

@@ -10,7 +10,7 @@ import (
 // TestPageSaysBounds: the bounds that docs/SERVICE.md says of stores are those that are here.
 func TestPageSaysBounds(t *testing.T) {
 	trial.Says(t, trial.Page(t, "../../docs/SERVICE.md"), map[string]bool{
-		"Each call has 1.5 s at one member":               mostCall == 1500*time.Millisecond,
+		"Each call has 1.5 s at one member":               maxCall == 1500*time.Millisecond,
 		"are left out, and asked again ten seconds later": leftOutFor == 10*time.Second,
 	})
 }

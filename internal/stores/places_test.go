@@ -23,7 +23,7 @@ func placed(i int) Placed {
 	return Placed{identity(i), Place{uint64(i), 1767225600000 + uint64(i)}}
 }
 
-// someOf gives the identities of a range of numbers, and what is to be found of them where all of these are there.
+// someOf returns the identities of a range of numbers, and the places that they have if all of them were added.
 func someOf(from, to int) (identities []Identity, all []Placed, found map[Identity]Place) {
 	found = map[Identity]Place{}
 	for i := from; i < to; i++ {
@@ -69,14 +69,15 @@ func TestPlacesKeepTheFirst(t *testing.T) {
 		asked := []Identity{identity(0), identity(1), identity(2)}
 		want := map[Identity]Place{identity(0): first.Place, identity(1): placed(1).Place, identity(2): placed(2).Place}
 		finds(t, store, asked, want)
-		largest := Placed{identity(3), Place{MostNumber, MostNumber}}
+		largest := Placed{identity(3), Place{MaxNumber, MaxNumber}}
 		zero := Placed{Identity{}, Place{0, 0}}
 		must(t, store.Add(ctx, []Placed{largest, zero}))
 		finds(t, at.opened(t), []Identity{identity(3), {}}, map[Identity]Place{identity(3): largest.Place, {}: {}})
 	})
 }
 
-// TestPlacesAreReplaced: a place is set whatever stood there, of a list's the first, and no other is touched.
+// TestPlacesAreReplaced: Replace sets a place whatever it was before, the first one of a list counts, and no other
+// place changes.
 func TestPlacesAreReplaced(t *testing.T) {
 	eachOf(t, placeStores, func(t *testing.T, at tried[Places]) {
 		store, ctx := at.opened(t), limited(t)
@@ -90,11 +91,11 @@ func TestPlacesAreReplaced(t *testing.T) {
 		must(t, store.Replace(ctx, []Placed{placed(0)}))
 		want[identity(0)] = placed(0).Place
 		finds(t, store, []Identity{identity(0), identity(1), identity(2)}, want)
-		_, all, _ := someOf(0, MostPlaces+1)
+		_, all, _ := someOf(0, MaxPlaces+1)
 		if err := store.Replace(ctx, all); !errors.Is(err, ErrTooLong) {
 			t.Errorf("too many: %v", err)
 		}
-		if err := store.Replace(ctx, []Placed{{identity(1), Place{MostNumber + 1, 0}}}); !errors.Is(err, ErrNumber) {
+		if err := store.Replace(ctx, []Placed{{identity(1), Place{MaxNumber + 1, 0}}}); !errors.Is(err, ErrNumber) {
 			t.Errorf("too large: %v", err)
 		}
 	})
@@ -103,25 +104,25 @@ func TestPlacesAreReplaced(t *testing.T) {
 func TestPlacesHaveBounds(t *testing.T) {
 	eachOf(t, placeStores, func(t *testing.T, at tried[Places]) {
 		store, ctx := at.opened(t), limited(t)
-		asked, all, want := someOf(0, MostPlaces+1)
+		asked, all, want := someOf(0, MaxPlaces+1)
 		if err := store.Add(ctx, all); !errors.Is(err, ErrTooLong) {
 			t.Errorf("Add of too many: %v", err)
 		}
 		if _, err := store.Find(ctx, asked); !errors.Is(err, ErrTooLong) {
 			t.Errorf("Find of too many: %v", err)
 		}
-		for _, wrong := range []Place{{MostNumber + 1, 0}, {0, MostNumber + 1}} {
+		for _, wrong := range []Place{{MaxNumber + 1, 0}, {0, MaxNumber + 1}} {
 			if err := store.Add(ctx, []Placed{all[0], {identity(1), wrong}}); !errors.Is(err, ErrNumber) {
 				t.Errorf("Add of %v: %v", wrong, err)
 			}
 		}
-		finds(t, store, asked[:MostPlaces], map[Identity]Place{})
-		must(t, store.Add(ctx, all[:MostPlaces]))
-		delete(want, identity(MostPlaces))
-		finds(t, store, asked[:MostPlaces], want)
+		finds(t, store, asked[:MaxPlaces], map[Identity]Place{})
+		must(t, store.Add(ctx, all[:MaxPlaces]))
+		delete(want, identity(MaxPlaces))
+		finds(t, store, asked[:MaxPlaces], want)
 		ended, cancel := context.WithCancel(ctx)
 		cancel()
-		if err := store.Add(ended, all[MostPlaces:]); err == nil {
+		if err := store.Add(ended, all[MaxPlaces:]); err == nil {
 			t.Error("Add behind the end of its context")
 		}
 		if _, err := store.Find(ended, asked[:1]); err == nil {
@@ -178,7 +179,7 @@ func TestLogsAreApart(t *testing.T) {
 	})
 }
 
-// TestLeavesAreApart: what is known of identities isn't known of leaves, and the other way round.
+// TestLeavesAreApart: the tables of identities and leaves do not share entries.
 func TestLeavesAreApart(t *testing.T) {
 	eachOf(t, identityStores, func(t *testing.T, at tried[Places]) {
 		store := at.opened(t)
@@ -194,16 +195,16 @@ func TestLeavesAreApart(t *testing.T) {
 
 // TestEachBeside: of a list each part is done once, as many at once as there is room for, and no more.
 func TestEachBeside(t *testing.T) {
-	const parts = 3 * mostBeside
+	const parts = 3 * maxConcurrent
 	var mu sync.Mutex
 	beside, most, done := 0, 0, map[int]int{}
 	full := make(chan struct{})
-	must(t, eachBeside(limited(t), parts*mostOperations-1, func(ctx context.Context, from, to int) error {
+	must(t, eachBeside(limited(t), parts*maxOperations-1, func(ctx context.Context, from, to int) error {
 		mu.Lock()
 		if beside++; beside > most {
 			most = beside
 		}
-		if done[from] = to; len(done) == mostBeside {
+		if done[from] = to; len(done) == maxConcurrent {
 			close(full)
 		}
 		mu.Unlock()
@@ -217,35 +218,35 @@ func TestEachBeside(t *testing.T) {
 		beside--
 		return nil
 	}))
-	if most != mostBeside || len(done) != parts {
+	if most != maxConcurrent || len(done) != parts {
 		t.Errorf("%d parts, %d of them at once", len(done), most)
 	}
 	for from, to := range done {
-		if from%mostOperations != 0 || to != from+mostOperations && to != parts*mostOperations-1 {
+		if from%maxOperations != 0 || to != from+maxOperations && to != parts*maxOperations-1 {
 			t.Errorf("a part from %d to %d", from, to)
 		}
 	}
 }
 
-// TestEachBesideFails: the error that came first is given, once those that it ended are no longer made, and none begins behind it; nor does one behind the
-// context's end.
+// TestEachBesideFails: eachBeside returns the first error after the parts that it ended have ended. No part begins
+// after an error, or after the end of the context.
 func TestEachBesideFails(t *testing.T) {
 	first := errors.New("the first")
 	var begun, ended atomic.Int64
-	err := eachBeside(limited(t), 3*mostBeside*mostOperations, func(ctx context.Context, from, to int) error {
+	err := eachBeside(limited(t), 3*maxConcurrent*maxOperations, func(ctx context.Context, from, to int) error {
 		defer ended.Add(1)
-		if begun.Add(1) == mostBeside {
+		if begun.Add(1) == maxConcurrent {
 			return first
 		}
 		<-ctx.Done()
 		return ctx.Err()
 	})
-	if err != first || begun.Load() != mostBeside || ended.Load() != mostBeside {
+	if err != first || begun.Load() != maxConcurrent || ended.Load() != maxConcurrent {
 		t.Errorf("%v, with %d begun and %d ended", err, begun.Load(), ended.Load())
 	}
 	gone, cancel := context.WithCancel(context.Background())
 	cancel()
-	err = eachBeside(gone, mostOperations, func(context.Context, int, int) error {
+	err = eachBeside(gone, maxOperations, func(context.Context, int, int) error {
 		t.Error("one begins")
 		return nil
 	})
@@ -272,13 +273,14 @@ func TestSQLiteEndsWithItsContext(t *testing.T) {
 	if taken := time.Since(start); err == nil || taken > trial.Longest/2 {
 		t.Errorf("Add beside one that writes: %v, behind %v", err, taken)
 	}
-	// What is there is read all the same.
+	// The database can still be read.
 	finds(t, other, []Identity{identity(1)}, map[Identity]Place{})
 	must(t, holding.Rollback())
 	must(t, other.Add(limited(t), []Placed{placed(1)}))
 }
 
-// TestSQLiteTurnEndsWithItsContext: who waits until another one of the same process has added, to either table, waits no longer than its context lasts.
+// TestSQLiteTurnEndsWithItsContext: a call that waits for another writer of the same process, to either table, waits no
+// longer than its context lasts.
 func TestSQLiteTurnEndsWithItsContext(t *testing.T) {
 	ctx := limited(t)
 	store, err := OpenSQLite(ctx, filepath.Join(t.TempDir(), "places.db"))
@@ -324,7 +326,7 @@ func TestSQLiteSyncs(t *testing.T) {
 	}
 }
 
-// TestSQLiteThatIsBent: what isn't a database is named.
+// TestSQLiteThatIsBent: the error of a file that is not a database names it.
 func TestSQLiteThatIsBent(t *testing.T) {
 	path := filepath.Join(t.TempDir(), "places.db")
 	must(t, os.WriteFile(path, []byte(strings.Repeat("no database ", 1000)), 0o644))

@@ -16,8 +16,8 @@ type Postgres struct {
 	Source, Log string
 }
 
-// mostConnections is how many connections to a database one store opens.
-const mostConnections = 4
+// maxConnections is how many connections to a database one store opens.
+const maxConnections = 4
 
 // tables makes the tables that are missing. Without the lock, two processes that make them at the same time would fail.
 const tables = `select pg_advisory_xact_lock(4957128866342178);
@@ -36,7 +36,7 @@ func (at Postgres) open(ctx context.Context) (*sql.DB, error) {
 	}
 	connector.Dialer(impatient{})
 	db := sql.OpenDB(brief{connector})
-	db.SetMaxOpenConns(mostConnections)
+	db.SetMaxOpenConns(maxConnections)
 	if _, err := within(ctx, func() (any, error) { return nil, prepare(ctx, db) }); err != nil {
 		db.Close()
 		return nil, err
@@ -44,8 +44,9 @@ func (at Postgres) open(ctx context.Context) (*sql.DB, error) {
 	return db, nil
 }
 
-// sessions is what each session has, whatever the server, its database or the address say: a commit waits until a standby that may take over has it on its
-// disk, too, and no timeout ends that wait, behind which it would be acknowledged.
+// sessions sets the parameters of each session, whatever the server, its database or the address say. A commit waits
+// until a standby that may take over has it on its disk. No timeout ends that wait, since after it the commit would be
+// acknowledged.
 const sessions = `set lock_timeout = '10s'; set statement_timeout = 0;
 select set_config('synchronous_commit', 'on', false) where current_setting('synchronous_commit') <> 'remote_apply'`
 
@@ -87,11 +88,10 @@ func prepare(ctx context.Context, db *sql.DB) error {
 	return nil
 }
 
-// inPostgres keeps the register in a row.
-//
-// It asks of the server: fsync, full_page_writes and synchronous_commit aren't off (all three are looked at), and where a standby
-// may take over, synchronous_standby_names names it, so that it has all that was acknowledged, and one server alone writes. Of its own
-// sessions synchronous_commit is on, and no statement_timeout ends a commit's wait for the standby.
+// inPostgres keeps the register in a row. The server must have fsync, full_page_writes and synchronous_commit on, which
+// is checked. If a standby may take over, synchronous_standby_names must name it, so that it has everything that was
+// acknowledged. Only one server may accept writes. The sessions of inPostgres set synchronous_commit to on, and no
+// statement_timeout.
 type inPostgres struct {
 	db  *sql.DB
 	log string
@@ -192,7 +192,7 @@ type row struct {
 func (p *inPostgres) read(ctx context.Context) (row, error) {
 	read, err := within(ctx, func() (read row, err error) {
 		const one = "select text, published, moment from ct_register where log = $1"
-		err = p.db.QueryRowContext(ctx, one, p.log).Scan(&read.text, &read.published.Size, &read.published.Moment)
+		err = p.db.QueryRowContext(ctx, one, p.log).Scan(&read.text, &read.published.Size, &read.published.Timestamp)
 		return read, err
 	})
 	if errors.Is(err, sql.ErrNoRows) {
@@ -233,11 +233,11 @@ func (p *inPostgres) Published(ctx context.Context) (Published, error) {
 }
 
 func (p *inPostgres) Raise(ctx context.Context, published Published) error {
-	if err := checkNumbers(published.Size, published.Moment); err != nil {
+	if err := checkNumbers(published.Size, published.Timestamp); err != nil {
 		return err
 	}
 	const raise = "update ct_register set published = $2, moment = $3 where log = $1 and (published, moment) < ($2, $3)"
-	done, err := p.changed(ctx, "raise", raise, p.log, int64(published.Size), int64(published.Moment))
+	done, err := p.changed(ctx, "raise", raise, p.log, int64(published.Size), int64(published.Timestamp))
 	if err != nil || done {
 		return err
 	}
@@ -313,8 +313,8 @@ func (p *placesInPostgres) Replace(ctx context.Context, placed []Placed) error {
 	return p.add(ctx, placed, "replace", "update set index = excluded.index, timestamp = excluded.timestamp")
 }
 
-// add adds rows. Where there is one of an identity it does something else.
-func (p *placesInPostgres) add(ctx context.Context, placed []Placed, what, otherwise string) error {
+// add adds rows. onConflict says what happens if an identity has a row already.
+func (p *placesInPostgres) add(ctx context.Context, placed []Placed, what, onConflict string) error {
 	placed, err := firsts(placed)
 	if err != nil || len(placed) == 0 {
 		return err
@@ -325,7 +325,7 @@ func (p *placesInPostgres) add(ctx context.Context, placed []Placed, what, other
 		indexes[i], timestamps[i] = int64(placed[i].Place.Index), int64(placed[i].Place.Timestamp)
 	}
 	// In the order of identities, so that of two such calls neither waits for the other.
-	add := "insert into " + p.table + ` select $1, i, n, t from unnest($2::bytea[], $3::bigint[], $4::bigint[]) as u(i, n, t) order by i on conflict (log, identity) do ` + otherwise
+	add := "insert into " + p.table + ` select $1, i, n, t from unnest($2::bytea[], $3::bigint[], $4::bigint[]) as u(i, n, t) order by i on conflict (log, identity) do ` + onConflict
 	if _, err = uncancelled(ctx, p.db, add, p.log, identities, indexes, timestamps); err != nil {
 		return fmt.Errorf("stores: PostgreSQL: %s: %w", what, err)
 	}

@@ -7,8 +7,8 @@ import (
 	"testing"
 )
 
-// TestOnTheDisk: a process that knows one text, or one head, to be on the disk doesn't take another one to be there, which another process set; nor one that
-// it set itself, or read, where the disk didn't take that.
+// TestOnTheDisk: a process that knows one text, or one head, to be on the disk does not assume this of a text that
+// another process set. It does not assume it either of a text that it set or read itself if the sync failed.
 func TestOnTheDisk(t *testing.T) {
 	root, ctx := t.TempDir(), limited(t)
 	one, err := OpenFile(root)

@@ -22,7 +22,7 @@ func allBytes() string {
 	return string(text[:])
 }
 
-// standsAs fails the test unless this text and number stand.
+// standsAs fails the test unless the register has this text and published number.
 func standsAs(t *testing.T, register Register, text string, published uint64) {
 	t.Helper()
 	if got, err := register.Read(limited(t)); err != nil || got != text {
@@ -69,7 +69,7 @@ func TestRegisterIsCreatedOnce(t *testing.T) {
 	})
 }
 
-// TestFileWhoseTextIsLost: nothing is made in its place, since a log would begin anew.
+// TestFileWhoseTextIsLost: a lost text is not created again, since the log would start from nothing.
 func TestFileWhoseTextIsLost(t *testing.T) {
 	root, ctx := t.TempDir(), limited(t)
 	register, err := OpenFile(root)
@@ -108,8 +108,8 @@ func TestFileWhoseTextIsLost(t *testing.T) {
 	}
 }
 
-// TestReadingWaitsForNobody: who has the register locked, or a file system that isn't written, keeps no reader waiting; and nobody else of
-// the machine may have it locked.
+// TestReadingWaitsForNobody: neither a lock that another process holds nor a read-only file system delays a reader, and
+// no other user of the machine can take the lock.
 func TestReadingWaitsForNobody(t *testing.T) {
 	root, ctx := t.TempDir(), limited(t)
 	register, err := OpenFile(root)
@@ -157,7 +157,7 @@ func TestRegisterSwapsTheTextThatWasRead(t *testing.T) {
 			}
 		}
 		standsAs(t, register, "b", 0)
-		longest := strings.Repeat("x", MostText)
+		longest := strings.Repeat("x", MaxText)
 		must(t, register.Swap(ctx, "b", longest))
 		must(t, register.Swap(ctx, longest, allBytes()))
 		standsAs(t, at.opened(t), allBytes(), 0)
@@ -302,19 +302,19 @@ func TestPublishedNeverFalls(t *testing.T) {
 			}
 		}
 		isPublished(t, register, most)
-		must(t, register.Raise(ctx, Published{MostNumber, 3}))
-		must(t, register.Raise(ctx, Published{MostNumber, MostNumber}))
-		must(t, register.Raise(ctx, Published{3, MostNumber}))
-		for _, head := range []Published{{MostNumber + 1, 0}, {0, MostNumber + 1}} {
+		must(t, register.Raise(ctx, Published{MaxNumber, 3}))
+		must(t, register.Raise(ctx, Published{MaxNumber, MaxNumber}))
+		must(t, register.Raise(ctx, Published{3, MaxNumber}))
+		for _, head := range []Published{{MaxNumber + 1, 0}, {0, MaxNumber + 1}} {
 			if err := register.Raise(ctx, head); !errors.Is(err, ErrNumber) {
 				t.Errorf("Raise to more than may be: %v", err)
 			}
 		}
-		isPublished(t, at.opened(t), Published{MostNumber, MostNumber})
+		isPublished(t, at.opened(t), Published{MaxNumber, MaxNumber})
 	})
 }
 
-// watch reads the published number until it is told to end, and fails where it falls.
+// watch reads the published number until it is stopped, and fails if the number falls.
 func watch(ctx context.Context, register Register, until chan struct{}) error {
 	for last := (Published{}); ; {
 		now, err := register.Published(ctx)
@@ -330,8 +330,8 @@ func watch(ctx context.Context, register Register, until chan struct{}) error {
 	}
 }
 
-// TestRegisterSettlesByReading has swaps whose context ends at any moment. Whatever they say, the text that stands is the old
-// one or theirs; it is theirs where they say nil; and one that has lost never stands later.
+// TestRegisterSettlesByReading has swaps whose context ends at any time. Whatever they return, the register has the old
+// text or theirs. It has theirs if they return nil. A swap that has lost is never performed later.
 func TestRegisterSettlesByReading(t *testing.T) {
 	eachOf(t, registers, func(t *testing.T, at tried[Register]) {
 		ctx, register := limited(t), at.opened(t)
@@ -358,7 +358,7 @@ func TestRegisterSettlesByReading(t *testing.T) {
 			outcomes[fmt.Sprintf("acknowledged %t, done %t", err == nil, read == new)]++
 			settled := fmt.Sprintf("settled %d", i)
 			if err := register.Swap(ctx, read, settled); errors.Is(err, ErrLost) {
-				// The swap that was given up came in behind the read.
+				// The abandoned swap was performed after the read.
 				must(t, register.Swap(ctx, new, settled))
 			} else {
 				must(t, err)

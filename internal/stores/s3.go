@@ -33,10 +33,9 @@ type S3 struct {
 	Conditional bool
 }
 
-// bucket keeps objects in a bucket of an engine that speaks S3's protocol.
-//
-// It asks of the engine: a read of a new name after its acknowledged put sees it, and so does a list; what is acknowledged
-// stays. Of Ceph: pools whose size and min_size keep an acknowledged write through the failures that are meant to be borne.
+// bucket keeps objects in a bucket of an engine with the S3 API. The engine must promise that a read or a list after an
+// acknowledged put of a new name sees the object, and that acknowledged writes persist. With Ceph, size and min_size of
+// the pools must keep an acknowledged write through the failures that are expected.
 type bucket struct {
 	core        minio.Core
 	name        string
@@ -78,7 +77,7 @@ func (b *bucket) Time(ctx context.Context) (time.Time, time.Duration, error) {
 		return at, time.Second, nil
 	}
 	if err == nil {
-		err = errors.New("an answer has no Date")
+		err = errors.New("the response has no Date")
 	}
 	return time.Time{}, 0, fmt.Errorf("stores: S3: time: %w", err)
 }
@@ -90,7 +89,7 @@ type prompt struct{ *net.TCPConn }
 func (p prompt) Read(into []byte) (int, error) {
 	n, err := p.TCPConn.Read(into)
 	if raw, failed := p.TCPConn.SyscallConn(); failed == nil && n > 0 {
-		// (where it can't be had it is slower, and no less right)
+		// Without this option the connection is slower, and no less correct.
 		_ = raw.Control(func(file uintptr) { _ = syscall.SetsockoptInt(int(file), syscall.IPPROTO_TCP, syscall.TCP_QUICKACK, 1) })
 	}
 	return n, err
@@ -149,7 +148,7 @@ func (b *bucket) tryConditions(ctx context.Context) error {
 			return fmt.Errorf("stores: S3: conditional put: %w", err)
 		}
 		if err == nil && content == "second" {
-			return fmt.Errorf("%w: a conditional put over an object isn't refused", ErrUnsafe)
+			return fmt.Errorf("%w: the engine does not refuse a conditional put over an object", ErrUnsafe)
 		}
 	}
 	return nil
@@ -191,7 +190,7 @@ func (b *bucket) Put(ctx context.Context, name string, content []byte) error {
 	return nil
 }
 
-// compare says whether the content stands under the name.
+// compare reports whether the object of a name has this content.
 func (b *bucket) compare(ctx context.Context, name string, content []byte) error {
 	standing, err := b.Get(ctx, name, int64(len(content)))
 	if errors.Is(err, ErrTooLong) || err == nil && !bytes.Equal(standing, content) {
@@ -212,7 +211,7 @@ func (b *bucket) Get(ctx context.Context, name string, most int64) ([]byte, erro
 }
 
 // errNoLength: whether all of an answer came isn't known where it doesn't say how much that is.
-var errNoLength = errors.New("the answer doesn't say how many bytes it has")
+var errNoLength = errors.New("the response has no length")
 
 func (b *bucket) get(ctx context.Context, name string, most int64) ([]byte, error) {
 	body, info, _, err := b.core.GetObject(ctx, b.name, name, minio.GetObjectOptions{})

@@ -20,8 +20,8 @@ import (
 	"wagtenib/internal/trial"
 )
 
-// fakeS3 is a bucket in memory, which speaks as much of S3 as the suite wants: so the client is tried where no engine is, and
-// against what an engine seldom does.
+// fakeS3 is a bucket in memory that implements the part of the S3 API that the suite needs. It tests the client without
+// an engine, and with rare behaviour of engines.
 type fakeS3 struct {
 	mu      sync.Mutex
 	objects map[string][]byte
@@ -138,8 +138,8 @@ func TestS3SaysWhatABucketCant(t *testing.T) {
 	}
 }
 
-// TestS3LosesAnswers: every third answer is lost behind what was asked, and every fourth request refused. Each put is done once
-// all the same, and another content doesn't come to stand.
+// TestS3LosesAnswers: every third response is lost after its request was processed, and every fourth request fails.
+// Still each put is done once, and no object gets another content.
 func TestS3LosesAnswers(t *testing.T) {
 	for _, conditional := range []bool{true, false} {
 		fake := &fakeS3{conditional: conditional}
@@ -371,7 +371,7 @@ func TestPostgresWithoutItsStandby(t *testing.T) {
 			stands++
 			continue
 		}
-		// (where it has much else to do, a swap may take so long without a standby: then it is made again until it is done)
+		// On a busy machine a swap may take this long without a standby. Then the test repeats it until it succeeds.
 		if must(t, all.Err()); !errors.Is(err, ErrUnknown) && !errors.Is(err, context.DeadlineExceeded) {
 			t.Fatal(err)
 		}

@@ -35,7 +35,7 @@ func addressOf(address, name string) (string, error) {
 		return "", err
 	case kind == "etcd":
 		if strings.Trim(u.Path, "/") == "" {
-			return "", fmt.Errorf("%w: etcd wants a prefix behind the hosts", ErrAddress)
+			return "", fmt.Errorf("%w: etcd needs a prefix after the hosts", ErrAddress)
 		}
 		u.Path = "/" + strings.Trim(u.Path, "/") + "/" + own
 		u.RawPath = ""
@@ -43,7 +43,7 @@ func addressOf(address, name string) (string, error) {
 	}
 	log, err := word(query, "log")
 	if err != nil || log == "" {
-		return "", fmt.Errorf("%w: postgres wants a name: ?log=NAME", ErrAddress)
+		return "", fmt.Errorf("%w: postgres needs a name: ?log=NAME", ErrAddress)
 	}
 	query.Set("log", log+"/"+own)
 	u.RawQuery = query.Encode()

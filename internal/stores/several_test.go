@@ -7,7 +7,7 @@ import (
 	"testing"
 )
 
-// TestSeveralRegisters: each name has a register of its own, below one address, and so have two names that differ by case.
+// TestSeveralRegisters: each name below one address has a register of its own, also if two names differ only in case.
 func TestSeveralRegisters(t *testing.T) {
 	ctx, address := context.Background(), "file:"+filepath.Join(t.TempDir(), "states")
 	for _, name := range []string{"a.example/1", "A.example/1", "../a", ""} {

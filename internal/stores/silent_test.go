@@ -10,7 +10,7 @@ import (
 	"wagtenib/internal/trial"
 )
 
-// pause is the command that stops an engine's process (SIGSTOP) for some seconds, as tests/engines.sh tells it.
+// pause is the command that stops an engine's process (SIGSTOP) for some seconds. tests/engines.sh sets it.
 var pause = os.Getenv("STORES_PAUSE")
 
 // paused is how long an engine is stopped.

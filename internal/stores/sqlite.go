@@ -14,8 +14,8 @@ import (
 	"github.com/mattn/go-sqlite3"
 )
 
-// mostVariables is how many values go into one statement.
-const mostVariables = 500
+// maxVariables is how many values go into one statement.
+const maxVariables = 500
 
 // inSQLite keeps a row for each identity in a file. Several processes may use it at once, on one machine.
 //
@@ -41,7 +41,7 @@ func (d *database) open() (err error) {
 	if d.db, err = sql.Open("sqlite3", d.source); err != nil {
 		return fmt.Errorf("stores: SQLite: %w", err)
 	}
-	d.db.SetMaxOpenConns(mostConnections)
+	d.db.SetMaxOpenConns(maxConnections)
 	return nil
 }
 
@@ -76,8 +76,8 @@ func isBroken(err error) bool {
 	return errors.As(err, &said) && (said.Code == sqlite3.ErrProtocol || said.Code == sqlite3.ErrIoErr)
 }
 
-// mostCached is how many KiB of the file each connection remembers: the upper pages of a log of 10^8 entries. (By itself it remembers 2 MB.)
-const mostCached = 16 << 10
+// maxCached is how many KiB of the file each connection remembers: the upper pages of a log of 10^8 entries. (By itself it remembers 2 MB.)
+const maxCached = 16 << 10
 
 // OpenSQLite opens the places in a file, and makes it where it isn't there.
 func OpenSQLite(ctx context.Context, path string) (Places, error) {
@@ -88,7 +88,7 @@ func OpenSQLite(ctx context.Context, path string) (Places, error) {
 	if err := MakeFolder(filepath.Dir(path)); err != nil {
 		return nil, err
 	}
-	settings := url.Values{"_journal_mode": {"WAL"}, "_synchronous": {"FULL"}, "_cache_size": {fmt.Sprint(-mostCached)}, "_busy_timeout": {"50"}, "_txlock": {"immediate"}}
+	settings := url.Values{"_journal_mode": {"WAL"}, "_synchronous": {"FULL"}, "_cache_size": {fmt.Sprint(-maxCached)}, "_busy_timeout": {"50"}, "_txlock": {"immediate"}}
 	source := url.URL{Scheme: "file", Path: path, RawQuery: settings.Encode()}
 	of := &database{source: source.String()}
 	if err := of.open(); err != nil {
@@ -104,7 +104,7 @@ func OpenSQLite(ctx context.Context, path string) (Places, error) {
 	})
 	if err != nil {
 		of.close()
-		return nil, fmt.Errorf("%w: the places in %s", err, path)
+		return nil, fmt.Errorf("%w: the index in %s", err, path)
 	}
 	if err := syncFolder(filepath.Dir(path)); err != nil {
 		of.close()
@@ -148,7 +148,7 @@ func (s *inSQLite) Find(ctx context.Context, identities []Identity) (map[Identit
 		return nil, err
 	}
 	found := map[Identity]Place{}
-	return found, parts(len(identities), mostVariables, func(from, to int) error {
+	return found, parts(len(identities), maxVariables, func(from, to int) error {
 		var values []any
 		for i := range identities[from:to] {
 			values = append(values, identities[from+i][:])
@@ -185,8 +185,8 @@ func (s *inSQLite) Replace(ctx context.Context, placed []Placed) error {
 	return s.unlessBusy(ctx, "replace", func(db *sql.DB) error { return s.add(ctx, db, placed, set) })
 }
 
-// add adds rows. Where there is one of an identity it does something else.
-func (s *inSQLite) add(ctx context.Context, db *sql.DB, placed []Placed, otherwise string) error {
+// add adds rows. onConflict says what happens if an identity has a row already.
+func (s *inSQLite) add(ctx context.Context, db *sql.DB, placed []Placed, onConflict string) error {
 	select {
 	case s.writes <- struct{}{}:
 		defer func() { <-s.writes }()
@@ -198,14 +198,14 @@ func (s *inSQLite) add(ctx context.Context, db *sql.DB, placed []Placed, otherwi
 		return err
 	}
 	defer tx.Rollback()
-	err = parts(len(placed), mostVariables/3, func(from, to int) error {
+	err = parts(len(placed), maxVariables/3, func(from, to int) error {
 		values := make([]any, 0, 3*(to-from))
 		for i := range placed[from:to] {
 			one := &placed[from+i]
 			values = append(values, one.Identity[:], int64(one.Place.Index), int64(one.Place.Timestamp))
 		}
 		rows := strings.Repeat(", (?, ?, ?)", to-from)[2:]
-		_, err := tx.ExecContext(ctx, "insert into "+s.table+" values "+rows+" on conflict (identity) do "+otherwise, values...)
+		_, err := tx.ExecContext(ctx, "insert into "+s.table+" values "+rows+" on conflict (identity) do "+onConflict, values...)
 		return err
 	})
 	if err != nil {

@@ -14,8 +14,8 @@ import (
 	"wagtenib/internal/trial"
 )
 
-// syncs are the paths that are written to the disk while a call is made, below a root, in their order. A file that isn't named
-// yet is "file", and with " (named)" behind it where the public name stands by then.
+// syncs returns the paths below a root that are synced to the disk during a call, in their order. A file without its
+// public name is "file". It is "file (named)" if the public name exists by then.
 func syncs(t *testing.T, root, public string, call func() error) (paths []string) {
 	t.Helper()
 	var mu sync.Mutex
@@ -55,7 +55,7 @@ func TestFolderSyncs(t *testing.T) {
 	}
 	syncedAs(t, "an object in new folders", put("a/b/c"), []string{"file", "a/b (named)", "a (named)", ". (named)"})
 	syncedAs(t, "another one", put("a/b/d"), []string{"file", "a/b (named)"})
-	// Who put it first may have been killed before it was on the disk.
+	// The process that put it first may have been killed before it was on the disk.
 	syncedAs(t, "the same once more", put("a/b/c"), []string{"file (named)", "a/b (named)"})
 	again, err := OpenFolder(root)
 	must(t, err)
@@ -97,7 +97,7 @@ func TestFileSyncs(t *testing.T) {
 	syncedAs(t, "Raise of one size", syncs(t, root, "none", same), []string{"file", "."})
 	published := func() error { _, err := register.Published(ctx); return err }
 	syncedAs(t, "Published", syncs(t, root, "none", published), nil)
-	// What another process set may not be on the disk, whoever was killed behind that.
+	// The text that another process set may not be on the disk.
 	other, err := OpenFile(root)
 	must(t, err)
 	register = other
@@ -111,7 +111,8 @@ func TestFileSyncs(t *testing.T) {
 	syncedAs(t, "the same Raise by another process", syncs(t, root, "none", same), []string{"."})
 }
 
-// TestFailedSyncs: where the disk doesn't take it, nothing is acknowledged; a swap is unknown once the text has its name.
+// TestFailedSyncs: if a sync fails, nothing is acknowledged. The outcome of a swap is unknown after its text has its
+// name.
 func TestFailedSyncs(t *testing.T) {
 	fault := errors.New("the disk is broken")
 	broken := func(folders bool) {
@@ -143,7 +144,7 @@ func TestFailedSyncs(t *testing.T) {
 	standsAs(t, register, "a", 0)
 	calls := 0
 	fsync = func(file *os.File) error {
-		if calls++; calls == 2 { // that of the folder, behind the file's
+		if calls++; calls == 2 { // that of the folder, after the file's
 			return fault
 		}
 		return file.Sync()
@@ -155,8 +156,8 @@ func TestFailedSyncs(t *testing.T) {
 	standsAs(t, register, "b", 0)
 }
 
-// TestKeptFile: a file that is kept has its content, or the one before; it is on the disk before it has its name, and the folder before
-// KeepFile returns. What a killed writer left goes.
+// TestKeptFile: a file has its new content or the one before. The content is on the disk before it has its name, and
+// the folder before KeepFile returns. Files that a killed writer left are deleted.
 func TestKeptFile(t *testing.T) {
 	root := t.TempDir()
 	path := filepath.Join(root, "kept")
@@ -191,7 +192,7 @@ func TestKeptFile(t *testing.T) {
 		t.Errorf("%v", err)
 	}
 	has("a")
-	if err := KeepFile(path, make([]byte, MostKept+1)); !errors.Is(err, ErrTooLong) {
+	if err := KeepFile(path, make([]byte, MaxKept+1)); !errors.Is(err, ErrTooLong) {
 		t.Errorf("%v", err)
 	}
 	if names, err := filepath.Glob(path + "*"); err != nil || !reflect.DeepEqual(names, []string{path, writes}) {
@@ -199,7 +200,8 @@ func TestKeptFile(t *testing.T) {
 	}
 }
 
-// TestFileThatIsCutShort: where the disk takes half of a content, the one before stays, and nothing is left of the half. Who may read it is as before.
+// TestFileThatIsCutShort: if the disk is full in the middle of a content, the one before stays, and nothing is left of
+// the new one. The file's mode stays as it is.
 func TestFileThatIsCutShort(t *testing.T) {
 	path := filepath.Join(t.TempDir(), "kept")
 	for mode, keep := range map[os.FileMode]func(string, []byte) error{0o600: KeepFile, 0o644: ShowFile} {
@@ -217,5 +219,5 @@ func TestFileThatIsCutShort(t *testing.T) {
 			t.Errorf("%v: %v, and %v, %v", mode, info.Mode(), names, err)
 		}
 	}
-	must(t, ShowFile(path, make([]byte, MostKept+1)))
+	must(t, ShowFile(path, make([]byte, MaxKept+1)))
 }

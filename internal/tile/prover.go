@@ -27,8 +27,8 @@ type Prover struct {
 	places chan struct{}
 }
 
-// mostReading bounds how long one thing is made, the reading of its tiles included.
-const mostReading = 20 * time.Second
+// maxReading bounds how long one thing is made, the reading of its tiles included.
+const maxReading = 20 * time.Second
 
 // Objects reads a published object of at most so many bytes.
 type Objects func(ctx context.Context, name string, most int64) ([]byte, error)
@@ -60,7 +60,7 @@ func within[T any](ctx context.Context, r *Prover, ask func(context.Context) (T,
 	}
 	done := make(chan made[T], 1)
 	go func() {
-		own, cancel := context.WithTimeout(ctx, mostReading)
+		own, cancel := context.WithTimeout(ctx, maxReading)
 		defer cancel()
 		what, err := ask(own)
 		// (the place is free before the caller has the answer, so a caller that asks again at once finds it free)

@@ -162,7 +162,7 @@ func TestClientGoes(t *testing.T) {
 		came <- err
 	}()
 	own := <-asked
-	if until, isBounded := own.Deadline(); !isBounded || time.Until(until) > mostReading {
+	if until, isBounded := own.Deadline(); !isBounded || time.Until(until) > maxReading {
 		t.Errorf("the reading has until %v", until)
 	}
 	if _, err := r.Root(limited(t), 1, 1); !errors.Is(err, ErrBusy) {

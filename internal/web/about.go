@@ -6,7 +6,7 @@ import (
 	"time"
 )
 
-// About is what a log says of itself beside its tree. What is nil isn't answered.
+// About is what a log publishes about itself besides its tree. A nil field is not served.
 type About struct {
 	// Key is the log's public key, its SubjectPublicKeyInfo in DER.
 	Key []byte

@@ -120,7 +120,8 @@ func (c *counts) groupOf(address netip.Addr) (group netip.Prefix, most int) {
 	return groupOf(address), c.most
 }
 
-// groupOf gives the addresses that count as one with an address. What is no address is a group of its own, too.
+// groupOf returns the addresses that share the bounds of an address. A text that is not an address has a group of its
+// own.
 func groupOf(address netip.Addr) netip.Prefix {
 	bits := address.BitLen()
 	if address.Is6() {
@@ -139,7 +140,7 @@ func submitterOf(address netip.Addr, among []Submitter) (found Submitter, is boo
 	return found, is
 }
 
-// addressOf reads an address and port. What isn't one is the zero address.
+// addressOf returns the address of an address and port, or the zero address if the text has another form.
 func addressOf(text string) netip.Addr {
 	pair, err := netip.ParseAddrPort(text)
 	if err != nil {
@@ -153,7 +154,7 @@ type connections struct {
 	open      atomic.Int64
 	byAddress counts
 	mutex     sync.Mutex
-	// idle has them in the order in which they came to be so, and at where each stands there.
+	// idle has the idle connections, the longest idle one first. at is the position of each in it.
 	idle list.List
 	at   map[*open]*list.Element
 }
@@ -212,7 +213,8 @@ func (c *connections) closeIdle() bool {
 	return true
 }
 
-// bounded is a listener that closes what comes above the bounds of a front. Those of a proxy count altogether alone.
+// bounded is a listener that closes connections above the bounds of a front. The connections of a proxy have only the
+// bound for all.
 type bounded struct {
 	net.Listener
 	front *Front
@@ -270,7 +272,8 @@ type open struct {
 	isClient, isClosed bool
 }
 
-// Close gives the place back first: who sees that its connection is closed, and makes another one at once, isn't refused for its sake.
+// Close frees the slot before it closes the connection. So a client that sees the end of its connection and opens
+// another one at once is not refused.
 func (o *open) Close() error {
 	o.once.Do(o.closed)
 	return o.Conn.Close()

@@ -53,7 +53,7 @@ func (f *Front) getEntries(w http.ResponseWriter, r *http.Request) error {
 	}
 	start, end := numbers[0], numbers[1]
 	if start > end {
-		return badParameter("start is behind end")
+		return badParameter("start is after end")
 	}
 	ctx, cancel := f.reading(r)
 	defer cancel()
@@ -84,7 +84,7 @@ func textOf(query url.Values, name string) (string, error) {
 	case 1:
 		return query[name][0], nil
 	}
-	return "", badParameter(name + " stands there more than once")
+	return "", badParameter(name + " occurs more than once")
 }
 
 func parameter(query url.Values, name string) (uint64, error) {
@@ -92,9 +92,9 @@ func parameter(query url.Values, name string) (uint64, error) {
 	if err != nil {
 		return 0, err
 	}
-	value, ok := number(text, stores.MostNumber)
+	value, ok := number(text, stores.MaxNumber)
 	if !ok {
-		return 0, badParameter(fmt.Sprintf("%s is a number from 0 to %d", name, uint64(stores.MostNumber)))
+		return 0, badParameter(fmt.Sprintf("%s is a number from 0 to %d", name, uint64(stores.MaxNumber)))
 	}
 	return value, nil
 }
@@ -106,13 +106,13 @@ func (f *Front) entries(ctx context.Context, start, end uint64) ([]entryOf, erro
 	}
 	var entries []entryOf
 	bytes := 0
-	for at := start % fullWidth; at < uint64(len(leaves)) && len(entries) < MostEntries && start+uint64(len(entries)) <= end; at++ {
+	for at := start % fullWidth; at < uint64(len(leaves)) && len(entries) < MaxEntries && start+uint64(len(entries)) <= end; at++ {
 		entry, err := f.entryOf(ctx, &leaves[at])
 		if err != nil {
 			return nil, err
 		}
 		bytes += len(entry.LeafInput) + len(entry.ExtraData)
-		if len(entries) > 0 && bytes > MostEntryBytes {
+		if len(entries) > 0 && bytes > MaxEntryBytes {
 			break
 		}
 		entries = append(entries, entry)
@@ -120,8 +120,8 @@ func (f *Front) entries(ctx context.Context, start, end uint64) ([]entryOf, erro
 	return entries, nil
 }
 
-// dataTile reads the tile of an entry as a head has it that has all of it up to an end, or as the newest. A partial tile may go between the head and the
-// read, where the full one came to stand.
+// dataTile reads the tile of an entry. It is the tile of a head that has all entries up to an end, or of the newest
+// head. A partial tile may be deleted between reading the head and the tile, after the full tile was stored.
 func (f *Front) dataTile(ctx context.Context, index, end uint64) ([]tile.Leaf, error) {
 	if last := index - index%fullWidth + fullWidth - 1; end > last {
 		end = last
@@ -147,14 +147,14 @@ func (f *Front) dataTile(ctx context.Context, index, end uint64) ([]tile.Leaf, e
 		}
 		leaves, err := tile.ReadData(content)
 		if err != nil || uint64(len(leaves)) != name.width {
-			return nil, fmt.Errorf("%w: %s isn't a tile of %d entries", log.ErrStore, name, name.width)
+			return nil, fmt.Errorf("%w: %s is not a tile of %d entries", log.ErrStore, name, name.width)
 		}
 		return leaves, nil
 	}
 }
 
-// entryOf makes of a leaf what RFC 6962 answers: a MerkleTreeLeaf (section 3.4), and the chain (section 4.6: of a precertificate
-// a PrecertChainEntry, of a certificate its certificate_chain alone).
+// entryOf returns what RFC 6962 has for a leaf: a MerkleTreeLeaf (section 3.4) and the chain (section 4.6). A
+// precertificate has a PrecertChainEntry, and a certificate only its certificate_chain.
 func (f *Front) entryOf(ctx context.Context, leaf *tile.Leaf) (entryOf, error) {
 	var extra cryptobyte.Builder
 	if leaf.Type == chains.PrecertEntry {
@@ -185,8 +185,8 @@ func (f *Front) entryOf(ctx context.Context, leaf *tile.Leaf) (entryOf, error) {
 	return entry, nil
 }
 
-// mostIssuerBytes is how many bytes of issuers are kept at hand.
-const mostIssuerBytes = 16 << 20
+// maxIssuerBytes is how many bytes of issuers are kept at hand.
+const maxIssuerBytes = 16 << 20
 
 // issuers keeps some issuers at hand.
 type issuers struct {
@@ -213,7 +213,7 @@ func (f *Front) issuerOf(ctx context.Context, fingerprint [32]byte) ([]byte, err
 	}
 	f.issuers.mutex.Lock()
 	defer f.issuers.mutex.Unlock()
-	if f.issuers.kept == nil || f.issuers.bytes+len(certificate) > mostIssuerBytes {
+	if f.issuers.kept == nil || f.issuers.bytes+len(certificate) > maxIssuerBytes {
 		f.issuers.kept, f.issuers.bytes = map[[32]byte][]byte{}, 0
 	}
 	if _, there := f.issuers.kept[fingerprint]; !there {

@@ -20,7 +20,7 @@ import (
 
 var statuses = map[int]bool{200: true, 400: true, 404: true, 405: true, 411: true, 413: true}
 
-// Whatever is asked, a refusal has a name and none is internal; what is served under a name is what stands there.
+// FuzzHandlers: each refusal has a name and none is internal. A served object is the stored one.
 func FuzzHandlers(f *testing.F) {
 	x := newFixture(f, time.Millisecond, nil)
 	x.fill(260)
@@ -65,7 +65,7 @@ func FuzzHandlers(f *testing.F) {
 		if _, isCall := calls[path]; isCall {
 			return
 		}
-		content, err := x.log.Object(context.Background(), path[1:], stores.MostObject)
+		content, err := x.log.Object(context.Background(), path[1:], stores.MaxObject)
 		if err != nil || !bytes.Equal(content, w.Body.Bytes()) {
 			t.Fatalf("%q is served, and stands there as %v", path, err)
 		}
@@ -104,7 +104,7 @@ func FuzzConnections(f *testing.F) {
 			if string(line) != "HTTP/" {
 				t.Fatalf("%q is answered by %q", text, line)
 			}
-			// An answer to HEAD has no body, and which of the answers are to one isn't known here.
+			// A response to HEAD has no body, and the test does not know which responses are to HEAD.
 			if bytes.Contains(text, []byte("HEAD ")) {
 				break
 			}

@@ -36,7 +36,7 @@ func (f *Front) unready(ctx context.Context) error {
 		return unready("ended", nil)
 	case figures.Fault != "":
 		return unready("fault", errors.New(figures.Fault))
-	case figures.MostQueue > 0 && figures.Queue >= figures.MostQueue:
+	case figures.MaxQueue > 0 && figures.Queue >= figures.MaxQueue:
 		return unready("busy", nil)
 	}
 	ctx, cancel := context.WithTimeout(ctx, 2*time.Second)
@@ -49,8 +49,8 @@ func (f *Front) unready(ctx context.Context) error {
 	return nil
 }
 
-// Tell looks at the log every so often until the context ends, and tells what keeps it from going on, what of it is damaged, the end of
-// either, and what was made again.
+// Tell checks the log every so often until the context ends. It logs the faults that stop the log, the damage in it,
+// the end of either, and what was made again.
 func (f *Front) Tell(ctx context.Context, every time.Duration) {
 	timer := time.NewTicker(every)
 	defer timer.Stop()
@@ -94,7 +94,7 @@ func (f *Front) Tell(ctx context.Context, every time.Duration) {
 	}
 }
 
-// tellOf tells what is wrong now, or that what was wrong isn't any more.
+// tellOf logs a fault that is new, or the end of one.
 func (f *Front) tellOf(event, before, now string, more ...any) {
 	if now == "" {
 		f.options.Lines.Info("mended", "detail", before)

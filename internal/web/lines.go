@@ -11,30 +11,30 @@ import (
 	"time"
 )
 
-// mostLines is how many lines of one event are written in a second. Those above are counted, and told by one line: many of one event hide
-// none of another.
-const mostLines = 50
+// maxLines is the maximum number of lines of one event in a second. Further ones are counted, and one line reports
+// their number. So many lines of one event hide no other event.
+const maxLines = 50
 
-// Lines writes what is told, one JSON object a line: time, level, event, and what belongs to it. A nil one writes nothing.
+// Lines writes log lines, one JSON object each, with time, level, event and fields. A nil Lines writes nothing.
 type Lines struct {
 	mutex  sync.Mutex
 	to     io.Writer
 	now    func() time.Time
 	second int64
-	// written are how many of an event were to be told in this second. Events are a few words of the programs that tell them.
+	// written counts the lines of each event in this second. Events are a few constants of the programs.
 	written map[string]int
 }
 
 // NewLines writes lines to w.
 func NewLines(w io.Writer) *Lines { return &Lines{to: w, now: time.Now} }
 
-// Info tells what is as it should be. Words are keys, each with its value behind it.
+// Info logs normal operation. The arguments are keys, each with its value after it.
 func (l *Lines) Info(event string, words ...any) { l.tell("info", event, words) }
 
-// Warn tells what an operator may want to look at.
+// Warn logs something that an operator may look at.
 func (l *Lines) Warn(event string, words ...any) { l.tell("warn", event, words) }
 
-// Error tells what an operator has to look at.
+// Error logs something that an operator must look at.
 func (l *Lines) Error(event string, words ...any) { l.tell("error", event, words) }
 
 func (l *Lines) tell(level, event string, words []any) {
@@ -49,17 +49,17 @@ func (l *Lines) tell(level, event string, words []any) {
 		l.second, l.written = second, map[string]int{}
 		var above []string
 		for event, many := range written {
-			if many > mostLines {
+			if many > maxLines {
 				above = append(above, event)
 			}
 		}
 		sort.Strings(above)
 		for _, event := range above {
-			l.to.Write(line(now, "warn", "dropped", []any{"of", event, "lines", written[event] - mostLines}))
+			l.to.Write(line(now, "warn", "dropped", []any{"of", event, "lines", written[event] - maxLines}))
 		}
 	}
 	if level != "error" {
-		if l.written[event]++; l.written[event] > mostLines {
+		if l.written[event]++; l.written[event] > maxLines {
 			return
 		}
 	}
@@ -103,7 +103,7 @@ func plain(value any) any {
 	return value
 }
 
-// Write tells lines of net/http.
+// Write logs lines of net/http.
 func (l *Lines) Write(text []byte) (int, error) {
 	l.Warn("http", "text", strings.TrimSpace(string(text)))
 	return len(text), nil

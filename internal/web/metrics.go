@@ -141,7 +141,7 @@ func (c figures) Collect(to chan<- prometheus.Metric) {
 	gauge(descAhead, float64(f.Unpublished))
 	gauge(descRound, f.SinceRound.Seconds())
 	gauge(descQueue, float64(f.Queue))
-	gauge(descMostQueue, float64(f.MostQueue))
+	gauge(descMostQueue, float64(f.MaxQueue))
 	gauge(descFault, fault)
 	count(descFaults, f.Faults)
 	ready := 1.0

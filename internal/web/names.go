@@ -17,14 +17,14 @@ type tileName struct {
 }
 
 const (
-	// mostLevel: a log of 2^40 leaves has one hash of level 5.
-	mostLevel = 5
-	// mostGroups is how many groups of three digits an index has: it is below 2^32.
-	mostGroups = 4
-	fullWidth  = tile.Width
+	// maxLevel: a log of 2^40 leaves has one hash of level 5.
+	maxLevel = 5
+	// maxGroups is how many groups of three digits an index has: it is below 2^32.
+	maxGroups = 4
+	fullWidth = tile.Width
 )
 
-// readTileName reads what stands behind "tile/"; each tile has one name.
+// readTileName reads the text after "tile/". Each tile has one name.
 func readTileName(text string) (name tileName, ok bool) {
 	level, rest, ok := strings.Cut(text, "/")
 	if !ok {
@@ -32,7 +32,7 @@ func readTileName(text string) (name tileName, ok bool) {
 	}
 	if level == "data" {
 		name.data = true
-	} else if name.level, ok = number(level, mostLevel); !ok {
+	} else if name.level, ok = number(level, maxLevel); !ok {
 		return name, false
 	}
 	name.width = fullWidth
@@ -43,7 +43,7 @@ func readTileName(text string) (name tileName, ok bool) {
 		rest = index
 	}
 	groups := strings.Split(rest, "/")
-	if len(groups) > mostGroups || len(groups) > 1 && groups[0] == "x000" {
+	if len(groups) > maxGroups || len(groups) > 1 && groups[0] == "x000" {
 		return name, false
 	}
 	for i, group := range groups {

@@ -10,9 +10,9 @@ import (
 )
 
 const (
-	// leastPacked and mostPacked are how many bytes of an answer are compressed: fewer aren't worth it, and more take a processor for long.
-	leastPacked, mostPacked = 1 << 10, 8 << 20
-	inGzip                  = "gzip"
+	// leastPacked and maxPacked are how many bytes of an answer are compressed: fewer aren't worth it, and more take a processor for long.
+	leastPacked, maxPacked = 1 << 10, 8 << 20
+	inGzip                 = "gzip"
 )
 
 // packers are writers of gzip that are used again and again.
@@ -43,11 +43,11 @@ func takesGzip(r *http.Request) bool {
 	return false
 }
 
-// writePacked answers a content, in gzip to who takes it. What is sent counts, in the place of what was read. So many are compressed at once
-// as chains are checked.
+// writePacked answers with a content, compressed by gzip for a client that accepts it. The compressed bytes then count
+// instead of the bytes that were read. At most as many contents are compressed at once as chains are checked.
 func (f *Front) writePacked(w http.ResponseWriter, r *http.Request, kind string, content []byte) {
 	w.Header().Set("Vary", "Accept-Encoding")
-	if len(content) < leastPacked || len(content) > mostPacked || !takesGzip(r) {
+	if len(content) < leastPacked || len(content) > maxPacked || !takesGzip(r) {
 		write(w, http.StatusOK, kind, content)
 		return
 	}

@@ -16,17 +16,17 @@ func TestPageSaysBounds(t *testing.T) {
 	trial.Says(t, page, map[string]bool{
 		"| connections of clients | 4,096 | 64 |":                                                                                      limits.Connections == 4096 && most == 64,
 		"Addresses of IPv6 count together if they are in the same /64":                                                                 group.Bits() == 64,
-		"| connections of operators | 64 | | | connections of other nodes | 64 | |":                                                    mostOfOthers == 64,
-		"| headers of a request | 16 KiB | | | body of a request | 1 MiB | |":                                                          MostHeader == 16<<10 && MostBody == 1<<20,
+		"| connections of operators | 64 | | | connections of other nodes | 64 | |":                                                    maxOfOthers == 64,
+		"| headers of a request | 16 KiB | | | body of a request | 1 MiB | |":                                                          MaxHeader == 16<<10 && MaxBody == 1<<20,
 		"| proofs that are made at once | 64 | a quarter |":                                                                            limits.ProofsByAddress == 64/4,
-		"| bodies of submissions together | 64 MiB | an eighth |":                                                                      limits.WaitingBytes == 64<<20 && byAddress(limits.WaitingBytes, MostBody) == 8<<20,
+		"| bodies of submissions together | 64 MiB | an eighth |":                                                                      limits.WaitingBytes == 64<<20 && byAddress(limits.WaitingBytes, MaxBody) == 8<<20,
 		"| objects that are read or sent, together | 512 MiB | an eighth |":                                                            limits.AnswerBytes == 512<<20 && byAddress(limits.AnswerBytes, 1) == 64<<20,
-		"One address may always have 65 MiB: one object of 64 MiB, and 1 MiB beside it":                                                stores.MostObject == 64<<20 && byAddress(0, stores.MostObject+likelyEntries) == 65<<20,
-		"up to the end of the data tile, at most 256 entries and at most 1,000,000 bytes before base64, but always at least one entry": MostEntries == 256 && MostEntryBytes == 1000000,
+		"One address may always have 65 MiB: one object of 64 MiB, and 1 MiB beside it":                                                stores.MaxObject == 64<<20 && byAddress(0, stores.MaxObject+likelyEntries) == 65<<20,
+		"up to the end of the data tile, at most 256 entries and at most 1,000,000 bytes before base64, but always at least one entry": MaxEntries == 256 && MaxEntryBytes == 1000000,
 		"Caches may keep a full tile or an issuer for ever, a partial tile for a minute, and a checkpoint for a second": forEver == "public, max-age=31536000, immutable" &&
 			forAWhile == "public, max-age=60" && forASecond == "public, max-age=1",
 		"is counted with status 499": statusGone == 499,
-		"At most 50 lines a second are logged for one event, except for lines of level `error`": mostLines == 50,
+		"At most 50 lines a second are logged for one event, except for lines of level `error`": maxLines == 50,
 	})
 	trial.Says(t, trial.Page(t, "../../docs/OPERATING.md"), map[string]bool{
 		"64 connections at once, or 64 requests at once through nginx (`max-connections-per-address`)": limits.ConnectionsByAddress == 64,

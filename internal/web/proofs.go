@@ -26,7 +26,7 @@ func (f *Front) getSTHConsistency(w http.ResponseWriter, r *http.Request) error 
 	}
 	first, second := numbers[0], numbers[1]
 	if first > second {
-		return badParameter("first is behind second")
+		return badParameter("first is after second")
 	}
 	var proof [][32]byte
 	err = f.underHead(r, second, func(ctx context.Context, head log.Head) error {
@@ -51,7 +51,7 @@ func (f *Front) getSTHConsistency(w http.ResponseWriter, r *http.Request) error 
 	}{hashesOf(proof)})
 }
 
-// getProofByHash answers where the leaf with a hash stands, and its audit path (RFC 6962, section 4.5).
+// getProofByHash answers with the index of the leaf with a hash, and its audit path (RFC 6962, section 4.5).
 func (f *Front) getProofByHash(w http.ResponseWriter, r *http.Request) error {
 	query, numbers, err := numbersOf(r, "tree_size")
 	if err != nil {
@@ -77,7 +77,7 @@ func (f *Front) getProofByHash(w http.ResponseWriter, r *http.Request) error {
 		if index >= size {
 			return noSuchLeaf
 		}
-		// Where the place is wrong, so is the path; whether it is, the tile says.
+		// If the index is wrong, the path is wrong too. The tile shows whether it is.
 		if there, err := f.leafAt(ctx, head, index); err != nil || there != leaf {
 			return orElse(err, noSuchLeaf)
 		}
@@ -98,7 +98,7 @@ func (f *Front) getEntryAndProof(w http.ResponseWriter, r *http.Request) error {
 	}
 	index, size := numbers[0], numbers[1]
 	if index >= size {
-		return badParameter("leaf_index isn't below tree_size")
+		return badParameter("leaf_index is not below tree_size")
 	}
 	var entry entryOf
 	var path [][32]byte
@@ -120,7 +120,7 @@ func (f *Front) getEntryAndProof(w http.ResponseWriter, r *http.Request) error {
 // numbersOf reads numbers out of a query.
 func numbersOf(r *http.Request, names ...string) (query url.Values, numbers []uint64, err error) {
 	if query, err = url.ParseQuery(r.URL.RawQuery); err != nil {
-		return nil, nil, badParameter("the query isn't one")
+		return nil, nil, badParameter("the query cannot be parsed")
 	}
 	for _, name := range names {
 		value, err := parameter(query, name)
@@ -132,8 +132,8 @@ func numbersOf(r *http.Request, names ...string) (query url.Values, numbers []ui
 	return query, numbers, nil
 }
 
-// underHead has something made of the tiles of a head, of which a tree of size leaves is a beginning. A partial tile may go
-// meanwhile, where the full one came to stand: then it is made anew.
+// underHead makes a proof of the tiles of a head that has at least size leaves. A partial tile may be deleted in
+// between, after the full tile was stored. Then underHead makes the proof again.
 func (f *Front) underHead(r *http.Request, size uint64, ask func(context.Context, log.Head) error) error {
 	client := f.clientOf(r)
 	if !f.proofsOf.take(client) {
@@ -156,7 +156,7 @@ func (f *Front) underHead(r *http.Request, size uint64, ask func(context.Context
 	}
 }
 
-// headOf is a head of so many entries, where there is one: one that is known, or the newest.
+// headOf returns a head of this size if there is one. It is a known head or the newest one.
 func (f *Front) headOf(ctx context.Context, entries uint64, newest bool) (log.Head, error) {
 	if newest {
 		return f.log.Checkpoint(ctx)
@@ -183,7 +183,8 @@ func orElse(err, other error) error {
 	return other
 }
 
-// rootAt is the root of the first size leaves, at least one, where the head's tiles have a tree with the head's root.
+// rootAt returns the root of the first size leaves, at least one. The head's tiles must have a tree with the head's
+// root.
 func (f *Front) rootAt(ctx context.Context, head log.Head, size uint64) ([32]byte, error) {
 	if size == head.TreeSize {
 		return head.RootHash, nil

@@ -150,7 +150,7 @@ func TestProofs(t *testing.T) {
 	}
 }
 
-// elsewhere is a log that says of each leaf that it stands at one index.
+// elsewhere is a log that reports one index for each leaf.
 type elsewhere struct {
 	log.Log
 	index uint64
@@ -177,7 +177,7 @@ func TestProofsThatAreRefused(t *testing.T) {
 	refused(t, "no leaf", f.get(of+hash(sha256.Sum256(nil))), 404, "no-such-leaf")
 	refused(t, "a tree without leaves", f.get("/ct/v1/get-proof-by-hash?tree_size=0&hash="+hash(leaves[0])), 404, "no-such-leaf")
 	right := f.front.log
-	for _, index := range []uint64{0, 2, 4, stores.MostNumber} {
+	for _, index := range []uint64{0, 2, 4, stores.MaxNumber} {
 		f.front.log = elsewhere{f.log, index}
 		refused(t, fmt.Sprint("a leaf that is said to stand at ", index), f.get(of+hash(leaves[1])), 404, "no-such-leaf")
 	}
@@ -190,7 +190,7 @@ func TestProofsThatAreRefused(t *testing.T) {
 			refused(t, what+": "+call, f.get("/ct/v1/"+call), status, name)
 		}
 	}
-	content, err := f.log.Object(context.Background(), "tile/0/000.p/5", stores.MostObject)
+	content, err := f.log.Object(context.Background(), "tile/0/000.p/5", stores.MaxObject)
 	if err != nil {
 		t.Fatal(err)
 	}
@@ -270,7 +270,7 @@ func TestProofsByAddress(t *testing.T) {
 	}
 }
 
-// TestProofsThatAreLate: a client that waits too long is told, and the reading keeps its place meanwhile.
+// TestProofsThatAreLate: a client that waits too long gets an error, and the reading keeps its slot until it ends.
 func TestProofsThatAreLate(t *testing.T) {
 	f := newFixture(t, 0, func(o *Options) { o.Limits.Reading = 20 * time.Millisecond })
 	f.fill(3)
@@ -303,7 +303,8 @@ func (f *fixture) isHeld() (w *httptest.ResponseRecorder) {
 	return w
 }
 
-// A partial tile that went since the head was read is no fault, where a newer head has the full one.
+// TestProofOverAPartialTileThatWent: a partial tile that was deleted after the head was read is no fault if a newer
+// head has the full tile.
 func TestProofOverAPartialTileThatWent(t *testing.T) {
 	f := newFixture(t, 0, nil)
 	f.fill(3)
@@ -316,7 +317,8 @@ func TestProofOverAPartialTileThatWent(t *testing.T) {
 	refused(t, "a partial tile that went twice", f.get("/ct/v1/get-sth-consistency?first=1&second=3"), 503, "store")
 }
 
-// TestPlaceForAProofIsGivenBack: who goes away while a proof is made, over a tile that doesn't come, gives its place back once it is made.
+// TestPlaceForAProofIsGivenBack: if a client leaves while a proof waits for a tile, its slot is free after the proof
+// was made.
 func TestPlaceForAProofIsGivenBack(t *testing.T) {
 	f := newFixture(t, 0, func(o *Options) { o.Limits.Reading = 100 * time.Millisecond })
 	f.fill(3)

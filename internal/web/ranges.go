@@ -14,7 +14,8 @@ func asksForParts(r *http.Request) bool {
 	return r.Method == http.MethodGet && len(asked) == 1 && strings.HasPrefix(asked[0], "bytes=")
 }
 
-// writeParts answers a content whole, or the parts that are asked for: as it stands, since a part of what is compressed says nothing.
+// writeParts answers with a whole content or its requested parts. It does not compress parts, since a part of a
+// compressed content is useless.
 func writeParts(w http.ResponseWriter, r *http.Request, kind string, content []byte) error {
 	w.Header().Set("Accept-Ranges", "bytes")
 	if !asksForParts(r) {

@@ -10,8 +10,8 @@ import (
 	"testing"
 )
 
-// TestParts: of a tile or an issuer parts are to be had by their bytes, never compressed, and kept as long as all of it; parts that it hasn't are refused, and kept by
-// nobody. What asks for no parts of it gets it whole.
+// TestParts: parts of a tile or an issuer can be requested by bytes. They are never compressed, and cached as long as
+// the whole. Parts that do not exist are refused and not cached. A request without parts gets the whole.
 func TestParts(t *testing.T) {
 	f := newFixture(t, 0, nil)
 	f.fill(260)

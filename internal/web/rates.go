@@ -11,8 +11,8 @@ import (
 const (
 	// burst is what an address may ask at once that asked nothing for a while: as much as its rate is in this time.
 	burst = 10 * time.Second
-	// mostRated is of how many addresses it is known what they asked.
-	mostRated = 1 << 16
+	// maxRated is of how many addresses it is known what they asked.
+	maxRated = 1 << 16
 )
 
 // rates bounds how many requests of one address are taken a second. Each address has a bucket, which is full at first: a request takes one
@@ -22,7 +22,7 @@ type rates struct {
 	// apart is how long a bucket takes to get one more.
 	apart time.Duration
 	mutex sync.Mutex
-	// buckets has them in the order in which their addresses asked, the last one first, and at where each stands there.
+	// buckets has the addresses that asked, the last one first. at is the position of each in it.
 	buckets list.List
 	at      map[netip.Prefix]*list.Element
 }
@@ -54,7 +54,7 @@ func (r *rates) take(group netip.Prefix, now time.Time) bool {
 		own.full = now
 	}
 	if own.full.After(empty) {
-		// The clock was set back. It is empty, and fills from now on.
+		// The clock was set to an earlier time. The bucket is empty, and fills from now on.
 		own.full = empty
 	}
 	full := own.full.Add(r.apart)
@@ -72,7 +72,7 @@ func (r *rates) bucketOf(group netip.Prefix, now time.Time) *bucket {
 		return known.Value.(*bucket)
 	}
 	for last := r.buckets.Back(); last != nil; last = r.buckets.Back() {
-		if of := last.Value.(*bucket); len(r.at) >= mostRated || !of.full.After(now) {
+		if of := last.Value.(*bucket); len(r.at) >= maxRated || !of.full.After(now) {
 			r.buckets.Remove(last)
 			delete(r.at, of.of)
 			continue

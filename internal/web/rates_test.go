@@ -76,15 +76,17 @@ func TestRateByGroup(t *testing.T) {
 	takes(t, "the next one", r, "192.0.2.2", began, 10)
 }
 
-// TestRateSetBack: where the clock goes back nobody waits for longer than an empty bucket takes to fill, nor has more than a full one.
-func TestRateSetBack(t *testing.T) {
+// TestRateAfterAClockJump: if the clock jumps back, nobody waits for longer than an empty bucket takes to fill, or has
+// more than a full one.
+func TestRateAfterAClockJump(t *testing.T) {
 	r := newRates(1)
 	takes(t, "at first", r, "192.0.2.1", began, 10)
 	before := began.Add(-time.Hour)
 	takes(t, "an hour before", r, "192.0.2.1", before, 0)
 	takes(t, "a second behind that", r, "192.0.2.1", before.Add(time.Second), 1)
 	takes(t, "eleven seconds behind that", r, "192.0.2.1", before.Add(12*time.Second), 10)
-	// Where it goes back by less than a bucket takes to fill, what was taken still lacks: three, and five seconds.
+	// If it jumps back by less than a bucket takes to fill, the bucket still lacks what was used: three, and five
+	// seconds.
 	for i := 0; i < 3; i++ {
 		r.take(groupOfText("192.0.2.2"), began)
 	}
@@ -135,7 +137,8 @@ func TestRateForgets(t *testing.T) {
 	knows(t, "another one", r, "192.0.2.6", "192.0.2.5")
 }
 
-// TestRateTableIsFull: where so many addresses are known as may be, a new one takes the place of the one that asked the longest ago, be it refused then or taken.
+// TestRateTableIsFull: if the maximum number of addresses is known, a new one replaces the one that asked the longest
+// time ago, whether its request is refused or not.
 func TestRateTableIsFull(t *testing.T) {
 	r := newRates(1)
 	of := func(i int) string { return netip.AddrFrom4([4]byte{10, byte(i >> 16), byte(i >> 8), byte(i)}).String() }
@@ -226,7 +229,8 @@ func (f *fixture) empties(client, call string) {
 	}
 }
 
-// TestRatesOfCalls: submissions count in one rate of an address, what is made of tiles in another, and all else in none; and so does what submitters ask.
+// TestRatesOfCalls: submissions count in one rate of an address, calls that read tiles in another one, and all other
+// calls in none. Calls of submitters count in none.
 func TestRatesOfCalls(t *testing.T) {
 	for _, test := range []struct {
 		submissions, reads int
@@ -258,14 +262,15 @@ func TestRatesOfCalls(t *testing.T) {
 	}
 }
 
-// TestTooOften: who asks above a rate is refused by a name of its own, that is counted, and asks again in as many seconds as it is told: then it is taken. Its
-// calls count together, and so do those of its /64; behind a proxy it is by the address that the proxy names. Another one is answered meanwhile.
+// TestTooOften: a client above a rate is refused by a name of its own, which is counted. It may ask again after the
+// seconds of Retry-After. The addresses of a /64 count together. Behind a proxy the address that the proxy names
+// counts. Other clients are answered all the time.
 func TestTooOften(t *testing.T) {
 	f := rated(t, 1, 1)
 	f.fill(3)
 	const entries = "/ct/v1/get-entries?start=0&end=1"
-	// again asks by its words alone, each time by another address of one /64, until it is refused, and says how many were taken, and when it hadn't asked yet what
-	// was refused.
+	// again sends the same call, each time from another address of one /64, until it is refused. It returns how many
+	// were answered, the time before the refused request, and the refusal.
 	again := func(call string) (w *httptest.ResponseRecorder, taken int, before time.Time) {
 		t.Helper()
 		method, path, _ := strings.Cut(call, " ")
@@ -318,11 +323,11 @@ func TestTooOften(t *testing.T) {
 	}
 }
 
-// TestRatesOnThePages: what the pages say of rates is so.
+// TestRatesOnThePages: the pages state the right rates.
 func TestRatesOnThePages(t *testing.T) {
 	trial.Says(t, trial.Page(t, "../../docs/SERVICE.md"), map[string]bool{
 		"An address may use ten seconds of its rate at once":                        burst == 10*time.Second,
-		"`ctserve` remembers how often 65,536 addresses asked":                      mostRated == 65536,
+		"`ctserve` remembers how often 65,536 addresses asked":                      maxRated == 65536,
 		"A request above the rate gets status 429 `too-often`, with Retry-After: 1": tooOften.status == 429 && tooOften.name == "too-often" && tooOften.after == 1,
 	})
 	limits := DefaultLimits()

@@ -31,8 +31,8 @@ const (
 	likelyOther   = 8 << 10
 )
 
-// read reads an object of the log, whose bytes count from before they are read until the request is answered. What isn't for want of the object, of time or of room is
-// the store's fault.
+// read reads an object of the log. Its bytes count from before the read until the request is answered. An error is the
+// store's fault, unless the object is missing or there is no time or memory.
 func (f *Front) read(ctx context.Context, name string) ([]byte, error) {
 	held, likely := heldIn(ctx), int64(likelyOther)
 	if strings.HasPrefix(name, "tile/data/") {
@@ -108,8 +108,8 @@ func hasTag(lists []string, tag string) bool {
 	return false
 }
 
-// tile answers a tile of hashes or of entries, which has as many as its name says: what a cache takes it keeps for ever. A partial one has its
-// content for ever, too, but it goes once the full one stands.
+// tile answers with a tile of hashes or of entries, which has as many as its name says. A cache may keep it for ever. A
+// partial tile never changes either, but it is deleted after the full tile was stored.
 func (f *Front) tile(w http.ResponseWriter, r *http.Request) error {
 	name, ok := readTileName(strings.TrimPrefix(r.URL.Path, "/tile/"))
 	if !ok {
@@ -122,7 +122,7 @@ func (f *Front) tile(w http.ResponseWriter, r *http.Request) error {
 		return err
 	}
 	if !name.isOf(content) {
-		return fmt.Errorf("%w: %s isn't a tile of %d", log.ErrStore, name, name.width)
+		return fmt.Errorf("%w: %s is not a tile of %d", log.ErrStore, name, name.width)
 	}
 	keep := forEver
 	if name.width != fullWidth {

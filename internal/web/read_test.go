@@ -69,7 +69,8 @@ func TestObjectsAreServed(t *testing.T) {
 	}
 }
 
-// What hasn't as many hashes or entries as its name says, or another hash than its name, is a fault of the store, and no cache keeps it.
+// TestDamagedObjectsAreNotServed: an object with another number of hashes or entries than its name says, or another
+// hash than its name, is a fault of the store. No cache keeps the response.
 func TestDamagedObjectsAreNotServed(t *testing.T) {
 	f := newFixture(t, 0, nil)
 	f.fill(260)
@@ -97,8 +98,8 @@ func TestDamagedObjectsAreNotServed(t *testing.T) {
 	refused(t, "another issuer", f.get("/"+issuer), 503, "store")
 }
 
-// Where answers have as many bytes as they may, what reads objects is refused, and what reads none is not. What was read doesn't count behind
-// its answer, nor what wasn't there.
+// TestAnswersAreBounded: if responses have as many bytes as allowed, a call that reads objects is refused, and another
+// one is not. What was read does not count after its response, and what does not exist never counts.
 func TestAnswersAreBounded(t *testing.T) {
 	f := newFixture(t, 0, func(o *Options) { o.Limits.AnswerBytes = 2 << 20 })
 	f.fill(260)
@@ -250,7 +251,7 @@ func TestLongObjectsAreTakenFirst(t *testing.T) {
 
 // The answers of one address have an eighth of what all have, or as much as one object may; another address has its own.
 func TestAnswersByAddress(t *testing.T) {
-	for _, test := range []struct{ all, one int }{{1 << 30, 128 << 20}, {512 << 20, 65 << 20}, {80 << 20, stores.MostObject + 1<<20}} {
+	for _, test := range []struct{ all, one int }{{1 << 30, 128 << 20}, {512 << 20, 65 << 20}, {80 << 20, stores.MaxObject + 1<<20}} {
 		f := newFixture(t, 0, func(o *Options) { o.Limits.AnswerBytes = int64(test.all) })
 		f.fill(5)
 		client, same, other := netip.MustParseAddr("2001:db8::1"), "[2001:db8::2:3]:7", "[2001:db8:0:1::1]:7"
@@ -433,27 +434,27 @@ func TestParametersAreRefused(t *testing.T) {
 	}
 }
 
-// TestParametersAreNamed: who asks wrongly is told what is wrong with which parameter.
+// TestParametersAreNamed: the error for a wrong parameter names the parameter and the problem.
 func TestParametersAreNamed(t *testing.T) {
 	f := newFixture(t, 0, nil)
 	f.fill(3)
 	for path, detail := range map[string]string{
 		"/ct/v1/get-entries?end=0":                                    "start is missing",
 		"/ct/v1/get-entries?start=0":                                  "end is missing",
-		"/ct/v1/get-entries?start=0&end=1&end=1":                      "end stands there more than once",
+		"/ct/v1/get-entries?start=0&end=1&end=1":                      "end occurs more than once",
 		"/ct/v1/get-entries?start=0&end=18446744073709551615":         "end is a number from 0 to 9223372036854775807",
 		"/ct/v1/get-entries?start=&end=0":                             "start is a number from 0 to 9223372036854775807",
-		"/ct/v1/get-entries?start=2&end=1":                            "start is behind end",
+		"/ct/v1/get-entries?start=2&end=1":                            "start is after end",
 		"/ct/v1/get-entries?start=3&end=3":                            "the log has 3 entries",
-		"/ct/v1/get-entries?start=0&end=%zz":                          "the query isn't one",
+		"/ct/v1/get-entries?start=0&end=%zz":                          "the query cannot be parsed",
 		"/ct/v1/get-sth-consistency?first=1":                          "second is missing",
-		"/ct/v1/get-sth-consistency?first=2&second=1":                 "first is behind second",
+		"/ct/v1/get-sth-consistency?first=2&second=1":                 "first is after second",
 		"/ct/v1/get-proof-by-hash?tree_size=3":                        "hash is missing",
-		"/ct/v1/get-proof-by-hash?hash=&tree_size=3&hash=":            "hash stands there more than once",
+		"/ct/v1/get-proof-by-hash?hash=&tree_size=3&hash=":            "hash occurs more than once",
 		"/ct/v1/get-proof-by-hash?tree_size=3&hash=AAAA":              "hash is 32 bytes in base64",
-		"/ct/v1/get-entry-and-proof?leaf_index=3&tree_size=3":         "leaf_index isn't below tree_size",
+		"/ct/v1/get-entry-and-proof?leaf_index=3&tree_size=3":         "leaf_index is not below tree_size",
 		"/ct/v1/get-entry-and-proof?leaf_index=0&tree_size=4":         "the log has 3 entries",
-		"/ct/v1/get-entry-and-proof?leaf_index=0&leaf_index=0":        "leaf_index stands there more than once",
+		"/ct/v1/get-entry-and-proof?leaf_index=0&leaf_index=0":        "leaf_index occurs more than once",
 		"/ct/v1/get-entry-and-proof?leaf_index=0x0&tree_size=3&x=y&z": "leaf_index is a number from 0 to 9223372036854775807",
 	} {
 		w := f.get(path)
@@ -479,11 +480,12 @@ func dataTileOf(sizes ...int) []byte {
 	return b.BytesOrPanic()
 }
 
-// An answer has as many bytes as the bound says, and one entry that has more by itself comes alone.
+// TestEntriesAreBoundedByBytes: a response has at most as many bytes as the bound says. An entry that is larger is
+// returned as the only one.
 func TestEntriesAreBoundedByBytes(t *testing.T) {
 	f := newFixture(t, 0, nil)
 	f.fill(3)
-	f.log.Change("tile/data/000.p/3", dataTileOf(700000, MostEntryBytes+1, 700000))
+	f.log.Change("tile/data/000.p/3", dataTileOf(700000, MaxEntryBytes+1, 700000))
 	for start := uint64(0); start < 3; start++ {
 		if entries := f.entries(start, 2); len(entries) != 1 {
 			t.Errorf("%d entries from %d on", len(entries), start)
@@ -491,7 +493,8 @@ func TestEntriesAreBoundedByBytes(t *testing.T) {
 	}
 }
 
-// Of a list of tags one, in any form that a cache gives it, says that the checkpoint is the same; another doesn't.
+// TestCheckpointByItsTag: If-None-Match with the checkpoint's tag in a list, in any form that a cache sends, gets 304.
+// Another tag gets the checkpoint.
 func TestCheckpointByItsTag(t *testing.T) {
 	f := newFixture(t, 0, nil)
 	f.fill(3)
@@ -525,7 +528,8 @@ func TestCheckpointByItsTag(t *testing.T) {
 	}
 }
 
-// Data tiles and entries come in gzip to who takes it, and are the same; what doesn't get smaller isn't packed, and no refusal is.
+// TestAnswersInGzip: data tiles and entries are compressed for clients that accept gzip, and have the same content. A
+// content that would not get smaller is not compressed, and a refusal is not either.
 func TestAnswersInGzip(t *testing.T) {
 	f := newFixture(t, 0, nil)
 	f.fill(260)
@@ -614,7 +618,8 @@ func (l *late) Checkpoint(ctx context.Context) (log.Head, error) {
 
 func (l *late) HeadOf(ctx context.Context, _ uint64) (log.Head, error) { return l.Checkpoint(ctx) }
 
-// A partial tile that went since the head was read is no fault, where a newer head has the full one.
+// TestPartialTileThatWent: a partial tile that was deleted after the head was read is no fault if a newer head has the
+// full tile.
 func TestPartialTileThatWent(t *testing.T) {
 	f := newFixture(t, 0, nil)
 	f.fill(3)
@@ -649,8 +654,8 @@ func (u *unasked) HeadOf(ctx context.Context, entries uint64) (log.Head, error) 
 	return u.Checkpoint(ctx)
 }
 
-// TestReadersAskForNoNewerHead: entries and proofs that stand below a head that is known are answered while nobody says what the newest one is; who asks for
-// more waits for that.
+// TestReadersAskForNoNewerHead: entries and proofs below a known head are answered while nobody knows the newest one. A
+// request for more waits for it.
 func TestReadersAskForNoNewerHead(t *testing.T) {
 	f := newFixture(t, 0, func(o *Options) { o.Limits.Reading = time.Minute })
 	f.fill(300)
@@ -682,7 +687,7 @@ func TestReadersAskForNoNewerHead(t *testing.T) {
 	}
 }
 
-// What a store gives that can't be is a fault of the store, and no entry.
+// TestDamagedObjects: an impossible object in a store is a fault of the store, and not an entry.
 func TestDamagedObjects(t *testing.T) {
 	f := newFixture(t, 0, nil)
 	f.fill(2)
@@ -710,9 +715,9 @@ func TestDamagedObjects(t *testing.T) {
 	if entries := f.entries(0, 1); len(entries) != 2 {
 		t.Errorf("%d entries", len(entries))
 	}
-	// Where too many are, they go.
+	// Above the bound they are removed.
 	f.log.Change(issuer, f.authority.Root.Raw)
-	f.front.issuers.kept, f.front.issuers.bytes = map[[32]byte][]byte{{}: {7}}, mostIssuerBytes
+	f.front.issuers.kept, f.front.issuers.bytes = map[[32]byte][]byte{{}: {7}}, maxIssuerBytes
 	f.entries(0, 1)
 	if kept := &f.front.issuers; len(kept.kept) != 1 || kept.bytes != len(f.authority.Root.Raw) {
 		t.Errorf("%d issuers of %d bytes are kept", len(kept.kept), kept.bytes)
@@ -733,8 +738,8 @@ func (w whole) Write(some []byte) (int, error) {
 	return n, err
 }
 
-// TestAnswersComeLast: by the time that an answer has come, its request holds no place and no bytes, and is counted and told: who has it, and asks again at
-// once, is answered where one may be asked at a time.
+// TestAnswersComeLast: after a response was received, its request holds no slot and no bytes, and is counted and
+// logged. So a client that asks again at once is answered even if only one request may run at a time.
 func TestAnswersComeLast(t *testing.T) {
 	f := newFixture(t, 5*time.Millisecond, func(o *Options) {
 		o.Limits.ConnectionsByAddress, o.Limits.ProofsByAddress, o.LogRequests = 1, 1, true

@@ -24,7 +24,7 @@ type refusal struct {
 	after int
 	// closes ends the connection, since what follows on it may be no request.
 	closes bool
-	// why is what is told to the operator alone.
+	// why is logged for the operator, and not sent to the client.
 	why error
 }
 
@@ -73,7 +73,7 @@ const statusGone = 499
 // gone is of a client that doesn't wait any more, by whatever of the log's side its request failed then.
 var gone = refusal{status: statusGone, name: "gone"}
 
-// refuse answers a refusal, where nothing was answered yet.
+// refuse answers with a refusal if nothing was written yet.
 func (f *Front) refuse(a *answer, r refusal) {
 	a.refusal, a.detail = r.name, r.detail
 	if r.why != nil {
@@ -99,7 +99,7 @@ func (f *Front) refuse(a *answer, r refusal) {
 	}{r.name, r.detail})
 }
 
-// writeJSON answers a value. What a client doesn't take is its own affair.
+// writeJSON answers with a value. A write that fails concerns only the client.
 func writeJSON(w http.ResponseWriter, status int, value any) {
 	text, err := json.Marshal(value)
 	if err != nil {

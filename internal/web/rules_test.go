@@ -12,7 +12,7 @@ import (
 	"testing"
 )
 
-// figureNames are all figures that /metrics has of a log with a witness, behind a request.
+// figureNames are all metrics in /metrics of a log with a witness, after a request.
 func figureNames(t *testing.T) map[string]bool {
 	t.Helper()
 	f := newFixture(t, 0, nil)
@@ -30,7 +30,8 @@ func figureNames(t *testing.T) map[string]bool {
 	return names
 }
 
-// TestRules: the rules of alarms name figures that are there, and each alarm stands among what to do (what they say of them promtool tries, cmd/test.sh).
+// TestRules: the alert rules use existing metrics, and each alert has a section in the page of incidents. cmd/test.sh
+// has promtool check their expressions.
 func TestRules(t *testing.T) {
 	rules, err := os.ReadFile("../../release/ctserve.rules.yml")
 	if err != nil {

@@ -10,9 +10,9 @@ import (
 	"sync"
 )
 
-// mostOfOthers is how many connections operators have, and mostOfNodes how many the other nodes have: they don't count as clients. Each of up to three other nodes opens
+// maxOfOthers is how many connections operators have, and maxOfNodes how many the other nodes have: they don't count as clients. Each of up to three other nodes opens
 // no more than 1,024 (internal/serve).
-const mostOfOthers, mostOfNodes = 64, 4096
+const maxOfOthers, maxOfNodes = 64, 4096
 
 // Server answers requests on listeners until it is ended.
 type Server struct {
@@ -26,10 +26,10 @@ type Server struct {
 }
 
 // ServeOthers makes a server for operators: with the front's limits of time, and connections of its own.
-func (f *Front) ServeOthers(handler http.Handler) *Server { return f.serveFew(handler, mostOfOthers) }
+func (f *Front) ServeOthers(handler http.Handler) *Server { return f.serveFew(handler, maxOfOthers) }
 
 // ServeNodes makes a server for the other nodes of the log, likewise.
-func (f *Front) ServeNodes(handler http.Handler) *Server { return f.serveFew(handler, mostOfNodes) }
+func (f *Front) ServeNodes(handler http.Handler) *Server { return f.serveFew(handler, maxOfNodes) }
 
 func (f *Front) serveFew(handler http.Handler, most int) *Server {
 	s := f.Serve(handler)
@@ -50,7 +50,7 @@ func (f *Front) Serve(handler http.Handler) *Server {
 		// It runs from where the headers end.
 		WriteTimeout:   limits.Request + limits.Submission + limits.Answer,
 		IdleTimeout:    limits.Idle,
-		MaxHeaderBytes: MostHeader,
+		MaxHeaderBytes: MaxHeader,
 		// HTTP/2 would have many requests on one connection, which counts as one.
 		TLSNextProto: map[string]func(*http.Server, *tls.Conn, http.Handler){},
 		ErrorLog:     stdlog.New(httpLines{f}, "", 0),
@@ -59,7 +59,7 @@ func (f *Front) Serve(handler http.Handler) *Server {
 	return s
 }
 
-// httpLines takes what net/http tells. A handshake that fails is the client's affair, and is counted.
+// httpLines receives the errors of net/http. A failed handshake concerns only the client, and is counted.
 type httpLines struct{ front *Front }
 
 func (h httpLines) Write(text []byte) (int, error) {

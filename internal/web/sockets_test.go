@@ -68,7 +68,8 @@ func said(t testing.TB, address, text string) (statuses []int) {
 	if _, err := connection.Write([]byte(text)); err != nil {
 		t.Fatal(err)
 	}
-	// (who says that it closes behind an answer waits for it: to the server one that says nothing more may have gone)
+	// A client that announces a close waits for its response. To a server, a client that sends nothing more may have
+	// left.
 	if !strings.Contains(text, "Connection: close\r\n") {
 		connection.(*net.TCPConn).CloseWrite()
 	}
@@ -91,7 +92,7 @@ func answersOn(t testing.TB, connection net.Conn) (statuses []int) {
 			t.Errorf("after %v: %v", statuses, err)
 			return statuses
 		}
-		// Where the other side closes before it read all that came, the end of its answer may be lost.
+		// If the other side closes before it has read everything, the end of its response may be lost.
 		if _, err := io.Copy(io.Discard, answer.Body); err != nil && !errors.Is(err, syscall.ECONNRESET) {
 			t.Errorf("an answer breaks off: %v", err)
 		}
@@ -109,7 +110,8 @@ func closed(t testing.TB, what string, from io.Reader) {
 	}
 }
 
-// One request or none comes of each of these, and what stands where a second one might be hidden is never answered.
+// TestUnclearRequests: each of these has one request or none. A text in which a second one could be hidden is never
+// answered.
 func TestUnclearRequests(t *testing.T) {
 	f := newFixture(t, 10*time.Millisecond, nil)
 	address, _ := f.listening(nil)
@@ -151,7 +153,7 @@ func TestUnclearRequests(t *testing.T) {
 		{"HTTP/2 without asking", "PRI * HTTP/2.0\r\n\r\nSM\r\n\r\n", []int{404}},
 		{"a space before the first header", "GET /healthz HTTP/1.1\r\n Host: log\r\n\r\n" + hidden, []int{400}},
 		{"a zero byte", "GET /healthz HTTP/1.1\r\nHost: log\r\nX: \x00\r\n\r\n" + hidden, []int{400}},
-		{"headers above the bound", get + "X: " + strings.Repeat("x", 2*MostHeader) + "\r\n\r\n", []int{431}},
+		{"headers above the bound", get + "X: " + strings.Repeat("x", 2*MaxHeader) + "\r\n\r\n", []int{431}},
 		{"not HTTP", "\x16\x03\x01\x02\x00\x01\x00\x01\xfc\r\n\r\n", []int{400}},
 		{"nothing", "", nil},
 	} {
@@ -164,7 +166,7 @@ func TestUnclearRequests(t *testing.T) {
 	}
 }
 
-// Who sends or takes too slowly is cut off, and others are answered meanwhile.
+// TestSlowClients: a client that sends or reads too slowly is disconnected, and others are answered in the meantime.
 func TestSlowClients(t *testing.T) {
 	f := newFixture(t, 10*time.Millisecond, func(o *Options) {
 		o.Limits.Headers, o.Limits.Request, o.Limits.Idle = 200*time.Millisecond, 400*time.Millisecond, 300*time.Millisecond
@@ -239,7 +241,7 @@ func TestSlowClients(t *testing.T) {
 			t.Fatalf("not cut off: %v", left)
 		}
 	}
-	// (a connection is closed where a write on it fails, and what its request holds is given back behind that)
+	// A connection is closed if a write on it fails. The resources of its request are freed after that.
 	eventually(t, "all connections are closed, and no bytes are counted", func() bool {
 		return f.front.connections.open.Load() == 0 && f.front.waiting.used.Load() == 0 && f.front.answers.used.Load() == 0
 	})
@@ -282,7 +284,8 @@ func TestConnectionsAreBounded(t *testing.T) {
 	}
 }
 
-// looked is a connection that does something as it is closed, and oneOf a listener to which it alone comes.
+// looked is a connection that calls a function when it is closed. oneOf is a listener that returns only this
+// connection.
 type looked struct {
 	net.Conn
 	closes func()
@@ -353,7 +356,7 @@ func TestOperatorCountsApart(t *testing.T) {
 			if err != nil {
 				return 0
 			}
-			// (/readyz has two seconds alone)
+			// /readyz has a limit of two seconds.
 			if answer.StatusCode != 503 || !bytes.Contains(text, []byte(`"late"`)) || time.Now().After(until) {
 				return answer.StatusCode
 			}
@@ -378,7 +381,7 @@ func TestOperatorCountsApart(t *testing.T) {
 		connection.Close()
 	}
 	isAsked(f, 0)
-	for i := 0; i < mostOfOthers; i++ {
+	for i := 0; i < maxOfOthers; i++ {
 		fmt.Fprint(dial(t, operator), "GET /healthz HTTP/1.1\r\nHost: log\r\n")
 	}
 	closed(t, "the operator's connections, one above the bound", dial(t, operator))
@@ -394,7 +397,8 @@ func isAsked(f *fixture, many int64) {
 	}
 }
 
-// Where there are too many connections, the one goes on which nothing was asked for the longest, also over TLS; none goes on which something is.
+// TestIdleConnectionsGo: if there are too many connections, the one that was idle for the longest time is closed, also
+// over TLS. No connection with a request is closed.
 func TestIdleConnectionsGo(t *testing.T) {
 	for _, over := range []bool{false, true} {
 		f := newFixture(t, 0, func(o *Options) { o.Limits.Connections, o.Limits.Reading = 3, time.Hour })
@@ -467,7 +471,8 @@ func TestIdleConnectionsGo(t *testing.T) {
 	}
 }
 
-// Where the server ends, who waits is answered, and idle connections and those that say nothing are closed, within the bound.
+// TestServerEnds: when the server ends, waiting requests are answered, and idle and silent connections are closed,
+// within the bound.
 func TestServerEnds(t *testing.T) {
 	f := newFixture(t, 0, nil)
 	address, server := f.listening(nil)
@@ -570,7 +575,8 @@ func TestClientsThatGo(t *testing.T) {
 	eventually(t, "its bytes aren't counted any more", func() bool { return f.front.waiting.used.Load() == 0 })
 }
 
-// A client that goes before it is answered rings no alarm: it is counted by a status of its own, and not told.
+// TestClientsThatGoRingNoAlarm: a client that leaves before its response causes no alert. It is counted with a status
+// of its own, and not logged.
 func TestClientsThatGoRingNoAlarm(t *testing.T) {
 	f := newFixture(t, 0, nil)
 	f.fill(1)

@@ -38,7 +38,7 @@ func (f *Front) add(w http.ResponseWriter, r *http.Request, check func([][]byte)
 	}
 	client := f.clientOf(r)
 	body, taken, err := f.body(r, client)
-	// What of it is kept, the entry, has fewer bytes than it; so they count until the answer is there.
+	// The entry, which is kept, has fewer bytes than the request. The request's bytes count until the response.
 	defer f.waiting.give(taken)
 	defer f.waitingOf.giveSome(client, int(taken))
 	if err != nil {
@@ -67,14 +67,14 @@ func (f *Front) body(r *http.Request, client netip.Addr) (body []byte, taken int
 	if r.ContentLength < 0 {
 		return nil, 0, refusal{status: http.StatusLengthRequired, name: "length-required", closes: true}
 	}
-	if r.ContentLength > MostBody {
+	if r.ContentLength > MaxBody {
 		return nil, 0, refusal{status: http.StatusRequestEntityTooLarge, name: "body-too-large", closes: true}
 	}
 	piece := make([]byte, 16<<10)
 	for {
 		n, err := r.Body.Read(piece)
 		if n > 0 {
-			// What came counts, and not what was announced: a client that sends nothing takes nothing.
+			// The received bytes count, and not the announced ones. So a client that sends nothing holds nothing.
 			if !f.waitingOf.takeSome(client, n) {
 				return nil, taken, refusal{status: http.StatusTooManyRequests, name: "too-many-bytes", after: 1, closes: true}
 			}
@@ -106,7 +106,7 @@ func (f *Front) checked(ctx context.Context, body []byte, check func([][]byte) (
 		Chain [][]byte `json:"chain"`
 	}
 	if err := json.Unmarshal(body, &submission); err != nil {
-		return nil, refusal{status: http.StatusBadRequest, name: "no-submission", detail: "the body isn't a JSON object whose chain is a list of texts in base64"}
+		return nil, refusal{status: http.StatusBadRequest, name: "no-submission", detail: "the body is not a JSON object with the chain as a list of base64 strings"}
 	}
 	return check(submission.Chain)
 }

@@ -6,7 +6,7 @@ import (
 	"sync/atomic"
 )
 
-// Certificate is a certificate and key for TLS, of two files in PEM, which may be read anew.
+// Certificate is a certificate and key for TLS from two PEM files, which can be reloaded.
 type Certificate struct {
 	certificate, key string
 	pair             atomic.Pointer[tls.Certificate]
@@ -18,7 +18,7 @@ func LoadCertificate(certificate, key string) (*Certificate, error) {
 	return c, c.Reload()
 }
 
-// Reload reads the files anew. At an error those from before stay.
+// Reload reads the files again. After an error the previous ones stay in use.
 func (c *Certificate) Reload() error {
 	pair, err := tls.LoadX509KeyPair(c.certificate, c.key)
 	if err != nil {

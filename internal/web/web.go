@@ -1,9 +1,8 @@
-// Package web answers a log's calls over HTTP: those of RFC 6962, section 4, and of C2SP static-ct-api. It only transports: what
-// it answers comes from a log.Log, and which chains are taken a chains.Checker says.
-//
-// It speaks HTTP/1.1. Nothing in it grows without a bound: connections are counted, altogether and by address; bodies and the
-// submissions that wait have so many bytes, together and by address, and so have objects in answers; each request has its time. What an address
-// submits and has made of tiles may have a rate.
+// Package web answers a log's calls over HTTP/1.1: those of RFC 6962, section 4, and of C2SP static-ct-api. It only
+// transports. Its answers come from a log.Log, and a chains.Checker decides which chains are accepted. Nothing in it
+// grows without a bound: there are bounds for connections, for the bytes of bodies and waiting submissions, each in all
+// and by address, for the bytes of objects in responses, and for the time of each request. The submissions and the
+// calls of an address that read tiles may have a rate.
 package web
 
 import (
@@ -24,14 +23,15 @@ import (
 
 // The bounds that no option moves.
 const (
-	// MostHeader is how many bytes the headers of a request may have.
-	MostHeader = 16 << 10
-	// MostBody is how many bytes a submission may have. (A chain has at most chains.MostBytes, in base64.)
-	MostBody = 1 << 20
-	// MostEntries is how many entries get-entries answers at most.
-	MostEntries = 256
-	// MostEntryBytes is how many bytes they may have together, in base64 not counted, but for the first one.
-	MostEntryBytes = 1000000
+	// MaxHeader is how many bytes the headers of a request may have.
+	MaxHeader = 16 << 10
+	// MaxBody is how many bytes a submission may have. (A chain has at most chains.MaxBytes, in base64.)
+	MaxBody = 1 << 20
+	// MaxEntries is how many entries get-entries answers at most.
+	MaxEntries = 256
+	// MaxEntryBytes is the maximum size of entries in one response in bytes, before base64. The first entry may be
+	// larger.
+	MaxEntryBytes = 1000000
 )
 
 // Limits are the bounds that an operator may move.
@@ -89,11 +89,11 @@ type Options struct {
 	Limits Limits
 	// Proxies are the addresses of those whose X-Forwarded-For is believed: its last address.
 	Proxies []netip.Prefix
-	// Lines takes what is to be told; nil tells nothing.
+	// Lines receives log lines. A nil Lines writes nothing.
 	Lines *Lines
-	// LogRequests tells every request, and not only those that fail at the log's side.
+	// LogRequests logs every request, and not only those that fail because of the log.
 	LogRequests bool
-	// ReadOnly refuses submissions, for a log that takes no more: what it has is read as before.
+	// ReadOnly refuses submissions to a log that accepts no more. Its entries can be read as before.
 	ReadOnly bool
 	// About is what the log says of itself.
 	About About
@@ -137,9 +137,9 @@ func New(of log.Log, proofs *tile.Prover, checker *chains.Checker, options Optio
 		checks:    make(chan struct{}, limits.Checks),
 		packs:     make(chan struct{}, limits.Checks),
 		waiting:   budget{most: limits.WaitingBytes},
-		waitingOf: counts{most: byAddress(limits.WaitingBytes, MostBody)},
+		waitingOf: counts{most: byAddress(limits.WaitingBytes, MaxBody)},
 		answers:   budget{most: limits.AnswerBytes},
-		answersOf: counts{most: byAddress(limits.AnswerBytes, stores.MostObject+likelyEntries)},
+		answersOf: counts{most: byAddress(limits.AnswerBytes, stores.MaxObject+likelyEntries)},
 		requests:  counts{most: limits.ConnectionsByAddress, submitters: limits.Submitters},
 		proofsOf:  counts{most: limits.ProofsByAddress},
 		rates:     map[cost]*rates{aSubmission: newRates(limits.SubmissionRate), aRead: newRates(limits.ReadRate)},
@@ -191,7 +191,8 @@ var (
 	noCall     = call{"none", "", nil, 0}
 )
 
-// callOf gives the call of a request. A path is taken as it stands: none is cleaned, and none has characters of its name encoded.
+// callOf returns the call of a request. It uses the path as it is: it does not clean it, and no name has encoded
+// characters.
 func callOf(r *http.Request) call {
 	if r.URL.RawPath != "" {
 		return noCall
@@ -221,12 +222,13 @@ func (f *Front) ServeHTTP(w http.ResponseWriter, r *http.Request) {
 			f.options.Lines.Error("panic", "call", c.name, "fault", fault, "stack", string(debug.Stack()))
 			f.refuse(a, refusal{status: http.StatusInternalServerError, name: "internal"})
 		}
-		f.told(c, a, r, time.Since(began))
+		f.count(c, a, r, time.Since(began))
 		a.end()
 	}()
 	a.Header().Set("X-Content-Type-Options", "nosniff")
 	if len(r.TransferEncoding) > 0 {
-		// Where two programs on the way disagree about where a body ends, one takes its rest for a request (RFC 9112, section 6.1).
+		// If two programs on the way disagree about the end of a body, one reads its rest as a request (RFC 9112,
+		// section 6.1).
 		f.refuse(a, refusal{status: http.StatusLengthRequired, name: "length-required", closes: true})
 		return
 	}
@@ -292,8 +294,8 @@ func allowed(c call) string {
 	return c.method
 }
 
-// answer remembers what was answered. Its last byte is held until what the request took is given back and it is counted: who has all of it, and asks
-// again at once, isn't refused for its own sake.
+// answer records a response. It holds back the last byte until the request's resources are freed and it is counted. So
+// a client that has the whole response and asks again at once is not refused because of its previous request.
 type answer struct {
 	http.ResponseWriter
 	status  int
@@ -326,7 +328,7 @@ func (a *answer) Write(bytes []byte) (int, error) {
 	return n, err
 }
 
-// end sends the byte that is held. What a client doesn't take is its own affair.
+// end sends the byte that was held back. A write that fails concerns only the client.
 func (a *answer) end() {
 	if len(a.held) > 0 {
 		a.ResponseWriter.Write(a.held)
@@ -334,8 +336,8 @@ func (a *answer) end() {
 	}
 }
 
-// told counts a request, and tells it.
-func (f *Front) told(c call, a *answer, r *http.Request, took time.Duration) {
+// count counts and logs a request.
+func (f *Front) count(c call, a *answer, r *http.Request, took time.Duration) {
 	f.metrics.request(c.name, a.status, a.refusal, took)
 	fault := a.status >= 500 && c.name != "readyz"
 	if !fault && !f.options.LogRequests {

@@ -87,7 +87,7 @@ func newFixture(t testing.TB, every time.Duration, change func(*Options)) *fixtu
 	return f
 }
 
-// unlessLate asks until what is answered isn't that it is late: /readyz has two seconds alone.
+// unlessLate repeats a request until the response does not say that it is late. /readyz has a limit of two seconds.
 func unlessLate(ask func() *httptest.ResponseRecorder) (w *httptest.ResponseRecorder) {
 	for until := time.Now().Add(trial.Longest); ; {
 		if w = ask(); w.Code != 503 || !strings.Contains(w.Body.String(), `"late"`) || time.Now().After(until) {
@@ -249,7 +249,7 @@ func TestBodiesAreRefused(t *testing.T) {
 		refused(t, body, f.do("POST", "/ct/v1/add-chain", []byte(body)), 400, "no-submission")
 	}
 	refused(t, "no chain", f.do("POST", "/ct/v1/add-chain", []byte(`{}`)), 400, "empty-chain")
-	refused(t, "bytes", f.do("POST", "/ct/v1/add-chain", make([]byte, MostBody+1)), 413, "body-too-large")
+	refused(t, "bytes", f.do("POST", "/ct/v1/add-chain", make([]byte, MaxBody+1)), 413, "body-too-large")
 	refused(t, "bytes that wait", f.do("POST", "/ct/v1/add-chain", make([]byte, 4097)), 503, "busy")
 	if used := f.front.waiting.used.Load(); used != 0 {
 		t.Errorf("%d bytes are still counted", used)
@@ -266,7 +266,7 @@ func TestBodiesAreRefused(t *testing.T) {
 
 // The bodies of one address have an eighth of what all have, or as much as one may; another address has its own.
 func TestBytesByAddress(t *testing.T) {
-	for _, test := range []struct{ all, one int }{{64 << 20, 8 << 20}, {3 << 20, MostBody}} {
+	for _, test := range []struct{ all, one int }{{64 << 20, 8 << 20}, {3 << 20, MaxBody}} {
 		f := newFixture(t, 5*time.Millisecond, func(o *Options) { o.Limits.WaitingBytes = int64(test.all) })
 		client, same := netip.MustParseAddr("2001:db8::1"), "[2001:db8::2:3]:7"
 		from := func(peer string) *httptest.ResponseRecorder {
@@ -303,7 +303,7 @@ func TestTooLargeSaysTheBound(t *testing.T) {
 	}
 }
 
-// What the log answers comes out with its status, and where it is of a moment, with the time to ask again.
+// TestErrorsOfTheLog: an error of the log has its status, and a temporary one has Retry-After.
 func TestErrorsOfTheLog(t *testing.T) {
 	f := newFixture(t, 10*time.Millisecond, nil)
 	body := standin.Submission(f.issue(false))
@@ -352,7 +352,7 @@ func TestErrorsOfTheLog(t *testing.T) {
 
 func TestFullQueue(t *testing.T) {
 	f := newFixture(t, 0, nil)
-	f.log.MostQueue = 3
+	f.log.MaxQueue = 3
 	var all sync.WaitGroup
 	answers := make(chan *httptest.ResponseRecorder, 3)
 	for i := 0; i < 3; i++ {
@@ -566,8 +566,8 @@ func TestMetricsAndHealth(t *testing.T) {
 	}
 }
 
-// What of the log is damaged is told by its name, and doesn't make it unready; what keeps it from going on does. Each is told once, and so is
-// its end.
+// TestFaultsAndDamageAreTold: damage in the log is logged by its name, and does not make the log unready. A fault that
+// stops the log does. Each is logged once, and its end is logged once.
 func TestFaultsAndDamageAreTold(t *testing.T) {
 	f := newFixture(t, 0, nil)
 	f.fill(1)
@@ -608,7 +608,7 @@ func TestFaultsAndDamageAreTold(t *testing.T) {
 	tells(`"event":"mended","detail":"no disk"}`)
 	tells(`"event":"mended","detail":"tile/data/007 is missing"}`)
 	measures("ctserve_faults_total 1")
-	// One that goes before anybody looks is told all the same.
+	// A fault that ends before the next check is logged too.
 	f.log.Stumble("no disk for half a second")
 	tells(`"level":"error","event":"fault","detail":"no disk for half a second"}`)
 	tells(`"event":"mended","detail":"no disk for half a second"}`)
@@ -643,7 +643,7 @@ func TestReloadsAreCounted(t *testing.T) {
 	}
 }
 
-// A panic of the log is a refusal, and is told.
+// TestPanic: a panic of the log is a refusal, and is logged.
 func TestPanic(t *testing.T) {
 	f := newFixture(t, 0, nil)
 	f.front.log = nil
@@ -658,17 +658,17 @@ func TestLinesAreBounded(t *testing.T) {
 	l := NewLines(&told)
 	now := time.Unix(1000, 0)
 	l.now = func() time.Time { return now }
-	for i := 0; i < mostLines+7; i++ {
+	for i := 0; i < maxLines+7; i++ {
 		l.Info("x", "quoted \"\n", errors.New("\"\n"), "number", 7, "nothing", "", "none")
 	}
 	l.Warn("another event")
-	for i := 0; i < 2*mostLines; i++ {
+	for i := 0; i < 2*maxLines; i++ {
 		l.Error("y")
 	}
 	now = now.Add(time.Second)
 	l.Info("z")
 	lines := strings.Split(strings.TrimSpace(told.String()), "\n")
-	if len(lines) != 3*mostLines+3 || !strings.Contains(lines[mostLines], "another event") || !strings.HasSuffix(lines[3*mostLines+1], `"event":"dropped","of":"x","lines":7}`) {
+	if len(lines) != 3*maxLines+3 || !strings.Contains(lines[maxLines], "another event") || !strings.HasSuffix(lines[3*maxLines+1], `"event":"dropped","of":"x","lines":7}`) {
 		t.Errorf("%d lines, at their end %s", len(lines), lines[len(lines)-2:])
 	}
 	for _, line := range lines {
@@ -679,7 +679,8 @@ func TestLinesAreBounded(t *testing.T) {
 	(*Lines)(nil).Info("nothing")
 }
 
-// Whom a proxy names is believed of a proxy alone, and its last name; one client's requests are bounded, another's aren't.
+// TestClientsBehindProxies: only a proxy's header is believed, and its last address counts. One client's requests are
+// bounded, another's are not.
 func TestClientsBehindProxies(t *testing.T) {
 	f := newFixture(t, 0, func(o *Options) {
 		o.Proxies = []netip.Prefix{netip.MustParsePrefix("127.0.0.0/8"), netip.MustParsePrefix("::1/128")}

@@ -62,26 +62,26 @@ func TestClientReadsWholeAnswers(t *testing.T) {
 	}
 }
 
-// TestMoments: a cosignature says whose it is and when it was made. No other line does.
-func TestMoments(t *testing.T) {
+// TestTimestamps: a cosignature has its witness and its time. No other line has.
+func TestTimestamps(t *testing.T) {
 	by, key := plainKey(t, origin), newKey(t)
 	s, list := witnessOf(t, t.TempDir(), key, by), grown(t, "a", "b", "c")
 	signed := by.sign(checkpoint(origin, 3, list.root(t, 3)))
 	before := time.Now().Add(-time.Second)
 	came := strings.TrimSuffix(posted(t, s, request(0, nil, signed)).Body.String(), "\n")
-	if name, at, ok := MomentOf(came); !ok || name != s.of.Name || at.Before(before) || at.After(time.Now()) {
+	if name, at, ok := TimestampOf(came); !ok || name != s.of.Name || at.Before(before) || at.After(time.Now()) {
 		t.Errorf("%q: %s at %v, %v", came, name, at, ok)
 	}
 	public := key.Public().(ed25519.PublicKey)
 	line := strings.TrimSuffix(cosignatureLine("w.example", public, 1234567890, ed25519.Sign(key, []byte("x"))), "\n")
-	if name, at, ok := MomentOf(line); !ok || name != "w.example" || at.Unix() != 1234567890 {
+	if name, at, ok := TimestampOf(line); !ok || name != "w.example" || at.Unix() != 1234567890 {
 		t.Errorf("%s at %v, %v", name, at, ok)
 	}
 	own := strings.Split(strings.TrimSuffix(string(signed), "\n"), "\n")
 	for _, line := range []string{
 		"", "— ", "— w.example", "— w.example AAAA", line[4:], line + "A", strings.Replace(line, " ", "", 2), own[len(own)-1],
 	} {
-		if name, at, ok := MomentOf(line); ok {
+		if name, at, ok := TimestampOf(line); ok {
 			t.Errorf("%q: %s at %v", line, name, at)
 		}
 	}

@@ -166,17 +166,17 @@ func TestAnswers(t *testing.T) {
 		t.Errorf("its clock says %d", at)
 	}
 	// Exactly as many bytes and hashes as may be are read.
-	if _, err := ParseRequest([]byte("old 0\n\n" + strings.Repeat("x", MostBody-7))); !errors.Is(err, ErrRequest) || strings.Contains(err.Error(), "more than") {
+	if _, err := ParseRequest([]byte("old 0\n\n" + strings.Repeat("x", MaxBody-7))); !errors.Is(err, ErrRequest) || strings.Contains(err.Error(), "more than") {
 		t.Errorf("the longest body: %v", err)
 	}
-	if _, err := ParseRequest([]byte("old 0\n\n" + strings.Repeat("x", MostBody-6))); !errors.Is(err, ErrRequest) || !strings.Contains(err.Error(), "more than") {
+	if _, err := ParseRequest([]byte("old 0\n\n" + strings.Repeat("x", MaxBody-6))); !errors.Is(err, ErrRequest) || !strings.Contains(err.Error(), "more than") {
 		t.Errorf("a byte more: %v", err)
 	}
 	signed := plainKey(t, origin).sign(checkpoint(origin, 9, [32]byte{}))
-	if r, err := ParseRequest(request(3, make([][32]byte, MostProof), signed)); err != nil || len(r.Proof) != MostProof || r.Old != 3 || r.Origin() != origin {
+	if r, err := ParseRequest(request(3, make([][32]byte, MaxProof), signed)); err != nil || len(r.Proof) != MaxProof || r.Old != 3 || r.Origin() != origin {
 		t.Errorf("the longest proof: %v", err)
 	}
-	if _, err := ParseRequest(request(3, make([][32]byte, MostProof+1), signed)); !errors.Is(err, ErrRequest) {
+	if _, err := ParseRequest(request(3, make([][32]byte, MaxProof+1), signed)); !errors.Is(err, ErrRequest) {
 		t.Errorf("a hash more: %v", err)
 	}
 }

@@ -26,9 +26,9 @@ import (
 
 // The bounds, and the types of keys that lines of signatures name (C2SP signed-note, tlog-cosignature, static-ct-api).
 const (
-	// MostBody is how many bytes a request has, and MostProof how many hashes (C2SP tlog-witness).
-	MostBody  = 64 << 10
-	MostProof = 63
+	// MaxBody is how many bytes a request has, and MaxProof how many hashes (C2SP tlog-witness).
+	MaxBody  = 64 << 10
+	MaxProof = 63
 
 	algCosignature = 4
 	algRFC6962     = 5
@@ -76,16 +76,16 @@ func hash(text string) (h [32]byte, err error) {
 
 // ParseRequest reads the body of add-checkpoint: "old N", the proof's hashes, an empty line, the signed note.
 func ParseRequest(body []byte) (r Request, err error) {
-	if len(body) > MostBody {
-		return r, fmt.Errorf("%w: more than %d bytes", ErrRequest, MostBody)
+	if len(body) > MaxBody {
+		return r, fmt.Errorf("%w: more than %d bytes", ErrRequest, MaxBody)
 	}
 	head, signed, found := bytes.Cut(body, []byte("\n\n"))
 	if !found {
 		return r, fmt.Errorf("%w: no empty line", ErrRequest)
 	}
 	lines := strings.Split(string(head), "\n")
-	if !strings.HasPrefix(lines[0], "old ") || len(lines) > 1+MostProof {
-		return r, fmt.Errorf("%w: no old size, or more than %d hashes", ErrRequest, MostProof)
+	if !strings.HasPrefix(lines[0], "old ") || len(lines) > 1+MaxProof {
+		return r, fmt.Errorf("%w: no old size, or more than %d hashes", ErrRequest, MaxProof)
 	}
 	if r.Old, err = number(strings.TrimPrefix(lines[0], "old ")); err != nil {
 		return r, err
@@ -159,7 +159,7 @@ func OfRFC6962(origin string, der []byte) note.Verifier {
 		if err != nil || !bytes.HasPrefix(text, []byte(origin+"\n")) || len(signature) <= 8 {
 			return false
 		}
-		head := signer.Head{Size: size, Moment: binary.BigEndian.Uint64(signature[:8]), Root: root}
+		head := signer.Head{Size: size, Timestamp: binary.BigEndian.Uint64(signature[:8]), Root: root}
 		return signer.CheckHead(der, head, signature[8:]) == nil
 	}}
 }
@@ -214,7 +214,7 @@ func cosignatureLine(name string, key ed25519.PublicKey, seconds uint64, signatu
 }
 
 // MomentOf reads whose a cosignature's line is, and its moment; nothing where it is none.
-func MomentOf(line string) (name string, at time.Time, ok bool) {
+func TimestampOf(line string) (name string, at time.Time, ok bool) {
 	name, text, _ := strings.Cut(strings.TrimPrefix(line, "— "), " ")
 	blob, err := base64.StdEncoding.DecodeString(text)
 	if err != nil || len(blob) != 4+8+ed25519.SignatureSize || !strings.HasPrefix(line, "— ") {

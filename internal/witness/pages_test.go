@@ -9,7 +9,7 @@ import (
 // TestPageSaysBounds: the bounds that docs/SERVICE.md says of a witness, and of a log with witnesses, are those that are here.
 func TestPageSaysBounds(t *testing.T) {
 	trial.Says(t, trial.Page(t, "../../docs/SERVICE.md"), map[string]bool{
-		"A request, `POST /add-checkpoint`, has at most 64 KiB and 63 hashes":         MostBody == 64<<10 && MostProof == 63,
-		"| 503 `clock` | the clock is more than a minute behind the last timestamp |": mostBehind == 60,
+		"A request, `POST /add-checkpoint`, has at most 64 KiB and 63 hashes":         MaxBody == 64<<10 && MaxProof == 63,
+		"| 503 `clock` | the clock is more than a minute behind the last timestamp |": maxLag == 60,
 	})
 }

@@ -17,13 +17,13 @@ import (
 )
 
 const (
-	// mostTries is how often a request is decided where others move the state, and how often a swap of unknown outcome is made.
-	mostTries = 5
-	// mostAtOnce is how many requests are taken at once, and answersWithin how long one may take.
-	mostAtOnce    = 64
+	// maxTries is how often a request is decided where others move the state, and how often a swap of unknown outcome is made.
+	maxTries = 5
+	// maxAtOnce is how many requests are taken at once, and answersWithin how long one may take.
+	maxAtOnce     = 64
 	answersWithin = 20 * time.Second
-	// mostBehind is how many seconds the clock may be behind the last cosignature's moment, which the next one then has.
-	mostBehind = 60
+	// maxLag is how many seconds the clock may be behind the last cosignature's moment, which the next one then has.
+	maxLag = 60
 )
 
 // What a witness fails by. Each is found by errors.Is.
@@ -91,7 +91,7 @@ func New(of Options) (*Server, error) {
 		of.Tell = func(string, ...any) {}
 	}
 	s := &Server{
-		of: of, decides: proved, public: of.Key.Public().(ed25519.PublicKey), room: make(chan struct{}, mostAtOnce), logs: map[string]*Log{}, seen: map[string]state{},
+		of: of, decides: proved, public: of.Key.Public().(ed25519.PublicKey), room: make(chan struct{}, maxAtOnce), logs: map[string]*Log{}, seen: map[string]state{},
 		now: func() uint64 { return uint64(time.Now().Unix()) },
 	}
 	s.metrics = newMetrics()
@@ -170,7 +170,7 @@ func (s *Server) add(ctx context.Context, body []byte) answer {
 	if _, err := note.Open(r.Note, note.VerifierList(log.Keys...)); err != nil {
 		return plain(http.StatusForbidden, "no signature of a key of the log\n")
 	}
-	for try := 0; try < mostTries; try++ {
+	for try := 0; try < maxTries; try++ {
 		// (other requests may have the state moved, but never behind what was seen before it is read)
 		before := s.newestSeen(log.Origin)
 		text, err := log.State.Read(ctx)
@@ -198,7 +198,7 @@ func (s *Server) decide(ctx context.Context, log *Log, text string, before state
 	s.see(last)
 	now := s.now()
 	if now < last.tree.Time {
-		if now+mostBehind < last.tree.Time {
+		if now+maxLag < last.tree.Time {
 			return s.failed("clock", log.Origin, fmt.Errorf("%w: it is %d, and the last moment is %d", ErrClock, now, last.tree.Time)), false
 		}
 		now = last.tree.Time
@@ -228,7 +228,7 @@ func swap(ctx context.Context, register stores.Register, old string, next state)
 	if err != nil {
 		return err
 	}
-	for try := 0; try < mostTries; try++ {
+	for try := 0; try < maxTries; try++ {
 		if err = register.Swap(ctx, old, text); !errors.Is(err, stores.ErrUnknown) {
 			break
 		}
@@ -265,7 +265,7 @@ func (s *Server) take(w http.ResponseWriter, q *http.Request) answer {
 	default:
 		return plain(http.StatusServiceUnavailable, "busy\n")
 	}
-	body, err := io.ReadAll(http.MaxBytesReader(w, q.Body, MostBody))
+	body, err := io.ReadAll(http.MaxBytesReader(w, q.Body, MaxBody))
 	var long *http.MaxBytesError
 	if errors.As(err, &long) {
 		return plain(http.StatusRequestEntityTooLarge, "too long\n")

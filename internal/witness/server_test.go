@@ -113,10 +113,10 @@ func headKey(t testing.TB, origin string) signing {
 	return signing{of, "", func(text string) []byte {
 		size, root, err := TreeOf(text)
 		must(t, err)
-		const moment = 1_700_000_000_000
-		signed, err := key.SignHead(context.Background(), signer.Head{Size: size, Moment: moment, Root: root}, nil)
+		const timestamp = 1_700_000_000_000
+		signed, err := key.SignHead(context.Background(), signer.Head{Size: size, Timestamp: timestamp, Root: root}, nil)
 		must(t, err)
-		blob := binary.BigEndian.AppendUint64(binary.BigEndian.AppendUint32(nil, of.KeyHash()), moment)
+		blob := binary.BigEndian.AppendUint64(binary.BigEndian.AppendUint32(nil, of.KeyHash()), timestamp)
 		return []byte(text + "\n— " + origin + " " + base64.StdEncoding.EncodeToString(append(blob, signed...)) + "\n")
 	}}
 }
@@ -279,7 +279,7 @@ func TestCalls(t *testing.T) {
 	}{
 		{"GET", "/add-checkpoint", "", 405},
 		{"POST", "/", "", 404},
-		{"POST", "/add-checkpoint", "old 0\n\n" + strings.Repeat("x", MostBody), 413},
+		{"POST", "/add-checkpoint", "old 0\n\n" + strings.Repeat("x", MaxBody), 413},
 		{"POST", "/add-checkpoint", "", 400},
 	} {
 		w := httptest.NewRecorder()
@@ -288,7 +288,7 @@ func TestCalls(t *testing.T) {
 			t.Errorf("%s %s: %d, and not %d", test.method, test.path, w.Code, test.status)
 		}
 	}
-	for i := 0; i < mostAtOnce; i++ {
+	for i := 0; i < maxAtOnce; i++ {
 		s.room <- struct{}{}
 	}
 	if w := posted(t, s, nil); w.Code != 503 || w.Header().Get("Retry-After") == "" {
@@ -451,7 +451,7 @@ func TestWrongDecisions(t *testing.T) {
 	before, err := stateIn(t, folder).Read(limited(t))
 	must(t, err)
 	grows := request(3, one.proof(t, 3, 5), signed(one, 5))
-	const moment = 1 << 40
+	const timestamp = 1 << 40
 	text := checkpoint(origin, 5, one.root(t, 5))
 	says := func(message []byte, err error) decision {
 		return func(state, Request, uint64) ([]byte, error) { return message, err }
@@ -467,7 +467,7 @@ func TestWrongDecisions(t *testing.T) {
 		"another size than the last": {lying, request(2, one.proof(t, 2, 5), signed(one, 5)), "decision"},
 		"an older one":               {lying, request(3, nil, signed(one, 2)), "decision"},
 		"bytes of another time":      {says(Message(1, text), nil), grows, "decision"},
-		"bytes of another text":      {says(Message(moment, checkpoint(origin, 5, other.root(t, 5))), nil), grows, "decision"},
+		"bytes of another text":      {says(Message(timestamp, checkpoint(origin, 5, other.root(t, 5))), nil), grows, "decision"},
 		"a log's head in its bytes":  {says([]byte(text), nil), grows, "decision"},
 		"no bytes":                   {says(nil, nil), grows, "decision"},
 		"an unknown code":            {says(nil, wagtenib.Code(1000)), grows, "decision"},
@@ -479,7 +479,7 @@ func TestWrongDecisions(t *testing.T) {
 	} {
 		s := witnessOf(t, folder, key, by)
 		s.decides = test.decide
-		s.now = func() uint64 { return moment }
+		s.now = func() uint64 { return timestamp }
 		var told []string
 		s.of.Tell = func(event string, words ...any) { told = append(told, event) }
 		w := posted(t, s, test.body)
@@ -579,10 +579,10 @@ func TestClock(t *testing.T) {
 	body := request(0, nil, by.sign(checkpoint(origin, 3, one.root(t, 3))))
 	again := request(3, nil, by.sign(checkpoint(origin, 3, one.root(t, 3))))
 	for _, test := range []struct {
-		now    uint64
-		body   []byte
-		status int
-		moment uint64
+		now       uint64
+		body      []byte
+		status    int
+		timestamp uint64
 	}{{1000, body, 200, 1000}, {1000, again, 200, 1000}, {940, again, 200, 1000}, {939, again, 503, 0}, {1001, again, 200, 1001}} {
 		s.now = func() uint64 { return test.now }
 		w := posted(t, s, test.body)
@@ -592,8 +592,8 @@ func TestClock(t *testing.T) {
 		if test.status == 200 {
 			blob, err := base64.StdEncoding.DecodeString(strings.Fields(w.Body.String())[2])
 			must(t, err)
-			if moment := binary.BigEndian.Uint64(blob[4:12]); moment != test.moment {
-				t.Errorf("at %d: the moment is %d", test.now, moment)
+			if timestamp := binary.BigEndian.Uint64(blob[4:12]); timestamp != test.timestamp {
+				t.Errorf("at %d: the moment is %d", test.now, timestamp)
 			}
 		}
 	}

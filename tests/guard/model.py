@@ -86,12 +86,12 @@ class Guard:
         """Approves a head, whose timestamp may be at most so many milliseconds after the last one's, and takes it as the last one."""
         last = self.last
         if head[1] > last[1] + ahead:
-            raise Refused("moment-too-far")
+            raise Refused("timestamp-too-far")
         if head != last:
             if head[0] < last[0]:
                 raise Refused("size-falls")
             if head[1] <= last[1]:
-                raise Refused("moment-not-later")
+                raise Refused("timestamp-not-later")
             if head[0] == last[0]:
                 if head[2] != last[2]:
                     raise Refused("fork")

@@ -29,7 +29,7 @@ from merkle import sha256  # noqa: E402
 
 CODES = dict(re.findall(r"WAGTENIB_(\w+) = (\d+)", (ROOT / "include" / "wagtenib.h").read_text()))
 # The refusals that have another name in the model than in the header.
-NAMES = {"moment-not-later": "TIMESTAMP_NOT_LATER", "moment-too-far": "TIMESTAMP_TOO_FAR"}
+NAMES = {"timestamp-not-later": "TIMESTAMP_NOT_LATER", "timestamp-too-far": "TIMESTAMP_TOO_FAR"}
 # The faults that no call of the guard can return, of all codes below 48, after which those of other calls come: a consistency proof is read only between sizes that it can be for.
 NEVER = {"SIZES_OUT_OF_RANGE", "OUT_OF_MEMORY", "NO_ROOM", "BAD_ORIGIN"}
 FILL, HOUR, MOST = b"\x5a", 3_600_000, (1 << 64) - 1

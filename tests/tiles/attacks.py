@@ -154,12 +154,12 @@ def refused(chance, judge, request, reply, older):
     bound = chance.choice([0, 1, 3_600_000, chance.getrandbits(50)])
     far, near = ({"most_ahead": most, "now": judge.moment + bound + over} for most, over in ((bound, 1), (bound + 1, 1)))
     if far["now"] < 1 << 64:
-        yield "moment-too-far", {**request, **far}
-        yield "moment-too-far", {**request, **far, "edge": [*request["edge"], ""]}
+        yield "timestamp-too-far", {**request, **far}
+        yield "timestamp-too-far", {**request, **far, "edge": [*request["edge"], ""]}
         yield "edge", {**request, **near, "edge": [*request["edge"], ""]}
     if judge.moment + 3_600_001 < 1 << 64:
         hourly = {key: value for key, value in request.items() if key != "most_ahead"}
-        yield "moment-too-far", {**hourly, "now": judge.moment + 3_600_001}
+        yield "timestamp-too-far", {**hourly, "now": judge.moment + 3_600_001}
         yield "edge", {**hourly, "now": judge.moment + 3_600_000, "edge": [*request["edge"], ""]}
     if judge.size + 300 > MOST:
         small = [{"chain": [], "leaf_certificate": text(number.to_bytes(2, "big"))} for number in range(MOST - judge.size + 1)]

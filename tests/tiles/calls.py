@@ -25,7 +25,7 @@ from json_lines import text  # noqa: E402
 from leaves import vector  # noqa: E402
 
 # What step.py names the refusals of the calls.
-NAMES = {"TIMESTAMP_TOO_FAR": "moment-too-far", "LOG_FULL": "full", "DATA_TILE_TOO_LONG": "too-long", "BAD_BATCH": "bad-line"}
+NAMES = {"TIMESTAMP_TOO_FAR": "timestamp-too-far", "LOG_FULL": "full", "DATA_TILE_TOO_LONG": "too-long", "BAD_BATCH": "bad-line"}
 CODES = {int(code): name for name, code in re.findall(r"WAGTENIB_(\w+) = (\d+)", (ROOT / "include" / "wagtenib.h").read_text())}
 NO_ROOM, FILL, BEHIND, UNTOLD = 9, 0x5A, 8, (1 << 64) - 1
 

@@ -112,7 +112,7 @@ def stepped(line, edge, now, most, batch):
     if state is None:
         raise Refused("bad-state")
     if now > state.timestamp + most:
-        raise Refused("moment-too-far")
+        raise Refused("timestamp-too-far")
     rows, data = believed(state, edge)
     if now <= state.timestamp:
         raise Refused("clock-back")

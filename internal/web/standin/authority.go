@@ -72,7 +72,7 @@ func (a *Authority) Issue(poisoned bool, notAfter time.Time) ([]byte, error) {
 	return x509.CreateCertificate(rand.Reader, template, a.Root, &a.leaf.PublicKey, a.key)
 }
 
-// IssuePair issues a precertificate, and the TBSCertificate of the certificate that is the same but for the poison.
+// IssuePair issues a precertificate, and the TBSCertificate of the certificate that differs from it only in the poison.
 func (a *Authority) IssuePair(notAfter time.Time) (precertificate, tbs []byte, err error) {
 	template := a.template(notAfter)
 	final, err := x509.CreateCertificate(rand.Reader, template, a.Root, &a.leaf.PublicKey, a.key)

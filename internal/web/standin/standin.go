@@ -1,5 +1,5 @@
-// Package standin has what the tests of a front stand on: a log in memory, an authority that issues certificates, and what a
-// reader makes of tiles. It serves no log: it forgets all at its end.
+// Package standin helps to test a front. It has a log in memory, a CA, and a reader of tiles. It is not for serving a
+// log: it keeps everything in memory.
 package standin
 
 import (
@@ -26,9 +26,9 @@ import (
 type Log struct {
 	Key   *ecdsa.PrivateKey
 	Every time.Duration
-	// MostQueue is how many submissions may wait.
-	MostQueue int
-	// Fault, where it isn't nil, is what each call gives.
+	// MaxQueue is how many submissions may wait.
+	MaxQueue int
+	// Fault is the error of each call, or nil.
 	Fault error
 	// Damage is what its figures say of a tile that is damaged.
 	Damage string
@@ -64,7 +64,7 @@ func New(every time.Duration) (*Log, error) {
 	if err != nil {
 		return nil, err
 	}
-	l := &Log{Key: key, Every: every, MostQueue: 1024, id: sha256.Sum256(public), objects: map[string][]byte{}, stop: make(chan struct{})}
+	l := &Log{Key: key, Every: every, MaxQueue: 1024, id: sha256.Sum256(public), objects: map[string][]byte{}, stop: make(chan struct{})}
 	l.publish()
 	if every > 0 {
 		go l.run()
@@ -95,7 +95,7 @@ func (l *Log) Submit(ctx context.Context, entry log.Entry) (log.Place, error) {
 		err = l.Fault
 	case l.ended:
 		err = log.ErrEnded
-	case len(l.waiting) >= l.MostQueue:
+	case len(l.waiting) >= l.MaxQueue:
 		err = log.ErrBusy
 	default:
 		l.waiting = append(l.waiting, w)
@@ -268,7 +268,7 @@ func (l *Log) slowly(ctx context.Context) error {
 	}
 }
 
-// Change changes what stands under a name; nil takes it away.
+// Change replaces the content of a name. A nil content deletes it.
 func (l *Log) Change(name string, content []byte) {
 	l.mutex.Lock()
 	defer l.mutex.Unlock()
@@ -337,7 +337,7 @@ func (l *Log) Figures() log.Figures {
 	l.mutex.Lock()
 	defer l.mutex.Unlock()
 	figures := log.Figures{
-		Queue: len(l.waiting), MostQueue: l.MostQueue, Entries: l.head.TreeSize,
+		Queue: len(l.waiting), MaxQueue: l.MaxQueue, Entries: l.head.TreeSize,
 		HeadAge: time.Since(time.UnixMilli(int64(l.head.Timestamp))), LostSwaps: 3, Unpublished: 18, SinceRound: 2500 * time.Millisecond,
 		Swept: 4, SweptHeads: 8, Scrubbed: 5, Damaged: 6, Damage: l.Damage, SignerStarts: 7,
 		Written: 16, Phases: []log.Phase{{Name: "stage", Count: 17, Took: 1500 * time.Millisecond}}, SweptBundles: 11, Staged: 12, TendFailures: 13, TendFailure: "nothing is deleted",

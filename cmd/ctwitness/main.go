@@ -1,4 +1,4 @@
-// Command ctwitness-serve is a witness over HTTP: it cosigns the heads of several logs (C2SP tlog-witness, tlog-cosignature), each if proved code
+// Command ctwitness is a witness over HTTP: it cosigns the heads of several logs (C2SP tlog-witness, tlog-cosignature), each if proved code
 // decides that it follows the one that it cosigned last (docs/WITNESS.md).
 //
 // SIGHUP has it read the logs of its settings anew. SIGTERM and SIGINT end it: it takes no more, answers who waits, and ends with status 0.
@@ -26,10 +26,10 @@ import (
 // statusNoState is the status of a start that is refused since a log's state is missing or another's, and will be until an operator has looked.
 const statusNoState = 3
 
-// mostConnections is how many clients are connected at once, and mostHeader how many bytes a request's headers have.
+// maxConnections is how many clients are connected at once, and maxHeader how many bytes a request's headers have.
 const (
-	mostConnections = 512
-	mostHeader      = 16 << 10
+	maxConnections = 512
+	maxHeader      = 16 << 10
 )
 
 func main() {
@@ -44,7 +44,7 @@ func main() {
 // where a log has no state.
 func run(words []string, out, to io.Writer, signals <-chan os.Signal) int {
 	if version.Asked(words) {
-		fmt.Fprint(out, version.Line("ctwitness-serve"))
+		fmt.Fprint(out, version.Line("ctwitness"))
 		return 0
 	}
 	s, err := parse(words, to)
@@ -130,7 +130,7 @@ func (w *running) create(s *settings, lines *web.Lines) error {
 	for _, origin := range s.create {
 		of, found := s.log(origin)
 		if !found {
-			return fmt.Errorf("ctwitness-serve: --create %s: the settings have no such log", origin)
+			return fmt.Errorf("ctwitness: --create %s: the settings have no such log", origin)
 		}
 		log, err := w.log(ctx, s, of)
 		if err == nil {
@@ -210,7 +210,7 @@ func (w *running) serve(s *settings, lines *web.Lines, signals <-chan os.Signal)
 		// (so that what is asked for them ends, too, which the registers' end waits for)
 		_ = server.Close()
 		if err == nil {
-			err = fmt.Errorf("ctwitness-serve: who waits isn't answered: %w", late)
+			err = fmt.Errorf("ctwitness: who waits isn't answered: %w", late)
 		}
 	}
 	return err
@@ -244,6 +244,6 @@ func (w *running) wait(s *settings, lines *web.Lines, signals <-chan os.Signal, 
 func serverOf(handler http.Handler, lines *web.Lines) *http.Server {
 	return &http.Server{
 		Handler: handler, ReadHeaderTimeout: 10 * time.Second, ReadTimeout: 20 * time.Second, WriteTimeout: time.Minute,
-		IdleTimeout: time.Minute, MaxHeaderBytes: mostHeader, ErrorLog: logOf(lines),
+		IdleTimeout: time.Minute, MaxHeaderBytes: maxHeader, ErrorLog: logOf(lines),
 	}
 }

@@ -38,15 +38,15 @@ type logSetting struct {
 }
 
 // errUsage reports a command line or a file of settings that is refused.
-var errUsage = errors.New("ctwitness-serve")
+var errUsage = errors.New("ctwitness")
 
-// mostKey is the number of bytes of a key file that are read.
-const mostKey = 64 << 10
+// maxKey is the number of bytes of a key file that are read.
+const maxKey = 64 << 10
 
 // parse reads the command line, and the file that it names. If both have a setting, the command line counts; logs of both are used.
 func parse(words []string, help io.Writer) (*settings, error) {
 	s := &settings{words: words, accepted: map[string]string{}}
-	flags := settingsfile.Flags("ctwitness-serve", "ctwitness-serve is a witness of Certificate Transparency logs. It cosigns a head of a log only if the proved code in it decides that the head follows the last one.\nEach setting except --create and --verifier-key is a flag, or a line 'name value' in the file that --config names.", help)
+	flags := settingsfile.Flags("ctwitness", "ctwitness is a witness of Certificate Transparency logs. It cosigns a head of a log only if the proved code in it decides that the head follows the last one.\nEach setting except --create and --verifier-key is a flag, or a line 'name value' in the file that --config names.", help)
 	flags.String("config", "", "`file` with a line 'name value' for each of these settings. A comment begins with #. The logs are read again at SIGHUP")
 	flags.StringVar(&s.name, "name", "", "the witness's `name`, for example witness.example")
 	flags.StringVar(&s.key, "key", "", "`file` with its Ed25519 private key in PEM (openssl genpkey -algorithm ed25519). Only its owner may have the permission to read it")
@@ -160,7 +160,7 @@ func readKey(path string) (ed25519.PrivateKey, error) {
 	if info.Mode().Perm()&0o077 != 0 {
 		return nil, fmt.Errorf("%w: not only its owner may read or write %s (chmod 600)", witness.ErrKey, filepath.Clean(path))
 	}
-	content, err := io.ReadAll(io.LimitReader(opened, mostKey))
+	content, err := io.ReadAll(io.LimitReader(opened, maxKey))
 	if err != nil {
 		return nil, err
 	}

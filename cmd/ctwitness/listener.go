@@ -9,8 +9,8 @@ import (
 	"wagtenib/internal/web"
 )
 
-// mostOfAddress is how many connections one address has at once, an eighth of all: one host must not keep a witness from the others. A /64 of IPv6 counts as one.
-const mostOfAddress = mostConnections / 8
+// maxOfAddress is how many connections one address has at once, an eighth of all: one host must not keep a witness from the others. A /64 of IPv6 counts as one.
+const maxOfAddress = maxConnections / 8
 
 // bounded is a listener with so many connections at once; what comes beyond waits. What comes beyond the bound of its address is closed.
 type bounded struct {
@@ -46,7 +46,7 @@ func groupOf(address net.Addr) netip.Prefix {
 func (a *addresses) take(group netip.Prefix) bool {
 	a.mu.Lock()
 	defer a.mu.Unlock()
-	if group.IsValid() && a.of[group] >= mostOfAddress {
+	if group.IsValid() && a.of[group] >= maxOfAddress {
 		return false
 	}
 	a.of[group]++
@@ -67,7 +67,7 @@ func clientsAt(address string) (net.Listener, error) {
 	if err != nil {
 		return nil, err
 	}
-	return bounded{clients, make(chan struct{}, mostConnections), &addresses{of: map[netip.Prefix]int{}}}, nil
+	return bounded{clients, make(chan struct{}, maxConnections), &addresses{of: map[netip.Prefix]int{}}}, nil
 }
 
 func (b bounded) Accept() (net.Conn, error) {

@@ -20,8 +20,9 @@ import (
 	"wagtenib/internal/trial"
 )
 
-// replying is an end at which each connection has its lines answered by these replies in their order; gone has one for each connection that its asker closed.
-func replying(t *testing.T, replies ...string) (open func(context.Context) (*End, error), gone chan error) {
+// replying returns a function that opens a peer, which answers the lines of each connection with these replies in their
+// order. gone has a value for each connection that its client closed.
+func replying(t *testing.T, replies ...string) (open func(context.Context) (*Peer, error), gone chan error) {
 	path := filepath.Join(t.TempDir(), "socket")
 	listener, err := net.Listen("unix", path)
 	must(t, err)
@@ -44,17 +45,17 @@ func replying(t *testing.T, replies ...string) (open func(context.Context) (*End
 			connection.Close()
 		}
 	}()
-	return func(ctx context.Context) (*End, error) { return Dial(ctx, path) }, gone
+	return func(ctx context.Context) (*Peer, error) { return Dial(ctx, path) }, gone
 }
 
-// opened is what a signer replies to who opens it.
+// opened returns a signer's reply to the first request.
 func opened(t *testing.T, key *Key) string {
 	line, err := json.Marshal(reply{Key: key.Key(), Guarded: true})
 	must(t, err)
 	return string(line)
 }
 
-// TestWrongReplies: what another process replies that has no key, no head or no reply in it is an error, by its kind, and the connection is closed where it isn't asked on.
+// TestWrongReplies: a reply without a key, a head or JSON is an error of its kind, and the connection is closed.
 func TestWrongReplies(t *testing.T) {
 	t.Parallel()
 	ctx, key := limited(t), newKey(t)
@@ -72,7 +73,7 @@ func TestWrongReplies(t *testing.T) {
 		"a head":                     {[]string{opened(t, key), `{"last":null}`}, nil, false},
 	} {
 		open, gone := replying(t, of.replies...)
-		c, err := Ask(ctx, open, trial.Longest)
+		c, err := NewClient(ctx, open, trial.Longest)
 		if !errors.Is(err, of.kind) || (c == nil) != (err != nil) {
 			t.Errorf("%s: %v", what, err)
 		}
@@ -89,14 +90,14 @@ func TestWrongReplies(t *testing.T) {
 	}
 }
 
-// TestOtherKeyIsClosed: a signer that comes back with another key isn't kept open, since nothing is asked of it.
+// TestOtherKeyIsClosed: the connection to a signer that has another key than before is closed.
 func TestOtherKeyIsClosed(t *testing.T) {
 	t.Parallel()
 	ctx, first, other := limited(t), newKey(t), newKey(t)
 	right, _ := replying(t, opened(t, first), `{"last":null}`)
 	wrong, gone := replying(t, opened(t, other))
 	opens := 0
-	c, err := Ask(ctx, func(ctx context.Context) (*End, error) {
+	c, err := NewClient(ctx, func(ctx context.Context) (*Peer, error) {
 		if opens++; opens > 1 {
 			return wrong(ctx)
 		}
@@ -114,18 +115,18 @@ func TestOtherKeyIsClosed(t *testing.T) {
 	}
 }
 
-// TestManyReceipts asks for more timestamps than one line may: each is signed, in its order.
+// TestManyReceipts asks for more timestamps than one request may have. Each is signed, in the same order.
 func TestManyReceipts(t *testing.T) {
 	t.Parallel()
 	ctx, key, path := limited(t), newKey(t), filepath.Join(t.TempDir(), "socket")
 	listener, err := listenAt(path)
 	must(t, err)
 	defer listener.Close()
-	go func() { _ = newClients().serve(ctx, key, listener) }()
-	c, err := Ask(ctx, func(ctx context.Context) (*End, error) { return Dial(ctx, path) }, trial.Longest)
+	go func() { _ = newServer().serve(ctx, key, listener) }()
+	c, err := NewClient(ctx, func(ctx context.Context) (*Peer, error) { return Dial(ctx, path) }, trial.Longest)
 	must(t, err)
 	defer c.Close()
-	receipts := make([]Receipt, MostReceipts+2)
+	receipts := make([]Receipt, MaxReceipts+2)
 	for i := range receipts {
 		receipts[i].Leaf = leaf(fmt.Sprint(i))
 	}
@@ -133,7 +134,7 @@ func TestManyReceipts(t *testing.T) {
 	if err != nil || len(signatures) != len(receipts) {
 		t.Fatalf("%d signatures, %v", len(signatures), err)
 	}
-	for _, i := range []int{0, 1, MostReceipts - 1, MostReceipts, MostReceipts + 1} {
+	for _, i := range []int{0, 1, MaxReceipts - 1, MaxReceipts, MaxReceipts + 1} {
 		if err := Check(key.Key(), receipts[i].Leaf, signatures[i]); err != nil {
 			t.Errorf("timestamp %d: %v", i, err)
 		}
@@ -143,15 +144,15 @@ func TestManyReceipts(t *testing.T) {
 	}
 }
 
-// TestLongRequest: a line that is longer than a signer takes isn't sent, and the connection stays.
+// TestLongRequest: a request that is longer than MaxLine is not sent, and the connection stays open.
 func TestLongRequest(t *testing.T) {
 	ctx, key := limited(t), newKey(t)
 	open, _ := replying(t, opened(t, key), `{"last":null}`, `{"last":null}`)
-	c, err := Ask(ctx, open, trial.Longest)
+	c, err := NewClient(ctx, open, trial.Longest)
 	must(t, err)
 	defer c.Close()
-	// (in base64 it has MostLine bytes)
-	if _, err := c.SignTimestamps(ctx, []Receipt{{Leaf: make([]byte, MostLine/4*3)}}); !errors.Is(err, ErrReply) {
+	// The leaf has MaxLine bytes in base64.
+	if _, err := c.SignTimestamps(ctx, []Receipt{{Leaf: make([]byte, MaxLine/4*3)}}); !errors.Is(err, ErrReply) {
 		t.Error(err)
 	}
 	if _, err := c.Last(ctx); err != nil || c.Starts() != 1 {
@@ -159,19 +160,19 @@ func TestLongRequest(t *testing.T) {
 	}
 }
 
-// TestFaultByLines: a refusal comes through with the fault that the guard named.
-func TestFaultByLines(t *testing.T) {
+// TestRefusalThroughASocket: a refusal keeps its name and the guard's fault.
+func TestRefusalThroughASocket(t *testing.T) {
 	t.Parallel()
 	ctx, key, path := limited(t), newKey(t), filepath.Join(t.TempDir(), "socket")
 	listener, err := listenAt(path)
 	must(t, err)
 	defer listener.Close()
 	why := Refusal{"inconsistent", "too-few"}
-	go func() { _ = newClients().serve(ctx, unable{key, fmt.Errorf("x: %w", why)}, listener) }()
-	c, err := Ask(ctx, func(ctx context.Context) (*End, error) { return Dial(ctx, path) }, trial.Longest)
+	go func() { _ = newServer().serve(ctx, unable{key, fmt.Errorf("x: %w", why)}, listener) }()
+	c, err := NewClient(ctx, func(ctx context.Context) (*Peer, error) { return Dial(ctx, path) }, trial.Longest)
 	must(t, err)
 	defer c.Close()
-	_, err = c.SignHead(ctx, Head{Size: 1, Moment: 1}, nil)
+	_, err = c.SignHead(ctx, Head{Size: 1, Timestamp: 1}, nil)
 	var came Refusal
 	if !errors.As(err, &came) || came != why || err.Error() != "signer: refused: inconsistent (too-few)" {
 		t.Errorf("%v", err)
@@ -181,20 +182,21 @@ func TestFaultByLines(t *testing.T) {
 	}
 }
 
-// TestServeState: who starts a signer without a state is told so at its first line, and nothing is said to one that goes before it asks.
+// TestServeState: the reason why a signer cannot start is the reply to the first request. Without a request nothing is
+// written.
 func TestServeState(t *testing.T) {
 	t.Parallel()
-	var told strings.Builder
+	var output strings.Builder
 	why := fmt.Errorf("%w: there is none", ErrState)
-	must(t, ServeState(why, strings.NewReader("{\"open\":true}\n{\"last\":true}\n"), &told))
+	must(t, ServeState(why, strings.NewReader("{\"open\":true}\n{\"last\":true}\n"), &output))
 	var came reply
-	must(t, json.Unmarshal([]byte(told.String()), &came))
-	if !came.Bad || came.Failed != why.Error() || strings.Count(told.String(), "\n") != 1 || !strings.HasSuffix(told.String(), "\n") {
-		t.Errorf("%q", told.String())
+	must(t, json.Unmarshal([]byte(output.String()), &came))
+	if !came.BadState || came.Failed != why.Error() || strings.Count(output.String(), "\n") != 1 || !strings.HasSuffix(output.String(), "\n") {
+		t.Errorf("%q", output.String())
 	}
-	told.Reset()
-	if err := ServeState(why, strings.NewReader(""), &told); !errors.Is(err, io.EOF) || told.Len() != 0 {
-		t.Errorf("%v, %q", err, told.String())
+	output.Reset()
+	if err := ServeState(why, strings.NewReader(""), &output); !errors.Is(err, io.EOF) || output.Len() != 0 {
+		t.Errorf("%v, %q", err, output.String())
 	}
 	broken := errors.New("the pipe is broken")
 	if err := ServeState(why, strings.NewReader("{}\n"), failingWriter{broken}); !errors.Is(err, broken) {
@@ -207,7 +209,7 @@ type failingWriter struct{ why error }
 
 func (w failingWriter) Write([]byte) (int, error) { return 0, w.why }
 
-// TestServeFails: a signer ends where lines can't be read or replies not be written, and tells why.
+// TestServeFails: Serve returns the error if reading or writing fails.
 func TestServeFails(t *testing.T) {
 	t.Parallel()
 	broken, key := errors.New("the pipe is broken"), newKey(t)
@@ -236,11 +238,12 @@ func (d *deadlines) SetWriteDeadline(at time.Time) error {
 	return nil
 }
 
-// TestDeadlines: a line that was begun has its time, of which more bytes of it give it no more; a reply has its own, and behind it the next line may take as long as it likes to begin.
+// TestDeadlines: a request that has begun has a deadline, which more bytes do not move. A reply has a deadline too.
+// After it, the next request may begin at any time.
 func TestDeadlines(t *testing.T) {
 	t.Parallel()
 	began, of := time.Now(), &deadlines{}
-	c := &client{Conn: of, since: began.Add(-time.Hour), within: time.Minute}
+	c := &serverConn{Conn: of, since: began.Add(-time.Hour), timeout: time.Minute}
 	bounded := func(at time.Time) bool { return !at.Before(began.Add(time.Minute)) && at.Before(began.Add(time.Hour)) }
 	for i := 0; i < 3; i++ {
 		_, err := c.Read(make([]byte, 1))
@@ -250,7 +253,7 @@ func TestDeadlines(t *testing.T) {
 		t.Errorf("a line has %v from %v on", of.reads, began)
 	}
 	if _, idle := c.idle(); idle {
-		t.Error("who has begun a line asks nothing")
+		t.Error("a connection with a request that has begun is idle")
 	}
 	_, err := c.Write([]byte("{}\n"))
 	must(t, err)
@@ -258,17 +261,17 @@ func TestDeadlines(t *testing.T) {
 		t.Errorf("a reply has %v from %v on", of.writes, began)
 	}
 	if len(of.reads) != 2 || !of.reads[1].IsZero() {
-		t.Errorf("behind a reply the next line has %v", of.reads)
+		t.Errorf("after a reply the next request has the deadlines %v", of.reads)
 	}
 	if since, idle := c.idle(); !idle || since.Before(began) {
-		t.Errorf("behind a reply nothing is asked since %v, %v", since, idle)
+		t.Errorf("after a reply the connection is idle since %v, %v", since, idle)
 	}
 }
 
-// TestLeaving: who has gone is none of those who are served.
-func TestLeaving(t *testing.T) {
+// TestRemovesClosedConnections: a connection that its client closed is removed, and its slot is free.
+func TestRemovesClosedConnections(t *testing.T) {
 	t.Parallel()
-	ctx, path, all := limited(t), filepath.Join(t.TempDir(), "socket"), newClients()
+	ctx, path, all := limited(t), filepath.Join(t.TempDir(), "socket"), newServer()
 	listener, err := listenAt(path)
 	must(t, err)
 	defer listener.Close()
@@ -277,7 +280,7 @@ func TestLeaving(t *testing.T) {
 		t.Helper()
 		for found := -1; found != count; time.Sleep(time.Millisecond) {
 			all.mu.Lock()
-			found = len(all.there)
+			found = len(all.open)
 			all.mu.Unlock()
 			if ctx.Err() != nil {
 				t.Fatalf("%d are served, and %d are there", found, count)
@@ -295,35 +298,35 @@ func TestLeaving(t *testing.T) {
 		must(t, connection.Close())
 	}
 	there(0)
-	if len(all.room) != 0 {
-		t.Errorf("%d hold room", len(all.room))
+	if len(all.slots) != 0 {
+		t.Errorf("%d hold room", len(all.slots))
 	}
 }
 
-// TestThereIsHeld: who comes is put among those who are there by one at a time.
-func TestThereIsHeld(t *testing.T) {
+// TestAdmitsUnderTheLock: a connection is added to the server only by a goroutine that holds its mutex.
+func TestAdmitsUnderTheLock(t *testing.T) {
 	t.Parallel()
-	ctx, all := limited(t), newClients()
+	ctx, all := limited(t), newServer()
 	all.mu.Lock()
 	took := make(chan bool, 1)
-	go func() { took <- all.take(ctx, &client{}) }()
-	for len(all.room) == 0 && ctx.Err() == nil {
+	go func() { took <- all.admit(ctx, &serverConn{}) }()
+	for len(all.slots) == 0 && ctx.Err() == nil {
 		runtime.Gosched()
 	}
 	for i := 0; i < 1000; i++ {
-		if len(all.there) != 0 {
+		if len(all.open) != 0 {
 			t.Error("one is there, and the list is another's")
 			break
 		}
 		runtime.Gosched()
 	}
 	all.mu.Unlock()
-	if !<-took || len(all.there) != 1 {
-		t.Errorf("%d are there", len(all.there))
+	if !<-took || len(all.open) != 1 {
+		t.Errorf("%d are there", len(all.open))
 	}
 }
 
-// TestListenFails: a socket that can't have its name isn't listened at, and nothing of it is left.
+// TestListenFails: if a socket cannot be created, nothing listens and no file is left.
 func TestListenFails(t *testing.T) {
 	t.Parallel()
 	folder := t.TempDir()
@@ -339,7 +342,7 @@ func TestListenFails(t *testing.T) {
 	}
 }
 
-// TestListenEnds: a signer at a socket ends with its context, and where its socket can't be made it doesn't begin; what it made by then is gone.
+// TestListenEnds: Listen returns after its context ended, or if its socket cannot be created.
 func TestListenEnds(t *testing.T) {
 	t.Parallel()
 	folder := t.TempDir()
@@ -358,7 +361,7 @@ func TestListenEnds(t *testing.T) {
 	case err := <-done:
 		wants(t, err, net.ErrClosed)
 	case <-limited(t).Done():
-		t.Error("it goes on behind the end of its context")
+		t.Error("it still listens after its context ended")
 	}
 	if err := Listen(limited(t), newKey(t), filepath.Join(folder, "nowhere", "socket")); !errors.Is(err, os.ErrNotExist) {
 		t.Error(err)

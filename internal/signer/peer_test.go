@@ -21,17 +21,18 @@ import (
 )
 
 // script starts a shell's lines.
-func script(t *testing.T, lines string, environment ...string) *End {
+func script(t *testing.T, lines string, environment ...string) *Peer {
 	e, err := Start([]string{"sh", "-c", lines}, environment...)
 	must(t, err)
 	t.Cleanup(func() { e.Close() })
 	return e
 }
 
-// TestReadLine: a line has at most so many bytes with its end, in however many parts it comes, and one without an end is none.
+// TestReadLine reads lines in parts of several sizes. A line without a line end is none, and so is one that is too
+// long.
 func TestReadLine(t *testing.T) {
 	t.Parallel()
-	most := strings.Repeat("x", MostLine-1)
+	most := strings.Repeat("x", MaxLine-1)
 	for _, of := range []struct {
 		text, line string
 		err        error
@@ -54,16 +55,16 @@ func TestReadLine(t *testing.T) {
 	}
 }
 
-// TestSaid: of what a process says on standard error the last is kept, however it says it, and stands in the error.
-func TestSaid(t *testing.T) {
+// TestKeepsStandardError: the last bytes of a process's standard error are kept, and the error contains them.
+func TestKeepsStandardError(t *testing.T) {
 	t.Parallel()
-	said := &last{}
+	said := &tail{}
 	for _, part := range []string{strings.Repeat("a", 300), strings.Repeat("b", 300), "the end"} {
 		if n, err := said.Write([]byte(part)); n != len(part) || err != nil {
 			t.Errorf("%d, %v", n, err)
 		}
 	}
-	if text := string(said.bytes); len(text) != mostSaid || !strings.HasSuffix(text, strings.Repeat("b", 300)+"the end") || !strings.HasPrefix(text, "a") {
+	if text := string(said.bytes); len(text) != maxStderr || !strings.HasSuffix(text, strings.Repeat("b", 300)+"the end") || !strings.HasPrefix(text, "a") {
 		t.Errorf("%d bytes: %q", len(text), text)
 	}
 	e := script(t, "read x; for i in 1 2 3 4 5 6 7 8 9 10; do printf '%0100d' 0 >&2; done; echo why it ends >&2; exit 1")
@@ -72,7 +73,7 @@ func TestSaid(t *testing.T) {
 	}
 }
 
-// TestEnvironment: a process has this one's environment, and what is added.
+// TestEnvironment: a process has this one's environment and the added variables.
 func TestEnvironment(t *testing.T) {
 	t.Setenv("PIPE_OWN", "own")
 	for _, of := range []struct {
@@ -87,7 +88,7 @@ func TestEnvironment(t *testing.T) {
 	}
 }
 
-// TestNoProgram: what can't be started is a process that is gone, and so is a socket that isn't there.
+// TestNoProgram: a program that cannot be started is ErrGone, and a missing socket is too.
 func TestNoProgram(t *testing.T) {
 	t.Parallel()
 	for _, words := range [][]string{nil, {"/nowhere/is"}, {filepath.Join(t.TempDir(), "nothing")}} {
@@ -101,7 +102,7 @@ func TestNoProgram(t *testing.T) {
 // alive says whether a process runs.
 func alive(pid int) bool { return syscall.Kill(pid, 0) == nil }
 
-// TestCloseKills: a process ends with its end, whatever signals it ignores, and so does what it started.
+// TestCloseKills: Close ends a process and its children, even if they ignore signals.
 func TestCloseKills(t *testing.T) {
 	t.Parallel()
 	e, err := Start([]string{"sh", "-c", "trap '' TERM HUP INT; read -r x; sleep 600 & echo $$ $!; while :; do wait; done"})
@@ -143,7 +144,7 @@ func TestCloseKills(t *testing.T) {
 	}
 }
 
-// TestUnreadLines: who replies without having read what it is asked has replied to something else.
+// TestUnreadLines: a reply from a process that has not read the whole request is an error.
 func TestUnreadLines(t *testing.T) {
 	t.Parallel()
 	e := script(t, "head -c 1 >/dev/null; exec <&-; echo yes; exec sleep 600")
@@ -152,7 +153,7 @@ func TestUnreadLines(t *testing.T) {
 	}
 }
 
-// TestDialCloses: an end at a socket is closed behind an error, and by Close.
+// TestDialCloses: a peer at a socket is closed after an error, and by Close.
 func TestDialCloses(t *testing.T) {
 	t.Parallel()
 	path := filepath.Join(t.TempDir(), "socket")
@@ -183,17 +184,18 @@ func TestDialCloses(t *testing.T) {
 	ended, cancel := context.WithCancel(context.Background())
 	cancel()
 	if _, err = e.exchange(ended, trial.Longest, []byte("x\n")); !errors.Is(err, ErrGone) || !strings.Contains(err.Error(), context.Canceled.Error()) {
-		t.Errorf("who is gone: %v", err)
+		t.Errorf("a context that has ended: %v", err)
 	}
-	waits("behind an error")
+	waits("after an error")
 	e, err = Dial(limited(t), path)
 	must(t, err)
 	e.Close()
-	waits("behind Close")
+	waits("after Close")
 }
 
-// TestWaiting: who waits for another's exchange goes with its context; a reply that doesn't come in time is told with its limit; behind Close the next exchange opens
-// an end anew, and where none can be opened the one behind that does.
+// TestWaiting: a caller that waits for another caller's exchange leaves if its context ends. A reply that does not come
+// in time is an error that names the limit. After Close the next exchange opens a peer again, and if that fails the one
+// after it does.
 func TestWaiting(t *testing.T) {
 	t.Parallel()
 	c := newAsker(cat, 50*time.Millisecond)
@@ -210,14 +212,14 @@ func TestWaiting(t *testing.T) {
 	case err := <-came:
 		wants(t, err, ErrGone)
 	case <-limited(t).Done():
-		t.Error("who is gone waits")
+		t.Error("a caller whose context has ended waits")
 	}
 	c.turn <- e
 	if _, err := said(c, limited(t), "half a line"); !errors.Is(err, ErrGone) || !strings.Contains(err.Error(), "none in 50ms") {
 		t.Errorf("no reply: %v", err)
 	}
 	fails, opens := errors.New("it isn't there"), 0
-	c = newAsker(func(ctx context.Context) (*End, error) {
+	c = newAsker(func(ctx context.Context) (*Peer, error) {
 		if opens++; opens == 1 {
 			return nil, fails
 		}
@@ -241,7 +243,7 @@ func TestWaiting(t *testing.T) {
 // TestClientCloses: a process ends with the client that asks it, and the next exchange starts another one.
 func TestClientCloses(t *testing.T) {
 	t.Parallel()
-	c := newAsker(func(context.Context) (*End, error) {
+	c := newAsker(func(context.Context) (*Peer, error) {
 		return Start([]string{"sh", "-c", "while read -r x; do echo $$; done"})
 	}, trial.Longest)
 	for i := 0; i < 2; i++ {
@@ -261,7 +263,7 @@ func TestClientCloses(t *testing.T) {
 	}
 }
 
-// TestOwnGroup: what a terminal sends to this process's group doesn't reach the other end.
+// TestOwnGroup: a process has a group of its own, so a terminal's signals to this process's group do not reach it.
 func TestOwnGroup(t *testing.T) {
 	t.Parallel()
 	e := script(t, "read -r x; echo $$; exec sleep 600")
@@ -271,20 +273,20 @@ func TestOwnGroup(t *testing.T) {
 	must(t, err)
 	if group, err := syscall.Getpgid(pid); err != nil || group != pid {
 		t.Errorf("process %d is of the group %d, %v", pid, group, err)
-		// (which its end wouldn't reach)
+		// Close would not reach it.
 		_ = syscall.Kill(pid, syscall.SIGKILL)
 	}
 }
 
-// TestWidth: both pipes of a process hold a long line at once.
-func TestWidth(t *testing.T) {
+// TestPipeSize: both pipes of a process hold a long line at once.
+func TestPipeSize(t *testing.T) {
 	e, err := cat(limited(t))
 	trial.Must(t, err)
 	defer e.Close()
 	raw, err := e.in.(syscall.Conn).SyscallConn()
 	trial.Must(t, err)
 	trial.Must(t, raw.Control(func(of uintptr) {
-		if holds, err := unix.FcntlInt(of, unix.F_GETPIPE_SZ, 0); err != nil || holds != width {
+		if holds, err := unix.FcntlInt(of, unix.F_GETPIPE_SZ, 0); err != nil || holds != pipeSize {
 			t.Errorf("a pipe holds %d bytes, %v", holds, err)
 		}
 	}))
@@ -293,10 +295,10 @@ func TestWidth(t *testing.T) {
 	trial.Must(t, err)
 	defer seen.Close()
 	reply, err := seen.exchange(limited(t), trial.Longest, []byte("\n"))
-	if want := fmt.Sprintf("%d %d", width, width); err != nil || string(reply) != want {
+	if want := fmt.Sprintf("%d %d", pipeSize, pipeSize); err != nil || string(reply) != want {
 		t.Errorf("its pipes hold %q bytes, and not %s: %v", reply, want, err)
 	}
-	// (what isn't a pipe stays as it is)
-	widen(nil)
-	widen(&last{})
+	// A value that is not a pipe stays as it is.
+	growPipe(nil)
+	growPipe(&tail{})
 }

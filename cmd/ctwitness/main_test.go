@@ -269,7 +269,7 @@ func TestVerifierKey(t *testing.T) {
 		t.Errorf("%s: %v", &out, err)
 	}
 	out.Reset()
-	if status := run([]string{"--version"}, &out, io.Discard, nil); status != 0 || !strings.HasPrefix(out.String(), "ctwitness-serve ") {
+	if status := run([]string{"--version"}, &out, io.Discard, nil); status != 0 || !strings.HasPrefix(out.String(), "ctwitness ") {
 		t.Errorf("%d %s", status, &out)
 	}
 }

@@ -119,7 +119,7 @@ func TestOneHost(t *testing.T) {
 		return err == nil && unread == nil && strings.Contains(said, "200")
 	}
 	var idle []net.Conn
-	for i := 0; i < mostOfAddress; i++ {
+	for i := 0; i < maxOfAddress; i++ {
 		idle = append(idle, from(2))
 	}
 	for i := 0; i < 3; i++ {
@@ -142,7 +142,7 @@ func TestGroups(t *testing.T) {
 	}
 	a := &addresses{of: map[netip.Prefix]int{}}
 	for _, proxy := range []string{"127.0.0.1:1", "[::1]:1"} {
-		for i := 0; i < 2*mostOfAddress; i++ {
+		for i := 0; i < 2*maxOfAddress; i++ {
 			if !a.take(of(proxy)) {
 				t.Fatalf("%s has a bound", proxy)
 			}
@@ -155,7 +155,7 @@ func TestClientsAt(t *testing.T) {
 	listener, err := clientsAt("127.0.0.1:0")
 	must(t, err)
 	defer listener.Close()
-	if of, is := listener.(bounded); !is || cap(of.room) != mostConnections {
+	if of, is := listener.(bounded); !is || cap(of.room) != maxConnections {
 		t.Errorf("%T", listener)
 	}
 	if _, err := clientsAt(listener.Addr().String()); err == nil {
@@ -275,7 +275,7 @@ func TestServerOf(t *testing.T) {
 	server.Config = s
 	server.Start()
 	defer server.Close()
-	for length, status := range map[int]int{mostHeader / 2: 404, 2 * mostHeader: 431} {
+	for length, status := range map[int]int{maxHeader / 2: 404, 2 * maxHeader: 431} {
 		q, err := http.NewRequest("POST", server.URL+"/add-checkpoint", nil)
 		must(t, err)
 		q.Header.Set("X-Long", strings.Repeat("x", length))

@@ -1,0 +1,180 @@
+package signer
+
+import (
+	"context"
+	"encoding/json"
+	"fmt"
+	"time"
+)
+
+// Client is a Signer that asks a signer in another process.
+type Client struct {
+	asker   *asker
+	key     []byte
+	guarded bool
+}
+
+// NewClient returns a client of the signer that open (Start or Dial) finds. If the signer is opened again later, it must have the same key. The timeout is for
+// one request.
+func NewClient(ctx context.Context, open func(context.Context) (*Peer, error), timeout time.Duration) (*Client, error) {
+	c := &Client{}
+	c.asker = newAsker(func(ctx context.Context) (*Peer, error) {
+		peer, err := open(ctx)
+		if err != nil {
+			return nil, err
+		}
+		return c.accept(ctx, peer, timeout)
+	}, timeout)
+	// The first request opens the signer, so the key is known after it.
+	if _, err := c.Last(ctx); err != nil {
+		c.Close()
+		return nil, err
+	}
+	return c, nil
+}
+
+// accept returns the peer if it has a key, the same as before. Otherwise it closes the peer.
+func (c *Client) accept(ctx context.Context, peer *Peer, timeout time.Duration) (*Peer, error) {
+	text, err := peer.exchange(ctx, timeout, []byte("{\"open\":true}\n"))
+	if err != nil {
+		return nil, err
+	}
+	var opened reply
+	err = json.Unmarshal(text, &opened)
+	switch {
+	case opened.BadState:
+		err = fmt.Errorf("%w: %s", ErrState, opened.Failed)
+	case err != nil || len(opened.Key) == 0:
+		err = fmt.Errorf("%w: it has no key: %.200q", ErrReply, text)
+	case c.key != nil && string(c.key) != string(opened.Key):
+		err = fmt.Errorf("%w: the signer has another key than before", ErrKey)
+	case c.key != nil && c.guarded != opened.Guarded:
+		err = fmt.Errorf("%w: the signer has a guard and had none before, or the other way round", ErrKey)
+	}
+	if err != nil {
+		peer.Close()
+		return nil, err
+	}
+	if c.key == nil {
+		c.key, c.guarded = opened.Key, opened.Guarded
+	}
+	return peer, nil
+}
+
+// Close ends the process, or closes the connection.
+func (c *Client) Close() error {
+	c.asker.close()
+	return nil
+}
+
+// Starts returns how many times the signer was started, or connected to.
+func (c *Client) Starts() uint64 { return c.asker.opens.Load() }
+
+// exchange sends a request, and has check read its reply.
+func (c *Client) exchange(ctx context.Context, req request, check func(reply) error) error {
+	line, err := json.Marshal(req)
+	if err != nil {
+		return fmt.Errorf("signer: %w", err)
+	}
+	return c.exchangeLine(ctx, line, check)
+}
+
+// exchangeLine sends a request's line, given without its line end, and has check read the reply.
+func (c *Client) exchangeLine(ctx context.Context, line []byte, check func(reply) error) error {
+	if len(line) >= MaxLine {
+		return fmt.Errorf("%w: the request has %d bytes, more than %d", ErrReply, len(line), MaxLine-1)
+	}
+	return c.asker.ask(ctx, append(line, '\n'), func(text []byte) error {
+		rep, err := readReply(text)
+		switch {
+		case err != nil:
+			return fmt.Errorf("%w: %v", ErrReply, err)
+		case rep.Refused != "":
+			return Refusal{rep.Refused, rep.Fault}
+		case rep.Moved:
+			return ErrMoved
+		case rep.BadState:
+			return fmt.Errorf("%w: %s", ErrState, rep.Failed)
+		case rep.Failed != "":
+			return fmt.Errorf("%w: %s", ErrGone, rep.Failed)
+		}
+		return check(rep)
+	})
+}
+
+// Key returns the log's public key, as Signer says.
+func (c *Client) Key() []byte { return append([]byte{}, c.key...) }
+
+// IsGuarded reports whether the signer has a guard.
+func (c *Client) IsGuarded() bool { return c.guarded }
+
+// Last returns the head that the guard approved last, as Signer says.
+func (c *Client) Last(ctx context.Context) (*Head, error) {
+	var last *Head
+	err := c.exchange(ctx, request{Last: true}, func(rep reply) (err error) {
+		if last, err = rep.Last.head(); err != nil {
+			return fmt.Errorf("%w: %v", ErrReply, err)
+		}
+		return nil
+	})
+	if err != nil {
+		return nil, err
+	}
+	return last, nil
+}
+
+// SignHead returns the signature of a head, as Signer says.
+func (c *Client) SignHead(ctx context.Context, head Head, consistency [][32]byte) ([]byte, error) {
+	var signature []byte
+	req := request{Head: headLineOf(&head), Consistency: hashBytes(consistency)}
+	err := c.exchange(ctx, req, func(rep reply) error {
+		if err := c.checkSignatures(ctx, rep.Signatures, [][]byte{head.message()}); err != nil {
+			return err
+		}
+		signature = rep.Signatures[0]
+		return nil
+	})
+	if err != nil {
+		return nil, err
+	}
+	return signature, nil
+}
+
+// checkSignatures reports whether there is one signature of the key for each message. The other process is not trusted.
+func (c *Client) checkSignatures(ctx context.Context, signatures, messages [][]byte) error {
+	if len(signatures) != len(messages) {
+		return fmt.Errorf("%w: it has %d signatures instead of %d", ErrReply, len(signatures), len(messages))
+	}
+	public, err := parsePublicKey(c.key)
+	if err != nil {
+		return err
+	}
+	return inParallel(ctx, len(messages), func(at int) error {
+		if err := check(public, messages[at], signatures[at]); err != nil {
+			return fmt.Errorf("%w: %v", ErrReply, err)
+		}
+		return nil
+	})
+}
+
+// SignTimestamps returns the signatures of timestamps, as Signer says. It asks for at most MaxReceipts at once.
+func (c *Client) SignTimestamps(ctx context.Context, receipts []Receipt) (signatures [][]byte, err error) {
+	for len(receipts) > 0 {
+		part := receipts[:min(len(receipts), MaxReceipts)]
+		receipts = receipts[len(part):]
+		var messages [][]byte
+		for _, receipt := range part {
+			messages = append(messages, receipt.Leaf)
+		}
+		var signed [][]byte
+		err := c.exchangeLine(ctx, appendReceipts(nil, part), func(rep reply) error {
+			signed = rep.Signatures
+			return c.checkSignatures(ctx, signed, messages)
+		})
+		if err != nil {
+			return nil, err
+		}
+		signatures = append(signatures, signed...)
+	}
+	return signatures, nil
+}
