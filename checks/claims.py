@@ -62,7 +62,7 @@ CLAIMS = [
             "The first state is that of known entries (`IsFirstState`, `IsLog`).",
             "For the heads: a guard allowed each head, one after the other, and a node asked for the newest one (`AreHeadSteps`, `NewestIsAsked`).",
             "For identities: each step was preceded by a look into the index, and the index missed nothing that was added before.",
-            "Nothing is rolled back. The world of the law has no event that does it, so a restored lock is outside of the law.",
+            "Nothing is rolled back. The world of the law has no event that does it. A restored lock is the subject of a claim of its own (fallen-lock).",
             "No premise says that SHA-256 has no collisions. Instead, the law ends in two different strings with one digest. Each of them is in S, or is hashed for a line of the log"
             " while it grows: over its partial tiles, or its partial data tile (`IsHashedBySteps`).",
         ],
@@ -94,6 +94,26 @@ CLAIMS = [
             Contract("libwagtenib/src/guard_laws.rt", "signed_by_calls_agree", [], "If each head is that of some list, these lists are beginnings of one list."),
             Contract("libwagtenib/src/guard_laws.rt", "receipts_stand_in_the_newest", [], "The leaf of each receipt is in the newest head's list, at its index."),
             Contract("libwagtenib/src/guard_laws.rt", "receipts_are_no_heads", [], "No receipt has the bytes of a head."),
+        ],
+    ),
+    Claim(
+        "fallen-lock",
+        "What a node signs over a lock that falls",
+        "A lock may hold any earlier text again, or any other text, at any time. Take everything that one node accepted, and everything that it had signed. If the newest head that it accepted is the head of a list"
+        " of leaves, each of these heads that has leaves is the head of a beginning of this list, and the leaves of each step whose receipts were signed are in the list at their indexes."
+        " Otherwise two of the strings that were hashed have one digest.",
+        [
+            "The node accepts a head only after `wagtenib_node_accept` returned 0 for it, over the newest head that it accepted before (`AreActs`).",
+            "The node has a head signed only if it is the newest that it accepted, and receipts only after `wagtenib_guard_receipts` returned 0 for them over that head's state (`AreActs`).",
+            "The node's memory keeps the newest accepted head. A node that accepted nothing newer than a fallen text is not protected by this law.",
+            "The newest accepted head is that of some list of leaves.",
+            HASHES + " " + COLLISION,
+        ],
+        [
+            Contract("libwagtenib/src/guard.rt", "wagtenib_node_accept", [], "What one call decides: the head is accepted after the accepted one, or the first reason why it is not."),
+            Contract("libwagtenib/src/guard.rt", "wagtenib_guard_receipts", [], "The receipts of a step are signed only if its leaves end the tree of the last signed head."),
+            Contract("libwagtenib/src/accept_laws.rt", "accepted_by_calls_are_steps", [], "The accepted heads were accepted one after the other, whatever the lock held."),
+            Contract("libwagtenib/src/accept_laws.rt", "acts_by_calls_are_of_one_log", [], "All accepted heads, signed heads and signed receipts belong to the newest head's list."),
         ],
     ),
     Claim(

@@ -5,8 +5,7 @@ use Rattle.ct_gate.specs.Seats.{FrontTickets, SeatView}
 use Rattle.ct_gate.specs.Ends.{IntakeView}
 use Rattle.ct_gate.specs.Opening.{view_of_fronts}
 
--- two views joined: the fronts, the knowledge of a shutdown and the refused draws of both; whether it is the shutter's, and its accepted
--- count, are the first view's
+-- the fronts of both views; whether it is the shutter's, and its accepted count, are the first view's
 abbrev pub gathered : SeatView → SeatView → SeatView
 gathered v w =
     record {
