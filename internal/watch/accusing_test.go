@@ -269,10 +269,10 @@ func TestLateByTheMaximumMergeDelay(t *testing.T) {
 func TestAccusesDamagedTile(t *testing.T) {
 	s := newScene(t, "tiled", 0)
 	grow(s.log, 500)
-	var damaged atomic.Bool
-	damaged.Store(true)
+	var damage atomic.Value // the certificate in the place of the log's
 	s.log.Intercept(func(w http.ResponseWriter, r *http.Request) bool {
-		if !damaged.Load() || r.URL.Path != "/tile/data/002" {
+		certificate := damage.Load().(string)
+		if certificate == "" || r.URL.Path != "/tile/data/002" {
 			return false
 		}
 		other := s.log.Fork(512)
@@ -280,21 +280,31 @@ func TestAccusesDamagedTile(t *testing.T) {
 		recorded := httptest.NewRecorder()
 		forged := other.Fork(512)
 		entries := entriesOf(512, 256)
-		entries[17].Certificate = []byte("forged")
+		entries[17].Certificate = []byte(certificate)
 		forged.Add(entries...)
 		forged.Publish(768, begun+800_000)
 		forged.ServeHTTP(recorded, httptest.NewRequest(http.MethodGet, "/tile/data/002", nil))
 		_, err := w.Write(recorded.Body.Bytes())
 		return err == nil
 	})
+	damage.Store("forged")
 	s.wantsAccused(t, watch.VerdictOtherRoot)
+	// What the log hands out in the second pass is searched too, although it is another lie.
+	damage.Store("another")
 	s.wantsAccused(t, watch.VerdictDamagedTile)
+	for _, certificate := range []string{"forged", "another"} {
+		if !slices.ContainsFunc(s.keeper.entries[s.of.ID], func(one watch.Entry) bool {
+			return one.Index == 529 && string(one.Certificate) == certificate
+		}) {
+			t.Errorf("the entry with the certificate %q was not searched", certificate)
+		}
+	}
 	wantsVerdicts(t, s.keeper, s.of.ID, watch.VerdictOtherRoot, watch.VerdictDamagedTile)
 	wantsShown(t, s.keeper, s.of)
 	if text := s.keeper.accused[s.of.ID][1].Text; !strings.Contains(text, "entry 529 ") {
 		t.Errorf("the evidence says %q", text)
 	}
-	damaged.Store(false)
+	damage.Store("")
 	if err := s.follower.Pass(context.Background()); err != nil {
 		t.Fatal(err)
 	}
