@@ -220,7 +220,8 @@ func TestFollowsAListThatChanges(t *testing.T) {
 	wantsEntries(t, k, b.ID, count(0, 20))
 }
 
-// holding is a keeper whose first call with entries goes on until the log is asked at its other address, or for a while.
+// holding is a keeper whose first call with entries goes on until the log is asked at its other address, or for a
+// while.
 type holding struct {
 	*keeper
 	held, asked chan struct{}
