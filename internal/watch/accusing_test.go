@@ -313,6 +313,41 @@ func TestAccusesDamagedTile(t *testing.T) {
 	}
 }
 
+// While the entries of a head cannot be read, the next head is compared with that one, and the evidence has it.
+func TestAccusesByTheHeadThatWaits(t *testing.T) {
+	for _, kind := range kinds {
+		for verdict, lie := range map[string]func(*testlog.Log){
+			watch.VerdictFork:     func(log *testlog.Log) { log.PublishRoot(320, begun+330_000, [32]byte{1}) },
+			watch.VerdictShrunk:   func(log *testlog.Log) { log.Publish(310, begun+330_000) },
+			watch.VerdictNotLater: func(log *testlog.Log) { log.Add(entriesOf(320, 1)...); log.Publish(321, begun+320_000) },
+		} {
+			t.Run(kind+" "+verdict, func(t *testing.T) {
+				s := newScene(t, kind, 0)
+				s.log.Intercept(func(w http.ResponseWriter, r *http.Request) bool {
+					isEntries := strings.Contains(r.URL.Path, "/data/") || strings.HasSuffix(r.URL.Path, "get-entries")
+					if isEntries {
+						w.WriteHeader(http.StatusForbidden)
+					}
+					return isEntries
+				})
+				grow(s.log, 20)
+				if err := s.follower.Pass(context.Background()); !errors.Is(err, logclient.ErrStatus) {
+					t.Fatal(err)
+				}
+				waiting := s.keeper.states[s.of.ID].Waiting
+				lie(s.log)
+				s.wantsAccused(t, verdict)
+				wantsVerdicts(t, s.keeper, s.of.ID, verdict)
+				if first := s.keeper.accused[s.of.ID][0].Files[watch.FileFirst]; waiting.TreeSize != 320 ||
+					!bytes.Equal(first, waiting.Signed) {
+					t.Errorf("the evidence has %q as the head that was known", first)
+				}
+				wantsShown(t, s.keeper, s.of)
+			})
+		}
+	}
+}
+
 // A head that the log's key did not sign is evidence, and no state follows from it.
 func TestAccusesOtherSigner(t *testing.T) {
 	for _, kind := range kinds {
