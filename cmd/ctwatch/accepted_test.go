@@ -1,6 +1,8 @@
 package main
 
 import (
+	"errors"
+	"io"
 	"os"
 	"path/filepath"
 	"strings"
@@ -8,6 +10,9 @@ import (
 
 	"golang.org/x/mod/sumdb/note"
 
+	"wagtenib/bindings/go/wagtenib"
+	"wagtenib/internal/watch"
+	"wagtenib/internal/web"
 	"wagtenib/internal/witness"
 )
 
@@ -40,5 +45,27 @@ func TestAcceptedFolder(t *testing.T) {
 	}
 	if content, err = os.ReadFile(path); err != nil || string(content) != string(accepted) {
 		t.Errorf("after a fork the file has %q: %v", content, err)
+	}
+}
+
+// failing is a keeper that keeps nothing.
+type failing struct{ watch.Keeper }
+
+func (failing) Keep(watch.Log, watch.State, []watch.Entry) error {
+	return errors.New("the disk is full")
+}
+
+// TestAcceptedFolderAfterTheStore: a head that the store does not keep is not shown to a witness.
+func TestAcceptedFolderAfterTheStore(t *testing.T) {
+	folder := filepath.Join(t.TempDir(), "accepted")
+	keeper, err := newAcceptedFolder(failing{}, folder, web.NewLines(io.Discard))
+	must(t, err)
+	log := watch.Log{ID: watch.LogID{1}, Origin: "log.example"}
+	head := watch.Head{TreeHead: wagtenib.TreeHead{TreeSize: 1, Timestamp: 1}, Signed: []byte("a checkpoint")}
+	if err := keeper.Keep(log, watch.State{Accepted: head}, nil); err == nil {
+		t.Error("the store's fault is not reported")
+	}
+	if files, err := os.ReadDir(folder); err != nil || len(files) != 0 {
+		t.Errorf("%v %v", files, err)
 	}
 }

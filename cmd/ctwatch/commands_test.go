@@ -5,11 +5,13 @@ import (
 	"context"
 	"encoding/base64"
 	"encoding/json"
+	"io"
 	"net/http"
 	"net/http/httptest"
 	"os"
 	"path/filepath"
 	"strings"
+	"sync/atomic"
 	"testing"
 	"time"
 
@@ -295,4 +297,61 @@ func TestRunUntilSignal(t *testing.T) {
 	if status := <-ended; status != 0 {
 		t.Errorf("status %d: %s", status, faults.String())
 	}
+}
+
+// TestSendsAtTheEnd: a run ends while a webhook has not answered. The alert is then sent again, and says so.
+func TestSendsAtTheEnd(t *testing.T) {
+	authority, posted := testcert.NewAuthority(t), make(chan alert.Alert, 10)
+	var hung atomic.Bool
+	hook := httptest.NewServer(http.HandlerFunc(func(_ http.ResponseWriter, r *http.Request) {
+		var one alert.Alert
+		if err := json.NewDecoder(r.Body).Decode(&one); err != nil {
+			t.Error(err)
+		}
+		posted <- one
+		if hung.CompareAndSwap(false, true) {
+			<-r.Context().Done()
+		}
+	}))
+	defer hook.Close()
+	log := serveLog(t, "a.example")
+	log.add(authority, authority.Issue("shop.example.org"))
+	ctx, stop := context.WithCancel(context.Background())
+	ended := make(chan int, 1)
+	words := []string{"run", "--from-start", "--name", "example.org", "--folder", t.TempDir(), "--log", log.setting(true),
+		"--listen=", "--webhook", hook.URL, "--quiet"}
+	go func() { ended <- run(ctx, words, io.Discard, io.Discard) }()
+	if first := <-posted; first.Again {
+		t.Errorf("the first one says again: %+v", first)
+	}
+	stop()
+	if status := <-ended; status != 0 {
+		t.Errorf("status %d", status)
+	}
+	if len(posted) != 1 {
+		t.Fatalf("%d alerts were sent at the end", len(posted))
+	}
+	if second := <-posted; !second.Again || second.ID != 1 {
+		t.Errorf("at the end came %+v", second)
+	}
+}
+
+// TestHealthOfAFailedOutput: the status of ctwatch health is 1 if alerts could not be sent, and 0 after they were.
+func TestHealthOfAFailedOutput(t *testing.T) {
+	folder := t.TempDir()
+	store, err := watchstore.Open(folder, watchstore.Options{})
+	must(t, err)
+	must(t, store.UseOutputs([]string{"mail a@b.c", "json x"}))
+	must(t, store.AlertList("it answers 503"))
+	store.Report(watch.Status{Log: watch.Log{ID: watch.LogID{1}, Name: "a log"}, Answered: time.Now()})
+	must(t, store.Failed("mail a@b.c", 1, context.DeadlineExceeded))
+	status, out, _ := ctwatch(t, "health", "--folder", folder)
+	if status != statusFault || out != "1 log; 1 alert NOT SENT: mail a@b.c\n" {
+		t.Errorf("status %d: %s", status, out)
+	}
+	must(t, store.Done("mail a@b.c", 1))
+	if status, out, _ = ctwatch(t, "health", "--folder", folder); status != 0 {
+		t.Errorf("status %d: %s", status, out)
+	}
+	must(t, store.Close())
 }

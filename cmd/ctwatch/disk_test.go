@@ -13,7 +13,7 @@ import (
 )
 
 // TestFullDiskLosesNoAlert runs the program on a disk that gets full while it reads a log: it says so by the store's
-// name. With room again it goes on, and each certificate has its alert, no one twice without the word "again".
+// name. With room again it goes on, and each certificate has its alert, and none twice without the word "again".
 func TestFullDiskLosesNoAlert(t *testing.T) {
 	t.Run("a small disk", func(t *testing.T) {
 		folder := t.TempDir()

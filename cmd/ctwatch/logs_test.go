@@ -4,6 +4,9 @@ import (
 	"errors"
 	"testing"
 	"time"
+
+	"wagtenib/internal/loglist"
+	"wagtenib/internal/watch"
 )
 
 // TestListSilence: a list that cannot be read for a day causes an alert, another one a day later, and none after it was
@@ -26,5 +29,19 @@ func TestListSilence(t *testing.T) {
 		if got := list.silence(now, 24*time.Hour); got != step.want {
 			t.Errorf("after %d hours: %q, and not %q", step.hours, got, step.want)
 		}
+	}
+}
+
+// TestLogsOfSettingsComeFirst: a log that the settings name and that is in the list is watched once, as the settings
+// have it.
+func TestLogsOfSettingsComeFirst(t *testing.T) {
+	named := watch.Log{ID: watch.LogID{1}, URL: "https://mine.example"}
+	listed := func(id byte, state string) loglist.Log {
+		return loglist.Log{Log: watch.Log{ID: watch.LogID{id}, URL: "https://listed.example", State: state}}
+	}
+	f := &follower{of: logSettings{only: []watch.Log{named}}}
+	logs := f.logsOf(loglist.List{Logs: []loglist.Log{listed(1, "usable"), listed(2, "usable"), listed(3, "rejected")}})
+	if len(logs) != 2 || logs[0].URL != named.URL || logs[1].ID != (watch.LogID{2}) {
+		t.Errorf("%+v", logs)
 	}
 }

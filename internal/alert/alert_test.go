@@ -6,6 +6,7 @@ import (
 	"context"
 	"encoding/json"
 	"errors"
+	"fmt"
 	"io"
 	"mime"
 	"mime/quotedprintable"
@@ -193,6 +194,62 @@ func TestCommandGetsVariables(t *testing.T) {
 		}
 		if files, err := os.ReadDir(folder); err != nil || len(files) != 3 {
 			t.Errorf("%v %v: a certificate ran something", files, err)
+		}
+	}
+}
+
+// TestCommandThatReadsNothing: a program that ends without its input, of more bytes than a pipe holds, took the alert.
+func TestCommandThatReadsNothing(t *testing.T) {
+	output, err := alert.NewCommand([]string{program(t, t.TempDir(), "tell", "exit 0")})
+	must(t, err)
+	large := certificateOf("a")
+	large.Certificate.Sightings = slices.Repeat(large.Certificate.Sightings, 10_000)
+	if sent, _, err := output.Send(context.Background(), []alert.Alert{large}); sent != 1 || err != nil {
+		t.Errorf("%d sent: %v", sent, err)
+	}
+}
+
+// TestManyMatchesDoNotStopAnOutput: a log can have a certificate with every watched name. Its alert is sent to a
+// command, whose variables have a bound in Linux, and it has a line and a mail that people can read.
+func TestManyMatchesDoNotStopAnOutput(t *testing.T) {
+	one := certificateOf("a")
+	one.Certificate.Matches = nil
+	for i := range 10_000 {
+		name := fmt.Sprintf("w%d.example.org", i)
+		one.Certificate.Matches = append(one.Certificate.Matches, alert.Match{Name: name, Place: "san", Proved: i%2 == 0,
+			Hosts: []string{strings.Repeat("long.", 70) + name}})
+	}
+	output, err := alert.NewCommand([]string{program(t, t.TempDir(), "tell", `test -n "$CTWATCH_HOSTS"`)})
+	must(t, err)
+	if sent, _, err := output.Send(context.Background(), []alert.Alert{one}); sent != 1 || err != nil {
+		t.Errorf("%d sent: %v", sent, err)
+	}
+	if line := alert.Line(one); len(line) > 10_000 || !strings.HasPrefix(line, "FOUND w0.example.org, w1.example.org, ") ||
+		!strings.Contains(line, "w19.example.org and 9980 more: ") || strings.Contains(line, "w20.") {
+		t.Errorf("the line has %d bytes: %.500s", len(line), line)
+	}
+	if text := alert.Paragraphs(one); len(text) > 40_000 || !strings.Contains(text, "More watched names:    9980\n") {
+		t.Errorf("the mail has %d bytes", len(text))
+	}
+}
+
+// TestEndsALineThatWasCutOff: after a kill in the middle of a line the next alert has a line of its own, and a whole
+// line gets no empty one after it.
+func TestEndsALineThatWasCutOff(t *testing.T) {
+	path := filepath.Join(t.TempDir(), "alerts")
+	for _, before := range []string{"", `{"id":6}` + "\n", `{"id":6,"ki`} {
+		must(t, os.WriteFile(path, []byte(before), 0o600))
+		output, file, err := alert.OpenJSON(path)
+		must(t, err)
+		if sent, _, err := output.Send(context.Background(), []alert.Alert{certificateOf("a")}); sent != 1 || err != nil {
+			t.Fatal(sent, err)
+		}
+		must(t, file.Close())
+		lines := strings.Split(read(t, filepath.Dir(path), "alerts"), "\n")
+		var one alert.Alert
+		if err := json.Unmarshal([]byte(lines[len(lines)-2]), &one); err != nil || one.ID != 7 ||
+			len(lines) != strings.Count(before+"x", "{")+2 || lines[len(lines)-1] != "" {
+			t.Errorf("after %q the file has the lines %q: %v", before, lines, err)
 		}
 	}
 }

@@ -96,12 +96,8 @@ func (c *Command) run(ctx context.Context, alert Alert) error {
 	command.WaitDelay = endTime
 	complaint := &bounded{left: maxComplaint}
 	command.Stderr = complaint
-	err = command.Run()
-	// A program need not read its input.
-	if errors.Is(err, syscall.EPIPE) && command.ProcessState != nil && command.ProcessState.Success() {
-		err = nil
-	}
-	if err != nil {
+	// (a program need not read its input: Run returns no error for that)
+	if err := command.Run(); err != nil {
 		return fmt.Errorf("%s: %w: %s (it must end with status 0 within %v)", c.words[0], err,
 			Safe(complaint.text.String()), c.time)
 	}
@@ -134,8 +130,11 @@ func Environment(a Alert) []string {
 		return found
 	}
 	c := a.Certificate
-	add("WATCHED", strings.Join(watched(a), " "))
-	add("HOSTS", strings.Join(hosts(c), " "))
+	// (Linux runs no program with a variable of more than 128 KiB)
+	matches := c.Matches[:min(len(c.Matches), MaxNames)]
+	add("WATCHED", strings.Join(watched(matches), " "))
+	hostNames := hosts(c)
+	add("HOSTS", strings.Join(hostNames[:min(len(hostNames), MaxNames)], " "))
 	add("NAMES", strings.Join(c.Names, " "))
 	add("NAME_COUNT", strconv.Itoa(c.NameCount))
 	add("SUBJECT", c.Fields.Subject)

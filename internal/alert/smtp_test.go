@@ -45,7 +45,7 @@ func talk(connection net.Conn, refuses string) []string {
 		switch {
 		case inData && line != ".":
 			continue
-		case refuses != "" && strings.HasPrefix(line, refuses):
+		case refuses != "" && strings.HasPrefix(line, refuses) && (refuses != "." || line == "."):
 			fmt.Fprint(connection, "550 no\r\n")
 			return got
 		case word == "DATA":
@@ -83,15 +83,17 @@ func TestMailBySMTP(t *testing.T) {
 	}
 }
 
-// TestMailThatIsRefused: if the server refuses an address, nothing is sent.
+// TestMailThatIsRefused: if the server refuses the sender, an address, or the mail at its end, nothing is sent.
 func TestMailThatIsRefused(t *testing.T) {
-	address, _ := mailServer(t, "RCPT")
-	output, err := alert.NewMail("owner@example.org", []string{"owner@example.org"},
-		alert.Carrier{Place: "smtp://" + address})
-	must(t, err)
-	if sent, _, err := output.Send(context.Background(), []alert.Alert{certificateOf("a")}); sent != 0 ||
-		err == nil || !strings.Contains(err.Error(), "550") {
-		t.Errorf("%d sent: %v", sent, err)
+	for _, refuses := range []string{"MAIL", "RCPT", "DATA", "."} {
+		address, _ := mailServer(t, refuses)
+		output, err := alert.NewMail("owner@example.org", []string{"owner@example.org"},
+			alert.Carrier{Place: "smtp://" + address})
+		must(t, err)
+		if sent, _, err := output.Send(context.Background(), []alert.Alert{certificateOf("a")}); sent != 0 ||
+			err == nil || !strings.Contains(err.Error(), "550") {
+			t.Errorf("%s is refused: %d sent: %v", refuses, sent, err)
+		}
 	}
 	if _, err := alert.NewMail("owner@example.org", []string{"owner@example.org"},
 		alert.Carrier{Place: "smtp://mail.example"}); err == nil || !strings.Contains(err.Error(), "smtp://HOST:25") {

@@ -2,6 +2,7 @@ package alert
 
 import (
 	"fmt"
+	"strconv"
 	"strings"
 	"time"
 )
@@ -17,7 +18,7 @@ func Line(a Alert) string {
 	}
 	switch a.Kind {
 	case Found:
-		return fmt.Sprintf("FOUND%s %s: %s", again, strings.Join(watched(a), ", "), Describe(a.Certificate))
+		return fmt.Sprintf("FOUND%s %s: %s", again, first(watched(a.Certificate.Matches)), Describe(a.Certificate))
 	case Unread:
 		return fmt.Sprintf("UNREAD%s: the names of a certificate cannot be read (%s): %s", again,
 			a.Certificate.Fault, Describe(a.Certificate))
@@ -27,13 +28,24 @@ func Line(a Alert) string {
 	return fmt.Sprintf("SILENT%s %s: %s", again, a.Log.Name, a.Log.Text)
 }
 
-// watched returns the watched names of an alert.
-func watched(a Alert) []string {
+// watched returns the watched names of matches.
+func watched(matches []Match) []string {
 	var names []string
-	for _, match := range a.Certificate.Matches {
+	for _, match := range matches {
 		names = append(names, match.Name)
 	}
 	return names
+}
+
+// first returns the first names of a list, at most MaxNames, and the number of the others. A certificate of a dishonest
+// log can have every watched name.
+func first(names []string) string {
+	shown := names[:min(len(names), MaxNames)]
+	text := strings.Join(shown, ", ")
+	if more := len(names) - len(shown); more > 0 {
+		text += fmt.Sprintf(" and %d more", more)
+	}
+	return text
 }
 
 // hosts returns the host names to show first: those that match, or if there are none, those of the certificate.
@@ -92,7 +104,7 @@ func placesThatAreNotProved(c *Certificate) string {
 	if len(names) == 0 {
 		return ""
 	}
-	return "not decided by the proved library: " + strings.Join(names, ", ")
+	return "not decided by the proved library: " + first(names)
 }
 
 func validity(f Fields) string { return day(f.NotBefore) + " to " + day(f.NotAfter) }
@@ -132,7 +144,7 @@ func Paragraphs(a Alert) string {
 	}
 	c := a.Certificate
 	row("Problem", c.Fault)
-	for _, match := range c.Matches {
+	for _, match := range c.Matches[:min(len(c.Matches), MaxNames)] {
 		place := match.Place
 		if !match.Proved {
 			place += ", not decided by the proved library"
@@ -141,6 +153,9 @@ func Paragraphs(a Alert) string {
 		for _, host := range match.Hosts {
 			row("  is in", host)
 		}
+	}
+	if more := len(c.Matches) - MaxNames; more > 0 {
+		row("More watched names", strconv.Itoa(more))
 	}
 	for _, name := range c.Names {
 		row("Name", name)

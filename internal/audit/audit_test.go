@@ -206,6 +206,22 @@ func TestAuditsCertificates(t *testing.T) {
 	}
 }
 
+// A log that has the leaf at another index than its timestamp names has broken its promise, wherever the leaf is.
+func TestAuditsAnotherIndex(t *testing.T) {
+	a := newAuthority(t)
+	named := uint64(300)
+	promised := a.entry()
+	promised.Index = &named
+	for at, due := range map[int]audit.Outcome{299: audit.Never, 300: audit.Included, 301: audit.Never} {
+		log := newLog(t, append(others(at), promised), begun+1000)
+		certificate, watched := a.with(log.SCT(promised, named)), serve(t, log, "RFC 6962")
+		results, err := audit.New([]watch.Log{watched}, quick).Certificate(context.Background(), certificate, a.cert.Raw)
+		if err != nil || len(results) != 1 || results[0].Outcome != due || results[0].Index != uint64(at) {
+			t.Errorf("the leaf is at %d: %+v, %v", at, results, err)
+		}
+	}
+}
+
 // Each timestamp of a certificate is audited by itself: one of a stranger, one that is damaged, and a log that is away
 // change nothing about the others.
 func TestAuditsEachTimestamp(t *testing.T) {

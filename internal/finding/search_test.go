@@ -231,6 +231,22 @@ func TestFindsTheLastOfManyNames(t *testing.T) {
 	}
 }
 
+// TestShowsTheFirstHosts: of 25 names that match, the first 20 are shown if there is room for 20, and all if there is
+// more.
+func TestShowsTheFirstHosts(t *testing.T) {
+	var hosts []string
+	for i := range 25 {
+		hosts = append(hosts, fmt.Sprintf("h%d.example.org", i))
+	}
+	one := testcert.NewAuthority(t).Issue(append([]string{"other.net"}, hosts...)...)
+	watched := parseAll(t, "example.org")
+	result, err := finding.NewSearcher(watched).Search(wagtenib.X509Entry, one.Certificate.Raw)
+	if err != nil || !slices.Equal(watched[0].Hosts(result.Names, 20), hosts[:20]) ||
+		!slices.Equal(watched[0].Hosts(result.Names, 100), hosts) {
+		t.Errorf("%q %v", watched[0].Hosts(result.Names, 20), err)
+	}
+}
+
 // TestShowsTheHostOfALongName: a name with more bytes than any host, which the library finds below a watched name, is
 // among the hosts of the match. It is not among those of an exact name that it only ends with.
 func TestShowsTheHostOfALongName(t *testing.T) {

@@ -269,10 +269,10 @@ func TestLateByTheMaximumMergeDelay(t *testing.T) {
 func TestAccusesDamagedTile(t *testing.T) {
 	s := newScene(t, "tiled", 0)
 	grow(s.log, 500)
-	var damaged atomic.Bool
-	damaged.Store(true)
+	var damage atomic.Value // the certificate in the place of the log's
 	s.log.Intercept(func(w http.ResponseWriter, r *http.Request) bool {
-		if !damaged.Load() || r.URL.Path != "/tile/data/002" {
+		certificate := damage.Load().(string)
+		if certificate == "" || r.URL.Path != "/tile/data/002" {
 			return false
 		}
 		other := s.log.Fork(512)
@@ -280,26 +280,71 @@ func TestAccusesDamagedTile(t *testing.T) {
 		recorded := httptest.NewRecorder()
 		forged := other.Fork(512)
 		entries := entriesOf(512, 256)
-		entries[17].Certificate = []byte("forged")
+		entries[17].Certificate = []byte(certificate)
 		forged.Add(entries...)
 		forged.Publish(768, begun+800_000)
 		forged.ServeHTTP(recorded, httptest.NewRequest(http.MethodGet, "/tile/data/002", nil))
 		_, err := w.Write(recorded.Body.Bytes())
 		return err == nil
 	})
+	damage.Store("forged")
 	s.wantsAccused(t, watch.VerdictOtherRoot)
+	// What the log hands out in the second pass is searched too, although it is another lie.
+	damage.Store("another")
 	s.wantsAccused(t, watch.VerdictDamagedTile)
+	for _, certificate := range []string{"forged", "another"} {
+		if !slices.ContainsFunc(s.keeper.entries[s.of.ID], func(one watch.Entry) bool {
+			return one.Index == 529 && string(one.Certificate) == certificate
+		}) {
+			t.Errorf("the entry with the certificate %q was not searched", certificate)
+		}
+	}
 	wantsVerdicts(t, s.keeper, s.of.ID, watch.VerdictOtherRoot, watch.VerdictDamagedTile)
 	wantsShown(t, s.keeper, s.of)
 	if text := s.keeper.accused[s.of.ID][1].Text; !strings.Contains(text, "entry 529 ") {
 		t.Errorf("the evidence says %q", text)
 	}
-	damaged.Store(false)
+	damage.Store("")
 	if err := s.follower.Pass(context.Background()); err != nil {
 		t.Fatal(err)
 	}
 	if state := s.keeper.states[s.of.ID]; state.Accepted.TreeSize != 800 || state.Accepted.Root != s.log.Root(800) {
 		t.Errorf("%d leaves are accepted", state.Accepted.TreeSize)
+	}
+}
+
+// While the entries of a head cannot be read, the next head is compared with that one, and the evidence has it.
+func TestAccusesByTheHeadThatWaits(t *testing.T) {
+	for _, kind := range kinds {
+		for verdict, lie := range map[string]func(*testlog.Log){
+			watch.VerdictFork:     func(log *testlog.Log) { log.PublishRoot(320, begun+330_000, [32]byte{1}) },
+			watch.VerdictShrunk:   func(log *testlog.Log) { log.Publish(310, begun+330_000) },
+			watch.VerdictNotLater: func(log *testlog.Log) { log.Add(entriesOf(320, 1)...); log.Publish(321, begun+320_000) },
+		} {
+			t.Run(kind+" "+verdict, func(t *testing.T) {
+				s := newScene(t, kind, 0)
+				s.log.Intercept(func(w http.ResponseWriter, r *http.Request) bool {
+					isEntries := strings.Contains(r.URL.Path, "/data/") || strings.HasSuffix(r.URL.Path, "get-entries")
+					if isEntries {
+						w.WriteHeader(http.StatusForbidden)
+					}
+					return isEntries
+				})
+				grow(s.log, 20)
+				if err := s.follower.Pass(context.Background()); !errors.Is(err, logclient.ErrStatus) {
+					t.Fatal(err)
+				}
+				waiting := s.keeper.states[s.of.ID].Waiting
+				lie(s.log)
+				s.wantsAccused(t, verdict)
+				wantsVerdicts(t, s.keeper, s.of.ID, verdict)
+				if first := s.keeper.accused[s.of.ID][0].Files[watch.FileFirst]; waiting.TreeSize != 320 ||
+					!bytes.Equal(first, waiting.Signed) {
+					t.Errorf("the evidence has %q as the head that was known", first)
+				}
+				wantsShown(t, s.keeper, s.of)
+			})
+		}
 	}
 }
 

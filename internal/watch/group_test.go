@@ -7,6 +7,8 @@ import (
 	"net/http"
 	"slices"
 	"strings"
+	"sync"
+	"sync/atomic"
 	"testing"
 	"time"
 
@@ -216,6 +218,55 @@ func TestFollowsAListThatChanges(t *testing.T) {
 	cancel()
 	group.Wait()
 	wantsEntries(t, k, b.ID, count(0, 20))
+}
+
+// holding is a keeper whose first call with entries goes on until the log is asked at its other address, or for a
+// while.
+type holding struct {
+	*keeper
+	held, asked chan struct{}
+	once        sync.Once
+	overlaps    atomic.Bool
+}
+
+func (h *holding) Keep(log watch.Log, next watch.State, entries []watch.Entry) error {
+	if len(entries) > 0 {
+		h.once.Do(func() {
+			close(h.held)
+			select {
+			case <-h.asked:
+				h.overlaps.Store(true)
+			case <-time.After(200 * time.Millisecond): // (a follower that does not wait has asked by then)
+			}
+		})
+	}
+	return h.keeper.Keep(log, next, entries)
+}
+
+// A log with a new address is followed there after its old follower has ended, so that no two keep its state at once.
+func TestFollowsALogOnceAtATime(t *testing.T) {
+	log := newLog(t, 10)
+	old, moved := serve(t, log, "tiled"), serve(t, log, "tiled")
+	k := &holding{keeper: newKeeper(), held: make(chan struct{}), asked: make(chan struct{}, 100)}
+	log.Intercept(func(_ http.ResponseWriter, r *http.Request) bool {
+		if strings.HasSuffix(moved.URL, r.Host) {
+			k.asked <- struct{}{}
+		}
+		return false
+	})
+	group := watch.NewGroup(k, watch.Options{FromStart: true})
+	ctx, cancel := context.WithCancel(context.Background())
+	defer cancel()
+	group.Follow(ctx, []watch.Log{old})
+	<-k.held
+	group.Follow(ctx, []watch.Log{moved})
+	await(t, k.keeper, "the new address", func(s watch.Status) bool { return s.Log.URL == moved.URL && s.Accepted == 10 })
+	if k.overlaps.Load() {
+		t.Error("the log was asked at its new address before the old follower had ended")
+	}
+	cancel()
+	group.Wait()
+	wantsEntries(t, k.keeper, old.ID, count(0, 10))
 }
 
 // One pass over all logs says for each how it went, and a log that is listed twice is read once.

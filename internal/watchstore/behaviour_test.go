@@ -64,6 +64,35 @@ func TestFindsNamesThatAreAddedLater(t *testing.T) {
 	}
 }
 
+// TestFindsAddedNamesInEveryCertificate: a name that is added later is found in each of more certificates than are
+// searched at a time.
+func TestFindsAddedNamesInEveryCertificate(t *testing.T) {
+	const many = 1100
+	folder, der := t.TempDir(), testcert.NewAuthority(t).Issue("h0000.example.org").Certificate.Raw
+	var entries []watch.Entry
+	for i := range many {
+		host := fmt.Sprintf("h%04d.example.org", i)
+		entries = append(entries, watch.Entry{Index: uint64(i), Type: wagtenib.X509Entry,
+			Certificate: bytes.ReplaceAll(der, []byte("h0000.example.org"), []byte(host))})
+	}
+	store, err := watchstore.Open(folder, watchstore.Options{KeepAll: true})
+	must(t, err)
+	must(t, store.UseOutputs([]string{"test"}))
+	must(t, store.Keep(logOf(0), watch.State{}, entries))
+	must(t, store.Close())
+	store = open(t, folder, watchstore.Options{Searcher: searcher("example.org"), KeepAll: true})
+	alerts, err := store.Next("test", 2*many)
+	must(t, err)
+	for i, one := range alerts {
+		if host := fmt.Sprintf("h%04d.example.org", i); one.Certificate.Names[0] != host {
+			t.Fatalf("alert %d is to %s, and not to %s", i, one.Certificate.Names[0], host)
+		}
+	}
+	if len(alerts) != many {
+		t.Errorf("%d alerts", len(alerts))
+	}
+}
+
 // TestExpectedCauseNoAlert: a certificate with an expected key or of an expected issuer is stored without an alert.
 func TestExpectedCauseNoAlert(t *testing.T) {
 	one := testcert.NewAuthority(t).Issue("a.example.org")

@@ -140,3 +140,43 @@ func TestKeepsAPrecertificateForEachIssuance(t *testing.T) {
 		t.Errorf("%+v %v", alerts, err)
 	}
 }
+
+// TestReadsManyAlertsAtOnce: of alerts that are read together each has its own names, matches and entries, the earliest
+// ones and at most 20.
+func TestReadsManyAlertsAtOnce(t *testing.T) {
+	authority := testcert.NewAuthority(t)
+	store := open(t, t.TempDir(), watchstore.Options{Searcher: searcher("example.org")})
+	must(t, store.UseOutputs([]string{"test"}))
+	const many = 30
+	var hosts []string
+	of := map[byte][]watch.Entry{} // by the number of a log
+	for i := range many {
+		host := string('a'+rune(i%26)) + string('a'+rune(i/26)) + ".example.org"
+		hosts = append(hosts, host)
+		entry := entriesOf(authority.Issue(host, "other.net"), uint64(i))[0]
+		for number := range byte(i) {
+			entry.Timestamp = 1_000_000 - uint64(number)
+			of[number] = append(of[number], entry)
+		}
+	}
+	for number := range byte(many) {
+		must(t, store.Keep(logOf(number), watch.State{}, of[number]))
+	}
+	alerts, err := store.Next("test", many)
+	must(t, err)
+	if len(alerts) != many-1 {
+		t.Fatalf("%d alerts", len(alerts))
+	}
+	for i, one := range alerts {
+		c, host, entries := one.Certificate, hosts[i+1], i+1
+		if !slices.Equal(c.Names, []string{host, "other.net"}) || len(c.Matches) != 1 ||
+			!slices.Equal(c.Matches[0].Hosts, []string{host}) || len(c.Sightings) != min(entries, alert.MaxSightings) {
+			t.Fatalf("alert %d is of %+v", i, c)
+		}
+		for number, sighting := range c.Sightings {
+			if last := byte(entries - 1 - number); sighting.Index != uint64(i+1) || sighting.Log != logOf(last).Name {
+				t.Errorf("alert %d has as entry %d that of %s, %d", i, number, sighting.Log, sighting.Index)
+			}
+		}
+	}
+}
