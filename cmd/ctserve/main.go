@@ -5,7 +5,7 @@
 //
 // The key is read by a process of its own, `ctserve signer`, which it starts, or finds at a socket. `ctserve key`, `check` and
 // `list-entry` make a key, look at settings, and write a log list's entry; `index` builds a log's deduplication index again from its tiles,
-// and `clock` names the day.
+// `clock` names the day, and `audit` looks at a log from outside.
 package main
 
 import (
