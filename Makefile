@@ -1,4 +1,4 @@
-.PHONY: help demo test check deps service service-test service-race service-engines service-soak service-clients cluster cluster-status cluster-stop link link-emulated dist install install-library install-ctlog fuzz load sweep wrong sources serve serve-witness programs release reproduce bare container pages
+.PHONY: help demo test check deps service service-test service-race service-engines service-soak service-audit service-clients cluster cluster-status cluster-stop link link-emulated dist install install-library install-ctlog fuzz load sweep wrong sources serve serve-witness programs release reproduce bare container pages
 
 SECONDS ?= 60
 RUNS ?= 20
@@ -59,6 +59,11 @@ service-engines: ## the same with engines on loopback: those of etcd, PostgreSQL
 
 service-race: ## the same as service-test, built to tell of data races (go test -race)
 	@cmd/test.sh race
+
+service-audit: ## has ctserve audit look for MINUTES=60 at a log on a folder that is killed each minute
+	@checks/needs.sh service
+	@cmd/build.sh build
+	@tests/audited.sh $(or $(MINUTES),60)
 
 # As root. HOURS=2 or MINUTES=30, SEED=NUMBER for the choices of another run.
 service-soak: ## runs two logs for HOURS=2 while nodes, programs, engines, disks and clients go wrong at random, and judges them every twelve minutes and at the end

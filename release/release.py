@@ -357,6 +357,21 @@ def go_modules(release):
     return found
 
 
+def c_libraries(release):
+    """Returns the C libraries of the programs in Go: each with its version, how it is linked (a relationship of SPDX), and the programs that have it. `objdump` names those that
+    the system loads. SQLite is compiled into a program that contains its header and does not load it."""
+    listed = (ROOT / "vendor").resolve().parent / "versions"
+    versions = dict(line.split() for line in listed.read_text().splitlines()) if listed.exists() else {}
+    found = {}
+    for name in SERVICE:
+        loaded = re.findall(r"NEEDED +(\S+)", run("objdump", "-p", release.programs[name]).stdout)
+        for library in loaded:
+            found.setdefault((library, "NOASSERTION", "DYNAMIC_LINK"), []).append(name)
+        if not any(library.startswith("libsqlite3") for library in loaded) and b"SQLite format 3\0" in release.programs[name].read_bytes():
+            found.setdefault(("sqlite3", versions.get("libsqlite3-dev", "NOASSERTION"), "STATIC_LINK"), []).append(name)
+    return [(library, version, relation, programs) for (library, version, relation), programs in sorted(found.items())]
+
+
 def crates_of_the_kit():
     """The kit's libraries that the crates name, and std."""
     lines = [line.partition(":") for line in (ROOT / "crates.txt").read_text().splitlines() if line and line[0] != "#"]
@@ -379,6 +394,12 @@ def sbom(release):
     own.append(package("libwagtenib", release.version, "wagtenib", "proved"))
     kit = [package(name, release.logic, "rattle", "a library of the Rattle kit, by its logic") for name in crates_of_the_kit()]
     go = [package(name, version, "go", f"linked into the programs in Go; {comment}", externalRefs=located(name, version)) for name, version, comment in go_modules(release)]
+    in_c, relations_in_c = [], []
+    for name, version, relation, programs in c_libraries(release):
+        how = "loaded from the system by" if relation == "DYNAMIC_LINK" else "compiled from Debian's libsqlite3-dev into"
+        in_c.append(package(name, version, "c", f"{how} programs in Go"))
+        users = [it["SPDXID"] for it in own if it["name"] in programs]
+        relations_in_c += [{"spdxElementId": user, "relationshipType": relation, "relatedSpdxElement": in_c[-1]["SPDXID"]} for user in users]
     relations = [{"spdxElementId": "SPDXRef-DOCUMENT", "relationshipType": "DESCRIBES", "relatedSpdxElement": it["SPDXID"]} for it in own]
     for it in own:
         below = (go if it["name"] in SERVICE else []) + (kit if it["name"] not in SERVICE or it["name"] in LINKED else [])
@@ -386,7 +407,7 @@ def sbom(release):
     document = {
         "spdxVersion": "SPDX-2.3", "dataLicense": "CC0-1.0", "SPDXID": "SPDXRef-DOCUMENT", "name": f"wagtenib-{release.version}",
         "documentNamespace": f"{HOMEPAGE}spdx/{release.version}-{release.commit}",
-        "creationInfo": {"created": created, "creators": ["Tool: release.py"]}, "packages": [*own, *kit, *go], "relationships": relations,
+        "creationInfo": {"created": created, "creators": ["Tool: release.py"]}, "packages": [*own, *kit, *go, *in_c], "relationships": relations + relations_in_c,
     }
     return json.dumps(document, indent=1) + "\n"
 

@@ -129,6 +129,8 @@ class Page:
 HERE, BARE, PAGES, LONG, GATE = "readme.py", "make bare", "make pages", "pages.py --long", "make test"
 # The commands of the other pages, each by how it begins, and what runs it.
 ELSEWHERE = {
+    "docs/ACCEPTED.md": {"make serve": HERE, "cmd/out/ctserve audit": HERE, "openssl ecparam": BARE, "openssl req -x509 -new": BARE, "systemctl reload": BARE, "ctserve list-entry": BARE,
+                           "ctserve audit https": BARE},
     "docs/LINES.md": {"crates/ctlog/out/ctlog": HERE},
     "docs/OPERATING.md": {"": BARE},
     "docs/WATCH.md": {"make serve": HERE, "curl -s -d @ct-log/chain.json": HERE, "cmd/out/ctwatch run --once": HERE},
@@ -141,7 +143,7 @@ ELSEWHERE = {
 # What the pages name in their text, README.md's tables too.
 TARGETS = {
     "make test": GATE, "make test TURN=0": GATE, "make sources": GATE, "make service-test": GATE, "make link-emulated": GATE, "make bare": "itself", "make container": "itself", "make pages": "itself",
-    **dict.fromkeys(("make check", "make wrong CRATE=ct_guard", "make service-race", "make service-soak", "make load", "make sweep", "make fuzz SECONDS=180", "make dist"), LONG),
+    **dict.fromkeys(("make check", "make wrong CRATE=ct_guard", "make service-race", "make service-soak", "make load", "make sweep", "make fuzz SECONDS=180", "make service-audit", "make service-audit MINUTES=60", "make dist"), LONG),
     **dict.fromkeys(("make deps", "make serve", "make demo", "make install", "make release", "make programs", "make link", "make service", "make service-clients",
                      "make service-engines", "make serve-witness", "make cluster", "make fuzz", "make reproduce"), PAGES),
 }
@@ -174,7 +176,7 @@ def elsewhere():
 def bare_commands():
     """Those that bare.py runs, in the order of the pages below."""
     found = elsewhere()
-    pages_in_order = ("docs/OPERATING.md", "docs/SERVICE.md")
+    pages_in_order = ("docs/OPERATING.md", "docs/SERVICE.md", "docs/ACCEPTED.md")
     return [command for name in pages_in_order for command in found[ROOT / name] if run_by(ROOT / name, command) == BARE]
 
 
@@ -200,6 +202,7 @@ def pem_lines(page):
 SIGNED = r'\{"sct_version":0,.*"signature":"[A-Za-z0-9+/=]+"\}\s*'
 CHECKPOINT = "ct-log.example\n1\n[A-Za-z0-9+/=]{44}\n\n\u2014 ct-log.example [A-Za-z0-9+/=]+\n"
 ALERT = r"FOUND example\.org: shop\.example\.org \(1 name\); issued by .*; certificate 0 of 127\.0\.0\.1:[0-9]+; .*\n"
+AUDITED = r"ct-log\.example: passed\n.*"
 # The commands by how they begin: what has to run before them, and what they are to do.
 KNOWN = [
     ("make serve", lambda page, command: page.serve(command)),
@@ -233,6 +236,8 @@ def main():
                 page.run(next(command for command in watching if command.startswith("curl")), 0, SIGNED)
                 # (in a folder of its own: the store of README.md's ctwatch has the alert already)
                 watches = next(command for command in watching if command.startswith("cmd/out/ctwatch run"))
+                audits = next(command for command in commands(ROOT / "docs" / "ACCEPTED.md") if command.startswith("cmd/out/ctserve audit"))
+                page.run(audits, 0, AUDITED)
                 page.run(watches.replace("ctwatch run", "ctwatch run --folder another-store"), 8, ALERT)
                 pem_lines(page)
         finally:

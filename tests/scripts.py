@@ -18,6 +18,7 @@ import socket
 import subprocess
 import sys
 import tempfile
+import types
 import textwrap
 
 HERE = pathlib.Path(__file__).resolve().parent
@@ -352,10 +353,56 @@ def try_release(folder):
     named = {package["name"] for package in bill["packages"]}
     if bill["spdxVersion"] != "SPDX-2.3" or not {"ctserve", "ctlog", "sha2", "std"} <= named or len({it["SPDXID"] for it in bill["packages"]}) != len(bill["packages"]):
         fail(f"release.py: the SBOM names {sorted(named)}")
+    try_c_libraries(folder)
     has_go = not subprocess.run([HERE.parent / "deps" / "fetch.sh"], env={**os.environ, "SETUP": "no"}, capture_output=True).returncode
     if has_go and (not {"go", "golang.org/x/mod", "github.com/lib/pq"} <= named or "github.com/google/certificate-transparency-go" in named):
         fail(f"release.py: the SBOM names other modules than those that are linked: {sorted(named)}")
     return f"{len(names)} files twice the same"
+
+
+def try_c_libraries(folder):
+    """The SBOM has the C libraries that a program loads, and SQLite if it is compiled into a program."""
+    sys.path.append(str(HERE.parent / "release"))
+    import release
+
+    (folder / "with-sqlite").write_bytes(b"a program\0SQLite format 3\0")
+    programs = {name: pathlib.Path(sys.executable).resolve() for name in release.SERVICE} | {"ctread": folder / "with-sqlite"}
+    found = {(library, relation): of for library, _, relation, of in release.c_libraries(types.SimpleNamespace(programs=programs))}
+    if sorted(found.get(("libc.so.6", "DYNAMIC_LINK"), [])) != sorted(set(release.SERVICE) - {"ctread"}) or found.get(("sqlite3", "STATIC_LINK")) != ["ctread"]:
+        fail(f"release.py: the C libraries are {found}")
+
+
+def try_vulnerabilities(folder):
+    """vulnerabilities.sh asks govulncheck about each program, and ends with its verdict. A program in its place says which verdict each gets."""
+    names = re.search(r"^programs=\((.*)\)$", (HERE.parent / "cmd" / "build.sh").read_text(), re.M)[1].split()
+    (folder / "bin").mkdir()
+    for name in names:
+        (folder / name).write_text("")
+
+    def look(verdict, **how):
+        (folder / "asked").write_text("")
+        (folder / "bin" / "govulncheck").write_text(f'#!/bin/sh\necho "$@" >>"{folder}/asked"\n{verdict}\n')
+        (folder / "bin" / "govulncheck").chmod(0o755)
+        around = {**os.environ, "PATH": f"{folder}/bin:/usr/bin:/bin", **how}
+        ran = subprocess.run([HERE.parent / "release" / "vulnerabilities.sh", folder], capture_output=True, text=True, env=around)
+        return ran.returncode, ran.stdout + ran.stderr, (folder / "asked").read_text().splitlines()
+
+    status, said, asked = look("exit 0")
+    if status or asked != [f"-mode=binary {folder}/{name}" for name in names] or said.count("no known vulnerability") != len(names):
+        fail(f"vulnerabilities.sh: status {status}, it asks {asked}: {said}")
+    status, said, asked = look('case $* in *ctwatch) exit 3 ;; esac', VULNDB="file:///database")
+    if status != 1 or said.count("VULNERABLE") != 1 or asked[0] != f"-mode=binary -db=file:///database {folder}/{names[0]}" or len(asked) != len(names):
+        fail(f"vulnerabilities.sh, with one that is vulnerable: status {status}, it asks {asked}: {said}")
+    status, said, _ = look("exit 1")
+    if status != 2 or "can't read" not in said:
+        fail(f"vulnerabilities.sh, if govulncheck fails: status {status}: {said}")
+    (folder / names[-1]).unlink()
+    status, said, _ = look("exit 0")
+    if status != 2 or f"{names[-1]} isn't built (make service)" not in said:
+        fail(f"vulnerabilities.sh, if a program isn't built: status {status}: {said}")
+    status, said, _ = look("exit 0", PATH="/usr/bin:/bin")
+    if not shutil.which("govulncheck", path="/usr/bin:/bin") and (status != 2 or "isn't on the PATH" not in said):
+        fail(f"vulnerabilities.sh without govulncheck: status {status}: {said}")
 
 
 def answered(words, answer, **how):
@@ -591,6 +638,8 @@ def main():
         files = try_install(pathlib.Path(folder))
     with tempfile.TemporaryDirectory() as folder:
         released = try_release(pathlib.Path(folder))
+    with tempfile.TemporaryDirectory() as folder:
+        try_vulnerabilities(pathlib.Path(folder))
     with tempfile.TemporaryDirectory() as folder:
         try_deps(pathlib.Path(folder))
         try_count(pathlib.Path(folder))

@@ -34,6 +34,7 @@ var commands = map[string]func(words []string, answers, faults io.Writer) error{
 	"check":      runCheck,
 	"index":      runIndex,
 	"clock":      runClock,
+	"audit":      runAudit,
 }
 
 // runCommand does one of the commands, and gives the status: 0 where it is done, 1 where it isn't, 2 where the words aren't ones.

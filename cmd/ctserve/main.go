@@ -4,7 +4,8 @@
 // submissions, publishes, answers the waiting requests, and exits with status 0, or with 1 if this takes too long. A
 // second signal ends it at once. A process of its own has the key: `ctserve signer`, which ctserve starts, or finds at
 // a socket. `ctserve key`, `check` and `list-entry` create a key, check settings, and write the entry of a log list.
-// `index` builds a log's deduplication index again from its tiles, and `clock` confirms the day.
+// `index` builds a log's deduplication index again from its tiles, `clock` confirms the day, and `audit` looks at a log
+// from outside.
 package main
 
 import (

@@ -80,7 +80,8 @@ Other commands, each with --help:
   ctserve check FILE        checks settings without starting
   ctserve list-entry        writes the log's entry for a log list
   ctserve index FILE        builds the deduplication index again from the tiles
-  ctserve clock FILE DAY    says which day it is, if only the machine's clock says so`
+  ctserve clock FILE DAY    says which day it is, if only the machine's clock says so
+  ctserve audit URL         looks at a log from outside, as a browser programme's monitor does`
 
 // parse reads the command line, and the file that it names. If both have a setting, the command line counts.
 func parse(words []string, help io.Writer) (*settings, error) {
