@@ -98,7 +98,7 @@ func judge(folder, keyFile string, answerFiles []string) (check.Report, error) {
 	return report, err
 }
 
-// fetch copies a bucket into a folder, but for the bundles.
+// fetch copies a bucket into a folder, except the bundles.
 func fetch(address, folder string) error {
 	ctx := context.Background()
 	objects, err := stores.ObjectsAt(ctx, address)

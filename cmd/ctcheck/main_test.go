@@ -80,7 +80,7 @@ func file(t testing.TB, answers ...check.Answer) string {
 	return path
 }
 
-// TestJudge: all answers of all files are judged, and what is no key, no answer or no file is told.
+// TestJudge: all answers in all files are judged. A file that does not exist or has no key or answer is named.
 func TestJudge(t *testing.T) {
 	l := newLog(t)
 	report, err := judge(l.folder, l.key, []string{file(t, l.answer), file(t, l.answer, l.answer), file(t)})
@@ -130,7 +130,8 @@ func TestJudge(t *testing.T) {
 	}
 }
 
-// TestStatus: what is right is told with status 0, what is wrong on standard error with 1, and too few words have 2.
+// TestStatus: a right log has status 0, a wrong one has status 1 and the reason on standard error, and missing
+// arguments have status 2.
 func TestStatus(t *testing.T) {
 	l := newLog(t)
 	wrong := l.answer

@@ -27,7 +27,7 @@ var must = trial.Must
 
 func limited(t testing.TB) context.Context { return trial.Limited(t, trial.Longest) }
 
-// node is one of a log's, which answers as it is told.
+// node is a node of a log that answers as the test says.
 type node struct {
 	*httptest.Server
 	mu    sync.Mutex
@@ -72,7 +72,8 @@ func loadOf(t testing.TB, nodes ...*node) (*load, *bytes.Buffer) {
 
 var some = submission{"add-chain", []byte(`{"chain":[]}`), check.Answer{Certificate: []byte("a certificate")}}
 
-// TestSubmit: who is busy, late or broken is asked again at the next node, and what is refused as wrong isn't; what was answered is kept with what it is of.
+// TestSubmit: after an answer that a node is busy, late or broken, the next node is asked. A submission that is refused
+// as wrong is not repeated. Answers are stored with their entries.
 func TestSubmit(t *testing.T) {
 	busy := newNode(t, func(_ int, w http.ResponseWriter) { w.WriteHeader(http.StatusServiceUnavailable) })
 	many := newNode(t, func(_ int, w http.ResponseWriter) { w.WriteHeader(http.StatusTooManyRequests) })
@@ -117,7 +118,7 @@ func TestSubmit(t *testing.T) {
 	}
 }
 
-// TestAnswered: what is no timestamp of version 1 is an error.
+// TestAnswered: an answer that is not an SCT of version 1 is an error.
 func TestAnswered(t *testing.T) {
 	for _, reply := range []string{"", "x", "[]", strings.Replace(timestamp, `"sct_version":0`, `"sct_version":1`, 1), strings.Replace(timestamp, "7", `"7"`, 1), strings.Replace(timestamp, "AQI=", "AQI", 1)} {
 		if answer, err := answered(some, []byte(reply)); err == nil || !strings.Contains(err.Error(), "no timestamp") || answer != nil {
@@ -126,7 +127,7 @@ func TestAnswered(t *testing.T) {
 	}
 }
 
-// zeros is a source of chance that gives the least of all each time.
+// zeros is a random source that always returns the smallest value.
 type zeros struct{}
 
 func (zeros) Int63() int64 { return 0 }
@@ -147,7 +148,7 @@ func TestNext(t *testing.T) {
 	}
 }
 
-// TestPrepared: what was made before is submitted first, each once, and behind it what is made then.
+// TestPrepared: prepared certificates are submitted first, each once. New ones are made after them.
 func TestPrepared(t *testing.T) {
 	l, _ := loadOf(t)
 	must(t, l.prepare(20))
@@ -187,7 +188,7 @@ func TestKeep(t *testing.T) {
 	if lines := strings.Count(answers.String(), "\n"); lines != maxPast+3 || !strings.Contains(answers.String(), fmt.Sprintf(`"timestamp":%d,`, maxPast+2)) {
 		t.Errorf("%d lines", lines)
 	}
-	// Of the latencies, too, the newest stay.
+	// The newest latencies are kept too.
 	l.took, l.answers = make([]time.Duration, maxDuration), json.NewEncoder(io.Discard)
 	for i := 0; i < 3; i++ {
 		must(t, l.keep(some, check.Answer{}, time.Hour))
@@ -228,7 +229,7 @@ func TestFigures(t *testing.T) {
 	}
 }
 
-// TestReady: each node is asked until it has the authority among its roots; who ends before waits no more.
+// TestReady: each node is asked until its roots have the CA. The wait ends with the program.
 func TestReady(t *testing.T) {
 	var l *load
 	slow := newNode(t, func(nth int, w http.ResponseWriter) {
@@ -292,7 +293,7 @@ func TestAll(t *testing.T) {
 	}
 }
 
-// TestAdd: what is added to a file stands behind what it had.
+// TestAdd: new lines of a file come after the existing ones.
 func TestAdd(t *testing.T) {
 	path := filepath.Join(t.TempDir(), "roots.pem")
 	for _, text := range []string{"one\n", "two\n"} {

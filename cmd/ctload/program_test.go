@@ -31,7 +31,7 @@ func TestProgram(t *testing.T) {
 	var submitted, asked atomic.Int32
 	server := httptest.NewServer(http.HandlerFunc(func(w http.ResponseWriter, q *http.Request) {
 		if q.URL.Path == "/ct/v1/get-roots" {
-			// (what the nodes read when they were told to, a moment later)
+			// The nodes reload their roots a little after the command.
 			if asked.Add(1) == 1 {
 				return
 			}
@@ -76,7 +76,7 @@ func TestProgram(t *testing.T) {
 			}
 		}
 	}
-	// What can't be done ends it with status 1 and why, and submits nothing.
+	// An impossible setting is an error with status 1, and nothing is submitted.
 	for _, of := range []struct {
 		words []string
 		says  string
@@ -85,7 +85,7 @@ func TestProgram(t *testing.T) {
 		{append(words, "--reload", "exit 3"), "exit status 3"},
 		{append(words, "--roots", filepath.Join(folder, "nowhere", "roots.pem")), "no such file"},
 		{append(words, "--answers", filepath.Join(folder, "nowhere", "answers")), "no such file"},
-		{append(words, "word"), `"word" isn't expected`},
+		{append(words, "word"), `unexpected argument "word"`},
 		{append(words, "--ready", "-1"), "--ready is a number from 0"},
 	} {
 		if status, out, problem := trial.Runs(t, of.words...); status != 1 || out != "" || !strings.Contains(problem, of.says) || submitted.Load() != 6 {
@@ -97,7 +97,8 @@ func TestProgram(t *testing.T) {
 	}
 }
 
-// TestTimed: it ends behind its time, also where nobody answers, and a submission that is refused as wrong has status 1.
+// TestTimed: the program ends after its duration, even if no node answers. A submission that is refused as wrong has
+// status 1.
 func TestTimed(t *testing.T) {
 	folder := t.TempDir()
 	roots := filepath.Join(folder, "roots.pem")

@@ -41,7 +41,7 @@ func TestBehind(t *testing.T) {
 			t.Errorf("%s reads an earlier moment: %v", what, err)
 		}
 		g.publish(other, 8)
-		if err := reads.follow(ctx); !errors.Is(err, errWrong) || !strings.Contains(err.Error(), "isn't consistent") {
+		if err := reads.follow(ctx); !errors.Is(err, errWrong) || !strings.Contains(err.Error(), "is not consistent") {
 			t.Errorf("%s reads another root: %v", what, err)
 		}
 		g.publish(tree, 7)
@@ -49,7 +49,7 @@ func TestBehind(t *testing.T) {
 			t.Errorf("%s reads the same: %v", what, err)
 		}
 	}
-	// (behind a later one the one before is behind, too)
+	// An older checkpoint is refused after a newer one too.
 	g.publish(tree, 9)
 	must(t, r.follow(ctx))
 	g.publish(tree, 8)
@@ -69,7 +69,7 @@ func TestEmptyTree(t *testing.T) {
 	must(t, r.follow(context.Background()))
 }
 
-// TestStatuses: what a node answers in place of a checkpoint is none, whatever stands in it; only what isn't there is wrong.
+// TestStatuses: a response with another status than 200 is no checkpoint, whatever it contains. Only a 404 is wrong.
 func TestStatuses(t *testing.T) {
 	g, r := newLog(t)
 	g.grow(1, 7)
@@ -116,7 +116,8 @@ func TestShortTiles(t *testing.T) {
 	}
 }
 
-// TestKeptIssuers: an issuer that is kept isn't asked for again, and one that can't be looked at is told, and not taken for one that isn't there.
+// TestKeptIssuers: an issuer that is stored is not read again. An issuer whose file cannot be looked up is an error,
+// and does not count as missing.
 func TestKeptIssuers(t *testing.T) {
 	g, r := newLog(t)
 	folder := t.TempDir()
@@ -142,8 +143,8 @@ func TestKeptIssuers(t *testing.T) {
 	}
 }
 
-// TestTilesThatFail: where a tower of hashes is read that is another than the checkpoint's it is wrong; a tile that doesn't come is asked for again, and the tree that was
-// read last stays.
+// TestTilesThatFail: tiles of hashes that are not the checkpoint's are wrong. A tile without a response is read again,
+// and the last tree stays.
 func TestTilesThatFail(t *testing.T) {
 	g, first := newLog(t)
 	g.grow(5, 7)

@@ -22,7 +22,8 @@ type mirror struct {
 
 const checkpointName = "checkpoint"
 
-// resume keeps what is checked from now on in a folder, and goes on from the checkpoint that it has. That is signed by the log.
+// resume keeps what is checked from now on in a folder, and continues from the folder's checkpoint. The log must have
+// signed that.
 func (r *reader) resume(folder string) error {
 	objects, err := stores.OpenFolder(folder)
 	if err != nil {
@@ -79,7 +80,7 @@ func (r *reader) beginsAsKept(ctx context.Context, tile tlog.Tile, content []byt
 	}
 	kept, err := r.mirror.objects.Get(ctx, nameOf(before), maxObject)
 	if err == nil && !bytes.HasPrefix(content, kept) {
-		return wrong("%s: %s doesn't begin with the bytes that are kept of it", r.node, nameOf(tile))
+		return wrong("%s: %s does not begin with the stored bytes", r.node, nameOf(tile))
 	}
 	return err
 }
@@ -138,7 +139,7 @@ func (m *mirror) dropPartial(before, now int64) error {
 	return nil
 }
 
-// dropBehind takes those of one tile away, the last of so many hashes or entries, where now it is full.
+// dropBehind deletes the partial versions of a tile, of up to so many hashes or entries, after it has become full.
 func (m *mirror) dropBehind(tile tlog.Tile, before, now int64) error {
 	if tile.N = before / tileWidth; tile.N == now/tileWidth {
 		return nil

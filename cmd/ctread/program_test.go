@@ -14,7 +14,8 @@ import (
 
 func TestMain(m *testing.M) { trial.Main(m, main) }
 
-// TestProgram: what was read and was right has status 0, also where a mirror goes on from it; what is wrong, and words that aren't ones, have 1 and why.
+// TestProgram: status 0 means that everything that was read is right, also if a mirror continues from it. Wrong tiles
+// and wrong arguments have status 1 and the reason.
 func TestProgram(t *testing.T) {
 	g, r := newLog(t)
 	folder := t.TempDir()
@@ -47,13 +48,13 @@ func TestProgram(t *testing.T) {
 		{append(words, "--origin", "log.example/other"), "no checkpoint of log.example/other"},
 		{append(words, "--key", filepath.Join(folder, "nowhere")), "no such file"},
 		{append(words, "--keep", filepath.Join(key, "below")), "not a directory"},
-		{append(words, "word"), `"word" isn't expected`},
+		{append(words, "word"), `unexpected argument "word"`},
 	} {
 		if status, out, problem := trial.Runs(t, of.words...); status != 1 || out != "" || !strings.HasPrefix(problem, "ctread: ") || !strings.Contains(problem, of.says) {
 			t.Errorf("%q: status %d, %q and %q", of.says, status, out, problem)
 		}
 	}
-	// Who doesn't answer is asked again until its time is over, and that isn't wrong.
+	// A node that does not answer is asked again until the time is over, and that is not wrong.
 	if status, out, problem := trial.Runs(t, append(words, "--nodes", "http://127.0.0.1:1", "--for", "50ms")...); status != 0 || !strings.HasSuffix(out, "0 entries were read, and all was right\n") || problem != "" {
 		t.Errorf("nobody answers: status %d, %q and %q", status, out, problem)
 	}

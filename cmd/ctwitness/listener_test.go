@@ -36,7 +36,7 @@ func (l *listening) Accept() (net.Conn, error) {
 	return &connected{of: l, behind: l.closed.Load()}, nil
 }
 
-// connected is one of its connections, behind so many that were closed.
+// connected is one of its connections, after so many that were closed.
 type connected struct {
 	net.Conn
 	of     *listening
@@ -50,7 +50,8 @@ func (c *connected) Close() error {
 
 func (c *connected) RemoteAddr() net.Addr { return &net.TCPAddr{IP: net.IPv4(192, 0, 2, 1), Port: 1} }
 
-// TestBounded: who comes beyond the bound waits until one who is connected has gone, once for each; where none comes the room is given back.
+// TestBounded: a connection above the bound waits until another one has ended, once for each. If there is none, the
+// slot is free again.
 func TestBounded(t *testing.T) {
 	ctx := trial.Limited(t, trial.Longest)
 	of := &listening{}
@@ -150,7 +151,7 @@ func TestGroups(t *testing.T) {
 	}
 }
 
-// TestClientsAt: who listens for logs has a bound.
+// TestClientsAt: the listener for logs has a bound.
 func TestClientsAt(t *testing.T) {
 	listener, err := clientsAt("127.0.0.1:0")
 	must(t, err)
@@ -183,7 +184,7 @@ func (c *closing) Close() error {
 	return c.Register.Close()
 }
 
-// TestOpenedOnce: a log's state is opened once, however often the logs are taken up, and closed at the end.
+// TestOpenedOnce: a log's state is opened once, however often the logs are reloaded, and closed at the end.
 func TestOpenedOnce(t *testing.T) {
 	ctx := trial.Limited(t, trial.Longest)
 	p, _ := ofOneLog(t)
@@ -244,7 +245,8 @@ func (standing) Create(ctx context.Context, _ string) error {
 	return ctx.Err()
 }
 
-// TestOpenWithin: states that give no answer are waited for as long as is said, where they are made and where they are taken up.
+// TestOpenWithin: a register that does not answer is waited for until the timeout, when states are created and when
+// they are opened.
 func TestOpenWithin(t *testing.T) {
 	p, _ := ofOneLog(t)
 	s, err := parse(p.words("--open-timeout", "10ms", "--create", "a.example"), io.Discard)
@@ -259,7 +261,7 @@ func TestOpenWithin(t *testing.T) {
 	}
 }
 
-// TestServerOf: each part of a request has its time, and its headers their bound; what net/http tells comes as a line.
+// TestServerOf: each part of a request has a timeout, and its headers have a bound. What net/http logs is a log line.
 func TestServerOf(t *testing.T) {
 	var told strings.Builder
 	s := serverOf(http.NotFoundHandler(), web.NewLines(&told))
@@ -300,7 +302,7 @@ func ofOneLog(t *testing.T) (p place, signed func(size int) []byte) {
 	return p, signed
 }
 
-// held is a register that isn't read until it may be, if it was told to wait.
+// held is a register that can be made to wait in Read.
 type held struct {
 	stores.Register
 	waits      atomic.Bool
@@ -366,7 +368,8 @@ func TestEndAnswers(t *testing.T) {
 	}
 }
 
-// TestEndIsLate: an end has its time and no more, also if a state's register gives no answer: who still waits then isn't answered, which is told, with status 1.
+// TestEndIsLate: an end takes at most its timeout, even if a state's register does not answer. Requests that still wait
+// then are not answered, which is logged, with status 1.
 func TestEndIsLate(t *testing.T) {
 	p, ofA := ofOneLog(t)
 	one, state := p.startedOver("--shutdown-timeout", "20ms")
@@ -388,7 +391,7 @@ func TestEndIsLate(t *testing.T) {
 			end = text
 		}
 	}
-	if status := <-one.status; status != 1 || !strings.Contains(end, "who waits isn't answered") {
+	if status := <-one.status; status != 1 || !strings.Contains(end, "waiting requests were not answered") {
 		t.Errorf("status %d: %s", status, end)
 	}
 	if took := time.Since(began); took > trial.Longest/2 {
@@ -397,7 +400,7 @@ func TestEndIsLate(t *testing.T) {
 	<-gone
 }
 
-// TestKeyWithoutState: who asks for the verifier key needs no state, and who serves does.
+// TestKeyWithoutState: --verifier-key needs no state, and serving does.
 func TestKeyWithoutState(t *testing.T) {
 	p := newPlace(t)
 	words := []string{"--name", "w.example", "--key", p.path("key.pem")}

@@ -1,7 +1,8 @@
-// Command ctwitness is a witness over HTTP: it cosigns the heads of several logs (C2SP tlog-witness, tlog-cosignature), each if proved code
-// decides that it follows the one that it cosigned last (docs/WITNESS.md).
+// Command ctwitness is a witness over HTTP. It cosigns the heads of several logs (C2SP tlog-witness, tlog-cosignature),
+// each if proved code decides that it follows the one that it cosigned last (docs/WITNESS.md).
 //
-// SIGHUP has it read the logs of its settings anew. SIGTERM and SIGINT end it: it takes no more, answers who waits, and ends with status 0.
+// At SIGHUP it reads the logs of its settings again. At SIGTERM or SIGINT it ends: it accepts no more requests, answers
+// the waiting ones, and exits with status 0.
 package main
 
 import (
@@ -210,13 +211,13 @@ func (w *running) serve(s *settings, lines *web.Lines, signals <-chan os.Signal)
 		// (so that what is asked for them ends, too, which the registers' end waits for)
 		_ = server.Close()
 		if err == nil {
-			err = fmt.Errorf("ctwitness: who waits isn't answered: %w", late)
+			err = fmt.Errorf("ctwitness: waiting requests were not answered in time: %w", late)
 		}
 	}
 	return err
 }
 
-// wait waits for a signal that ends the witness, and reads the logs anew where one asks for that.
+// wait waits for a signal that ends the witness, and reloads the logs at SIGHUP.
 func (w *running) wait(s *settings, lines *web.Lines, signals <-chan os.Signal, failed <-chan error) error {
 	for {
 		select {

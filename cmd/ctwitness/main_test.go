@@ -72,7 +72,7 @@ func (p place) log(origin string) (line string, signed func(size int) []byte) {
 	}
 }
 
-// process is a witness that runs: what it tells, and what ends it.
+// process is a running witness, with its log lines and a function that ends it.
 type process struct {
 	t       testing.TB
 	signals chan os.Signal
@@ -85,7 +85,7 @@ type process struct {
 func (p place) started(more ...string) *process {
 	var words []string
 	for _, name := range []string{"open-timeout", "shutdown-timeout"} {
-		// (what stands later counts)
+		// The last one of a setting counts.
 		words = append(words, "--"+name, trial.Longest.String())
 	}
 	words = append(words, more...)
@@ -119,7 +119,7 @@ func (p place) runs(does func(to io.Writer, signals chan os.Signal) int) *proces
 	}
 }
 
-// next is the next line that is told.
+// next returns the next log line.
 func (p *process) next() (line map[string]any) {
 	p.t.Helper()
 	text, more := <-p.told
@@ -220,7 +220,7 @@ func TestServes(t *testing.T) {
 	if status := one.ends(); status != 0 {
 		t.Errorf("the end: status %d", status)
 	}
-	// What was cosigned binds the next process.
+	// The next process must follow what was cosigned.
 	p.settings(a, b)
 	again := p.started(p.words()...)
 	again.wants(409, ofA(3))
@@ -289,12 +289,12 @@ func TestWords(t *testing.T) {
 		status   int
 		why      string
 	}{
-		{"", []string{"word"}, 2, `"word" isn't expected`},
+		{"", []string{"word"}, 2, `unexpected argument "word"`},
 		{"", []string{"--nothing"}, 2, "not defined"},
 		{"", []string{"--help"}, 0, "is a witness"},
 		{"nothing 7", nil, 2, `there is no setting "nothing"`},
 		{"create a", nil, 2, `there is no setting "create"`},
-		{"name x", nil, 2, "stands in line 1 already"},
+		{"name x", nil, 2, "is in line 1 already"},
 		{"shutdown-timeout 0s", nil, 2, "above 0"},
 		{"program ctwitness", nil, 2, `there is no setting "program"`},
 		{"log a.example", nil, 2, "at least one key"},

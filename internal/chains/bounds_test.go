@@ -133,7 +133,7 @@ func TestVersion2(t *testing.T) {
 	}
 }
 
-// TestReloadCounts: what is new and what is gone are told apart.
+// TestReloadCounts: a reload counts new roots and removed roots separately.
 func TestReloadCounts(t *testing.T) {
 	var all [][]byte
 	for i := 0; i < 4; i++ {

@@ -13,9 +13,9 @@ import (
 	tags "golang.org/x/crypto/cryptobyte/asn1"
 )
 
-// certificate is what a log needs of a certificate that is to be shown (RFC 5280, section 4.1): who issued it, when it ends, its
-// extensions, and what is signed by what. Of what else stands in it nothing is asked, so that one is shown that was issued with a name, an
-// address, a key or an extension that crypto/x509 refuses.
+// certificate has the fields of a submitted certificate that a log needs (RFC 5280, section 4.1): the issuer, the end
+// of its validity, its extensions, the signed bytes and the signature. It ignores all other fields. So a certificate
+// with a name, an address, a key or an extension that crypto/x509 refuses is logged too.
 type certificate struct {
 	raw    []byte
 	tbs    []byte
@@ -40,7 +40,7 @@ func identifierOf(oid asn1.ObjectIdentifier) []byte {
 	element := cryptobyte.String(b.BytesOrPanic())
 	var content cryptobyte.String
 	if !element.ReadASN1(&content, tags.OBJECT_IDENTIFIER) {
-		panic("chains: an object identifier isn't read as it is written")
+		panic("chains: an object identifier has another form than it was read in")
 	}
 	return content
 }
@@ -119,8 +119,8 @@ func readCertificate(der []byte) (*certificate, error) {
 	return c, nil
 }
 
-// readTBS reads the fields of a TBSCertificate; its algorithm has to be the one beside it (RFC 5280, section 4.1.1.2), which no signature
-// covers: else one certificate could be submitted in many forms.
+// readTBS reads the fields of a TBSCertificate. Its signature algorithm must be the one beside it (RFC 5280, section
+// 4.1.1.2), which no signature covers. Otherwise one certificate could be submitted in many forms.
 func (c *certificate) readTBS(tbs, algorithm cryptobyte.String) error {
 	var fields, inner, issuer, validity, ignored, explicit, extensions cryptobyte.String
 	var has bool
@@ -132,7 +132,7 @@ func (c *certificate) readTBS(tbs, algorithm cryptobyte.String) error {
 		return noDER("a TBSCertificate's field")
 	}
 	if !bytes.Equal(inner, algorithm) {
-		return fmt.Errorf("%w: the signature's algorithm isn't the TBSCertificate's", NoCertificate)
+		return fmt.Errorf("%w: the signature's algorithm differs from the TBSCertificate's", NoCertificate)
 	}
 	c.issuer = issuer
 	var err error
@@ -157,7 +157,7 @@ func readValidity(validity cryptobyte.String) (notBefore, notAfter time.Time, er
 			read = validity.ReadASN1UTCTime
 		}
 		if !read(&timestamps[i]) {
-			return time.Time{}, time.Time{}, noDER("a moment of the validity")
+			return time.Time{}, time.Time{}, noDER("a time of the validity")
 		}
 	}
 	if !validity.Empty() {
@@ -217,4 +217,4 @@ func (c *certificate) readSignature(algorithm, signature cryptobyte.String) erro
 	return nil
 }
 
-var errUnusedBits = errors.New("its signature isn't of whole bytes")
+var errUnusedBits = errors.New("its signature does not consist of whole bytes")

@@ -45,7 +45,8 @@ func signed(t testing.TB, der []byte, key *ecdsa.PrivateKey, change func(tbs []b
 	return made
 }
 
-// otherCurve has a key stand on a curve of the same length of name that nobody here knows: prime192v2 (ANSI X9.62).
+// otherCurve replaces a key's curve by prime192v2 (ANSI X9.62), which has an identifier of the same length and which
+// crypto/x509 does not know.
 func otherCurve(t testing.TB) func([]byte) []byte {
 	return func(tbs []byte) []byte {
 		known := []byte{0x2a, 0x86, 0x48, 0xce, 0x3d, 0x03, 0x01, 0x07}
@@ -117,8 +118,9 @@ func TestMisissuedAreShown(t *testing.T) {
 	}
 }
 
-// TestOtherFormOfASignature: a signature (r, s) of ECDSA is as valid as (r, n - s), which who has the certificate can write without the key. Both are taken, and are
-// two entries: a precertificate's are one but for what was submitted, since its own signature isn't in it.
+// TestOtherFormOfASignature: an ECDSA signature (r, s) is as valid as (r, n - s), which anybody with the certificate
+// can make without the key. Both are accepted, and are two entries. The two forms of a precertificate have the same
+// entry except for the submitted bytes, since it does not contain the precertificate's signature.
 func TestOtherFormOfASignature(t *testing.T) {
 	key := newKey(t)
 	root := authority("root")

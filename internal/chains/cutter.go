@@ -12,7 +12,7 @@ import (
 var errCut = errors.New("chains: not the entry of the precertificate")
 
 // errUnread is the error of a TBSCertificate that isn't as it has to be in DER. It is found beside the wagtenib.CertificateError with the field.
-var errUnread = errors.New("chains: the TBSCertificate can't be read")
+var errUnread = errors.New("chains: the TBSCertificate cannot be read")
 
 // CutFunction makes an entry, as wagtenib.PrecertificateEntry does.
 type CutFunction func(tbs []byte) (entry []byte, err error)

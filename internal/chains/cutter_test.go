@@ -15,7 +15,7 @@ import (
 // The one form of the poison extension: its OID, critical, and NULL in an OCTET STRING.
 var poison = []byte{0x30, 0x13, 0x06, 0x0a, 0x2b, 0x06, 0x01, 0x04, 0x01, 0xd6, 0x79, 0x02, 0x04, 0x03, 0x01, 0x01, 0xff, 0x04, 0x02, 0x05, 0x00}
 
-// byASN1 is a cutter that stands on encoding/asn1.
+// byASN1 is a cutter that uses encoding/asn1.
 type byASN1 struct{}
 
 func (byASN1) WithoutPoison(tbs []byte) ([]byte, error) {
@@ -80,7 +80,7 @@ type answers struct {
 
 func (a answers) WithoutPoison([]byte) ([]byte, error) { return a.entry, a.err }
 
-// TestCutters: what a cutter refuses is refused by name, and an error of its own is told as it is.
+// TestCutters: a TBSCertificate that a cutter refuses is refused by name. An error of the cutter itself is returned.
 func TestCutters(t *testing.T) {
 	a := madeByOpenssl(t)
 	chain := a.chain(t, "precertificate", "middle")

@@ -121,7 +121,7 @@ func (a *authorities) openssl(words ...string) ([]byte, error) {
 	return output, nil
 }
 
-// subject is the name of a certificate, in which both kinds of text stand.
+// subject is the name of a certificate with both kinds of strings.
 func subject(name string) string { return "/O=Ein Hündchen/CN=" + name }
 
 func (a *authorities) request(name, key string) error {
@@ -180,7 +180,7 @@ var (
 	opensslMaking sync.Once
 )
 
-// everyCertificate is what the tests' certificates are: each behind its issuer.
+// everyCertificate has the tests' certificates, each after its issuer.
 var everyCertificate = []made{
 	{name: "root", issuer: "root", section: "authority", to: "20400101000000Z"},
 	{name: "other", issuer: "other", section: "authority"},

@@ -182,8 +182,8 @@ func TestPrecertificatesAgreeWithPython(t *testing.T) {
 	}
 }
 
-// realPrecertificates reads those of examples/real-chains.jsonl, with what stands beside them there: the issuer's key hash and the
-// TBSCertificate, which came from elsewhere.
+// realPrecertificates reads the precertificates of examples/real-chains.jsonl, with the issuer's key hash and the
+// TBSCertificate of each, which came from another program.
 func realPrecertificates(t testing.TB) (found []real) {
 	t.Helper()
 	file, err := os.Open("../../examples/real-chains.jsonl")

@@ -25,7 +25,7 @@ func puts(t *testing.T, folder string) func(name string, text []byte) string {
 	}
 }
 
-// TestRootFiles: what the files have together are the roots; what isn't taken is named, and nothing else is lost.
+// TestRootFiles: the roots are those of all files. A certificate that is left out is named, and no other is lost.
 func TestRootFiles(t *testing.T) {
 	a := madeByOpenssl(t)
 	root, other := a.pem(t, "root"), a.pem(t, "other")

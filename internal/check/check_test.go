@@ -220,7 +220,8 @@ func (p *published) written(t testing.TB) string {
 	return folder
 }
 
-// TestRight judges a log that is right, also one whose partial tiles went behind their full ones, with what isn't published beside it.
+// TestRight judges a correct log. It may have deleted partial tiles after their full ones, and have files that are not
+// published.
 func TestRight(t *testing.T) {
 	p := newLog(t, nil)
 	want := Report{Heads: 4, Leaves: 300, Tiles: 0, Issuers: 1, Answers: 3, Repeats: 1}
@@ -320,12 +321,12 @@ func TestWrong(t *testing.T) {
 		"two heads have one moment": {nil, func(t testing.TB, p *published) {
 			gone(last)(t, p)
 			p.head(t, 300, 1002, p.root(t, 300))
-		}, "isn't later than"},
-		"a later head is of fewer leaves": {nil, func(t testing.TB, p *published) { p.head(t, 2, 2000, p.root(t, 2)) }, "isn't later than"},
+		}, "is not later than"},
+		"a later head is of fewer leaves": {nil, func(t testing.TB, p *published) { p.head(t, 2, 2000, p.root(t, 2)) }, "is not later than"},
 		"a head in the middle has another root": {nil, func(t testing.TB, p *published) {
 			p.head(t, 257, 1002, p.root(t, 256))
-		}, "isn't MTH of the leaves"},
-		"the first head has another root": {nil, func(t testing.TB, p *published) { p.head(t, 0, 1000, p.root(t, 1)) }, "isn't MTH of the leaves"},
+		}, "is not the MTH of the leaves"},
+		"the first head has another root": {nil, func(t testing.TB, p *published) { p.head(t, 0, 1000, p.root(t, 1)) }, "is not the MTH of the leaves"},
 		"a head is under another's name":  {nil, copied(last, nameOfHead(300, 1004)), "it is the head of 300 leaves at 1003"},
 		"a head has an extension line":    {nil, replaced(last, "\n\n", "\nmore\n\n"), "no signed note"},
 		"a head's size begins with 0":     {nil, replaced(last, "\n300\n", "\n0300\n"), "no size"},
@@ -334,14 +335,14 @@ func TestWrong(t *testing.T) {
 		"a head's line and a return": {nil, func(_ testing.TB, p *published) {
 			p.objects[last] = append(bytes.TrimSuffix(p.objects[last], []byte("\n")), "\r\n"...)
 		}, "no signature"},
-		"another signs first":         {nil, replaced(last, "— "+origin, "— other.example"), "the signature isn't the origin's"},
-		"a head is of another origin": {nil, replaced(last, origin+"\n300", "other.example\n300"), "the signature isn't the origin's"},
+		"another signs first":         {nil, replaced(last, "— "+origin, "— other.example"), "the signature is not the origin's"},
+		"a head is of another origin": {nil, replaced(last, origin+"\n300", "other.example\n300"), "the signature is not the origin's"},
 		"all of a head is another's": {nil, func(t testing.TB, p *published) {
 			p.objects[last] = []byte(strings.ReplaceAll(string(p.objects[last]), origin, "other.example"))
 		}, "the signature is another key's"},
 		"a head's signature is of another head": {nil, func(t testing.TB, p *published) {
 			p.objects[last] = []byte(strings.Replace(string(p.objects[last]), p.root(t, 300).String(), p.root(t, 257).String(), 1))
-		}, "the signature isn't the key's"},
+		}, "the signature is not the key's"},
 		"there is no head": {nil, func(_ testing.TB, p *published) {
 			for name := range p.objects {
 				if strings.HasPrefix(name, "heads/") {
@@ -365,9 +366,9 @@ func TestWrong(t *testing.T) {
 		"a tile of data breaks off": {nil, func(_ testing.TB, p *published) {
 			n := "tile/data/001.p/44"
 			p.objects[n] = p.objects[n][:len(p.objects[n])-1]
-		}, "leaf 43 isn't whole"},
-		"an earlier tile of data is another":       {nil, replaced("tile/data/001.p/1", "certificate 256", "certificate 255"), "tile/data/001.p/1 isn't the defined tile"},
-		"an earlier tile of hashes is another":     {nil, func(_ testing.TB, p *published) { p.objects["tile/0/000.p/2"][40] ^= 1 }, "tile/0/000.p/2 isn't the defined tile"},
+		}, "leaf 43 is cut off"},
+		"an earlier tile of data is another":       {nil, replaced("tile/data/001.p/1", "certificate 256", "certificate 255"), "tile/data/001.p/1 is not the tile of the tree"},
+		"an earlier tile of hashes is another":     {nil, func(_ testing.TB, p *published) { p.objects["tile/0/000.p/2"][40] ^= 1 }, "tile/0/000.p/2 is not the tile of the tree"},
 		"a tile has more leaves than there are":    {nil, copied("tile/0/001.p/44", "tile/0/001.p/45"), "has more than the 300 leaves"},
 		"a tile of a level that isn't there":       {nil, copied("tile/1/000.p/1", "tile/2/000.p/1"), "has more than the 300 leaves"},
 		"a tile's name has a part too many":        {nil, copied("tile/0/000", "tile/0/x000/000"), "is written otherwise"},
@@ -378,14 +379,14 @@ func TestWrong(t *testing.T) {
 		"a timestamp of another log":               {nil, answered(1, func(a *Answer) { a.LogID = make([]byte, 32) }), "answer 1: check: a timestamp of another log"},
 		"a timestamp's extension is another":       {nil, answered(2, func(a *Answer) { a.Extensions = append([]byte{1}, a.Extensions[1:]...) }), "answer 2: check: a timestamp without leaf_index"},
 		"a timestamp's extensions are more":        {nil, answered(2, func(a *Answer) { a.Extensions = append(a.Extensions[:8:8], 0) }), "a timestamp without leaf_index"},
-		"a timestamp's signature is of another":    {nil, func(_ testing.TB, p *published) { p.answers[2].Signature = p.answers[0].Signature }, "answer 2: check: the signature isn't the key's"},
+		"a timestamp's signature is of another":    {nil, func(_ testing.TB, p *published) { p.answers[2].Signature = p.answers[0].Signature }, "answer 2: check: the signature is not the key's"},
 		"a timestamp's algorithm is another":       {nil, answered(0, func(a *Answer) { a.Signature[1] = 1 }), "no DigitallySigned"},
 		"a timestamp's hash is another":            {nil, answered(0, func(a *Answer) { a.Signature[0] = 5 }), "no DigitallySigned"},
 		"a timestamp's signature has a byte more":  {nil, answered(0, func(a *Answer) { a.Signature = append(a.Signature, 0) }), "no DigitallySigned"},
 		"a timestamp of a leaf that isn't there":   {nil, signedAgain(func(e *entered) { e.extensions = leafIndex(300) }), "a timestamp of leaf 300, and the last head has 300 leaves"},
-		"a timestamp of another moment is signed":  {nil, signedAgain(func(e *entered) { e.timestamp++ }), "leaf 0 isn't what its timestamp is of"},
-		"a timestamp of another place is signed":   {nil, signedAgain(func(e *entered) { e.extensions = leafIndex(1) }), "leaf 1 isn't what its timestamp is of"},
-		"a timestamp of another content is signed": {nil, signedAgain(func(e *entered) { e.certificate = []byte("another") }), "leaf 0 isn't what its timestamp is of"},
+		"a timestamp of another moment is signed":  {nil, signedAgain(func(e *entered) { e.timestamp++ }), "leaf 0 is not the entry of its SCT"},
+		"a timestamp of another place is signed":   {nil, signedAgain(func(e *entered) { e.extensions = leafIndex(1) }), "leaf 1 is not the entry of its SCT"},
+		"a timestamp of another content is signed": {nil, signedAgain(func(e *entered) { e.certificate = []byte("another") }), "leaf 0 is not the entry of its SCT"},
 		"a head's name isn't one":                  {nil, copied(last, "heads/300-1003"), "that is no head's name"},
 		"a tile's name isn't one":                  {nil, copied("tile/0/000", "tile/0/0"), "that is no tile's name"},
 		"a partial tile has no width":              {nil, copied("tile/0/000", "tile/0/000.p/0"), "it has no width"},
@@ -410,7 +411,7 @@ func TestWrong(t *testing.T) {
 	}
 }
 
-// TestKeysOfLogs: what is no key of ECDSA judges nothing, and a folder that isn't there neither.
+// TestKeysOfLogs: Judge returns an error for a key that is not ECDSA, and for a missing folder.
 func TestKeysOfLogs(t *testing.T) {
 	p := newLog(t, nil)
 	public, _, err := ed25519.GenerateKey(rand.Reader)

@@ -59,7 +59,7 @@ func Precertificates(path string) (count int, err error) {
 			return 0, wrong("leaf %d has another issuer's key hash than its precertificate", i)
 		}
 		if !bytes.Equal(l.entry[37:], tbs) {
-			return 0, wrong("leaf %d isn't what its precertificate is without the poison", i)
+			return 0, wrong("leaf %d differs from its precertificate without the poison", i)
 		}
 	}
 	return count, nil
@@ -117,7 +117,7 @@ func cut(tbs []byte, signing *x509.Certificate) ([]byte, error) {
 	var made []byte
 	names := 0
 	for _, field := range fields[:last] {
-		// The second of its SEQUENCEs is the issuer, behind that of the signature's algorithm.
+		// The issuer is the second SEQUENCE, after the signature's algorithm.
 		isSequence := field.Class == asn1.ClassUniversal && field.Tag == asn1.TagSequence
 		if isSequence {
 			names++

@@ -111,8 +111,8 @@ func TestPrecertificates(t *testing.T) {
 		says string
 	}{
 		"right":                         {func(e *entered) {}, ""},
-		"another certificate's entry":   {func(e *entered) { e.certificate = finals[5].RawTBSCertificate }, "leaf 2 isn't what its precertificate is"},
-		"an entry with the poison":      {func(e *entered) { e.certificate = pres[2].RawTBSCertificate }, "leaf 2 isn't what its precertificate is"},
+		"another certificate's entry":   {func(e *entered) { e.certificate = finals[5].RawTBSCertificate }, "leaf 2 differs from its precertificate"},
+		"an entry with the poison":      {func(e *entered) { e.certificate = pres[2].RawTBSCertificate }, "leaf 2 differs from its precertificate"},
 		"another key hash":              {func(e *entered) { e.keyHash = bytes.Repeat([]byte{7}, 32) }, "leaf 2 has another issuer's key hash"},
 		"a certificate as its own pre":  {func(e *entered) { e.precertificate = finals[2].Raw }, "leaf 2: its precertificate"},
 		"a precertificate without them": {func(e *entered) { e.chain = nil }, "leaf 2: its precertificate"},

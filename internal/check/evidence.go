@@ -20,7 +20,7 @@ import (
 	"time"
 )
 
-// about is evidence.json: what a monitor says that it saw, and the log's parameters.
+// about is the file evidence.json: the monitor's statement, and the log's parameters.
 type about struct {
 	Verdict       string `json:"verdict"`
 	Time          string `json:"time"`

@@ -62,12 +62,12 @@ func readText(text string) (known, error) {
 	return known{Held{Text: text, Bundle: wagtenib.BatchName(state), Timestamp: state.Timestamp, Size: size}, state}, nil
 }
 
-// Command is what a node does next, and all that is to be known of the node.
+// Command is the next command for a node, with its data and the node's state after it.
 type Command struct {
 	Do string
 	// Seen is the text that the command starts from, and New the one that is made of it, or is published.
 	Seen, New Held
-	// Objects are those of New, each as it was told.
+	// Objects are the objects of New, in the given order.
 	Objects []string
 	// Bundle is the name of the staged batch that must be deleted.
 	Bundle string
@@ -145,7 +145,7 @@ type Rooted struct {
 	Root [32]byte
 }
 
-// Found is what a node finds of a log when it starts. What is nil, and an empty text, is not there.
+// Found has the data that a node finds at a start. A nil field or an empty text does not exist.
 type Found struct {
 	// Register is the lock's text.
 	Register string

@@ -61,7 +61,7 @@ func TestWay(t *testing.T) {
 	}
 }
 
-// TestRefusals: what is not a lock's text or the name of a staged batch is refused, and so is a line that is none.
+// TestRefusals: a text that is not a lock's text, a name that is not a staged batch's, and an invalid line are refused.
 func TestRefusals(t *testing.T) {
 	t.Parallel()
 	c := New()
@@ -80,7 +80,8 @@ func TestRefusals(t *testing.T) {
 
 func second(_ *Command, err error) error { return err }
 
-// TestStarts: what a node finds is gone on from, or refused by the name of what is ahead of the register's head.
+// TestStarts: a node continues from what it finds. If something is newer than the register's head, it is refused by
+// name.
 func TestStarts(t *testing.T) {
 	t.Parallel()
 	c := New()

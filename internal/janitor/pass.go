@@ -46,7 +46,7 @@ type reread struct {
 	failed     int
 }
 
-// pass does a part of each kind of work. What fails is done by a later pass.
+// pass does a part of each kind of work. If a part fails, a later pass does it.
 func (j *Janitor) pass(ctx context.Context) {
 	newest, ok := j.config.Newest()
 	if !ok {
@@ -129,7 +129,8 @@ func (j *Janitor) sweepTiles(ctx context.Context, newest Newest) error {
 	for at := range j.sweep.next {
 		for full := tile.Count(at-1, j.tiles.head.Size); left > 0 && j.sweep.next[at] < full; left-- {
 			if err := j.sweepTile(ctx, at-1, j.sweep.next[at], newest.Head); err != nil {
-				// A tile that fails again and again does not stop the rest. It is swept when it is read again.
+				// A tile that fails again and again does not stop the others. Its partial tiles are deleted when it is
+				// read again.
 				if j.sweep.failed++; j.sweep.failed < maxFailed {
 					return err
 				}
@@ -172,8 +173,9 @@ func (j *Janitor) whole(ctx context.Context, full tlog.Tile, newest signer.Head)
 	return tile.Whole(ctx, full, newest, j.read)
 }
 
-// deleteHeads deletes heads before the one that has stood for Keep.Heads, and of those before the one that has stood for Keep.Thin all that came less than
-// Keep.Apart after one that stays. A node needs the newest head, and otherwise asks only whether there is a later one.
+// deleteHeads deletes the heads before the newest one that is older than Keep.Heads. Of those before the newest one
+// that is older than Keep.Thin it keeps one in each Keep.Apart. A node needs the newest head, and otherwise checks only
+// whether there is a later one.
 func (j *Janitor) deleteHeads(ctx context.Context, _ Newest) error {
 	now := j.config.Clock.Elapsed()
 	if j.thin.head == (signer.Head{}) || now < j.thinned.due {
@@ -289,7 +291,7 @@ func (j *Janitor) readAgain(ctx context.Context, newest Newest) error {
 		j.reread.owed -= each
 		j.reread.next++
 	}
-	// What one pass could not read is not owed any more: the store is too slow for it.
+	// What one pass could not read is dropped: the store is too slow for it.
 	j.reread.owed = min(j.reread.owed, each)
 	return nil
 }

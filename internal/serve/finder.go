@@ -23,7 +23,7 @@ type finder struct {
 	isGoing bool
 }
 
-// lookup is one call. What it found, and its error, may be read after done is closed.
+// lookup is one call. Its result and its error may be read after done is closed.
 type lookup struct {
 	identities map[stores.Identity]bool
 	done       chan struct{}

@@ -22,7 +22,8 @@ func (s still) sources(said ...time.Duration) *sources {
 	return of
 }
 
-// The witness in the middle counts: one of three that lies neither stops a node nor vouches for its clock. Witnesses refuse a node at its start only.
+// TestWitnessInTheMiddle: the median of the witnesses counts. One wrong witness of three neither stops a node nor
+// confirms its clock. Witnesses refuse a node only at its start.
 func TestWitnessInTheMiddle(t *testing.T) {
 	clock := still{now: time.Now()}
 	const far = time.Hour

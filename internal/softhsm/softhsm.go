@@ -1,4 +1,4 @@
-// Package softhsm makes tokens of PKCS#11 for tests, where softhsm2 and opensc are installed.
+// Package softhsm makes PKCS#11 tokens for tests. It needs softhsm2 and opensc.
 package softhsm
 
 import (
@@ -22,7 +22,7 @@ func Token(t *testing.T) (module, pin string) {
 	}
 	for _, tool := range []string{"softhsm2-util", "pkcs11-tool"} {
 		if _, err := exec.LookPath(tool); err != nil || module == "" {
-			t.Skip("softhsm2 and opensc aren't installed")
+			t.Skip("softhsm2 and opensc are not installed")
 		}
 	}
 	folder := t.TempDir()

@@ -98,7 +98,7 @@ func TestWrongHeads(t *testing.T) {
 			t.Errorf("a head that is resumed has %s: %v", what, err)
 		}
 	}
-	// What is whole in itself isn't the reply to another request.
+	// A reply that is right for another request is refused.
 	whole := wagtenib.Step{Published: right, State: line, Bundle: bundle}
 	for what, of := range map[string]struct {
 		before string
@@ -161,7 +161,7 @@ func TestClaimOfOne(t *testing.T) {
 	if err != nil || string(receipt.Sign) != string(one.Receipts[0].Sign) {
 		t.Errorf("%+v, %v", receipt, err)
 	}
-	// (what is appended to an object goes not into the one behind it)
+	// Bytes that are appended to an object must not change the next one.
 	for _, object := range one.Objects {
 		if cap(object.Content) != len(object.Content) {
 			t.Errorf("%s has room for %d bytes behind it", object.Name, cap(object.Content)-len(object.Content))

@@ -79,14 +79,15 @@ func New(origin string) *Stepper { return Over(origin, Proved()) }
 // Over returns a stepper over other functions than the proved ones, for tests.
 func Over(origin string, functions Functions) *Stepper { return &Stepper{origin, functions} }
 
-// Receipt is where an entry of a batch stands, and the bytes under its timestamp's signature (RFC 6962, section 3.2).
+// Receipt has the index of an entry of a batch, and the bytes that its timestamp's signature covers (RFC 6962, section
+// 3.2).
 type Receipt struct {
 	LeafIndex uint64
 	Timestamp uint64
 	Sign      []byte
 }
 
-// Head is a head that is to be signed.
+// Head is a tree head to sign.
 type Head struct {
 	// Checkpoint is the body of its note, and Sign the bytes under its signature (RFC 6962, section 3.5).
 	Checkpoint string

@@ -51,7 +51,7 @@ func TestSteps(t *testing.T) {
 			t.Errorf("%s and %s", objects[i].Name, resumed.Objects[i].Name)
 		}
 	}
-	// Of two leaves the path is the other's hash.
+	// The path in a tree of two leaves is the other leaf's hash.
 	first := sha256.Sum256([]byte(leaf))
 	path, entry := [][]byte{objects[0].Content[32:64]}, Submission{LeafCertificate: []byte("one")}
 	claimed, err := c.Claim(two.Line, 0, 7, path, entry)
@@ -80,7 +80,7 @@ func TestSteps(t *testing.T) {
 	}
 }
 
-// TestOutOfMemory has a function refuse for want of memory: that is told, and nothing is returned.
+// TestOutOfMemory: the error of a function that is out of memory is returned, and nothing else.
 func TestOutOfMemory(t *testing.T) {
 	of := Proved()
 	of.Step = func(string, string, []byte, []byte, uint64, uint64) (*wagtenib.Step, error) {
@@ -106,7 +106,7 @@ func oneEntry(t *testing.T) (c *Stepper, before string, first *Stepped) {
 // oneSubmission is its batch.
 var oneSubmission = []Submission{{LeafCertificate: []byte("one")}}
 
-// TestWrongStates has a function reply a step's state that has one thing of it wrong: what it says must follow from the request.
+// TestWrongStates: a state in a reply with one wrong field is refused, since it must follow from the request.
 func TestWrongStates(t *testing.T) {
 	line, right := oneReply(t)
 	asked := func(state string) error {
@@ -116,7 +116,7 @@ func TestWrongStates(t *testing.T) {
 		return err
 	}
 	must(t, asked(right.State))
-	// Where the numbers and hashes stand in the line, in bytes.
+	// The offsets of the numbers and hashes in the line, in bytes.
 	for what, at := range map[string]int{"the size": 7, "the moment": 15, "the root": 16, "the bundle's digest": 48, "the digest of the line before": 112} {
 		digits := []byte(right.State)
 		digit := &digits[len(growth)+2*at]
@@ -197,7 +197,7 @@ func oneReply(t *testing.T) (line string, reply *wagtenib.Step) {
 	return line, reply
 }
 
-// TestReferences has a function tell other places in a bundle than an object's: each is told apart from a reply.
+// TestReferences: a reference to other bytes of a bundle than an object's is refused.
 func TestReferences(t *testing.T) {
 	line, one := oneReply(t)
 	right := one.Objects[0]

@@ -53,7 +53,7 @@ func (l *Leaf) Hash() (hash [32]byte) {
 // leafIndex begins the one extension leaf_index: its type 0, and two bytes of the length of an index.
 var leafIndex = []byte{0, 0, 5}
 
-// Index gives the index of the leaf in the log, where its extensions name it and nothing else.
+// Index returns the index of the leaf in the log, if its extensions have only that.
 func (l *Leaf) Index() (index uint64, ok bool) {
 	if len(l.Extensions) != len(leafIndex)+5 || !bytes.HasPrefix(l.Extensions, leafIndex) {
 		return 0, false
@@ -71,7 +71,7 @@ func ReadData(tile []byte) (leaves []Leaf, err error) {
 	for rest := cryptobyte.String(tile); !rest.Empty(); {
 		leaf, ok := readLeaf(&rest)
 		if !ok {
-			return nil, fmt.Errorf("%w: entry %d isn't one", ErrTile, len(leaves))
+			return nil, fmt.Errorf("%w: entry %d is invalid", ErrTile, len(leaves))
 		}
 		if len(leaves) == Width {
 			return nil, fmt.Errorf("%w: it has more than %d entries", ErrTile, Width)
@@ -81,7 +81,7 @@ func ReadData(tile []byte) (leaves []Leaf, err error) {
 	return leaves, nil
 }
 
-// readLeaf reads the leaf with which bytes begin, and leaves those behind it.
+// readLeaf reads the leaf at the beginning of the bytes, and leaves those after it.
 func readLeaf(tile *cryptobyte.String) (leaf Leaf, ok bool) {
 	whole := *tile
 	var certificate, extensions, precertificate, chain cryptobyte.String

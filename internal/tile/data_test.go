@@ -63,7 +63,7 @@ func TestRead(t *testing.T) {
 			t.Errorf("the hash of leaf %d is another", i)
 		}
 	}
-	// (what is put behind an entry goes not into the tile)
+	// Bytes that are appended to an entry must not change the tile.
 	_ = append(leaves[0].Entry, make([]byte, 40)...)
 	if !bytes.Equal(leaves[0].Chain, unhex(t, issuer)) {
 		t.Error("a leaf's chain was overwritten")

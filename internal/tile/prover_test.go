@@ -18,8 +18,8 @@ var must = trial.Must
 
 func limited(t testing.TB) context.Context { return trial.Limited(t, trial.Longest) }
 
-// TestTiles: a tile is read as the widest that stands in the tree, and what is given are the hashes that were asked for; what has another length is wrong, and what
-// is no tile of hashes of the tree isn't asked for.
+// TestTiles: the widest version of a tile in the tree is read, and the requested hashes are returned. A tile of another
+// length is wrong. No other tiles are read.
 func TestTiles(t *testing.T) {
 	wide := make([]byte, 32*256)
 	for i := range wide {
@@ -111,7 +111,7 @@ func TestReadings(t *testing.T) {
 	if found, err := r.Root(ctx, 1, 4); err != nil || found != zero {
 		t.Errorf("a root of one: %x, %v", found, err)
 	}
-	// What isn't the tree's is wrong, whatever differs.
+	// Each difference from the tree is wrong.
 	for what, err := range map[string]error{
 		"a path to another leaf":           CheckPath(path, 3, root, 2, one),
 		"a path of another place":          CheckPath(path, 3, root, 1, two),
@@ -179,8 +179,9 @@ func TestClientGoes(t *testing.T) {
 	}
 }
 
-// TestOneBehindAnother: where one thing is made at once, who asks for the next as soon as it has an answer, or an error, is always taken.
-func TestOneBehindAnother(t *testing.T) {
+// TestOneAfterAnother: if only one proof is made at a time, a caller that asks for the next one directly after an
+// answer or an error is always accepted.
+func TestOneAfterAnother(t *testing.T) {
 	r, ctx, broken := NewProver(nil, 1), limited(t), errors.New("the disk")
 	for i := 0; i < 20000; i++ {
 		var fails error

@@ -56,7 +56,8 @@ func readAccepted(path string) ([]byte, error) {
 	return text, nil
 }
 
-// unread says why a tree isn't cosigned that the log's monitor hasn't accepted: it may not have read so far, or it accepted another one, which is told.
+// unread returns the reason why a tree that the log's monitor has not accepted is not cosigned. The monitor has not
+// read so far, or it has accepted another tree, which is logged.
 func (s *Server) unread(log *Log, next wagtenib.WitnessedTree) (came answer, isUnread bool) {
 	if log.Accepted == nil {
 		return came, false

@@ -45,7 +45,7 @@ func TestRequestHasAnEnd(t *testing.T) {
 	}
 }
 
-// TestFromOneEntry: behind a tree of one entry, too, what lets a tree through has to lead to it.
+// TestFromOneEntry: a proof must also lead from a tree of one entry to the next tree.
 func TestFromOneEntry(t *testing.T) {
 	one, other := grown(t, "a", "b", "c"), grown(t, "x", "b", "c")
 	last := wagtenib.WitnessedTree{Root: one.root(t, 1), TreeSize: 1}

@@ -40,7 +40,8 @@ func TestClientAsksOnce(t *testing.T) {
 	}
 }
 
-// TestClientReadsWholeAnswers: an answer that breaks off is an error, and not the part that came. Of a long answer only the beginning is read.
+// TestClientReadsWholeAnswers: a response that breaks off is an error. Of a long response the client reads only the
+// beginning.
 func TestClientReadsWholeAnswers(t *testing.T) {
 	var length int
 	var text string

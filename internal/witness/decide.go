@@ -76,7 +76,7 @@ func (s *Server) next(last state, r Request, now uint64) (next state, err error)
 func leads(last wagtenib.WitnessedTree, r Request, size uint64, root [32]byte) error {
 	switch {
 	case r.Old != last.TreeSize || size < last.TreeSize:
-		return errors.New("the request isn't from the last tree")
+		return errors.New("the request's old size is not that of the last tree")
 	case size == last.TreeSize && last.Root != root:
 		return errors.New("a fork")
 	case size == last.TreeSize || last.TreeSize == 0:

@@ -27,8 +27,8 @@ import (
 
 var errTried = errors.New("tried")
 
-// TestFaultyRegister: whatever a register does in place of a call, nothing is signed whose state isn't kept; what is lost is decided anew, and what is unknown
-// is settled by swapping again.
+// TestFaultyRegister: if a call of the register fails, nothing is signed unless its state is stored. After a lost swap
+// the request is decided again. A swap of unknown outcome is repeated.
 func TestFaultyRegister(t *testing.T) {
 	by, one := headKey(t, origin), grown(t, "a", "b", "c")
 	body := request(0, nil, by.sign(checkpoint(origin, 3, one.root(t, 3))))
@@ -75,7 +75,7 @@ func TestFaultyRegister(t *testing.T) {
 			t.Errorf("%s: no %s", name, line)
 		}
 	}
-	// What a start finds.
+	// The states that a start finds.
 	s := witnessOver(t, &held{}, newKey(t), by)
 	for _, test := range []struct{ err, kind error }{{stores.ErrAbsent, ErrState}, {errTried, errTried}} {
 		of := Log{Origin: origin, Keys: []note.Verifier{by.key}, State: &held{does: func(string) error { return test.err }}}
@@ -95,7 +95,8 @@ func figures(s *Server) string {
 	return w.Body.String()
 }
 
-// TestKept: what is kept is the tree, the origin and the moment; no two swaps have one text, also of one tree in one second. The figures say so.
+// TestKept: the stored state has the tree, the origin and the timestamp. No two swaps have the same text, even for one
+// tree in one second. The metrics count them.
 func TestKept(t *testing.T) {
 	by, one, state := headKey(t, origin), grown(t, "a", "b", "c"), &held{}
 	s := witnessOver(t, state, newKey(t), by)

@@ -34,8 +34,8 @@ func newMetrics() *metrics {
 		refusals: counter("ctwitness_refusals_total", "Checkpoints that were refused, by the names of docs/WITNESS.md.", "origin", "refused"),
 		size:     gauge("ctwitness_entries", "Entries of the tree that was cosigned last."),
 		last:     gauge("ctwitness_last_cosignature_seconds", "When the last cosignature was given, in seconds since 1970."),
-		lost:     prometheus.NewCounter(prometheus.CounterOpts{Name: "ctwitness_lost_swaps_total", Help: "Requests that were decided anew, since the log's state moved."}),
-		reloads:  counter("ctwitness_reloads_total", "Readings of the settings' logs anew.", "outcome"),
+		lost:     prometheus.NewCounter(prometheus.CounterOpts{Name: "ctwitness_lost_swaps_total", Help: "Requests that were decided again after another one had changed the log's state."}),
+		reloads:  counter("ctwitness_reloads_total", "Reloads of the settings' logs.", "outcome"),
 	}
 	m.registry.MustRegister(m.requests, m.given, m.refusals, m.size, m.last, m.lost, m.reloads,
 		collectors.NewGoCollector(), collectors.NewProcessCollector(collectors.ProcessCollectorOpts{}))
@@ -57,7 +57,7 @@ func (m *metrics) forget(origin string) {
 	m.last.DeleteLabelValues(origin)
 }
 
-// Reloaded counts a reading of the settings' logs anew.
+// Reloaded counts a reload of the settings' logs.
 func (s *Server) Reloaded(err error) {
 	outcome := "done"
 	if err != nil {

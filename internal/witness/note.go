@@ -34,7 +34,7 @@ const (
 	algRFC6962     = 5
 )
 
-// What is refused of texts. Each is found by errors.Is.
+// The kinds of errors in notes. Use errors.Is.
 var (
 	// ErrRequest: a text isn't a request's, or a note's.
 	ErrRequest = errors.New("witness: not a request")
@@ -259,7 +259,7 @@ func ReadKey(text []byte) (ed25519.PrivateKey, error) {
 	}
 	key, ok := parsed.(ed25519.PrivateKey)
 	if !ok {
-		return nil, fmt.Errorf("%w: it isn't one of Ed25519", ErrKey)
+		return nil, fmt.Errorf("%w: it is not an Ed25519 key", ErrKey)
 	}
 	return key, nil
 }

@@ -48,7 +48,7 @@ func TestIsSafe(t *testing.T) {
 	}
 }
 
-// held is a register in memory. Each call asks `does` first, which may move what stands, or fail in its place.
+// held is a register in memory. Each call first calls `does`, which may change the text, or fail instead of the call.
 type held struct {
 	stores.Register
 	mu   sync.Mutex
@@ -100,7 +100,7 @@ func (h *held) Swap(_ context.Context, old, next string) error {
 
 func (h *held) Close() error { return nil }
 
-// stands has a witness stand at a head of a log.
+// stands sets a witness's state to a head of a log.
 func (h *held) stands(t testing.TB, of *leaves, size int64) {
 	last, err := readMessage(Message(1, checkpoint(origin, size, of.root(t, size))), origin)
 	must(t, err)
@@ -127,9 +127,10 @@ type parties struct {
 	old, fork shown
 }
 
-// TestNoQuorumStartsAnOldLog: of three witnesses some cosigned a head of 5 entries, and some are then restored as they were at 3, or lie. A log that was rolled
-// back to 3 entries as a whole does not start, whichever witnesses answer, nor does one that forked after those 3. If one witness more is faulty than may be, it
-// can start.
+// TestNoQuorumStartsAnOldLog: three witnesses have cosigned a head of 5 entries, and some of them are then rolled back
+// to 3 entries, or lie. A log that was rolled back to 3 entries as a whole does not start, whichever witnesses answer.
+// A log that forked after these 3 entries does not start either. If one witness more is faulty than allowed, it can
+// start.
 func TestNoQuorumStartsAnOldLog(t *testing.T) {
 	by := headKey(t, origin)
 	p := &parties{one: grown(t, "a", "b", "c", "d", "e")}

@@ -27,8 +27,8 @@ import (
 	"wagtenib/internal/trial"
 )
 
-// grounds are where a witness's states are kept: an address for a folder and a name that no other test has. Engines are those that
-// tests/engines.sh started; where it didn't, they are empty.
+// grounds are the kinds of registers that keep a witness's states. Each returns an address for a folder and a name that
+// no other test uses. The engines are those that tests/engines.sh started. Their addresses are empty if it did not run.
 func grounds() map[string]func(folder, name string) string {
 	all := map[string]func(folder, name string) string{"file": func(folder, _ string) string { return "file:" + folder }}
 	for kind, members := range map[string]string{"etcd": os.Getenv("STORES_ETCD"), "three members of etcd": os.Getenv("STORES_MEMBERS")} {
@@ -235,8 +235,9 @@ func serve(t *testing.T, state string) {
 	must(t, http.Serve(listener, s))
 }
 
-// TestKilledAnywhere has two processes of one witness answer over one register, asked at once for two heads that fork, while one of them is killed (-9) at
-// a moment of chance and another takes its place: in each round one of the heads is cosigned, and the other never.
+// TestKilledAnywhere has two processes of one witness answer over one register. They are asked at once for two heads
+// that fork, while one of them is killed (-9) at a random time and replaced. In each round one of the heads is
+// cosigned, and the other never is.
 func TestKilledAnywhere(t *testing.T) {
 	if state := os.Getenv(servesAt); state != "" {
 		serve(t, state)
@@ -282,7 +283,7 @@ func killedSomewhere(t *testing.T, round int, folder, state string, first, again
 	all.Wait()
 	processes[0] = serves(t, folder, state)
 	for ctx := limited(t); ; {
-		// (behind a kill nothing may have been kept yet)
+		// After a kill there may be no stored state yet.
 		came := []int{ask(processes[0], 0, first[0]), ask(processes[1], 1, first[1])}
 		for _, of := range processes {
 			for head := range again {

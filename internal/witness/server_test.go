@@ -79,7 +79,7 @@ func (l *leaves) proof(t testing.TB, from, to int64) (all [][32]byte) {
 // signing is a log's key: it signs a checkpoint's text.
 type signing struct {
 	key note.Verifier
-	// text is the verifier key, where there is one.
+	// text is the verifier key, if there is one.
 	text string
 	sign func(text string) []byte
 }
@@ -263,14 +263,14 @@ func TestExtensionLines(t *testing.T) {
 			t.Errorf("%d, and not %d: %s", w.Code, test.status, w.Body)
 		}
 	}
-	// Nor is the origin signed below type 5: a key is one log's.
+	// The origin is not signed for types below 5, so a key belongs to one log.
 	other := strings.Replace(string(head.sign(text)), origin, "other.example", 1)
 	if _, err := note.Open([]byte(other), note.VerifierList(head.key)); err == nil {
 		t.Error("a head of another log is taken")
 	}
 }
 
-// TestCalls: what isn't add-checkpoint, and what is too long.
+// TestCalls: other calls than add-checkpoint and requests that are too long are refused.
 func TestCalls(t *testing.T) {
 	s := witnessOf(t, t.TempDir(), newKey(t), plainKey(t, origin))
 	for _, test := range []struct {
@@ -356,7 +356,7 @@ func (s swappedState) Swap(ctx context.Context, old, new string) error {
 	return err
 }
 
-// TestStaleReader: who decided by a state that has moved meanwhile signs nothing, also where it decided for the same tree once more.
+// TestStaleReader: a request that was decided with an outdated state signs nothing, even if it has the same tree.
 func TestStaleReader(t *testing.T) {
 	by, key, folder := headKey(t, origin), newKey(t), t.TempDir()
 	one := grown(t, "a", "b", "c", "d", "e")
@@ -415,7 +415,7 @@ func TestStatePutBack(t *testing.T) {
 	if len(told) != 2 || !strings.Contains(told[0], "it was put back") {
 		t.Errorf("it says %q", told)
 	}
-	// Of the newest size it must be the same tree, and the state must not be one of a log that was never cosigned.
+	// At the newest size it must be the same tree, and the state must not be one of a log that was never cosigned.
 	never, err := noState(origin).text()
 	must(t, err)
 	must(t, state.Swap(ctx, older, never))
@@ -572,7 +572,8 @@ func TestStates(t *testing.T) {
 	}
 }
 
-// TestClock: moments don't go back. A clock that is behind a little has the last moment, and one that is far behind cosigns nothing.
+// TestClock: the times of cosignatures never fall. If the clock is behind by a little, a cosignature has the last time.
+// If it is far behind, nothing is cosigned.
 func TestClock(t *testing.T) {
 	by, one := headKey(t, origin), grown(t, "a", "b", "c")
 	s := witnessOf(t, t.TempDir(), newKey(t), by)
