@@ -21,7 +21,8 @@ func (g *grown) publish(tree tlog.Tree, timestamp uint64) {
 	g.objects["/checkpoint"] = []byte(noteOf(tree, "— "+origin+" ", blobOf(g.t, g.key, g.keyID, tree, timestamp)))
 }
 
-// TestBehind: of two checkpoints of one size the later one isn't of an earlier moment, nor of another root, also where the first was read by a mirror before.
+// TestBehind: of two checkpoints of one size the later one isn't of an earlier moment, nor of another root, also where
+// the first was read by a mirror before.
 func TestBehind(t *testing.T) {
 	ctx, folder := context.Background(), t.TempDir()
 	g, r := newLog(t)
@@ -94,7 +95,8 @@ func TestStatuses(t *testing.T) {
 	must(t, r.follow(context.Background()))
 }
 
-// TestShortTiles: a data tile with fewer entries than its name says, or that breaks off, is wrong; one with more is read as far as its name says.
+// TestShortTiles: a data tile with fewer entries than its name says, or that breaks off, is wrong; one with more is
+// read as far as its name says.
 func TestShortTiles(t *testing.T) {
 	const name = "/tile/data/000.p/3"
 	for what, of := range map[string]struct {
@@ -174,7 +176,8 @@ func TestTilesThatFail(t *testing.T) {
 		t.Helper()
 		r := readers[0]
 		readers = readers[1:]
-		if err := r.follow(context.Background()); err == nil || errors.Is(err, errWrong) != wrong || r.last.N != 5 || r.timestamp != 7 {
+		if err := r.follow(context.Background()); err == nil || errors.Is(err, errWrong) != wrong || r.last.N != 5 ||
+			r.timestamp != 7 {
 			t.Errorf("%s: %v, and %d entries are read", what, err, r.last.N)
 		}
 	}

@@ -301,13 +301,15 @@ func TestMirrorRefuses(t *testing.T) {
 	}
 }
 
-// TestMirrorOfAnother: a folder whose checkpoint isn't the log's, or can't be read, isn't gone on from, and one that can't be made isn't used.
+// TestMirrorOfAnother: a folder whose checkpoint isn't the log's, or can't be read, isn't gone on from, and one that
+// can't be made isn't used.
 func TestMirrorOfAnother(t *testing.T) {
 	g, r := newLog(t)
 	folder, node := t.TempDir(), r.node
 	tree := g.grow(5, 7)
 	other, _ := newLog(t)
-	must(t, os.WriteFile(filepath.Join(folder, "checkpoint"), []byte(noteOf(tree, "— "+origin+" ", blobOf(t, other.key, g.keyID, tree, 7))), 0o600))
+	must(t, os.WriteFile(filepath.Join(folder, "checkpoint"),
+		[]byte(noteOf(tree, "— "+origin+" ", blobOf(t, other.key, g.keyID, tree, 7))), 0o600))
 	if err := r.resume(folder); !errors.Is(err, errWrong) {
 		t.Errorf("another key's checkpoint: %v", err)
 	}
@@ -365,7 +367,8 @@ func TestCheckpointThatIsCutShort(t *testing.T) {
 	}
 	kept := func(want []byte) {
 		t.Helper()
-		if content, err := os.ReadFile(filepath.Join(r.mirror.folder, "checkpoint")); err != nil || !bytes.Equal(content, want) {
+		if content, err := os.ReadFile(filepath.Join(r.mirror.folder, "checkpoint")); err != nil ||
+			!bytes.Equal(content, want) {
 			t.Errorf("%q is kept, %v", content, err)
 		}
 	}
@@ -399,7 +402,8 @@ func (f failing) Put(ctx context.Context, name string, content []byte) error {
 // TestFolderThatFails: if an object cannot be read or stored, that is an error, no checkpoint is written, and nothing
 // is wrong. Afterwards the missing objects are stored.
 func TestFolderThatFails(t *testing.T) {
-	for _, of := range []failing{{gets: "issuer/"}, {gets: "tile/data/"}, {puts: "issuer/"}, {puts: "tile/data/"}, {puts: "tile/0/"}, {puts: "tile/1/"}} {
+	for _, of := range []failing{{gets: "issuer/"}, {gets: "tile/data/"}, {puts: "issuer/"}, {puts: "tile/data/"},
+		{puts: "tile/0/"}, {puts: "tile/1/"}} {
 		g, r := newLog(t)
 		g.grow(5, 7)
 		must(t, r.resume(t.TempDir()))
@@ -411,15 +415,18 @@ func TestFolderThatFails(t *testing.T) {
 		r.mirror.objects = failing{folder, of.gets, of.puts}
 		before, err := os.ReadFile(filepath.Join(r.mirror.folder, "checkpoint"))
 		must(t, err)
-		if err := r.follow(context.Background()); !errors.Is(err, errStore) || errors.Is(err, errWrong) || r.last.N != 5 {
+		if err := r.follow(context.Background()); !errors.Is(err, errStore) || errors.Is(err, errWrong) ||
+			r.last.N != 5 {
 			t.Errorf("%+v: %v, and %d are read", of, err, r.last.N)
 		}
-		if kept, err := os.ReadFile(filepath.Join(r.mirror.folder, "checkpoint")); err != nil || !bytes.Equal(kept, before) {
+		if kept, err := os.ReadFile(filepath.Join(r.mirror.folder, "checkpoint")); err != nil ||
+			!bytes.Equal(kept, before) {
 			t.Errorf("%+v: %q is kept, %v", of, kept, err)
 		}
 		r.mirror.objects = folder
 		must(t, r.follow(context.Background()))
-		for _, name := range []string{"tile/data/001.p/44", "tile/0/001.p/44", "tile/1/000.p/1", "issuer/" + hex.EncodeToString(fingerprint[:])} {
+		for _, name := range []string{"tile/data/001.p/44", "tile/0/001.p/44", "tile/1/000.p/1", "issuer/" +
+			hex.EncodeToString(fingerprint[:])} {
 			if _, err := os.Stat(filepath.Join(r.mirror.folder, name)); err != nil {
 				t.Errorf("%+v: %v", of, err)
 			}
@@ -456,7 +463,8 @@ func TestPartialTilesThatStay(t *testing.T) {
 func TestEntries(t *testing.T) {
 	whole := append(withIssuer("a", "b", issuerOf(0)), entryOf("c")...)
 	read, err := entriesOf(whole)
-	if err != nil || len(read) != 2 || read[1].end != len(whole) || len(read[0].issuers) != 1 || len(read[1].issuers) != 0 {
+	if err != nil || len(read) != 2 || read[1].end != len(whole) || len(read[0].issuers) != 1 ||
+		len(read[1].issuers) != 0 {
 		t.Fatalf("%v, %v", read, err)
 	}
 	for end := range whole {

@@ -100,16 +100,19 @@ func TestBounded(t *testing.T) {
 	}
 }
 
-// TestOneHost has one host open as many connections as it is let, and ask nothing on them: others are answered, it gets no more, and has room again once it closes.
+// TestOneHost has one host open as many connections as it is let, and ask nothing on them: others are answered, it gets
+// no more, and has room again once it closes.
 func TestOneHost(t *testing.T) {
 	clients, err := clientsAt("127.0.0.1:0")
 	must(t, err)
-	server := serverOf(http.HandlerFunc(func(w http.ResponseWriter, r *http.Request) { io.WriteString(w, "answered") }), web.NewLines(io.Discard))
+	server := serverOf(http.HandlerFunc(func(w http.ResponseWriter, r *http.Request) { io.WriteString(w, "answered") }),
+		web.NewLines(io.Discard))
 	go server.Serve(clients)
 	defer server.Close()
 	from := func(host byte) net.Conn {
 		t.Helper()
-		connection, err := (&net.Dialer{LocalAddr: &net.TCPAddr{IP: net.IPv4(127, 0, 0, host)}}).Dial("tcp", clients.Addr().String())
+		connection, err := (&net.Dialer{LocalAddr: &net.TCPAddr{IP: net.IPv4(127, 0, 0, host)}}).Dial("tcp",
+			clients.Addr().String())
 		must(t, err)
 		t.Cleanup(func() { connection.Close() })
 		return connection
@@ -138,7 +141,8 @@ func TestOneHost(t *testing.T) {
 // TestGroups: an address of IPv6 counts with its /64, and a proxy on this machine has no bound of its own.
 func TestGroups(t *testing.T) {
 	of := func(text string) netip.Prefix { return groupOf(net.TCPAddrFromAddrPort(netip.MustParseAddrPort(text))) }
-	if of("[2001:db8::1]:1") != of("[2001:db8::2:3]:4") || of("[2001:db8::1]:1") == of("[2001:db8:0:1::1]:1") || of("192.0.2.1:1") == of("192.0.2.2:1") || of("192.0.2.1:1") != of("[::ffff:192.0.2.1]:9") {
+	if of("[2001:db8::1]:1") != of("[2001:db8::2:3]:4") || of("[2001:db8::1]:1") == of("[2001:db8:0:1::1]:1") ||
+		of("192.0.2.1:1") == of("192.0.2.2:1") || of("192.0.2.1:1") != of("[::ffff:192.0.2.1]:9") {
 		t.Error("addresses count as one that are others', or the other way round")
 	}
 	a := &addresses{of: map[netip.Prefix]int{}}
@@ -210,7 +214,8 @@ func TestOpenedOnce(t *testing.T) {
 	}
 }
 
-// TestRemovedLogIsClosed takes a log out of the settings, as before SIGHUP: its state is closed then, and not opened again.
+// TestRemovedLogIsClosed takes a log out of the settings, as before SIGHUP: its state is closed then, and not opened
+// again.
 func TestRemovedLogIsClosed(t *testing.T) {
 	p, _ := ofOneLog(t)
 	s, err := parse(p.words(), io.Discard)
@@ -254,7 +259,8 @@ func TestOpenWithin(t *testing.T) {
 	w, err := open(s, web.NewLines(io.Discard))
 	must(t, err)
 	w.registers["a.example"] = standing{}
-	for what, opens := range map[string]func() error{"takes up": func() error { return w.takeUp(s) }, "makes": func() error { return w.create(s, web.NewLines(io.Discard)) }} {
+	for what, opens := range map[string]func() error{"takes up": func() error { return w.takeUp(s) },
+		"makes": func() error { return w.create(s, web.NewLines(io.Discard)) }} {
 		if err := opens(); !errors.Is(err, context.DeadlineExceeded) {
 			t.Errorf("it %s: %v", what, err)
 		}
@@ -268,7 +274,8 @@ func TestServerOf(t *testing.T) {
 	if s.ErrorLog.Print("a handler that fails"); !strings.Contains(told.String(), "a handler that fails") {
 		t.Errorf("%q is told", told.String())
 	}
-	for what, time := range map[string]time.Duration{"headers": s.ReadHeaderTimeout, "a request": s.ReadTimeout, "an answer": s.WriteTimeout, "the next request": s.IdleTimeout} {
+	for what, time := range map[string]time.Duration{"headers": s.ReadHeaderTimeout, "a request": s.ReadTimeout,
+		"an answer": s.WriteTimeout, "the next request": s.IdleTimeout} {
 		if time <= 0 || time > 60_000_000_000 {
 			t.Errorf("%s may take %v", what, time)
 		}
@@ -376,7 +383,8 @@ func TestEndIsLate(t *testing.T) {
 	gone := make(chan struct{})
 	go func() {
 		defer close(gone)
-		came, err := http.Post(one.at["clients"]+"/add-checkpoint", "text/plain", strings.NewReader("old 0\n\n"+string(ofA(3))))
+		came, err := http.Post(one.at["clients"]+"/add-checkpoint", "text/plain",
+			strings.NewReader("old 0\n\n"+string(ofA(3))))
 		if err == nil {
 			came.Body.Close()
 			t.Errorf("who waits is answered %s", came.Status)
@@ -405,11 +413,13 @@ func TestKeyWithoutState(t *testing.T) {
 	p := newPlace(t)
 	words := []string{"--name", "w.example", "--key", p.path("key.pem")}
 	var out strings.Builder
-	if status := run(append(words, "--verifier-key"), &out, io.Discard, nil); status != 0 || !strings.HasPrefix(out.String(), "w.example+") {
+	if status := run(append(words, "--verifier-key"), &out, io.Discard, nil); status != 0 ||
+		!strings.HasPrefix(out.String(), "w.example+") {
 		t.Errorf("status %d, %q", status, out.String())
 	}
 	var told strings.Builder
-	if status := run(words, io.Discard, &told, nil); status != 2 || !strings.Contains(told.String(), "--state is missing") {
+	if status := run(words, io.Discard, &told, nil); status != 2 ||
+		!strings.Contains(told.String(), "--state is missing") {
 		t.Errorf("status %d, %q", status, told.String())
 	}
 }

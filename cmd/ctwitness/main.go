@@ -24,7 +24,8 @@ import (
 	"wagtenib/internal/witness"
 )
 
-// statusNoState is the status of a start that is refused since a log's state is missing or another's, and will be until an operator has looked.
+// statusNoState is the status of a start that is refused since a log's state is missing or another's, and will be until
+// an operator has looked.
 const statusNoState = 3
 
 // maxConnections is how many clients are connected at once, and maxHeader how many bytes a request's headers have.
@@ -36,13 +37,14 @@ const (
 func main() {
 	signals := make(chan os.Signal, 4)
 	signal.Notify(signals, syscall.SIGHUP, syscall.SIGTERM, syscall.SIGINT)
-	// If nobody reads standard error any more, a write to it must fail and not end the witness. (What is caught, and not ignored, is as it was in its program.)
+	// If nobody reads standard error any more, a write to it must fail and not end the witness. (What is caught, and
+	// not ignored, is as it was in its program.)
 	signal.Notify(make(chan os.Signal, 1), syscall.SIGPIPE)
 	os.Exit(run(os.Args[1:], os.Stdout, os.Stderr, signals))
 }
 
-// run serves until a signal ends it, and gives the status: 0 at an end in order, 1 at another, 2 where the words aren't ones, statusNoState
-// where a log has no state.
+// run serves until a signal ends it, and gives the status: 0 at an end in order, 1 at another, 2 where the words aren't
+// ones, statusNoState where a log has no state.
 func run(words []string, out, to io.Writer, signals <-chan os.Signal) int {
 	if version.Asked(words) {
 		fmt.Fprint(out, version.Line("ctwitness"))
@@ -165,7 +167,8 @@ func (w *running) takeUp(s *settings) error {
 	return nil
 }
 
-// closeOthers closes the registers of logs that the settings don't have any more. A request of such a log that is under way may fail.
+// closeOthers closes the registers of logs that the settings don't have any more. A request of such a log that is under
+// way may fail.
 func (w *running) closeOthers(s *settings) {
 	for origin, register := range w.registers {
 		if _, stays := s.log(origin); !stays {

@@ -48,7 +48,8 @@ func identifierOf(oid asn1.ObjectIdentifier) []byte {
 // certificateOf gives of an issuer's certificate what is read of the first one of a chain.
 func certificateOf(issuer *x509.Certificate) *certificate {
 	c := &certificate{
-		raw: issuer.Raw, tbs: issuer.RawTBSCertificate, issuer: issuer.RawIssuer, notBefore: issuer.NotBefore, notAfter: issuer.NotAfter,
+		raw: issuer.Raw, tbs: issuer.RawTBSCertificate, issuer: issuer.RawIssuer, notBefore: issuer.NotBefore,
+		notAfter:  issuer.NotAfter,
 		algorithm: issuer.SignatureAlgorithm, signature: issuer.Signature,
 	}
 	for _, of := range issuer.Extensions {
@@ -75,8 +76,8 @@ var (
 	oidServerAuth          = asn1.ObjectIdentifier{1, 3, 6, 1, 5, 5, 7, 3, 1}
 )
 
-// isForServers reports whether a certificate may be used by TLS servers, by its extended key usage. One without this extension may be used for anything, and
-// one whose extension cannot be read for nothing.
+// isForServers reports whether a certificate may be used by TLS servers, by its extended key usage. One without this
+// extension may be used for anything, and one whose extension cannot be read for nothing.
 func isForServers(c *certificate) bool {
 	value, has := c.value(oidExtendedKeyUsage)
 	if !has {
@@ -124,10 +125,13 @@ func readCertificate(der []byte) (*certificate, error) {
 func (c *certificate) readTBS(tbs, algorithm cryptobyte.String) error {
 	var fields, inner, issuer, validity, ignored, explicit, extensions cryptobyte.String
 	var has bool
-	if !tbs.ReadASN1(&fields, tags.SEQUENCE) || !fields.SkipOptionalASN1(tagVersion) || !fields.SkipASN1(tags.INTEGER) ||
+	if !tbs.ReadASN1(&fields, tags.SEQUENCE) || !fields.SkipOptionalASN1(tagVersion) ||
+		!fields.SkipASN1(tags.INTEGER) ||
 		!fields.ReadASN1Element(&inner, tags.SEQUENCE) || !fields.ReadASN1Element(&issuer, tags.SEQUENCE) ||
-		!fields.ReadASN1(&validity, tags.SEQUENCE) || !fields.SkipASN1(tags.SEQUENCE) || !fields.SkipASN1(tags.SEQUENCE) ||
-		!fields.ReadOptionalASN1(&ignored, &has, tagIssuerUnique) || !fields.ReadOptionalASN1(&ignored, &has, tagSubjectUnique) ||
+		!fields.ReadASN1(&validity, tags.SEQUENCE) || !fields.SkipASN1(tags.SEQUENCE) ||
+		!fields.SkipASN1(tags.SEQUENCE) ||
+		!fields.ReadOptionalASN1(&ignored, &has, tagIssuerUnique) ||
+		!fields.ReadOptionalASN1(&ignored, &has, tagSubjectUnique) ||
 		!fields.ReadOptionalASN1(&explicit, &has, tagExtensions) || !fields.Empty() {
 		return noDER("a TBSCertificate's field")
 	}
@@ -170,7 +174,8 @@ func (c *certificate) readExtensions(extensions cryptobyte.String) error {
 	for !extensions.Empty() {
 		var content, identifier, value cryptobyte.String
 		if !extensions.ReadASN1(&content, tags.SEQUENCE) || !content.ReadASN1(&identifier, tags.OBJECT_IDENTIFIER) ||
-			!content.SkipOptionalASN1(tags.BOOLEAN) || !content.ReadASN1(&value, tags.OCTET_STRING) || !content.Empty() {
+			!content.SkipOptionalASN1(tags.BOOLEAN) || !content.ReadASN1(&value, tags.OCTET_STRING) ||
+			!content.Empty() {
 			return noDER("an extension")
 		}
 		c.extensions = append(c.extensions, extension{identifier, value})
@@ -181,8 +186,8 @@ func (c *certificate) readExtensions(extensions cryptobyte.String) error {
 // anyKey is the SubjectPublicKeyInfo of some key of Ed25519 (RFC 8410, section 4).
 var anyKey = append([]byte("\x30\x2a\x30\x05\x06\x03\x2b\x65\x70\x03\x21\x00"), make([]byte, ed25519.PublicKeySize)...)
 
-// readSignature has crypto/x509 read the algorithm and the signature, out of a certificate that has nothing else of this one. A signature
-// whose last byte isn't whole is refused: it would be one more form of the same.
+// readSignature has crypto/x509 read the algorithm and the signature, out of a certificate that has nothing else of
+// this one. A signature whose last byte isn't whole is refused: it would be one more form of the same.
 func (c *certificate) readSignature(algorithm, signature cryptobyte.String) error {
 	name, timestamp := []byte{0x30, 0}, []byte("\x17\x0d700101000000Z")
 	var b cryptobyte.Builder

@@ -30,7 +30,8 @@ const (
 	LongestCertificate = 256 << 10
 	// MaxBytes is how many bytes they may have together.
 	MaxBytes = 700 << 10
-	// MaxKeyBits is how many bits the RSA key of an issuer may have. (The time of a signature's check grows with their square.)
+	// MaxKeyBits is how many bits the RSA key of an issuer may have. (The time of a signature's check grows with their
+	// square.)
 	MaxKeyBits = 8192
 )
 
@@ -48,8 +49,8 @@ type Entry struct {
 	Type EntryType
 	// Certificate is the certificate, of an X509Entry; nil of a PrecertEntry.
 	Certificate []byte
-	// IssuerKeyHash is SHA-256 over the key of the issuer of the final certificate (its SubjectPublicKeyInfo in DER), and
-	// TBSCertificate what that one will have without signature and timestamps; of a PrecertEntry.
+	// IssuerKeyHash is SHA-256 over the key of the issuer of the final certificate (its SubjectPublicKeyInfo in DER),
+	// and TBSCertificate what that one will have without signature and timestamps; of a PrecertEntry.
 	IssuerKeyHash  [32]byte
 	TBSCertificate []byte
 	// Precertificate is what was submitted, of a PrecertEntry.
@@ -63,10 +64,11 @@ type Entry struct {
 type Rules struct {
 	// Window is when the certificate must expire.
 	Window Window
-	// ServerAuthentication is whether the certificate must be one for TLS servers: its extended key usage has serverAuth or anyExtendedKeyUsage, or there is no
-	// such extension (RFC 5280, section 4.2.1.12).
+	// ServerAuthentication is whether the certificate must be one for TLS servers: its extended key usage has
+	// serverAuth or anyExtendedKeyUsage, or there is no such extension (RFC 5280, section 4.2.1.12).
 	ServerAuthentication bool
-	// RefuseExpired and RefuseNotYetValid are whether the certificate must not have expired, and whether its validity must have begun.
+	// RefuseExpired and RefuseNotYetValid are whether the certificate must not have expired, and whether its validity
+	// must have begun.
 	RefuseExpired, RefuseNotYetValid bool
 }
 
@@ -125,7 +127,8 @@ func (c *Checker) Reload(files RootFiles) (added, removed int, err error) {
 	return added, removed, nil
 }
 
-// Certificate checks a chain in DER whose first is a certificate (add-chain), and gives its entry. An error wraps a Refusal.
+// Certificate checks a chain in DER whose first is a certificate (add-chain), and gives its entry. An error wraps a
+// Refusal.
 func (c *Checker) Certificate(chain [][]byte) (*Entry, error) {
 	first, issuers, err := c.check(chain)
 	if err != nil {
@@ -137,8 +140,8 @@ func (c *Checker) Certificate(chain [][]byte) (*Entry, error) {
 	return &Entry{Type: X509Entry, Certificate: first.raw, Issuers: inDER(issuers)}, nil
 }
 
-// Precertificate checks a chain in DER whose first is a precertificate (add-pre-chain), and gives its entry. An error wraps a
-// Refusal, or is the cutter's.
+// Precertificate checks a chain in DER whose first is a precertificate (add-pre-chain), and gives its entry. An error
+// wraps a Refusal, or is the cutter's.
 func (c *Checker) Precertificate(chain [][]byte) (*Entry, error) {
 	first, issuers, err := c.check(chain)
 	if err != nil {
@@ -265,8 +268,8 @@ func (c *Checker) rootOf(last *certificate) (*x509.Certificate, error) {
 
 // issued says whether a certificate is signed by an issuer who may.
 func (c *Checker) issued(certificate *certificate, issuer *x509.Certificate) error {
-	// Certificates of version 1 have no extension that would say so; only a root may be one, as a chain's other issuers are
-	// taken from who submits them.
+	// Certificates of version 1 have no extension that would say so; only a root may be one, as a chain's other issuers
+	// are taken from who submits them.
 	authority := issuer.BasicConstraintsValid && issuer.IsCA
 	if issuer.Version < 3 && !issuer.BasicConstraintsValid {
 		authority = c.roots.Load().has(issuer.Raw)

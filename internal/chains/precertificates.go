@@ -44,8 +44,8 @@ func signsPrecertificates(certificate *x509.Certificate) bool {
 	return false
 }
 
-// finalIssuer is what a TBSCertificate has of the issuer of the final certificate: its name, and the value of the authority key
-// identifier, or nil.
+// finalIssuer is what a TBSCertificate has of the issuer of the final certificate: its name, and the value of the
+// authority key identifier, or nil.
 type finalIssuer struct {
 	name, authorityKey []byte
 }
@@ -61,8 +61,8 @@ func noDER(what string) error {
 	return fmt.Errorf("%w: %s is not valid DER", NoCertificate, what)
 }
 
-// Cutter makes the entry of a precertificate from its TBSCertificate: the same without the poison extension. All other bytes stay
-// as they are, except the lengths around them. NewCutter returns one, which is proved to do so.
+// Cutter makes the entry of a precertificate from its TBSCertificate: the same without the poison extension. All other
+// bytes stay as they are, except the lengths around them. NewCutter returns one, which is proved to do so.
 type Cutter interface {
 	WithoutPoison(tbs []byte) ([]byte, error)
 }

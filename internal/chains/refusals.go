@@ -50,8 +50,10 @@ const (
 
 // Refusals are all of them.
 var Refusals = []Refusal{
-	EmptyChain, ChainTooLong, CertificateTooLong, NoCertificate, NotIssuedByNext, UnknownRoot, NotAnAuthority, KeyTooLong, BadSignature,
-	OutsideWindow, Expired, NotYetValid, NotForServers, IsPrecertificate, NoPoison, BadPoison, NoFinalIssuer, NoAuthorityKey,
+	EmptyChain, ChainTooLong, CertificateTooLong, NoCertificate, NotIssuedByNext, UnknownRoot, NotAnAuthority,
+	KeyTooLong, BadSignature,
+	OutsideWindow, Expired, NotYetValid, NotForServers, IsPrecertificate, NoPoison, BadPoison, NoFinalIssuer,
+	NoAuthorityKey,
 }
 
 // RefusalOf gives the refusal that an error wraps, or none.

@@ -33,7 +33,8 @@ type Roots struct {
 
 // LeftOut is a root that isn't taken, and why.
 type LeftOut struct {
-	// From is the file that has it, Number its place among the file's certificates, from 1, and Name what the file calls it, if it does.
+	// From is the file that has it, Number its place among the file's certificates, from 1, and Name what the file
+	// calls it, if it does.
 	From   string
 	Number int
 	Name   string
@@ -59,8 +60,9 @@ type RootFiles struct {
 	Without string
 }
 
-// Load reads the roots of all files. A certificate that crypto/x509 doesn't read is left out, and named by LeftOut; a file that can't be
-// read, that is cut off, that has anything but certificates or has none that is read is an error: a log would quietly lose some.
+// Load reads the roots of all files. A certificate that crypto/x509 doesn't read is left out, and named by LeftOut; a
+// file that can't be read, that is cut off, that has anything but certificates or has none that is read is an error: a
+// log would quietly lose some.
 func (f RootFiles) Load() (*Roots, error) {
 	removed, err := f.removed()
 	if err != nil {
@@ -247,8 +249,8 @@ func partsOfCSV(text []byte) ([]rootText, error) {
 	}
 }
 
-// certificatesIn are the bytes of the certificates in PEM, with whatever text between them. A block of another kind, or one that is cut
-// off, is an error.
+// certificatesIn are the bytes of the certificates in PEM, with whatever text between them. A block of another kind, or
+// one that is cut off, is an error.
 func certificatesIn(text []byte) ([][]byte, error) {
 	var found [][]byte
 	rest, number := text, 1

@@ -230,7 +230,8 @@ func (f *folder) note(text string) (head, error) {
 
 // signed checks a DigitallySigned of ECDSA with SHA-256.
 func (f *folder) signed(message, signature []byte) error {
-	if len(signature) < 4 || signature[0] != 4 || signature[1] != 3 || int(signature[2])<<8|int(signature[3]) != len(signature)-4 {
+	if len(signature) < 4 || signature[0] != 4 || signature[1] != 3 ||
+		int(signature[2])<<8|int(signature[3]) != len(signature)-4 {
 		return wrong("no DigitallySigned")
 	}
 	if digest := sha256.Sum256(message); !ecdsa.VerifyASN1(f.key, digest[:], signature[4:]) {
@@ -271,7 +272,8 @@ func (f *folder) judgeHead(h head) error {
 	for level := 0; h.size>>uint(8*level) > 0; level++ {
 		hashes := h.size >> uint(8*level)
 		if width := hashes % 256; width > 0 {
-			if name := nameOf(strconv.Itoa(level), hashes/256, width); f.objects[name] == nil && !f.swept(strconv.Itoa(level), hashes/256) {
+			if name := nameOf(strconv.Itoa(level), hashes/256, width); f.objects[name] == nil &&
+				!f.swept(strconv.Itoa(level), hashes/256) {
 				return wrong("%s: %s is missing", h.name, name)
 			}
 		}

@@ -18,13 +18,15 @@ import (
 const (
 	headsPrefix   = "heads/"
 	stagingPrefix = "staging/"
-	// maxDeleted is how many objects of a kind one pass deletes, maxSwept how many tiles it looks at for partial ones, and maxReread how many it reads again.
+	// maxDeleted is how many objects of a kind one pass deletes, maxSwept how many tiles it looks at for partial ones,
+	// and maxReread how many it reads again.
 	maxDeleted = 256
 	maxSwept   = 16
 	maxReread  = 16
 	// maxDamaged is how many damaged tiles are remembered.
 	maxDamaged = 1024
-	// sweptAgain is how many full tiles of a level before the newest a janitor looks at first. It reads the older ones again in time.
+	// sweptAgain is how many full tiles of a level before the newest a janitor looks at first. It reads the older ones
+	// again in time.
 	sweptAgain = 256
 	// levels are those of the tiles of a log: data, and hashes of at most 2^40 entries.
 	levels = 6
@@ -60,7 +62,8 @@ func (j *Janitor) pass(ctx context.Context) {
 		what string
 		do   func(context.Context, Newest) error
 	}{
-		{"partial tiles", j.sweepTiles}, {"heads", j.deleteHeads}, {"staged batches", j.deleteStaged}, {"damaged tiles", j.readDamaged}, {"old tiles", j.readAgain},
+		{"partial tiles", j.sweepTiles}, {"heads", j.deleteHeads}, {"staged batches", j.deleteStaged},
+		{"damaged tiles", j.readDamaged}, {"old tiles", j.readAgain},
 		{"issuers", j.readIssuers},
 	} {
 		if err := part.do(ctx, newest); err != nil && ctx.Err() == nil {
@@ -260,8 +263,9 @@ func (j *Janitor) deleteStaged(ctx context.Context, newest Newest) error {
 	return nil
 }
 
-// readAgain reads so many old data tiles again, with the hash tiles from their leaves to the root, that all are read within Keep.Reread. It begins at a random one,
-// so that a log that is started often is read all the same. It deletes the partial tiles of each full one that is whole.
+// readAgain reads so many old data tiles again, with the hash tiles from their leaves to the root, that all are read
+// within Keep.Reread. It begins at a random one, so that a log that is started often is read all the same. It deletes
+// the partial tiles of each full one that is whole.
 func (j *Janitor) readAgain(ctx context.Context, newest Newest) error {
 	full := tile.Count(-1, newest.Head.Size)
 	if full == 0 || j.tiles.head.Size == 0 {

@@ -1,5 +1,5 @@
-// Package log says what a front sees of a log: submissions that are answered with their places, the newest published head, and
-// the published objects. The log of wagtenib/internal/serve is one.
+// Package log says what a front sees of a log: submissions that are answered with their places, the newest published
+// head, and the published objects. The log of wagtenib/internal/serve is one.
 package log
 
 import (
@@ -66,8 +66,8 @@ type Figures struct {
 	// since the last successful round. A node without submissions makes a round each second.
 	Unpublished uint64
 	SinceRound  time.Duration
-	// Steps counts swaps that were won, LostSwaps those that another node was faster with, Unknown those whose outcome had to be
-	// settled by reading the register.
+	// Steps counts swaps that were won, LostSwaps those that another node was faster with, Unknown those whose outcome
+	// had to be settled by reading the register.
 	Steps, LostSwaps, Unknown uint64
 	// Repeats counts submissions that were answered with an existing entry. Helped counts the heads of other nodes that
 	// this node published. HandedOver counts submissions that another node answered.
@@ -82,13 +82,15 @@ type Figures struct {
 	// Phases are the parts of a step, in their order, and Batches how many submissions steps took in.
 	Phases  []Phase
 	Batches Batches
-	// SweptBundles counts bundles of steps that were deleted since nobody needs them, and Staged is how many there were when they were listed last.
+	// SweptBundles counts bundles of steps that were deleted since nobody needs them, and Staged is how many there were
+	// when they were listed last.
 	SweptBundles, Staged uint64
-	// TendFailures counts what failed of sweeping, which is tried again, and TendFailure is the last of it, in one line.
+	// TendFailures counts what failed of sweeping, which is tried again, and TendFailure is the last of it, in one
+	// line.
 	TendFailures uint64
 	TendFailure  string
-	// SweptTo is up to how many entries no partial tile is left below the full ones, by what this node knows, and ReadNext is the data tile that it reads again
-	// next.
+	// SweptTo is up to how many entries no partial tile is left below the full ones, by what this node knows, and
+	// ReadNext is the data tile that it reads again next.
 	SweptTo, ReadNext uint64
 	// Damaged is the number of data tiles that were missing, unreadable or wrong when they were last read, or have such
 	// a hash tile above them. The log continues. Damage describes one of them in a line.
@@ -96,14 +98,16 @@ type Figures struct {
 	// DamagedIssuers is how many issuers are missing or have another content, by what was read last.
 	DamagedIssuers int
 	Damage         string
-	// Mended counts objects of the log that were missing or had another content and were made again, and LastMended says which was last.
+	// Mended counts objects of the log that were missing or had another content and were made again, and LastMended
+	// says which was last.
 	Mended     uint64
 	LastMended string
 	// Witnesses has the state of each witness that cosigns the log's heads.
 	Witnesses []Witness
 	// Fault is what keeps the log from going on, in one line; empty where nothing does.
 	Fault string
-	// Faults counts how often something began to keep it from that, and LastFault is the last of it: one may be over before anybody looks.
+	// Faults counts how often something began to keep it from that, and LastFault is the last of it: one may be over
+	// before anybody looks.
 	Faults    uint64
 	LastFault string
 }

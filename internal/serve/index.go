@@ -96,7 +96,8 @@ func (l *Log) hasItsIndex(ctx context.Context) error {
 		own = idName(id)
 	}
 	if len(names) > 1 {
-		return fmt.Errorf("%w: its id is %s, and the store has %s: nodes with an index of their own each started at once "+
+		return fmt.Errorf("%w: its id is %s, and the store has %s: nodes with an index of their own each started "+
+			"at once "+
 			"(give all nodes the same index, and delete the other ids)",
 			node.ErrIndex, own, strings.Join(names, " and "))
 	}

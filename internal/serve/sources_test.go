@@ -47,7 +47,8 @@ func TestWitnessInTheMiddle(t *testing.T) {
 		}
 	}
 	// A cosignature of more than ten minutes ago does not count.
-	if isVouched, err := clock.sources(0).Compare(clock.now, clock.Elapsed()+forgotten+time.Minute, true); isVouched || err != nil {
+	if isVouched, err := clock.sources(0).Compare(clock.now, clock.Elapsed()+forgotten+time.Minute, true); isVouched ||
+		err != nil {
 		t.Errorf("an old word counts: %t, %v", isVouched, err)
 	}
 }

@@ -1,4 +1,5 @@
-// Package settingsfile reads a program's settings: its command line, and the file that this names, which has what it takes, a line each.
+// Package settingsfile reads a program's settings: its command line, and the file that this names, which has what it
+// takes, a line each.
 package settingsfile
 
 import (

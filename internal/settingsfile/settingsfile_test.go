@@ -11,7 +11,8 @@ import (
 	"testing"
 )
 
-// TestParse: the command line counts before the file, several lines add up where they may, and each line that isn't one is named.
+// TestParse: the command line counts before the file, several lines add up where they may, and each line that isn't one
+// is named.
 func TestParse(t *testing.T) {
 	rules := Rules{Only: []string{"config"}, Several: []string{"log"}}
 	for _, c := range []struct{ text, words, size, logs, fault string }{
@@ -31,7 +32,8 @@ func TestParse(t *testing.T) {
 			t.Fatal(err)
 		}
 		err := rules.Parse(flags, append([]string{"--config", path}, strings.Fields(c.words)...))
-		if (err == nil) != (c.fault == "") || err != nil && !strings.Contains(err.Error(), c.fault) || fmt.Sprint(*size) != c.size || fmt.Sprint(*logs) != c.logs {
+		if (err == nil) != (c.fault == "") || err != nil && !strings.Contains(err.Error(), c.fault) ||
+			fmt.Sprint(*size) != c.size || fmt.Sprint(*logs) != c.logs {
 			t.Errorf("%.40q: %v, %d, %v", c.text, err, *size, *logs)
 		}
 	}

@@ -74,7 +74,8 @@ func TestBent(t *testing.T) {
 			}
 		}
 	}
-	// (16 full tiles of leaves below 4 below one, and the hashes of the level above: each is seen; of the two leaves at the end nothing is)
+	// (16 full tiles of leaves below 4 below one, and the hashes of the level above: each is seen; of the two leaves at
+	// the end nothing is)
 	if compared < 64+16+4 || others == 0 {
 		t.Errorf("%d hashes were compared, and %d not", compared, others)
 	}

@@ -20,7 +20,8 @@ type Leaf struct {
 	// Timestamp is in milliseconds since 1970.
 	Timestamp uint64
 	Type      chains.EntryType
-	// IssuerKeyHash is of a precertificate, 32 bytes; Certificate is a certificate, or a precertificate's TBSCertificate.
+	// IssuerKeyHash is of a precertificate, 32 bytes; Certificate is a certificate, or a precertificate's
+	// TBSCertificate.
 	IssuerKeyHash, Certificate []byte
 	// Extensions are those of the timestamp, without their length.
 	Extensions []byte
@@ -37,8 +38,8 @@ type Leaf struct {
 // Length returns how many bytes of its tile the leaf takes.
 func (l *Leaf) Length() int { return l.length }
 
-// Input gives the bytes of the tree's leaf, a MerkleTreeLeaf: version v1 and the type timestamped_entry, two bytes of zero, before the entry
-// (RFC 6962, section 3.4).
+// Input gives the bytes of the tree's leaf, a MerkleTreeLeaf: version v1 and the type timestamped_entry, two bytes of
+// zero, before the entry (RFC 6962, section 3.4).
 func (l *Leaf) Input() []byte { return append([]byte{0, 0}, l.Entry...) }
 
 // Hash is the leaf's (RFC 6962, section 2.1).
@@ -66,7 +67,8 @@ func Extensions(index uint64) []byte {
 	return append(leafIndex[:len(leafIndex):len(leafIndex)], binary.BigEndian.AppendUint64(nil, index)[3:]...)
 }
 
-// ReadData returns the leaves of a data tile, at most Width. The error is ErrTile. A judge of a log from outside (internal/check, cmd/ctread) has a reader of its own.
+// ReadData returns the leaves of a data tile, at most Width. The error is ErrTile. A judge of a log from outside
+// (internal/check, cmd/ctread) has a reader of its own.
 func ReadData(tile []byte) (leaves []Leaf, err error) {
 	for rest := cryptobyte.String(tile); !rest.Empty(); {
 		leaf, ok := readLeaf(&rest)

@@ -48,8 +48,8 @@ type made[T any] struct {
 	err  error
 }
 
-// within has something made, in its time, if a place is free. It returns once the context ends. A reading that doesn't heed the end of its context keeps its
-// place until it is done.
+// within has something made, in its time, if a place is free. It returns once the context ends. A reading that doesn't
+// heed the end of its context keeps its place until it is done.
 func within[T any](ctx context.Context, r *Prover, ask func(context.Context) (T, error)) (what T, err error) {
 	if err := ctx.Err(); err != nil {
 		return what, err
@@ -104,18 +104,25 @@ func (r *Prover) tiles(of uint64) tiles {
 	}
 }
 
-// Path is the audit path of a leaf in the tree of size leaves, made of the tiles of the tree of `of` leaves, at least as many.
+// Path is the audit path of a leaf in the tree of size leaves, made of the tiles of the tree of `of` leaves, at least
+// as many.
 func (r *Prover) Path(ctx context.Context, index, size, of uint64) ([][32]byte, error) {
-	return within(ctx, r, func(ctx context.Context) ([][32]byte, error) { return r.path(ctx, index, size, r.tiles(of)) })
+	return within(ctx, r, func(ctx context.Context) ([][32]byte, error) {
+		return r.path(ctx, index, size,
+			r.tiles(of))
+	})
 }
 
-// Proof is the consistency proof from the tree of the first leaves to that of size. From none, and between trees of one size, it
-// is empty.
+// Proof is the consistency proof from the tree of the first leaves to that of size. From none, and between trees of one
+// size, it is empty.
 func (r *Prover) Proof(ctx context.Context, first, size, of uint64) ([][32]byte, error) {
 	if first == 0 || first == size {
 		return nil, nil
 	}
-	return within(ctx, r, func(ctx context.Context) ([][32]byte, error) { return r.proof(ctx, first, size, r.tiles(of)) })
+	return within(ctx, r, func(ctx context.Context) ([][32]byte, error) {
+		return r.proof(ctx, first, size,
+			r.tiles(of))
+	})
 }
 
 // Root is the Merkle Tree Hash of the first size leaves.

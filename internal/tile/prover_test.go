@@ -67,7 +67,8 @@ func TestTiles(t *testing.T) {
 		if err != nil || asked != of.asked || !bytes.Equal(read, wide[:32*of.gives]) {
 			t.Errorf("%s of %d: of %s %d bytes, %v", of.name, of.size, asked, len(read), err)
 		}
-		for _, wrong := range [][]byte{nil, wide[:32*of.has-1], wide[:32*(of.has-1)], append(wide[:32*of.has:32*of.has], 0)} {
+		for _, wrong := range [][]byte{nil, wide[:32*of.has-1], wide[:32*(of.has-1)],
+			append(wide[:32*of.has:32*of.has], 0)} {
 			content = wrong
 			if _, err := tiles(limited(t), of.name); !errors.Is(err, ErrWrong) {
 				t.Errorf("%s of %d has %d bytes: %v", of.name, of.size, len(wrong), err)
@@ -81,7 +82,8 @@ func TestTiles(t *testing.T) {
 	}
 }
 
-// TestReadings reads a tree of three leaves, whose nodes are computed by hand (RFC 6962, section 2.1), out of the tiles of a larger one.
+// TestReadings reads a tree of three leaves, whose nodes are computed by hand (RFC 6962, section 2.1), out of the tiles
+// of a larger one.
 func TestReadings(t *testing.T) {
 	ctx := limited(t)
 	leaf := func(i byte) [32]byte { return sha256.Sum256([]byte{0, i}) }
@@ -137,8 +139,8 @@ func TestReadings(t *testing.T) {
 	}
 }
 
-// TestClientGoes: a client that goes away ends the reading for it, and its place is free again. A client that is gone already asks for nothing, and if no
-// place is free no client waits.
+// TestClientGoes: a client that goes away ends the reading for it, and its place is free again. A client that is gone
+// already asks for nothing, and if no place is free no client waits.
 func TestClientGoes(t *testing.T) {
 	asked, tile := make(chan context.Context, 4), sha256.Sum256([]byte{0, 0})
 	isThere := false
@@ -188,7 +190,8 @@ func TestOneAfterAnother(t *testing.T) {
 		if i%2 == 1 {
 			fails = broken
 		}
-		if what, err := within(ctx, r, func(context.Context) (int, error) { return i, fails }); what != i || err != fails {
+		if what, err := within(ctx, r, func(context.Context) (int, error) { return i, fails }); what != i ||
+			err != fails {
 			t.Fatalf("thing %d: %d, %v", i, what, err)
 		}
 	}

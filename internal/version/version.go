@@ -13,7 +13,8 @@ func Number() string { return or(number, "unreleased") }
 // build did not set it.
 func Commit() string { return or(commit, "unknown") }
 
-// Line returns what a program answers to --version. It names the build tag wagtenib_sha_instructions if the build has it.
+// Line returns what a program answers to --version. It names the build tag wagtenib_sha_instructions if the build has
+// it.
 func Line(program string) string {
 	return fmt.Sprintf("%s %s (commit %s%s)\n", program, Number(), Commit(), option)
 }

@@ -17,7 +17,8 @@ import (
 )
 
 const (
-	// maxTries is how often a request is decided where others move the state, and how often a swap of unknown outcome is made.
+	// maxTries is how often a request is decided where others move the state, and how often a swap of unknown outcome
+	// is made.
 	maxTries = 5
 	// maxAtOnce is how many requests are taken at once, and answersWithin how long one may take.
 	maxAtOnce     = 64
@@ -66,8 +67,8 @@ type Options struct {
 	Tell func(event string, words ...any)
 }
 
-// Server is a witness. Its decisions are those of proved code, which keeps nothing: the last message goes in with each request, and the next one comes out. It is
-// kept, by a swap from the state that was read, before it is signed.
+// Server is a witness. Its decisions are those of proved code, which keeps nothing: the last message goes in with each
+// request, and the next one comes out. It is kept, by a swap from the state that was read, before it is signed.
 type Server struct {
 	of      Options
 	public  ed25519.PublicKey
@@ -93,7 +94,8 @@ func New(of Options) (*Server, error) {
 		of.Tell = func(string, ...any) {}
 	}
 	s := &Server{
-		of: of, decides: proved, public: of.Key.Public().(ed25519.PublicKey), room: make(chan struct{}, maxAtOnce), logs: map[string]*Log{}, seen: map[string]state{},
+		of: of, decides: proved, public: of.Key.Public().(ed25519.PublicKey), room: make(chan struct{}, maxAtOnce),
+		logs: map[string]*Log{}, seen: map[string]state{},
 		now: func() uint64 { return uint64(time.Now().Unix()) },
 	}
 	s.metrics = newMetrics()
@@ -188,7 +190,8 @@ func (s *Server) add(ctx context.Context, body []byte) answer {
 	return plain(http.StatusServiceUnavailable, "busy\n")
 }
 
-// decide decides from a state that was read after `before` had been seen, and keeps the next one. It returns again if the register held another one by then.
+// decide decides from a state that was read after `before` had been seen, and keeps the next one. It returns again if
+// the register held another one by then.
 func (s *Server) decide(ctx context.Context, log *Log, text string, before state, r Request) (came answer, again bool) {
 	last, err := readState(text, log.Origin)
 	if err == nil {
@@ -201,7 +204,8 @@ func (s *Server) decide(ctx context.Context, log *Log, text string, before state
 	now := s.now()
 	if now < last.tree.Time {
 		if now+maxLag < last.tree.Time {
-			return s.failed("clock", log.Origin, fmt.Errorf("%w: it is at %d, and the last cosignature was at %d", ErrClock, now, last.tree.Time)), false
+			return s.failed("clock", log.Origin, fmt.Errorf("%w: it is at %d, and the last cosignature was at %d",
+				ErrClock, now, last.tree.Time)), false
 		}
 		now = last.tree.Time
 	}
