@@ -295,7 +295,7 @@ func TestWords(t *testing.T) {
 		status   int
 		why      string
 	}{
-		{"", []string{"word"}, 2, `unexpected argument "word"`},
+		{"", []string{"word"}, 2, `"word" isn't expected`},
 		{"", []string{"--nothing"}, 2, "not defined"},
 		{"", []string{"--help"}, 0, "is a witness"},
 		{"nothing 7", nil, 2, `there is no setting "nothing"`},

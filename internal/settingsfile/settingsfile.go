@@ -52,7 +52,7 @@ func (r Rules) Parse(flags *flag.FlagSet, words []string) error {
 		return err
 	}
 	if flags.NArg() > 0 {
-		return fmt.Errorf("unexpected argument %q", flags.Arg(0))
+		return fmt.Errorf("%q isn't expected (see --help)", flags.Arg(0))
 	}
 	if path := flags.Lookup("config").Value.String(); path != "" {
 		return r.read(flags, path)

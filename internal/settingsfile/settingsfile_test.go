@@ -23,7 +23,7 @@ func TestParse(t *testing.T) {
 		{"size 3\n\nsize 4", "", "3", "[]", "line 3: size is in line 1 already"},
 		{"size three", "", "0", "[]", "line 1: size: "},
 		{"size 3\n" + strings.Repeat("x", 1<<17), "", "3", "[]", "token too long"},
-		{"size 3", "--size 4 more", "4", "[]", `unexpected argument "more"`},
+		{"size 3", "--size 4 more", "4", "[]", `"more" isn't expected`},
 		{"size 3", "--other", "0", "[]", "not defined: -other"},
 	} {
 		flags, size, logs := made()
