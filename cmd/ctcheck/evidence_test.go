@@ -59,7 +59,7 @@ func TestEvidence(t *testing.T) {
 	}
 }
 
-// TestEvidenceOfAFork: a log that ctwatch follows signs another root. What the store of ctwatch then has convinces
+// TestEvidenceOfAFork: a log that ctwatch follows signs another root. The evidence in the store of ctwatch convinces
 // ctcheck, with the log's key and without the log, in one command.
 func TestEvidenceOfAFork(t *testing.T) {
 	for _, kind := range []string{"tiled", "RFC 6962"} {

@@ -1,9 +1,9 @@
-// Command ctcheck judges a log from what it published in a folder or a bucket: ctcheck FOLDER|s3://.. KEY.PEM [ANSWERS..]. KEY.PEM
-// has the log's public key; a file of answers has a JSON object a line, as check.Answer has it. It says what it saw, or what is
-// wrong, with status 1.
+// Command ctcheck judges a log from what it published in a folder or a bucket: ctcheck FOLDER|s3://.. KEY.PEM
+// [ANSWERS..]. KEY.PEM has the log's public key; a file of answers has a JSON object a line, as check.Answer has it. It
+// says what it saw, or what is wrong, with status 1.
 //
-// ctcheck evidence FOLDER KEY.PEM judges the evidence against a log that a monitor kept in a folder. It prints what the files show, and what
-// must be believed beside them. The status is 1 if they do not show what evidence.json says.
+// ctcheck evidence FOLDER KEY.PEM judges the evidence against a log that a monitor kept in a folder. It prints what the
+// files show, and what must be believed beside them. The status is 1 if they do not show what evidence.json says.
 package main
 
 import (
@@ -98,7 +98,7 @@ func judge(folder, keyFile string, answerFiles []string) (check.Report, error) {
 	return report, err
 }
 
-// fetch copies a bucket into a folder, but for the bundles.
+// fetch copies a bucket into a folder, except the bundles.
 func fetch(address, folder string) error {
 	ctx := context.Background()
 	objects, err := stores.ObjectsAt(ctx, address)

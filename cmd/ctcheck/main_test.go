@@ -46,7 +46,8 @@ func newLog(t testing.TB) log {
 	const origin, timestamp, head = "log.example/judged", 7, 9
 	certificate := make([]byte, 90_000)
 	extensions := []byte{0, 0, 5, 0, 0, 0, 0, 0}
-	entry := append(binary.BigEndian.AppendUint64(nil, timestamp), 0, 0, byte(len(certificate)>>16), byte(len(certificate)>>8), byte(len(certificate)&255))
+	entry := append(binary.BigEndian.AppendUint64(nil, timestamp), 0, 0, byte(len(certificate)>>16),
+		byte(len(certificate)>>8), byte(len(certificate)&255))
 	entry = append(append(append(entry, certificate...), 0, 8), extensions...)
 	leaf := append([]byte{0, 0}, entry...)
 	// (the root of one leaf is the leaf's hash)
@@ -56,10 +57,14 @@ func newLog(t testing.TB) log {
 	message := binary.BigEndian.AppendUint64([]byte{0, 1}, head)
 	message = append(binary.BigEndian.AppendUint64(message, 1), root[:]...)
 	blob := append(binary.BigEndian.AppendUint64(append([]byte{}, name[:4]...), head), signed(message)...)
-	l := log{t.TempDir(), filepath.Join(t.TempDir(), "log.pem"), check.Answer{Certificate: certificate, Timestamp: timestamp, Extensions: extensions, Signature: signed(leaf), LogID: id[:]}}
+	l := log{t.TempDir(), filepath.Join(t.TempDir(), "log.pem"),
+		check.Answer{Certificate: certificate, Timestamp: timestamp, Extensions: extensions,
+			Signature: signed(leaf), LogID: id[:]}}
 	in := base64.StdEncoding
 	for name, content := range map[string][]byte{
-		"tile/0/000.p/1": root[:], "tile/data/000.p/1": append(entry, 0, 0), fmt.Sprintf("heads/%020d-%020d", 1, head): []byte(fmt.Sprintf("%s\n1\n%s\n\n— %s %s\n", origin, in.EncodeToString(root[:]), origin, in.EncodeToString(blob))),
+		"tile/0/000.p/1": root[:], "tile/data/000.p/1": append(entry, 0, 0),
+		fmt.Sprintf("heads/%020d-%020d", 1, head): []byte(fmt.Sprintf("%s\n1\n%s\n\n— %s %s\n", origin,
+			in.EncodeToString(root[:]), origin, in.EncodeToString(blob))),
 	} {
 		path := filepath.Join(l.folder, name)
 		must(t, os.MkdirAll(filepath.Dir(path), 0o755))
@@ -80,7 +85,7 @@ func file(t testing.TB, answers ...check.Answer) string {
 	return path
 }
 
-// TestJudge: all answers of all files are judged, and what is no key, no answer or no file is told.
+// TestJudge: all answers in all files are judged. A file that does not exist or has no key or answer is named.
 func TestJudge(t *testing.T) {
 	l := newLog(t)
 	report, err := judge(l.folder, l.key, []string{file(t, l.answer), file(t, l.answer, l.answer), file(t)})
@@ -89,10 +94,12 @@ func TestJudge(t *testing.T) {
 	}
 	wrong := l.answer
 	wrong.Timestamp++
-	if _, err := judge(l.folder, l.key, []string{file(t, wrong), file(t, l.answer)}); err == nil || !strings.Contains(err.Error(), "answer 0") {
+	if _, err := judge(l.folder, l.key, []string{file(t, wrong), file(t, l.answer)}); err == nil ||
+		!strings.Contains(err.Error(), "answer 0") {
 		t.Errorf("a wrong answer of the first file: %v", err)
 	}
-	if _, err := judge(l.folder, l.key, []string{file(t, l.answer), file(t, wrong)}); err == nil || !strings.Contains(err.Error(), "answer 1") {
+	if _, err := judge(l.folder, l.key, []string{file(t, l.answer), file(t, wrong)}); err == nil ||
+		!strings.Contains(err.Error(), "answer 1") {
 		t.Errorf("a wrong answer of the second file: %v", err)
 	}
 	content, err := os.ReadFile(l.key)
@@ -102,7 +109,8 @@ func TestJudge(t *testing.T) {
 	} {
 		path := filepath.Join(t.TempDir(), "key")
 		must(t, os.WriteFile(path, []byte(text), 0o600))
-		if _, err := judge(l.folder, path, nil); err == nil || !strings.Contains(err.Error(), "is no public key in PEM") {
+		if _, err := judge(l.folder, path, nil); err == nil ||
+			!strings.Contains(err.Error(), "is no public key in PEM") {
 			t.Errorf("%s in place of a key: %v", what, err)
 		}
 	}
@@ -130,7 +138,8 @@ func TestJudge(t *testing.T) {
 	}
 }
 
-// TestStatus: what is right is told with status 0, what is wrong on standard error with 1, and too few words have 2.
+// TestStatus: a right log has status 0, a wrong one has status 1 and the reason on standard error, and missing
+// arguments have status 2.
 func TestStatus(t *testing.T) {
 	l := newLog(t)
 	wrong := l.answer
@@ -140,14 +149,16 @@ func TestStatus(t *testing.T) {
 		status       int
 		out, problem string
 	}{
-		{[]string{l.folder, l.key, file(t, l.answer)}, 0, "1 heads, 1 leaves (0 repeats), 2 tiles, 0 issuers, 1 timestamps: all as they have to be\n", ""},
+		{[]string{l.folder, l.key, file(t, l.answer)}, 0,
+			"1 heads, 1 leaves (0 repeats), 2 tiles, 0 issuers, 1 timestamps: all as they have to be\n", ""},
 		{[]string{l.folder, l.key, file(t, wrong)}, 1, "", "a timestamp of another log"},
 		{[]string{t.TempDir(), l.key}, 1, "", "there is no head"},
 		{[]string{l.folder}, 2, "", "ctcheck FOLDER"},
 		{nil, 2, "", "ctcheck FOLDER"},
 		{[]string{"--version"}, 0, "ctcheck ", ""},
 	} {
-		if status, out, problem := trial.Runs(t, of.words...); status != of.status || !strings.HasPrefix(out, of.out) || (of.out == "") != (out == "") ||
+		if status, out, problem := trial.Runs(t, of.words...); status != of.status || !strings.HasPrefix(out, of.out) ||
+			(of.out == "") != (out == "") ||
 			!strings.Contains(problem, of.problem) || (of.problem == "") != (problem == "") {
 			t.Errorf("%q: status %d, %q and %q", of.words, status, out, problem)
 		}

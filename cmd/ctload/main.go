@@ -1,6 +1,7 @@
-// Command ctload submits certificates and precertificates of an authority of its own to the nodes of a log, and measures how long
-// they take. It adds its root to a file of roots before it begins, has a command tell the nodes, and waits until each has that. Each timestamp is written as a
-// line that ctcheck judges (check.Answer). A submission that isn't answered is sent again, to the next node, until it is.
+// Command ctload submits certificates and precertificates of an authority of its own to the nodes of a log, and
+// measures how long they take. It adds its root to a file of roots before it begins, has a command tell the nodes, and
+// waits until each has that. Each timestamp is written as a line that ctcheck judges (check.Answer). A submission that
+// isn't answered is sent again, to the next node, until it is.
 //
 // It ends after its time or at a signal, with status 1 where a submission was refused as wrong.
 package main
@@ -40,7 +41,7 @@ type load struct {
 	repeats   int
 	client    *http.Client
 	answers   *json.Encoder
-	// pace has a token for each submission, where a rate is given.
+	// pace has a token for each submission if a rate is set.
 	pace <-chan time.Time
 	// made are submissions that were made before any was sent.
 	made chan submission
@@ -62,8 +63,8 @@ type submission struct {
 const (
 	// maxDuration is how many latencies are kept, and maxPast how many submissions that may be repeated.
 	maxDuration, maxPast = 1 << 20, 1000
-	maxReply          = 1 << 20
-	answersWithin      = 30 * time.Second
+	maxReply             = 1 << 20
+	answersWithin        = 30 * time.Second
 )
 
 func main() {
@@ -80,22 +81,25 @@ func main() {
 func run() error {
 	nodes := flag.String("nodes", "http://127.0.0.1:8618", "`addresses` of the log's nodes, with commas between them")
 	roots := flag.String("roots", "", "`file` of roots in PEM, to which its own is added")
-	reload := flag.String("reload", "", "`command` of the shell, once the root is there, that has the nodes read their roots anew")
-	notAfter := flag.String("not-after", "", "`day` on which the certificates end, as 2027-03-01; in half a year where none is given")
+	reload := flag.String("reload", "",
+		"shell `command` that makes the nodes reload their roots, run after the root was written")
+	notAfter := flag.String("not-after", "",
+		"`day` on which the certificates expire, for example 2027-03-01 (default in half a year)")
 	answers := flag.String("answers", "", "`file` to which what was answered is added")
 	clients := flag.Int("clients", 8, "submissions at once")
-	rate := flag.Float64("rate", 0, "submissions a second, altogether; as fast as they are answered where it is 0")
-	long := flag.Duration("for", 0, "for how long; until a signal where it is 0")
+	rate := flag.Float64("rate", 0, "maximum number of submissions a second. 0 means no limit")
+	long := flag.Duration("for", 0, "`duration` of the run. 0 means until a signal")
 	most := flag.Int("most", 0, "end once so many were answered, and those that wait are, too; 0 is no end")
 	repeats := flag.Int("repeats", 5, "of 100 submissions so many are sent again")
-	tell := flag.Duration("tell", time.Minute, "how far two lines with figures are apart")
-	ready := flag.Int("ready", 0, "so many submissions are made before the first is sent, so that making them takes nothing of the time")
+	tell := flag.Duration("tell", time.Minute, "`duration` between two lines with metrics")
+	ready := flag.Int("ready", 0, "so many submissions are made before the first is sent, so that making them takes "+
+		"nothing of the time")
 	flag.Parse()
 	if *ready < 0 {
 		return fmt.Errorf("--ready is a number from 0")
 	}
 	if flag.NArg() > 0 {
-		return fmt.Errorf("%q isn't expected: --help says which words it takes", flag.Arg(0))
+		return fmt.Errorf("unexpected argument %q (see --help)", flag.Arg(0))
 	}
 	ends := time.Now().AddDate(0, 6, 0)
 	if *notAfter != "" {
@@ -123,7 +127,8 @@ func run() error {
 		return err
 	}
 	defer file.Close()
-	l := &load{nodes: strings.Split(*nodes, ","), authority: authority, ends: ends, most: *most, repeats: *repeats, answers: json.NewEncoder(file), again: map[string]int{},
+	l := &load{nodes: strings.Split(*nodes, ","), authority: authority, ends: ends, most: *most, repeats: *repeats,
+		answers: json.NewEncoder(file), again: map[string]int{},
 		client: &http.Client{Timeout: answersWithin, Transport: &http.Transport{MaxIdleConnsPerHost: *clients}}}
 	ctx, stop := signal.NotifyContext(context.Background(), syscall.SIGTERM, syscall.SIGINT)
 	defer stop()
@@ -236,7 +241,7 @@ func (l *load) one(ctx context.Context, number int) error {
 	return nil
 }
 
-// isDone says whether as many were answered as it was to submit.
+// isDone reports whether all requested submissions were answered.
 func (l *load) isDone() bool {
 	l.mu.Lock()
 	defer l.mu.Unlock()
@@ -285,7 +290,8 @@ func (l *load) make(chance *rand.Rand) (submission, error) {
 	}
 	der, tbs, err := l.authority.IssuePair(l.ends)
 	issuer := sha256.Sum256(l.authority.Root.RawSubjectPublicKeyInfo)
-	return submission{"add-pre-chain", standin.Submission(der), check.Answer{IssuerKeyHash: issuer[:], TBSCertificate: tbs}}, err
+	return submission{"add-pre-chain", standin.Submission(der),
+		check.Answer{IssuerKeyHash: issuer[:], TBSCertificate: tbs}}, err
 }
 
 // submit asks node after node until one answers; nothing where the context ended before.

@@ -27,7 +27,7 @@ var must = trial.Must
 
 func limited(t testing.TB) context.Context { return trial.Limited(t, trial.Longest) }
 
-// node is one of a log's, which answers as it is told.
+// node is a node of a log that answers as the test says.
 type node struct {
 	*httptest.Server
 	mu    sync.Mutex
@@ -63,7 +63,8 @@ func loadOf(t testing.TB, nodes ...*node) (*load, *bytes.Buffer) {
 	authority, err := standin.NewAuthority("An authority of tests")
 	must(t, err)
 	var answers bytes.Buffer
-	l := &load{authority: authority, ends: time.Now().AddDate(0, 6, 0), answers: json.NewEncoder(&answers), again: map[string]int{}, client: &http.Client{Timeout: answersWithin}}
+	l := &load{authority: authority, ends: time.Now().AddDate(0, 6, 0), answers: json.NewEncoder(&answers),
+		again: map[string]int{}, client: &http.Client{Timeout: answersWithin}}
 	for _, n := range nodes {
 		l.nodes = append(l.nodes, n.URL)
 	}
@@ -72,14 +73,16 @@ func loadOf(t testing.TB, nodes ...*node) (*load, *bytes.Buffer) {
 
 var some = submission{"add-chain", []byte(`{"chain":[]}`), check.Answer{Certificate: []byte("a certificate")}}
 
-// TestSubmit: who is busy, late or broken is asked again at the next node, and what is refused as wrong isn't; what was answered is kept with what it is of.
+// TestSubmit: after an answer that a node is busy, late or broken, the next node is asked. A submission that is refused
+// as wrong is not repeated. Answers are stored with their entries.
 func TestSubmit(t *testing.T) {
 	busy := newNode(t, func(_ int, w http.ResponseWriter) { w.WriteHeader(http.StatusServiceUnavailable) })
 	many := newNode(t, func(_ int, w http.ResponseWriter) { w.WriteHeader(http.StatusTooManyRequests) })
 	answers := newNode(t, right)
 	l, _ := loadOf(t, answers, busy, many)
 	answer, err := l.submit(limited(t), some, 1)
-	want := check.Answer{Certificate: []byte("a certificate"), Timestamp: 7, Extensions: []byte{3, 4}, Signature: []byte{5, 6}, LogID: []byte{1, 2}}
+	want := check.Answer{Certificate: []byte("a certificate"), Timestamp: 7, Extensions: []byte{3, 4},
+		Signature: []byte{5, 6}, LogID: []byte{1, 2}}
 	if err != nil || fmt.Sprint(*answer) != fmt.Sprint(want) {
 		t.Fatalf("%+v, %v", answer, err)
 	}
@@ -87,7 +90,8 @@ func TestSubmit(t *testing.T) {
 		t.Errorf("asked %d, %d and %d times; again: %v", busy.count(), many.count(), answers.count(), l.again)
 	}
 	for _, n := range []*node{busy, answers} {
-		if q := n.asked[0]; q.Method != "POST" || q.URL.Path != "/ct/v1/add-chain" || q.Header.Get("Content-Type") != "application/json" {
+		if q := n.asked[0]; q.Method != "POST" || q.URL.Path != "/ct/v1/add-chain" ||
+			q.Header.Get("Content-Type") != "application/json" {
 			t.Errorf("%s %s, %q", q.Method, q.URL.Path, q.Header)
 		}
 	}
@@ -97,7 +101,9 @@ func TestSubmit(t *testing.T) {
 			fmt.Fprint(w, "why")
 		})
 		l, _ := loadOf(t, wrong)
-		if answer, err := l.submit(limited(t), some, 0); err == nil || !strings.Contains(err.Error(), fmt.Sprintf("add-chain: %d: why", status)) || answer != nil || wrong.count() != 1 {
+		if answer, err := l.submit(limited(t), some, 0); err == nil ||
+			!strings.Contains(err.Error(), fmt.Sprintf("add-chain: %d: why", status)) || answer != nil ||
+			wrong.count() != 1 {
 			t.Errorf("%d: %+v, %v, asked %d times", status, answer, err, wrong.count())
 		}
 	}
@@ -117,16 +123,18 @@ func TestSubmit(t *testing.T) {
 	}
 }
 
-// TestAnswered: what is no timestamp of version 1 is an error.
+// TestAnswered: an answer that is not an SCT of version 1 is an error.
 func TestAnswered(t *testing.T) {
-	for _, reply := range []string{"", "x", "[]", strings.Replace(timestamp, `"sct_version":0`, `"sct_version":1`, 1), strings.Replace(timestamp, "7", `"7"`, 1), strings.Replace(timestamp, "AQI=", "AQI", 1)} {
-		if answer, err := answered(some, []byte(reply)); err == nil || !strings.Contains(err.Error(), "no timestamp") || answer != nil {
+	for _, reply := range []string{"", "x", "[]", strings.Replace(timestamp, `"sct_version":0`, `"sct_version":1`, 1),
+		strings.Replace(timestamp, "7", `"7"`, 1), strings.Replace(timestamp, "AQI=", "AQI", 1)} {
+		if answer, err := answered(some, []byte(reply)); err == nil || !strings.Contains(err.Error(), "no timestamp") ||
+			answer != nil {
 			t.Errorf("%q: %+v, %v", reply, answer, err)
 		}
 	}
 }
 
-// zeros is a source of chance that gives the least of all each time.
+// zeros is a random source that always returns the smallest value.
 type zeros struct{}
 
 func (zeros) Int63() int64 { return 0 }
@@ -138,7 +146,8 @@ func TestNext(t *testing.T) {
 	chance := rand.New(zeros{})
 	must(t, l.keep(some, check.Answer{}, time.Second))
 	s, err := l.next(chance)
-	if must(t, err); s.call != "add-pre-chain" || len(s.of.TBSCertificate) == 0 || len(s.of.IssuerKeyHash) != 32 || s.of.Certificate != nil {
+	if must(t, err); s.call != "add-pre-chain" || len(s.of.TBSCertificate) == 0 || len(s.of.IssuerKeyHash) != 32 ||
+		s.of.Certificate != nil {
 		t.Errorf("%s of %+v", s.call, s.of)
 	}
 	l.repeats = 1
@@ -147,7 +156,7 @@ func TestNext(t *testing.T) {
 	}
 }
 
-// TestPrepared: what was made before is submitted first, each once, and behind it what is made then.
+// TestPrepared: prepared certificates are submitted first, each once. New ones are made after them.
 func TestPrepared(t *testing.T) {
 	l, _ := loadOf(t)
 	must(t, l.prepare(20))
@@ -169,7 +178,8 @@ func TestPrepared(t *testing.T) {
 	}
 }
 
-// TestKeep: each answer is written down, with its latency and its submission; of these two some are kept, however many there are.
+// TestKeep: each answer is written down, with its latency and its submission; of these two some are kept, however many
+// there are.
 func TestKeep(t *testing.T) {
 	l, answers := loadOf(t)
 	for i := 0; i < maxPast+3; i++ {
@@ -181,13 +191,16 @@ func TestKeep(t *testing.T) {
 	for _, one := range l.past {
 		calls[one.call] = true
 	}
-	if l.count != maxPast+3 || len(l.past) != maxPast || len(calls) != maxPast || !calls[fmt.Sprint(maxPast+2)] || len(l.took) != maxPast+3 {
-		t.Errorf("%d answers, %d submissions of which %d differ, %d latencies", l.count, len(l.past), len(calls), len(l.took))
+	if l.count != maxPast+3 || len(l.past) != maxPast || len(calls) != maxPast || !calls[fmt.Sprint(maxPast+2)] ||
+		len(l.took) != maxPast+3 {
+		t.Errorf("%d answers, %d submissions of which %d differ, %d latencies", l.count, len(l.past),
+			len(calls), len(l.took))
 	}
-	if lines := strings.Count(answers.String(), "\n"); lines != maxPast+3 || !strings.Contains(answers.String(), fmt.Sprintf(`"timestamp":%d,`, maxPast+2)) {
+	if lines := strings.Count(answers.String(), "\n"); lines != maxPast+3 ||
+		!strings.Contains(answers.String(), fmt.Sprintf(`"timestamp":%d,`, maxPast+2)) {
 		t.Errorf("%d lines", lines)
 	}
-	// Of the latencies, too, the newest stay.
+	// The newest latencies are kept too.
 	l.took, l.answers = make([]time.Duration, maxDuration), json.NewEncoder(io.Discard)
 	for i := 0; i < 3; i++ {
 		must(t, l.keep(some, check.Answer{}, time.Hour))
@@ -216,19 +229,21 @@ func (f failing) Write([]byte) (int, error) { return 0, f.why }
 // TestFigures: the median, the 99th percentile and the longest of what was kept.
 func TestFigures(t *testing.T) {
 	l, _ := loadOf(t)
-	if line := l.figures(2 * time.Second); line != "0 answered in 2.0 s: 0.0 a second; median 0.000 s, 99th percentile 0.000 s, longest 0.000 s" {
+	if line := l.figures(2 * time.Second); line != "0 answered in 2.0 s: 0.0 a second; median 0.000 s, 99th "+
+		"percentile 0.000 s, longest 0.000 s" {
 		t.Error(line)
 	}
 	for i := 100; i >= 0; i-- {
 		l.took, l.count = append(l.took, time.Duration(i)*time.Millisecond), l.count+1
 	}
 	l.again["503"] = 2
-	if line := l.figures(2 * time.Second); line != "101 answered in 2.0 s: 50.5 a second; median 0.050 s, 99th percentile 0.099 s, longest 0.100 s; sent again: map[503:2]" {
+	if line := l.figures(2 * time.Second); line != "101 answered in 2.0 s: 50.5 a second; median 0.050 s, 99th "+
+		"percentile 0.099 s, longest 0.100 s; sent again: map[503:2]" {
 		t.Error(line)
 	}
 }
 
-// TestReady: each node is asked until it has the authority among its roots; who ends before waits no more.
+// TestReady: each node is asked until its roots have the CA. The wait ends with the program.
 func TestReady(t *testing.T) {
 	var l *load
 	slow := newNode(t, func(nth int, w http.ResponseWriter) {
@@ -262,14 +277,16 @@ func TestReady(t *testing.T) {
 	}
 }
 
-// TestAll: clients end where as many were answered as were to be, each of which is written down; and all end where one is refused, by why.
+// TestAll: clients end where as many were answered as were to be, each of which is written down; and all end where one
+// is refused, by why.
 func TestAll(t *testing.T) {
 	answers := newNode(t, right)
 	l, written := loadOf(t, answers)
 	l.most = 5
 	must(t, l.all(limited(t), 1, time.Minute))
 	if l.count != 5 || answers.count() != 5 || strings.Count(written.String(), "\n") != 5 {
-		t.Errorf("%d answered of %d asked, %d written down", l.count, answers.count(), strings.Count(written.String(), "\n"))
+		t.Errorf("%d answered of %d asked, %d written down", l.count, answers.count(),
+			strings.Count(written.String(), "\n"))
 	}
 	refuses := newNode(t, func(nth int, w http.ResponseWriter) {
 		if nth == 4 {
@@ -292,7 +309,7 @@ func TestAll(t *testing.T) {
 	}
 }
 
-// TestAdd: what is added to a file stands behind what it had.
+// TestAdd: new lines of a file come after the existing ones.
 func TestAdd(t *testing.T) {
 	path := filepath.Join(t.TempDir(), "roots.pem")
 	for _, text := range []string{"one\n", "two\n"} {

@@ -22,16 +22,17 @@ import (
 
 func TestMain(m *testing.M) { trial.Main(m, main) }
 
-// TestProgram: its root is added to the file before the command that has nodes read it, its certificates end on the day that is given, and what is answered is added to the
-// answers.
+// TestProgram: its root is added to the file before the command that has nodes read it, its certificates end on the day
+// that is given, and what is answered is added to the answers.
 func TestProgram(t *testing.T) {
 	folder := t.TempDir()
-	roots, answers, reloaded := filepath.Join(folder, "roots.pem"), filepath.Join(folder, "answers"), filepath.Join(folder, "reloaded")
+	roots, answers, reloaded := filepath.Join(folder, "roots.pem"), filepath.Join(folder, "answers"),
+		filepath.Join(folder, "reloaded")
 	must(t, os.WriteFile(answers, []byte("{}\n"), 0o600))
 	var submitted, asked atomic.Int32
 	server := httptest.NewServer(http.HandlerFunc(func(w http.ResponseWriter, q *http.Request) {
 		if q.URL.Path == "/ct/v1/get-roots" {
-			// (what the nodes read when they were told to, a moment later)
+			// The nodes reload their roots a little after the command.
 			if asked.Add(1) == 1 {
 				return
 			}
@@ -49,7 +50,8 @@ func TestProgram(t *testing.T) {
 		right(0, w)
 	}))
 	defer server.Close()
-	words := []string{"--nodes", server.URL, "--roots", roots, "--answers", answers, "--clients", "1", "--most", "6", "--repeats", "0", "--not-after", "2027-03-01", "--reload", "cp " + roots + " " + reloaded}
+	words := []string{"--nodes", server.URL, "--roots", roots, "--answers", answers, "--clients", "1", "--most", "6",
+		"--repeats", "0", "--not-after", "2027-03-01", "--reload", "cp " + roots + " " + reloaded}
 	status, out, problem := trial.Runs(t, words...)
 	if asked.Load() < 2 {
 		t.Error("its root isn't waited for")
@@ -76,7 +78,7 @@ func TestProgram(t *testing.T) {
 			}
 		}
 	}
-	// What can't be done ends it with status 1 and why, and submits nothing.
+	// An impossible setting is an error with status 1, and nothing is submitted.
 	for _, of := range []struct {
 		words []string
 		says  string
@@ -85,10 +87,11 @@ func TestProgram(t *testing.T) {
 		{append(words, "--reload", "exit 3"), "exit status 3"},
 		{append(words, "--roots", filepath.Join(folder, "nowhere", "roots.pem")), "no such file"},
 		{append(words, "--answers", filepath.Join(folder, "nowhere", "answers")), "no such file"},
-		{append(words, "word"), `"word" isn't expected`},
+		{append(words, "word"), `unexpected argument "word"`},
 		{append(words, "--ready", "-1"), "--ready is a number from 0"},
 	} {
-		if status, out, problem := trial.Runs(t, of.words...); status != 1 || out != "" || !strings.Contains(problem, of.says) || submitted.Load() != 6 {
+		if status, out, problem := trial.Runs(t, of.words...); status != 1 || out != "" ||
+			!strings.Contains(problem, of.says) || submitted.Load() != 6 {
 			t.Errorf("%q: status %d, %q and %q", of.says, status, out, problem)
 		}
 	}
@@ -97,7 +100,8 @@ func TestProgram(t *testing.T) {
 	}
 }
 
-// TestTimed: it ends behind its time, also where nobody answers, and a submission that is refused as wrong has status 1.
+// TestTimed: the program ends after its duration, even if no node answers. A submission that is refused as wrong has
+// status 1.
 func TestTimed(t *testing.T) {
 	folder := t.TempDir()
 	roots := filepath.Join(folder, "roots.pem")
@@ -117,12 +121,15 @@ func TestTimed(t *testing.T) {
 		}
 	}))
 	defer server.Close()
-	words := []string{"--nodes", server.URL, "--roots", roots, "--answers", filepath.Join(folder, "answers"), "--rate", "1000"}
-	if status, out, problem := trial.Runs(t, append(words, "--for", "100ms")...); status != 0 || problem != "" || !strings.HasPrefix(out, "0 answered in ") {
+	words := []string{"--nodes", server.URL, "--roots", roots, "--answers", filepath.Join(folder, "answers"),
+		"--rate", "1000"}
+	if status, out, problem := trial.Runs(t, append(words, "--for", "100ms")...); status != 0 || problem != "" ||
+		!strings.HasPrefix(out, "0 answered in ") {
 		t.Errorf("status %d, %q and %q", status, out, problem)
 	}
 	refuses.Store(true)
-	if status, _, problem := trial.Runs(t, append(words, "--for", "1h")...); status != 1 || !strings.Contains(problem, ": 400: ") {
+	if status, _, problem := trial.Runs(t, append(words, "--for", "1h")...); status != 1 ||
+		!strings.Contains(problem, ": 400: ") {
 		t.Errorf("status %d, %q", status, problem)
 	}
 }

@@ -21,7 +21,8 @@ func (g *grown) publish(tree tlog.Tree, timestamp uint64) {
 	g.objects["/checkpoint"] = []byte(noteOf(tree, "— "+origin+" ", blobOf(g.t, g.key, g.keyID, tree, timestamp)))
 }
 
-// TestBehind: of two checkpoints of one size the later one isn't of an earlier moment, nor of another root, also where the first was read by a mirror before.
+// TestBehind: of two checkpoints of one size the later one isn't of an earlier moment, nor of another root, also where
+// the first was read by a mirror before.
 func TestBehind(t *testing.T) {
 	ctx, folder := context.Background(), t.TempDir()
 	g, r := newLog(t)
@@ -41,7 +42,7 @@ func TestBehind(t *testing.T) {
 			t.Errorf("%s reads an earlier moment: %v", what, err)
 		}
 		g.publish(other, 8)
-		if err := reads.follow(ctx); !errors.Is(err, errWrong) || !strings.Contains(err.Error(), "isn't consistent") {
+		if err := reads.follow(ctx); !errors.Is(err, errWrong) || !strings.Contains(err.Error(), "is not consistent") {
 			t.Errorf("%s reads another root: %v", what, err)
 		}
 		g.publish(tree, 7)
@@ -49,7 +50,7 @@ func TestBehind(t *testing.T) {
 			t.Errorf("%s reads the same: %v", what, err)
 		}
 	}
-	// (behind a later one the one before is behind, too)
+	// An older checkpoint is refused after a newer one too.
 	g.publish(tree, 9)
 	must(t, r.follow(ctx))
 	g.publish(tree, 8)
@@ -69,7 +70,7 @@ func TestEmptyTree(t *testing.T) {
 	must(t, r.follow(context.Background()))
 }
 
-// TestStatuses: what a node answers in place of a checkpoint is none, whatever stands in it; only what isn't there is wrong.
+// TestStatuses: a response with another status than 200 is no checkpoint, whatever it contains. Only a 404 is wrong.
 func TestStatuses(t *testing.T) {
 	g, r := newLog(t)
 	g.grow(1, 7)
@@ -94,7 +95,8 @@ func TestStatuses(t *testing.T) {
 	must(t, r.follow(context.Background()))
 }
 
-// TestShortTiles: a data tile with fewer entries than its name says, or that breaks off, is wrong; one with more is read as far as its name says.
+// TestShortTiles: a data tile with fewer entries than its name says, or that breaks off, is wrong; one with more is
+// read as far as its name says.
 func TestShortTiles(t *testing.T) {
 	const name = "/tile/data/000.p/3"
 	for what, of := range map[string]struct {
@@ -116,7 +118,8 @@ func TestShortTiles(t *testing.T) {
 	}
 }
 
-// TestKeptIssuers: an issuer that is kept isn't asked for again, and one that can't be looked at is told, and not taken for one that isn't there.
+// TestKeptIssuers: an issuer that is stored is not read again. An issuer whose file cannot be looked up is an error,
+// and does not count as missing.
 func TestKeptIssuers(t *testing.T) {
 	g, r := newLog(t)
 	folder := t.TempDir()
@@ -142,8 +145,8 @@ func TestKeptIssuers(t *testing.T) {
 	}
 }
 
-// TestTilesThatFail: where a tower of hashes is read that is another than the checkpoint's it is wrong; a tile that doesn't come is asked for again, and the tree that was
-// read last stays.
+// TestTilesThatFail: tiles of hashes that are not the checkpoint's are wrong. A tile without a response is read again,
+// and the last tree stays.
 func TestTilesThatFail(t *testing.T) {
 	g, first := newLog(t)
 	g.grow(5, 7)
@@ -173,7 +176,8 @@ func TestTilesThatFail(t *testing.T) {
 		t.Helper()
 		r := readers[0]
 		readers = readers[1:]
-		if err := r.follow(context.Background()); err == nil || errors.Is(err, errWrong) != wrong || r.last.N != 5 || r.timestamp != 7 {
+		if err := r.follow(context.Background()); err == nil || errors.Is(err, errWrong) != wrong || r.last.N != 5 ||
+			r.timestamp != 7 {
 			t.Errorf("%s: %v, and %d entries are read", what, err, r.last.N)
 		}
 	}

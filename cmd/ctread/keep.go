@@ -14,7 +14,8 @@ import (
 	"wagtenib/internal/stores"
 )
 
-// mirror is a folder with what was checked of a log. Its checkpoint is written last: a folder that has one has all that it needs.
+// mirror is a folder with what was checked of a log. Its checkpoint is written last: a folder that has one has all that
+// it needs.
 type mirror struct {
 	folder  string
 	objects stores.Objects
@@ -22,7 +23,8 @@ type mirror struct {
 
 const checkpointName = "checkpoint"
 
-// resume keeps what is checked from now on in a folder, and goes on from the checkpoint that it has. That is signed by the log.
+// resume keeps what is checked from now on in a folder, and continues from the folder's checkpoint. The log must have
+// signed that.
 func (r *reader) resume(folder string) error {
 	objects, err := stores.OpenFolder(folder)
 	if err != nil {
@@ -71,7 +73,8 @@ func (r *reader) keepEntries(ctx context.Context, tile tlog.Tile, content []byte
 	return r.keep(ctx, nameOf(tile), content)
 }
 
-// beginsAsKept says whether a data tile begins with what is kept of it: no hash has its precertificates and fingerprints.
+// beginsAsKept says whether a data tile begins with what is kept of it: no hash has its precertificates and
+// fingerprints.
 func (r *reader) beginsAsKept(ctx context.Context, tile tlog.Tile, content []byte) error {
 	before := tile
 	if before.W = int(r.last.N % tileWidth); tile.N != r.last.N/tileWidth || before.W == 0 {
@@ -79,7 +82,7 @@ func (r *reader) beginsAsKept(ctx context.Context, tile tlog.Tile, content []byt
 	}
 	kept, err := r.mirror.objects.Get(ctx, nameOf(before), maxObject)
 	if err == nil && !bytes.HasPrefix(content, kept) {
-		return wrong("%s: %s doesn't begin with the bytes that are kept of it", r.node, nameOf(tile))
+		return wrong("%s: %s does not begin with the stored bytes", r.node, nameOf(tile))
 	}
 	return err
 }
@@ -100,8 +103,10 @@ func (r *reader) keepIssuer(ctx context.Context, fingerprint []byte) error {
 	return r.keep(ctx, name, content)
 }
 
-// keepHead keeps the hash tiles of a tree whose data tiles are kept, and then its checkpoint. The hashes were checked against its root.
-func (r *reader) keepHead(ctx context.Context, tree tlog.Tree, hashes tlog.HashReader, tiles *tiles, checkpoint []byte) error {
+// keepHead keeps the hash tiles of a tree whose data tiles are kept, and then its checkpoint. The hashes were checked
+// against its root.
+func (r *reader) keepHead(ctx context.Context, tree tlog.Tree, hashes tlog.HashReader, tiles *tiles,
+	checkpoint []byte) error {
 	all := tlog.NewTiles(tileHeight, r.last.N, tree.N)
 	for i, tile := range all {
 		// (of a partial tile it gives each width on the way, of which no head that is kept has any but the last)
@@ -123,7 +128,8 @@ func (r *reader) keepHead(ctx context.Context, tree tlog.Tree, hashes tlog.HashR
 	return r.mirror.dropPartial(r.last.N, tree.N)
 }
 
-// dropPartial takes the partial tiles of a tree away whose full ones a larger tree has: readers take those (C2SP static-ct-api).
+// dropPartial takes the partial tiles of a tree away whose full ones a larger tree has: readers take those (C2SP
+// static-ct-api).
 func (m *mirror) dropPartial(before, now int64) error {
 	tile := tlog.Tile{H: tileHeight, L: -1, W: tileWidth}
 	if err := m.dropBehind(tile, before, now); err != nil {
@@ -138,7 +144,7 @@ func (m *mirror) dropPartial(before, now int64) error {
 	return nil
 }
 
-// dropBehind takes those of one tile away, the last of so many hashes or entries, where now it is full.
+// dropBehind deletes the partial versions of a tile, of up to so many hashes or entries, after it has become full.
 func (m *mirror) dropBehind(tile tlog.Tile, before, now int64) error {
 	if tile.N = before / tileWidth; tile.N == now/tileWidth {
 		return nil

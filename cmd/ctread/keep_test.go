@@ -32,7 +32,7 @@ type grown struct {
 	keyID  []byte
 	hashes stored
 	data   [][]byte
-	// mu is held while objects change, and while one is looked up: who asks may be another process.
+	// mu is held while objects change, and during lookups, since another process may read.
 	mu      sync.Mutex
 	objects map[string][]byte
 }
@@ -124,8 +124,9 @@ func files(t *testing.T, folder string) (found []string) {
 	return found
 }
 
-// TestMirror keeps a log at many sizes, each time by a reader that goes on from what is kept: the folder has at each size just what a reader of that
-// size asks for, byte for byte, and a reader takes it from a server of files.
+// TestMirror keeps a log at many sizes, each time with a new reader that continues from the folder. At each size the
+// folder has exactly the objects that a reader of that size needs, byte for byte. A reader can read it from a file
+// server.
 func TestMirror(t *testing.T) {
 	g, first := newLog(t)
 	folder := filepath.Join(t.TempDir(), "a", "mirror")
@@ -200,7 +201,7 @@ func TestMirror(t *testing.T) {
 	}
 }
 
-// TestPartialTilesGo: where a tree grows, those go whose full ones are there, at each level, and no others.
+// TestPartialTilesGo: when a tree grows, partial tiles with a full one are deleted, at each level, and no others.
 func TestPartialTilesGo(t *testing.T) {
 	for _, test := range []struct {
 		before, now int64
@@ -232,7 +233,8 @@ func TestPartialTilesGo(t *testing.T) {
 	}
 }
 
-// TestMirrorRefuses: what isn't what was kept, or isn't what it says, ends it, and what is kept stays as it is.
+// TestMirrorRefuses: an object that differs from the stored one, or from its name, ends the program, and the stored
+// objects stay.
 func TestMirrorRefuses(t *testing.T) {
 	fingerprint := sha256.Sum256(issuerOf(1))
 	issuer := "/issuer/" + hex.EncodeToString(fingerprint[:])
@@ -299,13 +301,15 @@ func TestMirrorRefuses(t *testing.T) {
 	}
 }
 
-// TestMirrorOfAnother: a folder whose checkpoint isn't the log's, or can't be read, isn't gone on from, and one that can't be made isn't used.
+// TestMirrorOfAnother: a folder whose checkpoint isn't the log's, or can't be read, isn't gone on from, and one that
+// can't be made isn't used.
 func TestMirrorOfAnother(t *testing.T) {
 	g, r := newLog(t)
 	folder, node := t.TempDir(), r.node
 	tree := g.grow(5, 7)
 	other, _ := newLog(t)
-	must(t, os.WriteFile(filepath.Join(folder, "checkpoint"), []byte(noteOf(tree, "— "+origin+" ", blobOf(t, other.key, g.keyID, tree, 7))), 0o600))
+	must(t, os.WriteFile(filepath.Join(folder, "checkpoint"),
+		[]byte(noteOf(tree, "— "+origin+" ", blobOf(t, other.key, g.keyID, tree, 7))), 0o600))
 	if err := r.resume(folder); !errors.Is(err, errWrong) {
 		t.Errorf("another key's checkpoint: %v", err)
 	}
@@ -318,7 +322,7 @@ func TestMirrorOfAnother(t *testing.T) {
 	if err := r.resume(filepath.Join(folder, "file", "below")); err == nil {
 		t.Error("a folder below a file is made")
 	}
-	// A checkpoint that can't be written is told, and isn't taken for wrong.
+	// A checkpoint that cannot be written is an error, and is not wrong.
 	_, r = readerOf(t)
 	r.node, r.key, r.keyID = node, &g.key.PublicKey, g.keyID
 	must(t, r.resume(t.TempDir()))
@@ -347,7 +351,8 @@ func TestMirrorOfAnother(t *testing.T) {
 	}
 }
 
-// TestCheckpointThatIsCutShort: where the disk takes half of a checkpoint, the one before stays, and is gone on from.
+// TestCheckpointThatIsCutShort: if the disk is full in the middle of a checkpoint, the one before stays, and the reader
+// continues from it.
 func TestCheckpointThatIsCutShort(t *testing.T) {
 	g, r := newLog(t)
 	g.grow(1, 7)
@@ -362,7 +367,8 @@ func TestCheckpointThatIsCutShort(t *testing.T) {
 	}
 	kept := func(want []byte) {
 		t.Helper()
-		if content, err := os.ReadFile(filepath.Join(r.mirror.folder, "checkpoint")); err != nil || !bytes.Equal(content, want) {
+		if content, err := os.ReadFile(filepath.Join(r.mirror.folder, "checkpoint")); err != nil ||
+			!bytes.Equal(content, want) {
 			t.Errorf("%q is kept, %v", content, err)
 		}
 	}
@@ -393,9 +399,11 @@ func (f failing) Put(ctx context.Context, name string, content []byte) error {
 	return f.Objects.Put(ctx, name, content)
 }
 
-// TestFolderThatFails: where one object isn't read or put, that is told, no checkpoint is written, and nothing is wrong; behind it what lacked is kept.
+// TestFolderThatFails: if an object cannot be read or stored, that is an error, no checkpoint is written, and nothing
+// is wrong. Afterwards the missing objects are stored.
 func TestFolderThatFails(t *testing.T) {
-	for _, of := range []failing{{gets: "issuer/"}, {gets: "tile/data/"}, {puts: "issuer/"}, {puts: "tile/data/"}, {puts: "tile/0/"}, {puts: "tile/1/"}} {
+	for _, of := range []failing{{gets: "issuer/"}, {gets: "tile/data/"}, {puts: "issuer/"}, {puts: "tile/data/"},
+		{puts: "tile/0/"}, {puts: "tile/1/"}} {
 		g, r := newLog(t)
 		g.grow(5, 7)
 		must(t, r.resume(t.TempDir()))
@@ -407,15 +415,18 @@ func TestFolderThatFails(t *testing.T) {
 		r.mirror.objects = failing{folder, of.gets, of.puts}
 		before, err := os.ReadFile(filepath.Join(r.mirror.folder, "checkpoint"))
 		must(t, err)
-		if err := r.follow(context.Background()); !errors.Is(err, errStore) || errors.Is(err, errWrong) || r.last.N != 5 {
+		if err := r.follow(context.Background()); !errors.Is(err, errStore) || errors.Is(err, errWrong) ||
+			r.last.N != 5 {
 			t.Errorf("%+v: %v, and %d are read", of, err, r.last.N)
 		}
-		if kept, err := os.ReadFile(filepath.Join(r.mirror.folder, "checkpoint")); err != nil || !bytes.Equal(kept, before) {
+		if kept, err := os.ReadFile(filepath.Join(r.mirror.folder, "checkpoint")); err != nil ||
+			!bytes.Equal(kept, before) {
 			t.Errorf("%+v: %q is kept, %v", of, kept, err)
 		}
 		r.mirror.objects = folder
 		must(t, r.follow(context.Background()))
-		for _, name := range []string{"tile/data/001.p/44", "tile/0/001.p/44", "tile/1/000.p/1", "issuer/" + hex.EncodeToString(fingerprint[:])} {
+		for _, name := range []string{"tile/data/001.p/44", "tile/0/001.p/44", "tile/1/000.p/1", "issuer/" +
+			hex.EncodeToString(fingerprint[:])} {
 			if _, err := os.Stat(filepath.Join(r.mirror.folder, name)); err != nil {
 				t.Errorf("%+v: %v", of, err)
 			}
@@ -423,7 +434,8 @@ func TestFolderThatFails(t *testing.T) {
 	}
 }
 
-// TestPartialTilesThatStay: where a partial tile can't be taken away, of entries or of hashes, that is told, and what was read counts as read once it can.
+// TestPartialTilesThatStay: if a partial tile cannot be deleted, that is an error. What was read counts as read after
+// it can be deleted.
 func TestPartialTilesThatStay(t *testing.T) {
 	for _, in := range []string{"tile/data", "tile/0"} {
 		g, r := newLog(t)
@@ -431,7 +443,7 @@ func TestPartialTilesThatStay(t *testing.T) {
 		must(t, r.resume(t.TempDir()))
 		must(t, r.follow(context.Background()))
 		g.grow(300, 8)
-		// (a folder in which a file stands in the partial tile's way; the tiles go elsewhere)
+		// In this folder a file blocks the partial tile, and the tiles are elsewhere.
 		folder := r.mirror.folder
 		r.mirror.folder = t.TempDir()
 		must(t, os.MkdirAll(filepath.Join(r.mirror.folder, "tile"), 0o700))
@@ -447,11 +459,12 @@ func TestPartialTilesThatStay(t *testing.T) {
 	}
 }
 
-// TestEntries: what is no list of entries isn't read as one.
+// TestEntries: a text that is not a list of entries is refused.
 func TestEntries(t *testing.T) {
 	whole := append(withIssuer("a", "b", issuerOf(0)), entryOf("c")...)
 	read, err := entriesOf(whole)
-	if err != nil || len(read) != 2 || read[1].end != len(whole) || len(read[0].issuers) != 1 || len(read[1].issuers) != 0 {
+	if err != nil || len(read) != 2 || read[1].end != len(whole) || len(read[0].issuers) != 1 ||
+		len(read[1].issuers) != 0 {
 		t.Fatalf("%v, %v", read, err)
 	}
 	for end := range whole {

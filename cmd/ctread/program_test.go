@@ -14,7 +14,8 @@ import (
 
 func TestMain(m *testing.M) { trial.Main(m, main) }
 
-// TestProgram: what was read and was right has status 0, also where a mirror goes on from it; what is wrong, and words that aren't ones, have 1 and why.
+// TestProgram: status 0 means that everything that was read is right, also if a mirror continues from it. Wrong tiles
+// and wrong arguments have status 1 and the reason.
 func TestProgram(t *testing.T) {
 	g, r := newLog(t)
 	folder := t.TempDir()
@@ -25,15 +26,18 @@ func TestProgram(t *testing.T) {
 	words := []string{"--nodes", r.node + "/," + r.node, "--origin", origin, "--key", key, "--every", "1ms"}
 	keeps := append(words[:len(words):len(words)], "--once", "--keep", filepath.Join(folder, "mirror"))
 	five := g.grow(5, 7)
-	says := fmt.Sprintf("%s: 5 entries, root %v: consistent, and all leaves are there\n5 entries were read, and all was right\n", r.node, five.Hash)
+	says := fmt.Sprintf("%s: 5 entries, root %v: consistent, and all leaves are there\n5 entries were read, and all "+
+		"was right\n", r.node, five.Hash)
 	if status, out, problem := trial.Runs(t, keeps...); status != 0 || out != says || problem != "" {
 		t.Errorf("status %d, %q and %q", status, out, problem)
 	}
-	if status, out, problem := trial.Runs(t, keeps...); status != 0 || out != "5 entries were read, and all was right\n" || problem != "" {
+	if status, out, problem := trial.Runs(t, keeps...); status != 0 ||
+		out != "5 entries were read, and all was right\n" || problem != "" {
 		t.Errorf("the same once more: status %d, %q and %q", status, out, problem)
 	}
 	g.publish(five, 6)
-	if status, _, problem := trial.Runs(t, keeps...); status != 1 || !strings.Contains(problem, "there were 5 at 7 ms before") {
+	if status, _, problem := trial.Runs(t, keeps...); status != 1 ||
+		!strings.Contains(problem, "there were 5 at 7 ms before") {
 		t.Errorf("an earlier moment than the mirror's: status %d, %q", status, problem)
 	}
 	// (without a mirror it knows of none before)
@@ -47,14 +51,17 @@ func TestProgram(t *testing.T) {
 		{append(words, "--origin", "log.example/other"), "no checkpoint of log.example/other"},
 		{append(words, "--key", filepath.Join(folder, "nowhere")), "no such file"},
 		{append(words, "--keep", filepath.Join(key, "below")), "not a directory"},
-		{append(words, "word"), `"word" isn't expected`},
+		{append(words, "word"), `unexpected argument "word"`},
 	} {
-		if status, out, problem := trial.Runs(t, of.words...); status != 1 || out != "" || !strings.HasPrefix(problem, "ctread: ") || !strings.Contains(problem, of.says) {
+		if status, out, problem := trial.Runs(t, of.words...); status != 1 || out != "" ||
+			!strings.HasPrefix(problem, "ctread: ") || !strings.Contains(problem, of.says) {
 			t.Errorf("%q: status %d, %q and %q", of.says, status, out, problem)
 		}
 	}
-	// Who doesn't answer is asked again until its time is over, and that isn't wrong.
-	if status, out, problem := trial.Runs(t, append(words, "--nodes", "http://127.0.0.1:1", "--for", "50ms")...); status != 0 || !strings.HasSuffix(out, "0 entries were read, and all was right\n") || problem != "" {
+	// A node that does not answer is asked again until the time is over, and that is not wrong.
+	if status, out, problem := trial.Runs(t, append(words, "--nodes", "http://127.0.0.1:1", "--for",
+		"50ms")...); status != 0 || !strings.HasSuffix(out, "0 entries were read, and all was right\n") ||
+		problem != "" {
 		t.Errorf("nobody answers: status %d, %q and %q", status, out, problem)
 	}
 	if status, out, _ := trial.Runs(t, "--version"); status != 0 || !strings.HasPrefix(out, "ctread ") {

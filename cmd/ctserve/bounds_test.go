@@ -69,11 +69,11 @@ func TestWhatCantBeOpened(t *testing.T) {
 		"mkdir " + at.path("file/below"):          {"--latest-head", at.path("file/below/latest-head")},
 		at.path("file/objects"):                   {"--store", "folder:" + at.path("file/objects")},
 		at.path("file/register"):                  {"--lock", "file:" + at.path("file/register")},
-		"the places in " + at.path("file/places"): {"--index", "sqlite:" + at.path("file/places")},
+		"the index in " + at.path("file/places"): {"--index", "sqlite:" + at.path("file/places")},
 		"open " + at.path("none.pem"):             {"--signing-key", at.path("none.pem")},
 		"objects are at folder:PATH":              {"--store", "nowhere:x"},
 		"a register is at file:PATH":              {"--lock", "nowhere:x"},
-		"places are at sqlite:PATH":               {"--index", "nowhere:x"},
+		"an index is at sqlite:PATH":             {"--index", "nowhere:x"},
 	} {
 		whole := at.realWords("--signing-key", at.path("log.pem"))
 		whole = append(append(whole, "--create"), words...)

@@ -204,7 +204,7 @@ func TestCheckOfAFolder(t *testing.T) {
 	if err := os.WriteFile(filepath.Join(folder, "log"), nil, 0o600); err != nil {
 		t.Fatal(err)
 	}
-	if status, said, _ := does("check", file); status != 1 || !strings.Contains(said, "isn't a folder") {
+	if status, said, _ := does("check", file); status != 1 || !strings.Contains(said, "is not a folder") {
 		t.Errorf("a file in the folder's place: status %d, %s", status, said)
 	}
 }

@@ -572,7 +572,7 @@ func TestSettings(t *testing.T) {
 		{[]string{"--config", at.path("missing")}, "no such file"},
 		{file("nothing 7"), `line 1: there is no setting "nothing"`},
 		{file("config x"), `line 1: there is no setting "config"`},
-		{file("# x\n\norigin a\norigin b"), "line 4: origin stands in line 3 already"},
+		{file("# x\n\norigin a\norigin b"), "line 4: origin is in line 3 already"},
 		{file("idle-timeout soon"), "line 1: idle-timeout"},
 		{file(needed + "tls-key x"), "need "},
 		{file(needed + "idle-timeout 0s"), "above 0"},
@@ -925,7 +925,7 @@ func TestGuardStateAway(t *testing.T) {
 	for until := time.Now().Add(trial.Longest); ; within = 30 * time.Second {
 		var told strings.Builder
 		status := run(append(words, "--open-timeout", within.String()), &told, openNode)
-		if status == 1 && strings.Contains(told.String(), "the guard's state (guard-state, of etcd) isn't read") {
+		if status == 1 && strings.Contains(told.String(), "the guard's state (guard-state, of etcd) cannot be read") {
 			return
 		}
 		late := isLate(told.String()) || strings.Contains(told.String(), "no reply from the signer: context deadline exceeded")

@@ -46,7 +46,7 @@ type node struct {
 	guardState, signerAt             string
 	folder, store, register, places  string
 	latestHead, namedDay             string
-	maxSkew                         time.Duration
+	maxSkew                          time.Duration
 	synchronized                     bool
 	interval, refresh, maxMergeDelay time.Duration
 	openWithin                       time.Duration

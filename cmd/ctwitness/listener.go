@@ -9,10 +9,12 @@ import (
 	"wagtenib/internal/web"
 )
 
-// maxOfAddress is how many connections one address has at once, an eighth of all: one host must not keep a witness from the others. A /64 of IPv6 counts as one.
+// maxOfAddress is how many connections one address has at once, an eighth of all: one host must not keep a witness from
+// the others. A /64 of IPv6 counts as one.
 const maxOfAddress = maxConnections / 8
 
-// bounded is a listener with so many connections at once; what comes beyond waits. What comes beyond the bound of its address is closed.
+// bounded is a listener with a maximum number of connections. Further ones wait. A connection above the bound of its
+// address is closed.
 type bounded struct {
 	net.Listener
 	room      chan struct{}
@@ -25,7 +27,8 @@ type addresses struct {
 	of map[netip.Prefix]int
 }
 
-// groupOf returns what counts as one with an address, or nothing for one without a bound: a proxy on this machine has all connections.
+// groupOf returns what counts as one with an address, or nothing for one without a bound: a proxy on this machine has
+// all connections.
 func groupOf(address net.Addr) netip.Prefix {
 	pair, err := netip.ParseAddrPort(address.String())
 	if err != nil {
@@ -103,5 +106,5 @@ func (c *counted) Close() error {
 	return err
 }
 
-// logOf has what net/http tells told by lines.
+// logOf returns a logger for net/http that writes log lines.
 func logOf(lines *web.Lines) *stdlog.Logger { return stdlog.New(lines, "", 0) }

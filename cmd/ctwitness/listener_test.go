@@ -36,7 +36,7 @@ func (l *listening) Accept() (net.Conn, error) {
 	return &connected{of: l, behind: l.closed.Load()}, nil
 }
 
-// connected is one of its connections, behind so many that were closed.
+// connected is one of its connections, after so many that were closed.
 type connected struct {
 	net.Conn
 	of     *listening
@@ -50,7 +50,8 @@ func (c *connected) Close() error {
 
 func (c *connected) RemoteAddr() net.Addr { return &net.TCPAddr{IP: net.IPv4(192, 0, 2, 1), Port: 1} }
 
-// TestBounded: who comes beyond the bound waits until one who is connected has gone, once for each; where none comes the room is given back.
+// TestBounded: a connection above the bound waits until another one has ended, once for each. If there is none, the
+// slot is free again.
 func TestBounded(t *testing.T) {
 	ctx := trial.Limited(t, trial.Longest)
 	of := &listening{}
@@ -99,16 +100,19 @@ func TestBounded(t *testing.T) {
 	}
 }
 
-// TestOneHost has one host open as many connections as it is let, and ask nothing on them: others are answered, it gets no more, and has room again once it closes.
+// TestOneHost has one host open as many connections as it is let, and ask nothing on them: others are answered, it gets
+// no more, and has room again once it closes.
 func TestOneHost(t *testing.T) {
 	clients, err := clientsAt("127.0.0.1:0")
 	must(t, err)
-	server := serverOf(http.HandlerFunc(func(w http.ResponseWriter, r *http.Request) { io.WriteString(w, "answered") }), web.NewLines(io.Discard))
+	server := serverOf(http.HandlerFunc(func(w http.ResponseWriter, r *http.Request) { io.WriteString(w, "answered") }),
+		web.NewLines(io.Discard))
 	go server.Serve(clients)
 	defer server.Close()
 	from := func(host byte) net.Conn {
 		t.Helper()
-		connection, err := (&net.Dialer{LocalAddr: &net.TCPAddr{IP: net.IPv4(127, 0, 0, host)}}).Dial("tcp", clients.Addr().String())
+		connection, err := (&net.Dialer{LocalAddr: &net.TCPAddr{IP: net.IPv4(127, 0, 0, host)}}).Dial("tcp",
+			clients.Addr().String())
 		must(t, err)
 		t.Cleanup(func() { connection.Close() })
 		return connection
@@ -137,7 +141,8 @@ func TestOneHost(t *testing.T) {
 // TestGroups: an address of IPv6 counts with its /64, and a proxy on this machine has no bound of its own.
 func TestGroups(t *testing.T) {
 	of := func(text string) netip.Prefix { return groupOf(net.TCPAddrFromAddrPort(netip.MustParseAddrPort(text))) }
-	if of("[2001:db8::1]:1") != of("[2001:db8::2:3]:4") || of("[2001:db8::1]:1") == of("[2001:db8:0:1::1]:1") || of("192.0.2.1:1") == of("192.0.2.2:1") || of("192.0.2.1:1") != of("[::ffff:192.0.2.1]:9") {
+	if of("[2001:db8::1]:1") != of("[2001:db8::2:3]:4") || of("[2001:db8::1]:1") == of("[2001:db8:0:1::1]:1") ||
+		of("192.0.2.1:1") == of("192.0.2.2:1") || of("192.0.2.1:1") != of("[::ffff:192.0.2.1]:9") {
 		t.Error("addresses count as one that are others', or the other way round")
 	}
 	a := &addresses{of: map[netip.Prefix]int{}}
@@ -150,7 +155,7 @@ func TestGroups(t *testing.T) {
 	}
 }
 
-// TestClientsAt: who listens for logs has a bound.
+// TestClientsAt: the listener for logs has a bound.
 func TestClientsAt(t *testing.T) {
 	listener, err := clientsAt("127.0.0.1:0")
 	must(t, err)
@@ -183,7 +188,7 @@ func (c *closing) Close() error {
 	return c.Register.Close()
 }
 
-// TestOpenedOnce: a log's state is opened once, however often the logs are taken up, and closed at the end.
+// TestOpenedOnce: a log's state is opened once, however often the logs are reloaded, and closed at the end.
 func TestOpenedOnce(t *testing.T) {
 	ctx := trial.Limited(t, trial.Longest)
 	p, _ := ofOneLog(t)
@@ -209,7 +214,8 @@ func TestOpenedOnce(t *testing.T) {
 	}
 }
 
-// TestRemovedLogIsClosed takes a log out of the settings, as before SIGHUP: its state is closed then, and not opened again.
+// TestRemovedLogIsClosed takes a log out of the settings, as before SIGHUP: its state is closed then, and not opened
+// again.
 func TestRemovedLogIsClosed(t *testing.T) {
 	p, _ := ofOneLog(t)
 	s, err := parse(p.words(), io.Discard)
@@ -244,7 +250,8 @@ func (standing) Create(ctx context.Context, _ string) error {
 	return ctx.Err()
 }
 
-// TestOpenWithin: states that give no answer are waited for as long as is said, where they are made and where they are taken up.
+// TestOpenWithin: a register that does not answer is waited for until the timeout, when states are created and when
+// they are opened.
 func TestOpenWithin(t *testing.T) {
 	p, _ := ofOneLog(t)
 	s, err := parse(p.words("--open-timeout", "10ms", "--create", "a.example"), io.Discard)
@@ -252,21 +259,23 @@ func TestOpenWithin(t *testing.T) {
 	w, err := open(s, web.NewLines(io.Discard))
 	must(t, err)
 	w.registers["a.example"] = standing{}
-	for what, opens := range map[string]func() error{"takes up": func() error { return w.takeUp(s) }, "makes": func() error { return w.create(s, web.NewLines(io.Discard)) }} {
+	for what, opens := range map[string]func() error{"takes up": func() error { return w.takeUp(s) },
+		"makes": func() error { return w.create(s, web.NewLines(io.Discard)) }} {
 		if err := opens(); !errors.Is(err, context.DeadlineExceeded) {
 			t.Errorf("it %s: %v", what, err)
 		}
 	}
 }
 
-// TestServerOf: each part of a request has its time, and its headers their bound; what net/http tells comes as a line.
+// TestServerOf: each part of a request has a timeout, and its headers have a bound. What net/http logs is a log line.
 func TestServerOf(t *testing.T) {
 	var told strings.Builder
 	s := serverOf(http.NotFoundHandler(), web.NewLines(&told))
 	if s.ErrorLog.Print("a handler that fails"); !strings.Contains(told.String(), "a handler that fails") {
 		t.Errorf("%q is told", told.String())
 	}
-	for what, time := range map[string]time.Duration{"headers": s.ReadHeaderTimeout, "a request": s.ReadTimeout, "an answer": s.WriteTimeout, "the next request": s.IdleTimeout} {
+	for what, time := range map[string]time.Duration{"headers": s.ReadHeaderTimeout, "a request": s.ReadTimeout,
+		"an answer": s.WriteTimeout, "the next request": s.IdleTimeout} {
 		if time <= 0 || time > 60_000_000_000 {
 			t.Errorf("%s may take %v", what, time)
 		}
@@ -300,7 +309,7 @@ func ofOneLog(t *testing.T) (p place, signed func(size int) []byte) {
 	return p, signed
 }
 
-// held is a register that isn't read until it may be, if it was told to wait.
+// held is a register that can be made to wait in Read.
 type held struct {
 	stores.Register
 	waits      atomic.Bool
@@ -366,14 +375,16 @@ func TestEndAnswers(t *testing.T) {
 	}
 }
 
-// TestEndIsLate: an end has its time and no more, also if a state's register gives no answer: who still waits then isn't answered, which is told, with status 1.
+// TestEndIsLate: an end takes at most its timeout, even if a state's register does not answer. Requests that still wait
+// then are not answered, which is logged, with status 1.
 func TestEndIsLate(t *testing.T) {
 	p, ofA := ofOneLog(t)
 	one, state := p.startedOver("--shutdown-timeout", "20ms")
 	gone := make(chan struct{})
 	go func() {
 		defer close(gone)
-		came, err := http.Post(one.at["clients"]+"/add-checkpoint", "text/plain", strings.NewReader("old 0\n\n"+string(ofA(3))))
+		came, err := http.Post(one.at["clients"]+"/add-checkpoint", "text/plain",
+			strings.NewReader("old 0\n\n"+string(ofA(3))))
 		if err == nil {
 			came.Body.Close()
 			t.Errorf("who waits is answered %s", came.Status)
@@ -388,7 +399,7 @@ func TestEndIsLate(t *testing.T) {
 			end = text
 		}
 	}
-	if status := <-one.status; status != 1 || !strings.Contains(end, "who waits isn't answered") {
+	if status := <-one.status; status != 1 || !strings.Contains(end, "waiting requests were not answered") {
 		t.Errorf("status %d: %s", status, end)
 	}
 	if took := time.Since(began); took > trial.Longest/2 {
@@ -397,16 +408,18 @@ func TestEndIsLate(t *testing.T) {
 	<-gone
 }
 
-// TestKeyWithoutState: who asks for the verifier key needs no state, and who serves does.
+// TestKeyWithoutState: --verifier-key needs no state, and serving does.
 func TestKeyWithoutState(t *testing.T) {
 	p := newPlace(t)
 	words := []string{"--name", "w.example", "--key", p.path("key.pem")}
 	var out strings.Builder
-	if status := run(append(words, "--verifier-key"), &out, io.Discard, nil); status != 0 || !strings.HasPrefix(out.String(), "w.example+") {
+	if status := run(append(words, "--verifier-key"), &out, io.Discard, nil); status != 0 ||
+		!strings.HasPrefix(out.String(), "w.example+") {
 		t.Errorf("status %d, %q", status, out.String())
 	}
 	var told strings.Builder
-	if status := run(words, io.Discard, &told, nil); status != 2 || !strings.Contains(told.String(), "--state is missing") {
+	if status := run(words, io.Discard, &told, nil); status != 2 ||
+		!strings.Contains(told.String(), "--state is missing") {
 		t.Errorf("status %d, %q", status, told.String())
 	}
 }

@@ -1,7 +1,8 @@
-// Command ctwitness is a witness over HTTP: it cosigns the heads of several logs (C2SP tlog-witness, tlog-cosignature), each if proved code
-// decides that it follows the one that it cosigned last (docs/WITNESS.md).
+// Command ctwitness is a witness over HTTP. It cosigns the heads of several logs (C2SP tlog-witness, tlog-cosignature),
+// each if proved code decides that it follows the one that it cosigned last (docs/WITNESS.md).
 //
-// SIGHUP has it read the logs of its settings anew. SIGTERM and SIGINT end it: it takes no more, answers who waits, and ends with status 0.
+// At SIGHUP it reads the logs of its settings again. At SIGTERM or SIGINT it ends: it accepts no more requests, answers
+// the waiting ones, and exits with status 0.
 package main
 
 import (
@@ -23,7 +24,8 @@ import (
 	"wagtenib/internal/witness"
 )
 
-// statusNoState is the status of a start that is refused since a log's state is missing or another's, and will be until an operator has looked.
+// statusNoState is the status of a start that is refused since a log's state is missing or another's, and will be until
+// an operator has looked.
 const statusNoState = 3
 
 // maxConnections is how many clients are connected at once, and maxHeader how many bytes a request's headers have.
@@ -35,13 +37,14 @@ const (
 func main() {
 	signals := make(chan os.Signal, 4)
 	signal.Notify(signals, syscall.SIGHUP, syscall.SIGTERM, syscall.SIGINT)
-	// If nobody reads standard error any more, a write to it must fail and not end the witness. (What is caught, and not ignored, is as it was in its program.)
+	// If nobody reads standard error any more, a write to it must fail and not end the witness. (What is caught, and
+	// not ignored, is as it was in its program.)
 	signal.Notify(make(chan os.Signal, 1), syscall.SIGPIPE)
 	os.Exit(run(os.Args[1:], os.Stdout, os.Stderr, signals))
 }
 
-// run serves until a signal ends it, and gives the status: 0 at an end in order, 1 at another, 2 where the words aren't ones, statusNoState
-// where a log has no state.
+// run serves until a signal ends it, and gives the status: 0 at an end in order, 1 at another, 2 where the words aren't
+// ones, statusNoState where a log has no state.
 func run(words []string, out, to io.Writer, signals <-chan os.Signal) int {
 	if version.Asked(words) {
 		fmt.Fprint(out, version.Line("ctwitness"))
@@ -164,7 +167,8 @@ func (w *running) takeUp(s *settings) error {
 	return nil
 }
 
-// closeOthers closes the registers of logs that the settings don't have any more. A request of such a log that is under way may fail.
+// closeOthers closes the registers of logs that the settings don't have any more. A request of such a log that is under
+// way may fail.
 func (w *running) closeOthers(s *settings) {
 	for origin, register := range w.registers {
 		if _, stays := s.log(origin); !stays {
@@ -210,13 +214,13 @@ func (w *running) serve(s *settings, lines *web.Lines, signals <-chan os.Signal)
 		// (so that what is asked for them ends, too, which the registers' end waits for)
 		_ = server.Close()
 		if err == nil {
-			err = fmt.Errorf("ctwitness: who waits isn't answered: %w", late)
+			err = fmt.Errorf("ctwitness: waiting requests were not answered in time: %w", late)
 		}
 	}
 	return err
 }
 
-// wait waits for a signal that ends the witness, and reads the logs anew where one asks for that.
+// wait waits for a signal that ends the witness, and reloads the logs at SIGHUP.
 func (w *running) wait(s *settings, lines *web.Lines, signals <-chan os.Signal, failed <-chan error) error {
 	for {
 		select {

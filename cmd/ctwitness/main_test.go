@@ -49,7 +49,8 @@ func (p place) write(name, text string) { must(p.t, os.WriteFile(p.path(name), [
 
 // settings writes the file of settings, with these logs.
 func (p place) settings(logs ...string) {
-	text := fmt.Sprintf("name w.example # the witness\nkey %s\nstate file:%s\nlisten 127.0.0.1:0\noperator-listen 127.0.0.1:0\n", p.path("key.pem"), p.path("states"))
+	text := fmt.Sprintf("name w.example # the witness\nkey %s\nstate file:%s\nlisten 127.0.0.1:0\noperator-listen "+
+		"127.0.0.1:0\n", p.path("key.pem"), p.path("states"))
 	p.write("settings", text+strings.Join(logs, "\n")+"\n")
 }
 
@@ -72,7 +73,7 @@ func (p place) log(origin string) (line string, signed func(size int) []byte) {
 	}
 }
 
-// process is a witness that runs: what it tells, and what ends it.
+// process is a running witness, with its log lines and a function that ends it.
 type process struct {
 	t       testing.TB
 	signals chan os.Signal
@@ -85,7 +86,7 @@ type process struct {
 func (p place) started(more ...string) *process {
 	var words []string
 	for _, name := range []string{"open-timeout", "shutdown-timeout"} {
-		// (what stands later counts)
+		// The last one of a setting counts.
 		words = append(words, "--"+name, trial.Longest.String())
 	}
 	words = append(words, more...)
@@ -119,7 +120,7 @@ func (p place) runs(does func(to io.Writer, signals chan os.Signal) int) *proces
 	}
 }
 
-// next is the next line that is told.
+// next returns the next log line.
 func (p *process) next() (line map[string]any) {
 	p.t.Helper()
 	text, more := <-p.told
@@ -148,7 +149,8 @@ func (p *process) ends() int {
 
 func (p *process) post(signed []byte) (int, string) {
 	p.t.Helper()
-	came, err := http.Post(p.at["clients"]+"/add-checkpoint", "text/plain", bytes.NewReader(append([]byte("old 0\n\n"), signed...)))
+	came, err := http.Post(p.at["clients"]+"/add-checkpoint", "text/plain",
+		bytes.NewReader(append([]byte("old 0\n\n"), signed...)))
 	must(p.t, err)
 	defer came.Body.Close()
 	text, err := io.ReadAll(came.Body)
@@ -212,7 +214,8 @@ func TestServes(t *testing.T) {
 	text, err := io.ReadAll(came.Body)
 	came.Body.Close()
 	must(t, err)
-	for _, line := range []string{`ctwitness_reloads_total{outcome="done"} 2`, `ctwitness_reloads_total{outcome="failed"} 2`, `ctwitness_entries{origin="b.example/2"} 3`} {
+	for _, line := range []string{`ctwitness_reloads_total{outcome="done"} 2`,
+		`ctwitness_reloads_total{outcome="failed"} 2`, `ctwitness_entries{origin="b.example/2"} 3`} {
 		if !strings.Contains(string(text), line+"\n") {
 			t.Errorf("no %s", line)
 		}
@@ -220,7 +223,7 @@ func TestServes(t *testing.T) {
 	if status := one.ends(); status != 0 {
 		t.Errorf("the end: status %d", status)
 	}
-	// What was cosigned binds the next process.
+	// The next process must follow what was cosigned.
 	p.settings(a, b)
 	again := p.started(p.words()...)
 	again.wants(409, ofA(3))
@@ -230,13 +233,15 @@ func TestServes(t *testing.T) {
 	}
 }
 
-// TestAcceptedBy checks that only the head that a monitor accepted is cosigned of a log with accepted-by, and that other logs are as before.
+// TestAcceptedBy checks that only the head that a monitor accepted is cosigned of a log with accepted-by, and that
+// other logs are as before.
 func TestAcceptedBy(t *testing.T) {
 	p := newPlace(t)
 	a, ofA := p.log("a.example")
 	b, ofB := p.log("b.example")
 	p.settings(a, b, "accepted-by a.example   "+p.path("monitor"))
-	if status := run(p.words("--create", "a.example", "--create", "b.example"), io.Discard, io.Discard, nil); status != 0 {
+	if status := run(p.words("--create", "a.example", "--create", "b.example"), io.Discard, io.Discard,
+		nil); status != 0 {
 		t.Fatalf("--create: status %d", status)
 	}
 	accept := func(size int) { p.write("monitor", string(ofA(size))) }
@@ -269,7 +274,8 @@ func TestVerifierKey(t *testing.T) {
 		t.Errorf("%s: %v", &out, err)
 	}
 	out.Reset()
-	if status := run([]string{"--version"}, &out, io.Discard, nil); status != 0 || !strings.HasPrefix(out.String(), "ctwitness ") {
+	if status := run([]string{"--version"}, &out, io.Discard, nil); status != 0 ||
+		!strings.HasPrefix(out.String(), "ctwitness ") {
 		t.Errorf("%d %s", status, &out)
 	}
 }
@@ -294,7 +300,7 @@ func TestWords(t *testing.T) {
 		{"", []string{"--help"}, 0, "is a witness"},
 		{"nothing 7", nil, 2, `there is no setting "nothing"`},
 		{"create a", nil, 2, `there is no setting "create"`},
-		{"name x", nil, 2, "stands in line 1 already"},
+		{"name x", nil, 2, "is in line 1 already"},
 		{"shutdown-timeout 0s", nil, 2, "above 0"},
 		{"program ctwitness", nil, 2, `there is no setting "program"`},
 		{"log a.example", nil, 2, "at least one key"},
@@ -316,7 +322,8 @@ func TestWords(t *testing.T) {
 		p.write("settings", string(base)+test.settings+"\n")
 		words := p.words(test.words...)
 		var told bytes.Buffer
-		if status := run(words, io.Discard, &told, nil); status != test.status || !strings.Contains(told.String(), test.why) {
+		if status := run(words, io.Discard, &told, nil); status != test.status ||
+			!strings.Contains(told.String(), test.why) {
 			t.Errorf("%q, %q: status %d: %s", test.settings, test.words, status, &told)
 		}
 	}
@@ -329,7 +336,8 @@ func TestWords(t *testing.T) {
 	must(t, os.Chmod(p.path("key.pem"), 0o640))
 	p.write("settings", string(base))
 	var told bytes.Buffer
-	if status := run(p.words(), io.Discard, &told, nil); status != 1 || !strings.Contains(told.String(), "not only its owner") {
+	if status := run(p.words(), io.Discard, &told, nil); status != 1 ||
+		!strings.Contains(told.String(), "not only its owner") {
 		t.Errorf("a key that others may read: status %d: %s", status, &told)
 	}
 }

@@ -17,7 +17,8 @@ import (
 )
 
 // fileRules are those of the file of settings.
-var fileRules = settingsfile.Rules{Only: []string{"config", "create", "verifier-key"}, Several: []string{"log", "accepted-by"}}
+var fileRules = settingsfile.Rules{Only: []string{"config", "create", "verifier-key"},
+	Several: []string{"log", "accepted-by"}}
 
 // settings are the values of the command line and of the file of settings.
 type settings struct {
@@ -43,25 +44,41 @@ var errUsage = errors.New("ctwitness")
 // maxKey is the number of bytes of a key file that are read.
 const maxKey = 64 << 10
 
-// parse reads the command line, and the file that it names. If both have a setting, the command line counts; logs of both are used.
+// parse reads the command line, and the file that it names. If both have a setting, the command line counts; logs of
+// both are used.
 func parse(words []string, help io.Writer) (*settings, error) {
 	s := &settings{words: words, accepted: map[string]string{}}
-	flags := settingsfile.Flags("ctwitness", "ctwitness is a witness of Certificate Transparency logs. It cosigns a head of a log only if the proved code in it decides that the head follows the last one.\nEach setting except --create and --verifier-key is a flag, or a line 'name value' in the file that --config names.", help)
-	flags.String("config", "", "`file` with a line 'name value' for each of these settings. A comment begins with #. The logs are read again at SIGHUP")
+	flags := settingsfile.Flags("ctwitness",
+		"ctwitness is a witness of Certificate Transparency logs. It cosigns a head of a log only if the proved code "+
+			"in it decides that the head follows the last one.\nEach setting except --create and --verifier-key is a "+
+			"flag, or a line 'name value' in the file that --config names.", help)
+	flags.String("config", "", "`file` with a line 'name value' for each of these settings. A comment begins with #. "+
+		"The logs are read again at SIGHUP")
 	flags.StringVar(&s.name, "name", "", "the witness's `name`, for example witness.example")
-	flags.StringVar(&s.key, "key", "", "`file` with its Ed25519 private key in PEM (openssl genpkey -algorithm ed25519). Only its owner may have the permission to read it")
-	flags.StringVar(&s.state, "state", "", "`address` under which the state of each log is kept: file:PATH, etcd://HOST:PORT/PREFIX, postgres://HOST/DATABASE?log=NAME")
+	flags.StringVar(&s.key, "key", "",
+		"`file` with its Ed25519 private key in PEM (openssl genpkey -algorithm ed25519). Only its owner may have "+
+			"the permission to read it")
+	flags.StringVar(&s.state, "state", "",
+		"`address` under which the state of each log is kept: file:PATH, etcd://HOST:PORT/PREFIX, "+
+			"postgres://HOST/DATABASE?log=NAME")
 	flags.StringVar(&s.listen, "listen", "127.0.0.1:8640", "`address` for logs")
-	flags.StringVar(&s.operator, "operator-listen", "127.0.0.1:8641", "`address` for /metrics and /healthz. If it is empty, they are not served")
-	flags.Func("log", "a log's `origin` and its keys, separated by spaces. A key is a PEM file (P-256 or Ed25519) or an Ed25519 verifier key. One setting for each log", s.addLog)
-	flags.Func("accepted-by", "a log's `origin`, a space, and the file with the checkpoint that a monitor accepted last (a file of ctwatch run --accepted-folder). Only this head, of which the monitor read all entries, is cosigned. At most one setting for each log", s.addAccepted)
+	flags.StringVar(&s.operator, "operator-listen", "127.0.0.1:8641",
+		"`address` for /metrics and /healthz. If it is empty, they are not served")
+	flags.Func("log", "a log's `origin` and its keys, separated by spaces. A key is a PEM file (P-256 or Ed25519) or "+
+		"an Ed25519 verifier key. One setting for each log", s.addLog)
+	flags.Func("accepted-by", "a log's `origin`, a space, and the file with the checkpoint that a monitor accepted "+
+		"last (a file of ctwatch run --accepted-folder). Only this head, of which the monitor read all entries, is "+
+		"cosigned. At most one setting for each log", s.addAccepted)
 	flags.DurationVar(&s.openWithin, "open-timeout", 30*time.Second, "time within which the states must open")
-	flags.DurationVar(&s.endWithin, "shutdown-timeout", 30*time.Second, "time after SIGTERM within which requests are still answered")
-	flags.Func("create", "create the state of the log with this `origin`, of which this witness never cosigned a head, and exit. May be given several times", func(origin string) error {
+	flags.DurationVar(&s.endWithin, "shutdown-timeout", 30*time.Second,
+		"time after SIGTERM within which requests are still answered")
+	flags.Func("create", "create the state of the log with this `origin`, of which this witness never cosigned a "+
+		"head, and exit. May be given several times", func(origin string) error {
 		s.create = append(s.create, origin)
 		return nil
 	})
-	flags.BoolVar(&s.verifierKey, "verifier-key", false, "print the key by which logs and clients know this witness, and exit")
+	flags.BoolVar(&s.verifierKey, "verifier-key", false,
+		"print the key by which logs and clients know this witness, and exit")
 	if err := fileRules.Settle(flags, words, s.settle, errUsage); err != nil {
 		return nil, err
 	}
@@ -158,7 +175,8 @@ func readKey(path string) (ed25519.PrivateKey, error) {
 		return nil, err
 	}
 	if info.Mode().Perm()&0o077 != 0 {
-		return nil, fmt.Errorf("%w: not only its owner may read or write %s (chmod 600)", witness.ErrKey, filepath.Clean(path))
+		return nil, fmt.Errorf("%w: not only its owner may read or write %s (chmod 600)", witness.ErrKey,
+			filepath.Clean(path))
 	}
 	content, err := io.ReadAll(io.LimitReader(opened, maxKey))
 	if err != nil {

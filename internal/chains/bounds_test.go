@@ -30,7 +30,8 @@ func TestBounds(t *testing.T) {
 		why   Refusal
 	}{
 		{of(LongestCertificate), NoCertificate}, {of(LongestCertificate + 1), CertificateTooLong},
-		{of(LongestCertificate, LongestCertificate, rest), NoCertificate}, {of(LongestCertificate, LongestCertificate, rest+1), ChainTooLong},
+		{of(LongestCertificate, LongestCertificate, rest), NoCertificate},
+		{of(LongestCertificate, LongestCertificate, rest+1), ChainTooLong},
 		{of(make([]int, MaxCertificates)...), NoCertificate}, {of(make([]int, MaxCertificates+1)...), ChainTooLong},
 	} {
 		if _, err := c.Certificate(test.chain); RefusalOf(err) != test.why {
@@ -42,7 +43,8 @@ func TestBounds(t *testing.T) {
 		modulus := new(big.Int).Lsh(big.NewInt(1), bits-1)
 		modulus.SetBit(modulus, 0, 1)
 		key := newKey(t)
-		issuer, err := x509.ParseCertificate(signedBy(t, authority("large"), authority("large"), &rsa.PublicKey{N: modulus, E: 65537}, key))
+		issuer, err := x509.ParseCertificate(signedBy(t, authority("large"), authority("large"),
+			&rsa.PublicKey{N: modulus, E: 65537}, key))
 		if err != nil {
 			t.Fatal(err)
 		}
@@ -76,7 +78,8 @@ func TestRootsOfOneName(t *testing.T) {
 		}
 	}
 	other := newKey(t)
-	if _, err := c.Certificate([][]byte{signedBy(t, authority("leaf"), authority("root"), &other.PublicKey, other)}); RefusalOf(err) != UnknownRoot {
+	if _, err := c.Certificate([][]byte{signedBy(t, authority("leaf"), authority("root"), &other.PublicKey,
+		other)}); RefusalOf(err) != UnknownRoot {
 		t.Errorf("of none: %v", err)
 	}
 }
@@ -108,7 +111,8 @@ func TestEmptySignature(t *testing.T) {
 	}
 }
 
-// TestVersion2: an authority of version 2, which can't say that it is one, is taken where it is a root, and not otherwise.
+// TestVersion2: an authority of version 2, which can't say that it is one, is taken where it is a root, and not
+// otherwise.
 func TestVersion2(t *testing.T) {
 	key := newKey(t)
 	template := authority("old")
@@ -128,12 +132,13 @@ func TestVersion2(t *testing.T) {
 	if _, err := NewChecker(roots, Rules{}, byASN1{}).Certificate([][]byte{leaf, old}); err != nil {
 		t.Errorf("a root: %v", err)
 	}
-	if err := NewChecker(&Roots{}, Rules{}, byASN1{}).issued(certificateOf(parsed), parsed); RefusalOf(err) != NotAnAuthority {
+	if err := NewChecker(&Roots{}, Rules{}, byASN1{}).issued(certificateOf(parsed),
+		parsed); RefusalOf(err) != NotAnAuthority {
 		t.Errorf("no root: %v", err)
 	}
 }
 
-// TestReloadCounts: what is new and what is gone are told apart.
+// TestReloadCounts: a reload counts new roots and removed roots separately.
 func TestReloadCounts(t *testing.T) {
 	var all [][]byte
 	for i := 0; i < 4; i++ {
@@ -153,19 +158,22 @@ func TestReloadCounts(t *testing.T) {
 		if err := os.WriteFile(file, inPEM(test.roots...), 0o600); err != nil {
 			t.Fatal(err)
 		}
-		if added, removed, err := c.Reload(RootFiles{Paths: []string{file}}); added != test.added || removed != test.remove || err != nil {
+		if added, removed, err := c.Reload(RootFiles{Paths: []string{file}}); added != test.added ||
+			removed != test.remove || err != nil {
 			t.Errorf("%d roots: %d are new and %d gone, %v", len(test.roots), added, removed, err)
 		}
 	}
 	if err := os.WriteFile(file, []byte("damaged"), 0o600); err != nil {
 		t.Fatal(err)
 	}
-	if added, removed, err := c.Reload(RootFiles{Paths: []string{file}}); added != 0 || removed != 0 || err == nil || len(c.Roots().Certificates()) != 1 {
+	if added, removed, err := c.Reload(RootFiles{Paths: []string{file}}); added != 0 || removed != 0 || err == nil ||
+		len(c.Roots().Certificates()) != 1 {
 		t.Errorf("a damaged file: %d are new and %d gone, %v", added, removed, err)
 	}
 }
 
-// TestMostRoots: a file has as many bytes as may be, and a log as many roots; one more of either is an error, by which none is lost.
+// TestMostRoots: a file has as many bytes as may be, and a log as many roots; one more of either is an error, by which
+// none is lost.
 func TestMostRoots(t *testing.T) {
 	key := newKey(t)
 	root := signedBy(t, authority("root"), authority("root"), &key.PublicKey, key)
@@ -186,14 +194,16 @@ func TestMostRoots(t *testing.T) {
 			t.Errorf("a text of %d bytes is read", len(long))
 		}
 	}
-	roots := &Roots{byHash: map[[32]byte]bool{}, bySubject: map[string][]*x509.Certificate{}, certificates: make([]*x509.Certificate, MaxRoots-1)}
+	roots := &Roots{byHash: map[[32]byte]bool{}, bySubject: map[string][]*x509.Certificate{},
+		certificates: make([]*x509.Certificate, MaxRoots-1)}
 	if err := roots.take(root, nil, LeftOut{}); err != nil {
 		t.Errorf("the last that may be: %v", err)
 	}
 	if err := roots.take(root, nil, LeftOut{}); err != nil {
 		t.Errorf("the same once more: %v", err)
 	}
-	if err := roots.take(signedBy(t, authority("other"), authority("other"), &key.PublicKey, key), nil, LeftOut{}); err == nil {
+	if err := roots.take(signedBy(t, authority("other"), authority("other"), &key.PublicKey, key), nil,
+		LeftOut{}); err == nil {
 		t.Error("one more is taken")
 	}
 }
@@ -212,12 +222,17 @@ func TestFilesThatFail(t *testing.T) {
 		of   RootFiles
 		says string
 	}{
-		"a table whose second row is short":   {RootFiles{Paths: []string{put("short.csv", append(table.Bytes()[:table.Len():table.Len()], "a\n"...))}}, "short.csv"},
-		"a folder that has none":              {RootFiles{Paths: []string{right, filepath.Dir(put("bare/read.me", nil))}}, "bare has no file"},
-		"a line that is no fingerprint":       {RootFiles{Paths: []string{right}, Without: put("without", []byte("# those that went\n\n00ff\n"))}, "without, line 3"},
-		"a line that is longer":               {RootFiles{Paths: []string{right}, Without: put("longer", []byte(strings.Repeat("00", 33)+"\n"))}, "longer, line 1"},
-		"a folder in a list's place":          {RootFiles{Paths: []string{right}, Without: folder}, "chains: roots:"},
-		"a folder in a folder's file's place": {RootFiles{Paths: []string{filepath.Dir(filepath.Dir(put("of/x.pem/y", nil)))}}, "x.pem"},
+		"a table whose second row is short": {RootFiles{Paths: []string{put("short.csv",
+			append(table.Bytes()[:table.Len():table.Len()], "a\n"...))}}, "short.csv"},
+		"a folder that has none": {RootFiles{Paths: []string{right,
+			filepath.Dir(put("bare/read.me", nil))}}, "bare has no file"},
+		"a line that is no fingerprint": {RootFiles{Paths: []string{right},
+			Without: put("without", []byte("# those that went\n\n00ff\n"))}, "without, line 3"},
+		"a line that is longer": {RootFiles{Paths: []string{right},
+			Without: put("longer", []byte(strings.Repeat("00", 33)+"\n"))}, "longer, line 1"},
+		"a folder in a list's place": {RootFiles{Paths: []string{right}, Without: folder}, "chains: roots:"},
+		"a folder in a folder's file's place": {RootFiles{Paths: []string{
+			filepath.Dir(filepath.Dir(put("of/x.pem/y", nil)))}}, "x.pem"},
 	} {
 		if _, err := test.of.Load(); err == nil || !strings.Contains(err.Error(), test.says) {
 			t.Errorf("%s: %v", what, err)
@@ -225,24 +240,29 @@ func TestFilesThatFail(t *testing.T) {
 	}
 }
 
-// TestFinalIssuers: a TBSCertificate of a precertificate signing certificate gets the final issuer's name and key identifier, each other field stays where it is, and what
-// isn't one is refused.
+// TestFinalIssuers: a TBSCertificate of a precertificate signing certificate gets the final issuer's name and key
+// identifier, each other field stays where it is, and what isn't one is refused.
 func TestFinalIssuers(t *testing.T) {
 	const (
 		version, number, algorithm = "\xa0\x03\x02\x01\x02", "\x02\x01\x07", "\x30\x02\x05\x00"
 		name, other, validity      = "\x30\x02\x13\x00", "\x30\x02\x0c\x00", "\x30\x00"
 		subject, key               = "\x30\x02\x14\x00", "\x30\x02\x03\x00"
 		one, two                   = "\x81\x01\x00", "\x82\x01\x00"
-		authorityKey, replaced     = "\x30\x0a\x06\x03\x55\x1d\x23\x04\x03\x30\x01\x02", "\x30\x09\x06\x03\x55\x1d\x23\x04\x02\x80\x01"
-		item                       = "\x30\x07\x06\x01\x2a\x04\x02\x05\x00"
+		authorityKey, replaced     = "\x30\x0a\x06\x03\x55\x1d\x23\x04\x03\x30\x01\x02",
+			"\x30\x09\x06\x03\x55\x1d\x23\x04\x02\x80\x01"
+		item = "\x30\x07\x06\x01\x2a\x04\x02\x05\x00"
 	)
 	list := func(items ...string) string { return element(0xa3, element(0x30, items...)) }
 	final := &finalIssuer{[]byte(other), []byte("\x80\x01")}
 	for what, of := range map[string]struct{ before, behind string }{
-		"all fields": {element(0x30, version, number, algorithm, name, validity, subject, key, one, two, list(item, authorityKey, item)),
-			element(0x30, version, number, algorithm, other, validity, subject, key, one, two, list(item, replaced, item))},
-		"no version, no key identifier": {element(0x30, number, algorithm, name, validity, subject, key, list(item)), element(0x30, number, algorithm, other, validity, subject, key, list(item))},
-		"the second identifier alone": {element(0x30, version, number, algorithm, name, validity, subject, key, two, list(item)),
+		"all fields": {element(0x30, version, number, algorithm, name, validity, subject, key, one, two,
+			list(item, authorityKey, item)),
+			element(0x30, version, number, algorithm, other, validity, subject, key, one, two,
+				list(item, replaced, item))},
+		"no version, no key identifier": {element(0x30, number, algorithm, name, validity, subject, key, list(item)),
+			element(0x30, number, algorithm, other, validity, subject, key, list(item))},
+		"the second identifier alone": {element(0x30, version, number, algorithm, name, validity, subject, key,
+			two, list(item)),
 			element(0x30, version, number, algorithm, other, validity, subject, key, two, list(item))},
 	} {
 		if made, err := withFinalIssuer([]byte(of.before), final); err != nil || string(made) != of.behind {
@@ -251,14 +271,20 @@ func TestFinalIssuers(t *testing.T) {
 	}
 	whole := element(0x30, version, number, algorithm, name, validity, subject, key, list(item))
 	for what, wrong := range map[string]string{
-		"a byte behind it":                     whole + "\x00",
-		"a field behind the extensions":        element(0x30, version, number, algorithm, name, validity, subject, key, list(item), "\x05\x00"),
-		"a second list of extensions":          element(0x30, version, number, algorithm, name, validity, subject, key, element(0xa3, element(0x30, item), element(0x30, item))),
-		"no extensions":                        element(0x30, version, number, algorithm, name, validity, subject, key),
-		"the unique identifiers in their turn": element(0x30, version, number, algorithm, name, validity, subject, key, two, one, list(item)),
-		"no number":                            element(0x30, version, algorithm, name, validity, subject, key, list(item)),
-		"an extension that is a set":           element(0x30, version, number, algorithm, name, validity, subject, key, list("\x31"+item[1:])),
-		"an extension without a name":          element(0x30, version, number, algorithm, name, validity, subject, key, list("\x30\x02\x05\x00")),
+		"a byte behind it": whole + "\x00",
+		"a field behind the extensions": element(0x30, version, number, algorithm, name, validity, subject, key,
+			list(item), "\x05\x00"),
+		"a second list of extensions": element(0x30, version, number, algorithm, name, validity, subject, key,
+			element(0xa3, element(0x30, item), element(0x30, item))),
+		"no extensions": element(0x30, version, number, algorithm, name, validity, subject, key),
+		"the unique identifiers in their turn": element(0x30, version, number, algorithm, name, validity, subject, key,
+			two, one, list(item)),
+		"no number": element(0x30, version, algorithm, name, validity, subject,
+			key, list(item)),
+		"an extension that is a set": element(0x30, version, number, algorithm, name, validity, subject, key,
+			list("\x31"+item[1:])),
+		"an extension without a name": element(0x30, version, number, algorithm, name, validity, subject, key,
+			list("\x30\x02\x05\x00")),
 	} {
 		if made, err := withFinalIssuer([]byte(wrong), final); made != nil || RefusalOf(err) != NoCertificate {
 			t.Errorf("%s: %x, %v", what, made, err)

@@ -13,9 +13,9 @@ import (
 	tags "golang.org/x/crypto/cryptobyte/asn1"
 )
 
-// certificate is what a log needs of a certificate that is to be shown (RFC 5280, section 4.1): who issued it, when it ends, its
-// extensions, and what is signed by what. Of what else stands in it nothing is asked, so that one is shown that was issued with a name, an
-// address, a key or an extension that crypto/x509 refuses.
+// certificate has the fields of a submitted certificate that a log needs (RFC 5280, section 4.1): the issuer, the end
+// of its validity, its extensions, the signed bytes and the signature. It ignores all other fields. So a certificate
+// with a name, an address, a key or an extension that crypto/x509 refuses is logged too.
 type certificate struct {
 	raw    []byte
 	tbs    []byte
@@ -40,7 +40,7 @@ func identifierOf(oid asn1.ObjectIdentifier) []byte {
 	element := cryptobyte.String(b.BytesOrPanic())
 	var content cryptobyte.String
 	if !element.ReadASN1(&content, tags.OBJECT_IDENTIFIER) {
-		panic("chains: an object identifier isn't read as it is written")
+		panic("chains: an object identifier has another form than it was read in")
 	}
 	return content
 }
@@ -48,7 +48,8 @@ func identifierOf(oid asn1.ObjectIdentifier) []byte {
 // certificateOf gives of an issuer's certificate what is read of the first one of a chain.
 func certificateOf(issuer *x509.Certificate) *certificate {
 	c := &certificate{
-		raw: issuer.Raw, tbs: issuer.RawTBSCertificate, issuer: issuer.RawIssuer, notBefore: issuer.NotBefore, notAfter: issuer.NotAfter,
+		raw: issuer.Raw, tbs: issuer.RawTBSCertificate, issuer: issuer.RawIssuer, notBefore: issuer.NotBefore,
+		notAfter:  issuer.NotAfter,
 		algorithm: issuer.SignatureAlgorithm, signature: issuer.Signature,
 	}
 	for _, of := range issuer.Extensions {
@@ -75,8 +76,8 @@ var (
 	oidServerAuth          = asn1.ObjectIdentifier{1, 3, 6, 1, 5, 5, 7, 3, 1}
 )
 
-// isForServers reports whether a certificate may be used by TLS servers, by its extended key usage. One without this extension may be used for anything, and
-// one whose extension cannot be read for nothing.
+// isForServers reports whether a certificate may be used by TLS servers, by its extended key usage. One without this
+// extension may be used for anything, and one whose extension cannot be read for nothing.
 func isForServers(c *certificate) bool {
 	value, has := c.value(oidExtendedKeyUsage)
 	if !has {
@@ -119,20 +120,23 @@ func readCertificate(der []byte) (*certificate, error) {
 	return c, nil
 }
 
-// readTBS reads the fields of a TBSCertificate; its algorithm has to be the one beside it (RFC 5280, section 4.1.1.2), which no signature
-// covers: else one certificate could be submitted in many forms.
+// readTBS reads the fields of a TBSCertificate. Its signature algorithm must be the one beside it (RFC 5280, section
+// 4.1.1.2), which no signature covers. Otherwise one certificate could be submitted in many forms.
 func (c *certificate) readTBS(tbs, algorithm cryptobyte.String) error {
 	var fields, inner, issuer, validity, ignored, explicit, extensions cryptobyte.String
 	var has bool
-	if !tbs.ReadASN1(&fields, tags.SEQUENCE) || !fields.SkipOptionalASN1(tagVersion) || !fields.SkipASN1(tags.INTEGER) ||
+	if !tbs.ReadASN1(&fields, tags.SEQUENCE) || !fields.SkipOptionalASN1(tagVersion) ||
+		!fields.SkipASN1(tags.INTEGER) ||
 		!fields.ReadASN1Element(&inner, tags.SEQUENCE) || !fields.ReadASN1Element(&issuer, tags.SEQUENCE) ||
-		!fields.ReadASN1(&validity, tags.SEQUENCE) || !fields.SkipASN1(tags.SEQUENCE) || !fields.SkipASN1(tags.SEQUENCE) ||
-		!fields.ReadOptionalASN1(&ignored, &has, tagIssuerUnique) || !fields.ReadOptionalASN1(&ignored, &has, tagSubjectUnique) ||
+		!fields.ReadASN1(&validity, tags.SEQUENCE) || !fields.SkipASN1(tags.SEQUENCE) ||
+		!fields.SkipASN1(tags.SEQUENCE) ||
+		!fields.ReadOptionalASN1(&ignored, &has, tagIssuerUnique) ||
+		!fields.ReadOptionalASN1(&ignored, &has, tagSubjectUnique) ||
 		!fields.ReadOptionalASN1(&explicit, &has, tagExtensions) || !fields.Empty() {
 		return noDER("a TBSCertificate's field")
 	}
 	if !bytes.Equal(inner, algorithm) {
-		return fmt.Errorf("%w: the signature's algorithm isn't the TBSCertificate's", NoCertificate)
+		return fmt.Errorf("%w: the signature's algorithm differs from the TBSCertificate's", NoCertificate)
 	}
 	c.issuer = issuer
 	var err error
@@ -157,7 +161,7 @@ func readValidity(validity cryptobyte.String) (notBefore, notAfter time.Time, er
 			read = validity.ReadASN1UTCTime
 		}
 		if !read(&timestamps[i]) {
-			return time.Time{}, time.Time{}, noDER("a moment of the validity")
+			return time.Time{}, time.Time{}, noDER("a time of the validity")
 		}
 	}
 	if !validity.Empty() {
@@ -170,7 +174,8 @@ func (c *certificate) readExtensions(extensions cryptobyte.String) error {
 	for !extensions.Empty() {
 		var content, identifier, value cryptobyte.String
 		if !extensions.ReadASN1(&content, tags.SEQUENCE) || !content.ReadASN1(&identifier, tags.OBJECT_IDENTIFIER) ||
-			!content.SkipOptionalASN1(tags.BOOLEAN) || !content.ReadASN1(&value, tags.OCTET_STRING) || !content.Empty() {
+			!content.SkipOptionalASN1(tags.BOOLEAN) || !content.ReadASN1(&value, tags.OCTET_STRING) ||
+			!content.Empty() {
 			return noDER("an extension")
 		}
 		c.extensions = append(c.extensions, extension{identifier, value})
@@ -181,8 +186,8 @@ func (c *certificate) readExtensions(extensions cryptobyte.String) error {
 // anyKey is the SubjectPublicKeyInfo of some key of Ed25519 (RFC 8410, section 4).
 var anyKey = append([]byte("\x30\x2a\x30\x05\x06\x03\x2b\x65\x70\x03\x21\x00"), make([]byte, ed25519.PublicKeySize)...)
 
-// readSignature has crypto/x509 read the algorithm and the signature, out of a certificate that has nothing else of this one. A signature
-// whose last byte isn't whole is refused: it would be one more form of the same.
+// readSignature has crypto/x509 read the algorithm and the signature, out of a certificate that has nothing else of
+// this one. A signature whose last byte isn't whole is refused: it would be one more form of the same.
 func (c *certificate) readSignature(algorithm, signature cryptobyte.String) error {
 	name, timestamp := []byte{0x30, 0}, []byte("\x17\x0d700101000000Z")
 	var b cryptobyte.Builder
@@ -217,4 +222,4 @@ func (c *certificate) readSignature(algorithm, signature cryptobyte.String) erro
 	return nil
 }
 
-var errUnusedBits = errors.New("its signature isn't of whole bytes")
+var errUnusedBits = errors.New("its signature does not consist of whole bytes")

@@ -45,7 +45,8 @@ func signed(t testing.TB, der []byte, key *ecdsa.PrivateKey, change func(tbs []b
 	return made
 }
 
-// otherCurve has a key stand on a curve of the same length of name that nobody here knows: prime192v2 (ANSI X9.62).
+// otherCurve replaces a key's curve by prime192v2 (ANSI X9.62), which has an identifier of the same length and which
+// crypto/x509 does not know.
 func otherCurve(t testing.TB) func([]byte) []byte {
 	return func(tbs []byte) []byte {
 		known := []byte{0x2a, 0x86, 0x48, 0xce, 0x3d, 0x03, 0x01, 0x07}
@@ -56,7 +57,8 @@ func otherCurve(t testing.TB) func([]byte) []byte {
 	}
 }
 
-// TestMisissuedAreShown: certificates that crypto/x509 doesn't read, and that an authority signed, are taken as they are.
+// TestMisissuedAreShown: certificates that crypto/x509 doesn't read, and that an authority signed, are taken as they
+// are.
 func TestMisissuedAreShown(t *testing.T) {
 	key := newKey(t)
 	root := authority("root")
@@ -81,14 +83,16 @@ func TestMisissuedAreShown(t *testing.T) {
 		{"a curve that nobody knows", nil, otherCurve(t)},
 	} {
 		template := &x509.Certificate{
-			SerialNumber: big.NewInt(7), NotBefore: root.NotBefore, NotAfter: root.NotAfter, ExtraExtensions: test.extensions,
+			SerialNumber: big.NewInt(7), NotBefore: root.NotBefore, NotAfter: root.NotAfter,
+			ExtraExtensions: test.extensions,
 		}
 		der := signed(t, signedBy(t, template, root, &newKey(t).PublicKey, key), key, test.change)
 		if _, err := x509.ParseCertificate(der); err == nil {
 			t.Errorf("%s: crypto/x509 reads it", test.what)
 		}
 		entry, err := c.Certificate([][]byte{der})
-		if want := (&Entry{Type: X509Entry, Certificate: der, Issuers: roots.Certificates()}); err != nil || !reflect.DeepEqual(entry, want) {
+		if want := (&Entry{Type: X509Entry, Certificate: der, Issuers: roots.Certificates()}); err != nil ||
+			!reflect.DeepEqual(entry, want) {
 			t.Errorf("%s: %v", test.what, err)
 		}
 		damaged := append([]byte{}, der...)
@@ -96,7 +100,8 @@ func TestMisissuedAreShown(t *testing.T) {
 		if _, err := c.Certificate([][]byte{damaged}); RefusalOf(err) != UnknownRoot {
 			t.Errorf("%s, damaged: %v", test.what, err)
 		}
-		if _, err := NewChecker(roots, Rules{Window: Window{To: template.NotAfter}}, byASN1{}).Certificate([][]byte{der}); RefusalOf(err) != OutsideWindow {
+		if _, err := NewChecker(roots, Rules{Window: Window{To: template.NotAfter}},
+			byASN1{}).Certificate([][]byte{der}); RefusalOf(err) != OutsideWindow {
 			t.Errorf("%s, outside of the window: %v", test.what, err)
 		}
 		template.ExtraExtensions = append(append([]pkix.Extension{}, test.extensions...), poisonous)
@@ -117,8 +122,9 @@ func TestMisissuedAreShown(t *testing.T) {
 	}
 }
 
-// TestOtherFormOfASignature: a signature (r, s) of ECDSA is as valid as (r, n - s), which who has the certificate can write without the key. Both are taken, and are
-// two entries: a precertificate's are one but for what was submitted, since its own signature isn't in it.
+// TestOtherFormOfASignature: an ECDSA signature (r, s) is as valid as (r, n - s), which anybody with the certificate
+// can make without the key. Both are accepted, and are two entries. The two forms of a precertificate have the same
+// entry except for the submitted bytes, since it does not contain the precertificate's signature.
 func TestOtherFormOfASignature(t *testing.T) {
 	key := newKey(t)
 	root := authority("root")
@@ -174,7 +180,8 @@ func TestOtherFormOfASignature(t *testing.T) {
 	if err != nil {
 		t.Fatal(err)
 	}
-	if !bytes.Equal(one.TBSCertificate, two.TBSCertificate) || one.IssuerKeyHash != two.IssuerKeyHash || bytes.Equal(one.Precertificate, two.Precertificate) {
+	if !bytes.Equal(one.TBSCertificate, two.TBSCertificate) || one.IssuerKeyHash != two.IssuerKeyHash ||
+		bytes.Equal(one.Precertificate, two.Precertificate) {
 		t.Error("a precertificate and its other form aren't one entry")
 	}
 }
@@ -183,7 +190,8 @@ func TestOtherFormOfASignature(t *testing.T) {
 func TestReadAsByLibrary(t *testing.T) {
 	a := madeByOpenssl(t)
 	all := seeds(t)
-	for _, name := range []string{"leaf", "precertificate", "root", "old-root", "of-rsa-sha1", "of-rsa-sha512", "of-rsa-md5", "of-ed25519", "ed25519", "long"} {
+	for _, name := range []string{"leaf", "precertificate", "root", "old-root", "of-rsa-sha1", "of-rsa-sha512",
+		"of-rsa-md5", "of-ed25519", "ed25519", "long"} {
 		all = append(all, a.chain(t, name)...)
 	}
 	for i, der := range all {
@@ -205,7 +213,8 @@ func TestReadAsByLibrary(t *testing.T) {
 			t.Fatalf("certificate %d: %d extensions", i, len(got.extensions))
 		}
 		for j := range of.extensions {
-			if !bytes.Equal(got.extensions[j].identifier, of.extensions[j].identifier) || !bytes.Equal(got.extensions[j].value, of.extensions[j].value) {
+			if !bytes.Equal(got.extensions[j].identifier, of.extensions[j].identifier) ||
+				!bytes.Equal(got.extensions[j].value, of.extensions[j].value) {
 				t.Errorf("certificate %d, extension %d", i, j)
 			}
 		}
@@ -255,7 +264,8 @@ func TestUnreadCertificates(t *testing.T) {
 	)
 	validity, list := element(0x30, timestamps), element(0xa3, element(0x30, item))
 	sound := func(change func(*built)) []byte {
-		b := built{[]string{version, number, algorithm, name, validity, name, string(anyKey), list}, algorithm, signature, ""}
+		b := built{[]string{version, number, algorithm, name, validity, name, string(anyKey), list},
+			algorithm, signature, ""}
 		if change != nil {
 			change(&b)
 		}
@@ -263,44 +273,50 @@ func TestUnreadCertificates(t *testing.T) {
 	}
 	field := func(at int, text string) func(*built) { return func(b *built) { b.fields[at] = text } }
 	read, err := readCertificate(sound(nil))
-	if err != nil || !read.notAfter.Equal(time.Date(2050, 1, 1, 0, 0, 0, 0, time.UTC)) || len(read.extensions) != 1 || read.algorithm != x509.PureEd25519 {
+	if err != nil || !read.notAfter.Equal(time.Date(2050, 1, 1, 0, 0, 0, 0, time.UTC)) || len(read.extensions) != 1 ||
+		read.algorithm != x509.PureEd25519 {
 		t.Fatalf("a sound one: %v, %v", read, err)
 	}
 	for what, change := range map[string]func(*built){
 		"no version, no extensions": func(b *built) { b.fields = b.fields[1:7] },
 		"both unique identifiers":   field(7, "\x81\x01\x00\x82\x01\x00"+list),
-		"a critical extension":      field(7, element(0xa3, element(0x30, element(0x30, "\x06\x02\x2a\x03\x01\x01\xff\x04\x00")))),
+		"a critical extension": field(7, element(0xa3, element(0x30,
+			element(0x30, "\x06\x02\x2a\x03\x01\x01\xff\x04\x00")))),
 	} {
 		if _, err := readCertificate(sound(change)); err != nil {
 			t.Errorf("%s: %v", what, err)
 		}
 	}
 	for what, change := range map[string]func(*built){
-		"a byte behind the signature":      func(b *built) { b.behind = "\x05\x00" },
-		"another algorithm beside it":      func(b *built) { b.algorithm = "\x30\x07\x06\x03\x2b\x65\x70\x05\x00" },
-		"no bit string":                    func(b *built) { b.signature = "\x04\x02\x00\x01" },
-		"a signature with unused bits":     func(b *built) { b.signature = "\x03\x02\x01\x02" },
-		"a signature with too many":        func(b *built) { b.signature = "\x03\x02\x09\x02" },
-		"no serial number":                 field(1, ""),
-		"an issuer that is a set":          field(3, "\x31\x00"),
-		"a validity of one moment":         field(4, element(0x30, timestamps[:15])),
-		"a validity of three":              field(4, element(0x30, timestamps, timestamps[:15])),
-		"a moment that isn't one":          field(4, element(0x30, "\x17\x0d701301000000Z", timestamps[15:])),
-		"a moment of another kind":         field(4, element(0x30, "\x13\x0d700101000000Z", timestamps[15:])),
-		"a subject that is a set":          field(5, "\x31\x00"),
-		"no key":                           field(6, ""),
-		"a field behind the extensions":    field(7, list+"\x05\x00"),
-		"an extension's list that isn't":   field(7, element(0xa3, element(0x31, item))),
-		"bytes behind the extensions":      field(7, element(0xa3, element(0x30, item), "\x05\x00")),
-		"an extension without a value":     field(7, element(0xa3, element(0x30, "\x30\x04\x06\x02\x2a\x03"))),
-		"an extension with two":            field(7, element(0xa3, element(0x30, element(0x30, item[2:], "\x04\x00")))),
-		"an extension without a name":      field(7, element(0xa3, element(0x30, "\x30\x02\x04\x00"))),
-		"an extension that is a set":       field(7, element(0xa3, element(0x30, "\x31"+item[1:]))),
-		"a length that is padded":          field(4, "\x30\x81"+validity[1:]),
-		"a key's length that has no end":   field(6, "\x30\x80\x00\x00"),
-		"an algorithm that can't be read":  func(b *built) { b.fields[2], b.algorithm = "\x30\x02\x05\x00", "\x30\x02\x05\x00" },
-		"an algorithm that isn't there":    func(b *built) { b.fields[2], b.algorithm = "", "" },
-		"an extension's flag that is text": field(7, element(0xa3, element(0x30, element(0x30, "\x06\x02\x2a\x03\x0c\x00\x04\x00")))),
+		"a byte behind the signature":    func(b *built) { b.behind = "\x05\x00" },
+		"another algorithm beside it":    func(b *built) { b.algorithm = "\x30\x07\x06\x03\x2b\x65\x70\x05\x00" },
+		"no bit string":                  func(b *built) { b.signature = "\x04\x02\x00\x01" },
+		"a signature with unused bits":   func(b *built) { b.signature = "\x03\x02\x01\x02" },
+		"a signature with too many":      func(b *built) { b.signature = "\x03\x02\x09\x02" },
+		"no serial number":               field(1, ""),
+		"an issuer that is a set":        field(3, "\x31\x00"),
+		"a validity of one moment":       field(4, element(0x30, timestamps[:15])),
+		"a validity of three":            field(4, element(0x30, timestamps, timestamps[:15])),
+		"a moment that isn't one":        field(4, element(0x30, "\x17\x0d701301000000Z", timestamps[15:])),
+		"a moment of another kind":       field(4, element(0x30, "\x13\x0d700101000000Z", timestamps[15:])),
+		"a subject that is a set":        field(5, "\x31\x00"),
+		"no key":                         field(6, ""),
+		"a field behind the extensions":  field(7, list+"\x05\x00"),
+		"an extension's list that isn't": field(7, element(0xa3, element(0x31, item))),
+		"bytes behind the extensions":    field(7, element(0xa3, element(0x30, item), "\x05\x00")),
+		"an extension without a value":   field(7, element(0xa3, element(0x30, "\x30\x04\x06\x02\x2a\x03"))),
+		"an extension with two":          field(7, element(0xa3, element(0x30, element(0x30, item[2:], "\x04\x00")))),
+		"an extension without a name":    field(7, element(0xa3, element(0x30, "\x30\x02\x04\x00"))),
+		"an extension that is a set":     field(7, element(0xa3, element(0x30, "\x31"+item[1:]))),
+		"a length that is padded":        field(4, "\x30\x81"+validity[1:]),
+		"a key's length that has no end": field(6, "\x30\x80\x00\x00"),
+		"an algorithm that can't be read": func(b *built) {
+			b.fields[2], b.algorithm = "\x30\x02\x05\x00",
+				"\x30\x02\x05\x00"
+		},
+		"an algorithm that isn't there": func(b *built) { b.fields[2], b.algorithm = "", "" },
+		"an extension's flag that is text": field(7, element(0xa3,
+			element(0x30, element(0x30, "\x06\x02\x2a\x03\x0c\x00\x04\x00")))),
 	} {
 		if got, err := readCertificate(sound(change)); got != nil || RefusalOf(err) != NoCertificate {
 			t.Errorf("%s: %v, %v", what, got != nil, err)

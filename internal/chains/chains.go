@@ -1,12 +1,15 @@
-// Package chains checks the certificate chains that are submitted to a log (RFC 6962, section 3.1), and makes of each what goes
-// into the log (section 3.2).
+// Package chains checks the certificate chains that are submitted to a log (RFC 6962, section 3.1), and makes the log's
+// entries of them (section 3.2).
 //
-// A chain is checked so that who misissued is known, and no more: every certificate is signed by the next one, which may sign
-// certificates, and the last one is a root of the log or signed by one. Names, lengths of paths and critical extensions that nobody
-// knows don't matter, since a log shows what was issued and not what is valid. Of the first certificate only that is read which this
-// takes, so one that crypto/x509 refuses, for a name or a key, is shown too; its issuers have to be read by crypto/x509, and whatever
-// signs it by a kind of signature that crypto/x509 checks. By its Rules a log accepts only certificates for servers, or only those
-// that expire within a window, so that it can be closed one day.
+// A chain is checked so that a misissuing CA is known, and for nothing else. Every certificate must be signed by the
+// next one, which must be allowed to sign certificates, and the last one must be a root of the log or be signed by one.
+// Names, path lengths and unknown critical extensions do not matter, since a log shows what was issued and not what is
+// valid. Package chains parses the first certificate itself, and reads only the fields that it needs. So a certificate
+// with a name or a key that crypto/x509 refuses is logged too. Its issuers must be accepted by crypto/x509, and all
+// signatures must be of a kind that crypto/x509 checks.
+//
+// By its Rules a log accepts only certificates for servers, or only those that expire within a window, so that the log
+// can be closed one day.
 package chains
 
 import (
@@ -27,7 +30,8 @@ const (
 	LongestCertificate = 256 << 10
 	// MaxBytes is how many bytes they may have together.
 	MaxBytes = 700 << 10
-	// MaxKeyBits is how many bits the RSA key of an issuer may have. (The time of a signature's check grows with their square.)
+	// MaxKeyBits is how many bits the RSA key of an issuer may have. (The time of a signature's check grows with their
+	// square.)
 	MaxKeyBits = 8192
 )
 
@@ -45,14 +49,14 @@ type Entry struct {
 	Type EntryType
 	// Certificate is the certificate, of an X509Entry; nil of a PrecertEntry.
 	Certificate []byte
-	// IssuerKeyHash is SHA-256 over the key of the issuer of the final certificate (its SubjectPublicKeyInfo in DER), and
-	// TBSCertificate what that one will have without signature and timestamps; of a PrecertEntry.
+	// IssuerKeyHash is SHA-256 over the key of the issuer of the final certificate (its SubjectPublicKeyInfo in DER),
+	// and TBSCertificate what that one will have without signature and timestamps; of a PrecertEntry.
 	IssuerKeyHash  [32]byte
 	TBSCertificate []byte
 	// Precertificate is what was submitted, of a PrecertEntry.
 	Precertificate []byte
-	// Issuers are the certificates behind the first one in DER, each the issuer of the one before it, up to a root of the log
-	// and with it. There are none where the certificate is a root.
+	// Issuers are the certificates after the first one in DER, each the issuer of the one before it. The last one is a
+	// root of the log. There are none if the certificate is a root.
 	Issuers [][]byte
 }
 
@@ -60,10 +64,11 @@ type Entry struct {
 type Rules struct {
 	// Window is when the certificate must expire.
 	Window Window
-	// ServerAuthentication is whether the certificate must be one for TLS servers: its extended key usage has serverAuth or anyExtendedKeyUsage, or there is no
-	// such extension (RFC 5280, section 4.2.1.12).
+	// ServerAuthentication is whether the certificate must be one for TLS servers: its extended key usage has
+	// serverAuth or anyExtendedKeyUsage, or there is no such extension (RFC 5280, section 4.2.1.12).
 	ServerAuthentication bool
-	// RefuseExpired and RefuseNotYetValid are whether the certificate must not have expired, and whether its validity must have begun.
+	// RefuseExpired and RefuseNotYetValid are whether the certificate must not have expired, and whether its validity
+	// must have begun.
 	RefuseExpired, RefuseNotYetValid bool
 }
 
@@ -111,7 +116,8 @@ func NewChecker(roots *Roots, rules Rules, cutter Cutter) *Checker {
 // Roots are those that chains are checked against.
 func (c *Checker) Roots() *Roots { return c.roots.Load() }
 
-// Reload reads the roots anew, and says how many are new and how many are gone. At an error those from before stay.
+// Reload reads the roots again, and returns how many were added and removed. After an error the previous ones stay in
+// use.
 func (c *Checker) Reload(files RootFiles) (added, removed int, err error) {
 	roots, err := files.Load()
 	if err != nil {
@@ -121,7 +127,8 @@ func (c *Checker) Reload(files RootFiles) (added, removed int, err error) {
 	return added, removed, nil
 }
 
-// Certificate checks a chain in DER whose first is a certificate (add-chain), and gives its entry. An error wraps a Refusal.
+// Certificate checks a chain in DER whose first is a certificate (add-chain), and gives its entry. An error wraps a
+// Refusal.
 func (c *Checker) Certificate(chain [][]byte) (*Entry, error) {
 	first, issuers, err := c.check(chain)
 	if err != nil {
@@ -133,8 +140,8 @@ func (c *Checker) Certificate(chain [][]byte) (*Entry, error) {
 	return &Entry{Type: X509Entry, Certificate: first.raw, Issuers: inDER(issuers)}, nil
 }
 
-// Precertificate checks a chain in DER whose first is a precertificate (add-pre-chain), and gives its entry. An error wraps a
-// Refusal, or is the cutter's.
+// Precertificate checks a chain in DER whose first is a precertificate (add-pre-chain), and gives its entry. An error
+// wraps a Refusal, or is the cutter's.
 func (c *Checker) Precertificate(chain [][]byte) (*Entry, error) {
 	first, issuers, err := c.check(chain)
 	if err != nil {
@@ -176,8 +183,9 @@ func inDER(issuers []*x509.Certificate) [][]byte {
 	return ders
 }
 
-// check reads a chain, and gives its first certificate and those that issued it, with a root of the log at their end; none where the
-// first is a root. Signatures are checked from the root down, so that no key is worked with that a root doesn't stand for.
+// check reads a chain. It returns its first certificate and the issuers, the last of which is a root of the log. There
+// are no issuers if the first certificate is a root. It checks signatures from the root down, so it uses only keys that
+// a root has certified.
 func (c *Checker) check(chain [][]byte) (*certificate, []*x509.Certificate, error) {
 	first, issuers, err := parse(chain)
 	if err != nil {
@@ -260,8 +268,8 @@ func (c *Checker) rootOf(last *certificate) (*x509.Certificate, error) {
 
 // issued says whether a certificate is signed by an issuer who may.
 func (c *Checker) issued(certificate *certificate, issuer *x509.Certificate) error {
-	// Certificates of version 1 have no extension that would say so; only a root may be one, as a chain's other issuers are
-	// taken from who submits them.
+	// Certificates of version 1 have no extension that would say so; only a root may be one, as a chain's other issuers
+	// are taken from who submits them.
 	authority := issuer.BasicConstraintsValid && issuer.IsCA
 	if issuer.Version < 3 && !issuer.BasicConstraintsValid {
 		authority = c.roots.Load().has(issuer.Raw)

@@ -37,8 +37,10 @@ func TestCertificatesAreTaken(t *testing.T) {
 		{"one that expired", []string{"expired", "middle"}, []string{"middle", "root"}},
 		{"one that isn't valid yet", []string{"not-yet", "middle"}, []string{"middle", "root"}},
 		{"a critical extension that nobody knows", []string{"unknown-critical", "middle"}, []string{"middle", "root"}},
-		{"a path longer than its issuer may have", []string{"of-below-shallow", "below-shallow", "shallow"}, []string{"below-shallow", "shallow", "root"}},
-		{"a name that its issuer mayn't give", []string{"of-constrained", "constrained"}, []string{"constrained", "root"}},
+		{"a path longer than its issuer may have", []string{"of-below-shallow", "below-shallow", "shallow"},
+			[]string{"below-shallow", "shallow", "root"}},
+		{"a name that its issuer mayn't give", []string{"of-constrained", "constrained"},
+			[]string{"constrained", "root"}},
 		{"a root of version 1", []string{"of-old-root"}, []string{"old-root"}},
 		{"400 names", []string{"long", "middle"}, []string{"middle", "root"}},
 		{"a precertificate signing certificate's own", []string{"signing", "middle"}, []string{"middle", "root"}},
@@ -48,7 +50,8 @@ func TestCertificatesAreTaken(t *testing.T) {
 			t.Errorf("%s: %v", test.what, err)
 			continue
 		}
-		want := &Entry{Type: X509Entry, Certificate: a.chain(t, test.submitted[0])[0], Issuers: a.chain(t, test.issuers...)}
+		want := &Entry{Type: X509Entry, Certificate: a.chain(t, test.submitted[0])[0],
+			Issuers: a.chain(t, test.issuers...)}
 		if len(want.Issuers) == 0 {
 			want.Issuers = [][]byte{}
 		}
@@ -106,26 +109,35 @@ func refusals(t testing.TB, a *authorities) []refused {
 		{why: UnknownRoot, what: "a damaged root", chain: [][]byte{leaf, middle, wrongly(root)}},
 		{why: UnknownRoot, what: "the root's own name, another key", chain: sameName(t, root)},
 		{why: NotAnAuthority, what: "a leaf issued it", chain: chain("of-leaf", "leaf", "middle")},
-		{why: NotAnAuthority, what: "an authority for revocations issued it", chain: chain("of-crl-signer", "crl-signer")},
+		{why: NotAnAuthority, what: "an authority for revocations issued it",
+			chain: chain("of-crl-signer", "crl-signer")},
 		{why: NotAnAuthority, what: "one of version 1 issued it", chain: ofVersion1(t, a), roots: "root"},
 		{why: KeyTooLong, what: "a large key", chain: [][]byte{ofLarge, large}, roots: "large"},
 		{why: BadSignature, what: "a damaged one", chain: [][]byte{wrongly(leaf), middle}},
 		{why: BadSignature, what: "a damaged one between", chain: [][]byte{leaf, wrongly(middle), root}},
 		{why: BadSignature, what: "MD5", chain: chain("of-rsa-md5", "rsa")},
-		{why: BadSignature, what: "a damaged precertificate", chain: [][]byte{wrongly(chain("precertificate")[0]), middle}, precert: true},
-		{why: OutsideWindow, what: "at its end", chain: chain("leaf", "middle"), from: "2026-01-01T00:00:00Z", til: "2027-01-01T00:00:00Z"},
+		{why: BadSignature, what: "a damaged precertificate",
+			chain: [][]byte{wrongly(chain("precertificate")[0]), middle}, precert: true},
+		{why: OutsideWindow, what: "at its end", chain: chain("leaf", "middle"), from: "2026-01-01T00:00:00Z",
+			til: "2027-01-01T00:00:00Z"},
 		{why: OutsideWindow, what: "before it", chain: chain("leaf", "middle"), from: "2027-01-01T00:00:01Z"},
-		{why: OutsideWindow, what: "a precertificate", chain: chain("precertificate", "middle"), precert: true, til: "2027-01-01T00:00:00Z"},
+		{why: OutsideWindow, what: "a precertificate", chain: chain("precertificate", "middle"), precert: true,
+			til: "2027-01-01T00:00:00Z"},
 		{why: IsPrecertificate, what: "a precertificate", chain: chain("precertificate", "middle")},
-		{why: IsPrecertificate, what: "one with a poison that isn't critical", chain: chain("poison-uncritical", "middle")},
+		{why: IsPrecertificate, what: "one with a poison that isn't critical",
+			chain: chain("poison-uncritical", "middle")},
 		{why: NoPoison, what: "a certificate", chain: chain("leaf", "middle"), precert: true},
 		{why: NoPoison, what: "a root", chain: chain("root"), precert: true},
 		{why: BadPoison, what: "not critical", chain: chain("poison-uncritical", "middle"), precert: true},
 		{why: BadPoison, what: "a number", chain: chain("poison-of-a-number", "middle"), precert: true},
-		{why: NoFinalIssuer, what: "a signing certificate is the root", chain: chain("of-signing-root", "signing-root"), precert: true, roots: "signing-root"},
-		{why: NoFinalIssuer, what: "the root is left out", chain: chain("of-signing-root"), precert: true, roots: "signing-root"},
-		{why: NoFinalIssuer, what: "a root with the poison", chain: chain("precertificate"), precert: true, roots: "precertificate"},
-		{why: NoAuthorityKey, what: "a signing certificate without", chain: chain("signed-with-key", "signing-without-key", "middle"), precert: true},
+		{why: NoFinalIssuer, what: "a signing certificate is the root", chain: chain("of-signing-root", "signing-root"),
+			precert: true, roots: "signing-root"},
+		{why: NoFinalIssuer, what: "the root is left out", chain: chain("of-signing-root"), precert: true,
+			roots: "signing-root"},
+		{why: NoFinalIssuer, what: "a root with the poison", chain: chain("precertificate"), precert: true,
+			roots: "precertificate"},
+		{why: NoAuthorityKey, what: "a signing certificate without",
+			chain: chain("signed-with-key", "signing-without-key", "middle"), precert: true},
 	}
 }
 
@@ -231,7 +243,8 @@ func sameName(t testing.TB, root []byte) [][]byte {
 
 // ofVersion1 gives a chain in which an authority that is no root has a certificate of version 1.
 func ofVersion1(t testing.TB, a *authorities) [][]byte {
-	if _, err := a.openssl("x509", "-req", "-in", "leaf.csr", "-CA", "root.pem", "-CAkey", "root.key", "-set_serial", "5", "-out", "version-1.pem"); err != nil {
+	if _, err := a.openssl("x509", "-req", "-in", "leaf.csr", "-CA", "root.pem", "-CAkey", "root.key", "-set_serial",
+		"5", "-out", "version-1.pem"); err != nil {
 		t.Fatal(err)
 	}
 	if err := os.WriteFile(a.path("version-1.key"), read(t, a.path("leaf.key")), 0o600); err != nil {
@@ -295,7 +308,8 @@ func TestWindow(t *testing.T) {
 		{"", "2027-01-01T00:00:00Z", false},
 		{"", "2027-01-01T00:00:01Z", true},
 	} {
-		_, err := NewChecker(roots, Rules{Window: Window{timestamp(t, test.from), timestamp(t, test.to)}}, byASN1{}).Certificate(chain)
+		_, err := NewChecker(roots, Rules{Window: Window{timestamp(t, test.from), timestamp(t, test.to)}},
+			byASN1{}).Certificate(chain)
 		if (err == nil) != test.taken || err != nil && RefusalOf(err) != OutsideWindow {
 			t.Errorf("from %q to %q: %v", test.from, test.to, err)
 		}
@@ -305,20 +319,22 @@ func TestWindow(t *testing.T) {
 func TestRoots(t *testing.T) {
 	a := madeByOpenssl(t)
 	root, other := a.pem(t, "root"), a.pem(t, "other")
-	text := bytes.Join([][]byte{[]byte("the roots\n"), root, []byte("\nonce more:\n"), root, other, []byte("end\n")}, nil)
+	text := bytes.Join([][]byte{[]byte("the roots\n"), root, []byte("\nonce more:\n"), root, other,
+		[]byte("end\n")}, nil)
 	roots, err := ParseRoots(text)
 	if err != nil || !reflect.DeepEqual(roots.Certificates(), a.chain(t, "root", "other")) {
 		t.Errorf("roots: %v", err)
 	}
 	for what, text := range map[string][]byte{
-		"none":                    {},
-		"no PEM":                  []byte("a text"),
-		"a key":                   append(root[:len(root):len(root)], read(t, a.path("root.key"))...),
-		"no certificate":          append(inPEM([]byte("nothing")), root...),
-		"a block that isn't read": append([]byte("-----BEGIN CERTIFICATE-----\n*\n-----END CERTIFICATE-----\n"), root...),
-		"a block cut off":         append(root[:len(root):len(root)], other[:200]...),
-		"a block cut off first":   append(append([]byte{}, other[:200]...), root...),
-		"too long":                make([]byte, MaxRootBytes+1),
+		"none":           {},
+		"no PEM":         []byte("a text"),
+		"a key":          append(root[:len(root):len(root)], read(t, a.path("root.key"))...),
+		"no certificate": append(inPEM([]byte("nothing")), root...),
+		"a block that isn't read": append([]byte(
+			"-----BEGIN CERTIFICATE-----\n*\n-----END CERTIFICATE-----\n"), root...),
+		"a block cut off":       append(root[:len(root):len(root)], other[:200]...),
+		"a block cut off first": append(append([]byte{}, other[:200]...), root...),
+		"too long":              make([]byte, MaxRootBytes+1),
 	} {
 		if _, err := ParseRoots(text); err == nil {
 			t.Errorf("%s: roots are read", what)

@@ -7,10 +7,12 @@ import (
 	"golang.org/x/crypto/cryptobyte/asn1"
 )
 
-// poisonID is the poison extension's OBJECT IDENTIFIER, 1.3.6.1.4.1.11129.2.4.3, without its header (RFC 6962, section 3.1).
+// poisonID is the poison extension's OBJECT IDENTIFIER, 1.3.6.1.4.1.11129.2.4.3, without its header (RFC 6962, section
+// 3.1).
 var poisonID = []byte{0x2b, 6, 1, 4, 1, 0xd6, 0x79, 2, 4, 3}
 
-// extensionsIn splits a TBSCertificate into all bytes of the fields before its extensions, and the extensions one after the other; none if it has no such field.
+// extensionsIn splits a TBSCertificate into all bytes of the fields before its extensions, and the extensions one after
+// the other; none if it has no such field.
 func extensionsIn(tbs []byte) (before, extensions cryptobyte.String, ok bool) {
 	input := cryptobyte.String(tbs)
 	var fields, explicit cryptobyte.String
@@ -29,7 +31,8 @@ func extensionsIn(tbs []byte) (before, extensions cryptobyte.String, ok bool) {
 	if rest.Empty() {
 		return before, nil, true
 	}
-	ok = rest.ReadASN1(&explicit, tagExtensions) && rest.Empty() && explicit.ReadASN1(&extensions, asn1.SEQUENCE) && explicit.Empty() && !extensions.Empty()
+	ok = rest.ReadASN1(&explicit, tagExtensions) && rest.Empty() && explicit.ReadASN1(&extensions, asn1.SEQUENCE) &&
+		explicit.Empty() && !extensions.Empty()
 	return before, extensions, ok
 }
 
@@ -54,8 +57,9 @@ func withoutPoison(extensions cryptobyte.String) (kept []byte, ok bool) {
 	return kept, cut == 1
 }
 
-// isCut reports whether an entry is a precertificate's TBSCertificate without the poison extension, and otherwise the same, except the lengths around. The
-// function is proved to reply that. This also guards the way to it and back: a wrong entry has no root that it can be compared with.
+// isCut reports whether an entry is a precertificate's TBSCertificate without the poison extension, and otherwise the
+// same, except the lengths around. The function is proved to reply that. This also guards the way to it and back: a
+// wrong entry has no root that it can be compared with.
 func isCut(tbs, entry []byte) bool {
 	before, extensions, ok := extensionsIn(tbs)
 	entryBefore, left, entryOK := extensionsIn(entry)

@@ -28,33 +28,39 @@ func tbsWith(t *testing.T, extensions string) []byte {
 // TestPrecertificates has the proved function cut out the poison.
 func TestPrecertificates(t *testing.T) {
 	c := NewCutter()
-	const poison, number, other = "3013060a2b06010401d6790204030101ff04020500", "3013060a2b06010401d6790204030101ff04020201", "3009060355041d0402aabb"
-	for extensions, want := range map[string]string{poison: "", poison + other: other, other + poison: other, other + poison + other: other + other} {
+	const poison, number, other = "3013060a2b06010401d6790204030101ff04020500",
+		"3013060a2b06010401d6790204030101ff04020201", "3009060355041d0402aabb"
+	for extensions, want := range map[string]string{poison: "", poison + other: other, other + poison: other, other +
+		poison + other: other + other} {
 		entry, err := c.WithoutPoison(tbsWith(t, extensions))
 		if err != nil || !bytes.Equal(entry, tbsWith(t, want)) {
 			t.Errorf("%s: %x, %v", extensions, entry, err)
 		}
 	}
-	for extensions, want := range map[string]error{"": wagtenib.ErrNoExtension, other: wagtenib.ErrNoExtension, poison + other + poison: wagtenib.ErrSecondExtension, number: wagtenib.ErrBadPoison, other[:len(other)-2]: errUnread} {
+	for extensions, want := range map[string]error{"": wagtenib.ErrNoExtension, other: wagtenib.ErrNoExtension, poison +
+		other + poison: wagtenib.ErrSecondExtension, number: wagtenib.ErrBadPoison, other[:len(other)-2]: errUnread} {
 		if entry, err := c.WithoutPoison(tbsWith(t, extensions)); !errors.Is(err, want) {
 			t.Errorf("%s: %x, %v", extensions, entry, err)
 		}
 	}
 	_, err := c.WithoutPoison(append(tbsWith(t, poison), 0))
-	if !errors.Is(err, errUnread) || !strings.Contains(err.Error(), "bytes follow the last element of DER (in tbsCertificate of the certificate)") {
+	if !errors.Is(err, errUnread) || !strings.Contains(err.Error(),
+		"bytes follow the last element of DER (in tbsCertificate of the certificate)") {
 		t.Error(err)
 	}
 }
 
-// TestWrongCuts has a function reply with entries that aren't the precertificate's: another certificate's, one bit of the right one changed, one byte less, the order
-// of its extensions, or an extension more or less. None may be used.
+// TestWrongCuts has a function reply with entries that aren't the precertificate's: another certificate's, one bit of
+// the right one changed, one byte less, the order of its extensions, or an extension more or less. None may be used.
 func TestWrongCuts(t *testing.T) {
 	t.Parallel()
-	const poison, one, two = "3013060a2b06010401d6790204030101ff04020500", "3009060355041d0402aabb", "3009060355041e0402ccdd"
+	const poison, one, two = "3013060a2b06010401d6790204030101ff04020500", "3009060355041d0402aabb",
+		"3009060355041e0402ccdd"
 	tbs, right := tbsWith(t, one+poison+two), tbsWith(t, one+two)
 	another := append([]byte{}, right...)
 	another[4]++
-	wrongs := [][]byte{tbs, another, tbsWith(t, two+one), tbsWith(t, one), tbsWith(t, one+two+two), tbsWith(t, ""), right[:len(right)-1], append(append([]byte{}, right...), 0), {0x30, 0}}
+	wrongs := [][]byte{tbs, another, tbsWith(t, two+one), tbsWith(t, one), tbsWith(t, one+two+two), tbsWith(t, ""),
+		right[:len(right)-1], append(append([]byte{}, right...), 0), {0x30, 0}}
 	for at := range right {
 		bent := append([]byte{}, right...)
 		bent[at] ^= 1
@@ -66,14 +72,16 @@ func TestWrongCuts(t *testing.T) {
 		}
 	}
 	// The entry of a precertificate without other extensions has none, and no list of them.
-	if !isCut(tbs, right) || !isCut(tbsWith(t, poison), tbsWith(t, "")) || isCut(tbsWith(t, poison+one+poison), tbsWith(t, one)) || isCut(right, right) {
+	if !isCut(tbs, right) || !isCut(tbsWith(t, poison), tbsWith(t, "")) ||
+		isCut(tbsWith(t, poison+one+poison), tbsWith(t, one)) || isCut(right, right) {
 		t.Error("what is an entry isn't taken for one, or the other way round")
 	}
 	for _, of := range []struct {
 		entry []byte
 		right bool
 	}{{right, true}, {another, false}, {nil, false}, {tbs[:1], false}} {
-		if entry, err := returning(of.entry, nil).WithoutPoison(tbs); of.right != (err == nil) || of.right != (entry != nil) || !of.right && !errors.Is(err, errCut) {
+		if entry, err := returning(of.entry, nil).WithoutPoison(tbs); of.right != (err == nil) ||
+			of.right != (entry != nil) || !of.right && !errors.Is(err, errCut) {
 			t.Errorf("%x: %x, %v", of.entry, entry, err)
 		}
 	}
@@ -90,10 +98,14 @@ func TestRefusalsAreFound(t *testing.T) {
 	tbs := tbsWith(t, "")
 	unfit := func(code wagtenib.Code) error { return &wagtenib.CertificateError{Code: code, Field: 14} }
 	for _, of := range []struct{ err, want error }{
-		{unfit(wagtenib.ErrNoExtension), wagtenib.ErrNoExtension}, {unfit(wagtenib.ErrSecondExtension), wagtenib.ErrSecondExtension}, {unfit(wagtenib.ErrBadPoison), wagtenib.ErrBadPoison},
-		{unfit(wagtenib.ErrDERTruncated), errUnread}, {unfit(wagtenib.ErrDERTrailing), errUnread}, {wagtenib.ErrMemory, wagtenib.ErrMemory},
+		{unfit(wagtenib.ErrNoExtension), wagtenib.ErrNoExtension},
+		{unfit(wagtenib.ErrSecondExtension), wagtenib.ErrSecondExtension},
+		{unfit(wagtenib.ErrBadPoison), wagtenib.ErrBadPoison},
+		{unfit(wagtenib.ErrDERTruncated), errUnread}, {unfit(wagtenib.ErrDERTrailing), errUnread},
+		{wagtenib.ErrMemory, wagtenib.ErrMemory},
 	} {
-		if entry, err := returning(tbs, of.err).WithoutPoison(tbs); !errors.Is(err, of.want) || !errors.Is(err, of.err) || entry != nil {
+		if entry, err := returning(tbs, of.err).WithoutPoison(tbs); !errors.Is(err, of.want) ||
+			!errors.Is(err, of.err) || entry != nil {
 			t.Errorf("%v: %x, %v", of.err, entry, err)
 		}
 	}

@@ -13,9 +13,10 @@ import (
 )
 
 // The one form of the poison extension: its OID, critical, and NULL in an OCTET STRING.
-var poison = []byte{0x30, 0x13, 0x06, 0x0a, 0x2b, 0x06, 0x01, 0x04, 0x01, 0xd6, 0x79, 0x02, 0x04, 0x03, 0x01, 0x01, 0xff, 0x04, 0x02, 0x05, 0x00}
+var poison = []byte{0x30, 0x13, 0x06, 0x0a, 0x2b, 0x06, 0x01, 0x04, 0x01, 0xd6, 0x79, 0x02, 0x04, 0x03, 0x01, 0x01,
+	0xff, 0x04, 0x02, 0x05, 0x00}
 
-// byASN1 is a cutter that stands on encoding/asn1.
+// byASN1 is a cutter that uses encoding/asn1.
 type byASN1 struct{}
 
 func (byASN1) WithoutPoison(tbs []byte) ([]byte, error) {
@@ -67,7 +68,8 @@ func plainly(tbs []byte) (made []byte, place int, err error) {
 		return nil, 0, wagtenib.ErrBadPoison
 	}
 	if len(kept) > 0 {
-		fields = append(fields, wrapped(asn1.ClassContextSpecific, 3, []asn1.RawValue{wrapped(asn1.ClassUniversal, asn1.TagSequence, kept)}))
+		fields = append(fields, wrapped(asn1.ClassContextSpecific, 3,
+			[]asn1.RawValue{wrapped(asn1.ClassUniversal, asn1.TagSequence, kept)}))
 	}
 	return wrapped(asn1.ClassUniversal, asn1.TagSequence, fields).FullBytes, place, nil
 }
@@ -80,7 +82,7 @@ type answers struct {
 
 func (a answers) WithoutPoison([]byte) ([]byte, error) { return a.entry, a.err }
 
-// TestCutters: what a cutter refuses is refused by name, and an error of its own is told as it is.
+// TestCutters: a TBSCertificate that a cutter refuses is refused by name. An error of the cutter itself is returned.
 func TestCutters(t *testing.T) {
 	a := madeByOpenssl(t)
 	chain := a.chain(t, "precertificate", "middle")
@@ -89,10 +91,13 @@ func TestCutters(t *testing.T) {
 		err  error
 		want Refusal
 	}{
-		{wagtenib.ErrNoExtension, NoPoison}, {wagtenib.ErrSecondExtension, NoPoison}, {wagtenib.ErrBadPoison, BadPoison},
-		{fmt.Errorf("%w: trailing in tbs of the certificate", errUnread), NoCertificate}, {wagtenib.ErrMemory, ""}, {gone, ""},
+		{wagtenib.ErrNoExtension, NoPoison}, {wagtenib.ErrSecondExtension, NoPoison},
+		{wagtenib.ErrBadPoison, BadPoison},
+		{fmt.Errorf("%w: trailing in tbs of the certificate", errUnread), NoCertificate},
+		{wagtenib.ErrMemory, ""}, {gone, ""},
 	} {
-		entry, err := NewChecker(a.roots(t, "root"), Rules{}, answers{[]byte("an entry"), test.err}).Precertificate(chain)
+		entry, err := NewChecker(a.roots(t, "root"), Rules{},
+			answers{[]byte("an entry"), test.err}).Precertificate(chain)
 		if entry != nil || RefusalOf(err) != test.want || test.want == "" && !errors.Is(err, test.err) {
 			t.Errorf("%v: %v, %v", test.err, entry != nil, err)
 		}

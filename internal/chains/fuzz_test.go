@@ -24,7 +24,8 @@ func seeds(t testing.TB) (certificates [][]byte) {
 	certificates = append(certificates, signedBy(t, template, template, &key.PublicKey, key))
 	template = &x509.Certificate{
 		SerialNumber: big.NewInt(128), NotAfter: time.Unix(1798761600, 0), AuthorityKeyId: []byte{4, 5},
-		ExtraExtensions:    []pkix.Extension{{Id: oidPoison, Critical: true, Value: []byte{5, 0}}, {Id: asn1.ObjectIdentifier{1, 2, 3}}},
+		ExtraExtensions: []pkix.Extension{{Id: oidPoison, Critical: true, Value: []byte{5, 0}},
+			{Id: asn1.ObjectIdentifier{1, 2, 3}}},
 		UnknownExtKeyUsage: []asn1.ObjectIdentifier{oidSignPrecertificate},
 	}
 	return append(certificates, signedBy(t, template, template, &key.PublicKey, key))
@@ -82,14 +83,15 @@ func poisoned(t *testing.T, tbs []byte, place int) []byte {
 		}
 		fields = fields[:last]
 	}
-	extensions = append(extensions[:place:place], append([]asn1.RawValue{{FullBytes: poison}}, extensions[place:]...)...)
+	extensions = append(extensions[:place:place], append([]asn1.RawValue{{FullBytes: poison}},
+		extensions[place:]...)...)
 	list := wrapped(asn1.ClassUniversal, asn1.TagSequence, extensions)
 	fields = append(fields, wrapped(asn1.ClassContextSpecific, 3, []asn1.RawValue{list}))
 	return wrapped(asn1.ClassUniversal, asn1.TagSequence, fields).FullBytes
 }
 
-// FuzzFinalIssuer: a TBSCertificate with another issuer is made, whose name and key are the ones that were given, with the poison
-// where it was, or it is refused.
+// FuzzFinalIssuer: a TBSCertificate with another issuer is made, whose name and key are the ones that were given, with
+// the poison where it was, or it is refused.
 func FuzzFinalIssuer(f *testing.F) {
 	for _, der := range seeds(f) {
 		if certificate, err := x509.ParseCertificate(der); err == nil {
@@ -124,8 +126,8 @@ func FuzzFinalIssuer(f *testing.F) {
 	})
 }
 
-// FuzzChain: whatever two certificates are, with any signatures, a chain of them has an entry that is made of them, or it is
-// refused by name.
+// FuzzChain: whatever two certificates are, with any signatures, a chain of them has an entry that is made of them, or
+// it is refused by name.
 func FuzzChain(f *testing.F) {
 	all := seeds(f)
 	roots, err := ParseRoots(inPEM(all[1]))

@@ -121,11 +121,12 @@ func (a *authorities) openssl(words ...string) ([]byte, error) {
 	return output, nil
 }
 
-// subject is the name of a certificate, in which both kinds of text stand.
+// subject is the name of a certificate with both kinds of strings.
 func subject(name string) string { return "/O=Ein Hündchen/CN=" + name }
 
 func (a *authorities) request(name, key string) error {
-	words := append([]string{"req", "-new", "-utf8", "-config", "configuration", "-nodes", "-subj", subject(name), "-keyout", name + ".key", "-out", name + ".csr"}, "-newkey")
+	words := append([]string{"req", "-new", "-utf8", "-config", "configuration", "-nodes", "-subj", subject(name),
+		"-keyout", name + ".key", "-out", name + ".csr"}, "-newkey")
 	_, err := a.openssl(append(words, strings.Fields(key)...)...)
 	return err
 }
@@ -158,13 +159,16 @@ func (a *authorities) make(m made) error {
 			return err
 		}
 	}
-	for name, text := range map[string]string{"index.txt": "", "index.txt.attr": "unique_subject = no\n", "serial": m.serial + "\n"} {
+	for name, text := range map[string]string{"index.txt": "", "index.txt.attr": "unique_subject = no\n",
+		"serial": m.serial + "\n"} {
 		if err := os.WriteFile(a.path(name), []byte(text), 0o600); err != nil {
 			return err
 		}
 	}
-	words := []string{"ca", "-batch", "-notext", "-utf8", "-config", "configuration", "-extensions", m.section, "-md", m.digest,
-		"-startdate", m.from, "-enddate", m.to, "-in", request + ".csr", "-out", m.name + ".pem", "-keyfile", m.issuer + ".key"}
+	words := []string{"ca", "-batch", "-notext", "-utf8", "-config", "configuration", "-extensions", m.section,
+		"-md", m.digest,
+		"-startdate", m.from, "-enddate", m.to, "-in", request + ".csr", "-out", m.name + ".pem", "-keyfile",
+		m.issuer + ".key"}
 	if m.issuer == m.name {
 		words = append(words, "-selfsign")
 	} else {
@@ -180,7 +184,7 @@ var (
 	opensslMaking sync.Once
 )
 
-// everyCertificate is what the tests' certificates are: each behind its issuer.
+// everyCertificate has the tests' certificates, each after its issuer.
 var everyCertificate = []made{
 	{name: "root", issuer: "root", section: "authority", to: "20400101000000Z"},
 	{name: "other", issuer: "other", section: "authority"},
@@ -260,7 +264,8 @@ func (a *authorities) makeOldRoot() error {
 	if err := a.request("old-root", ellipticKey); err != nil {
 		return err
 	}
-	if _, err := a.openssl("x509", "-req", "-in", "old-root.csr", "-signkey", "old-root.key", "-days", "30", "-out", "old-root.pem"); err != nil {
+	if _, err := a.openssl("x509", "-req", "-in", "old-root.csr", "-signkey", "old-root.key", "-days", "30", "-out",
+		"old-root.pem"); err != nil {
 		return err
 	}
 	return a.make(made{name: "of-old-root", issuer: "old-root", section: "bare"})

@@ -44,8 +44,8 @@ func signsPrecertificates(certificate *x509.Certificate) bool {
 	return false
 }
 
-// finalIssuer is what a TBSCertificate has of the issuer of the final certificate: its name, and the value of the authority key
-// identifier, or nil.
+// finalIssuer is what a TBSCertificate has of the issuer of the final certificate: its name, and the value of the
+// authority key identifier, or nil.
 type finalIssuer struct {
 	name, authorityKey []byte
 }
@@ -58,11 +58,11 @@ func finalIssuerBehind(signing *x509.Certificate) *finalIssuer {
 
 // noDER is the error where bytes aren't what they have to be in DER.
 func noDER(what string) error {
-	return fmt.Errorf("%w: %s isn't as it has to be in DER", NoCertificate, what)
+	return fmt.Errorf("%w: %s is not valid DER", NoCertificate, what)
 }
 
-// Cutter makes the entry of a precertificate from its TBSCertificate: the same without the poison extension. All other bytes stay
-// as they are, except the lengths around them. NewCutter returns one, which is proved to do so.
+// Cutter makes the entry of a precertificate from its TBSCertificate: the same without the poison extension. All other
+// bytes stay as they are, except the lengths around them. NewCutter returns one, which is proved to do so.
 type Cutter interface {
 	WithoutPoison(tbs []byte) ([]byte, error)
 }
@@ -76,15 +76,16 @@ func (c *Checker) entryOf(tbs []byte) ([]byte, error) {
 	case errors.Is(err, wagtenib.ErrNoExtension), errors.Is(err, wagtenib.ErrSecondExtension):
 		return nil, fmt.Errorf("%w: it has to be there once: %v", NoPoison, err)
 	case errors.Is(err, wagtenib.ErrBadPoison):
-		return nil, fmt.Errorf("%w: it isn't critical, or its value isn't NULL", BadPoison)
+		return nil, fmt.Errorf("%w: it is not critical, or its value is not NULL", BadPoison)
 	case errors.Is(err, errUnread):
-		return nil, fmt.Errorf("%w: a TBSCertificate isn't as it has to be in DER: %v", NoCertificate, err)
+		return nil, fmt.Errorf("%w: a TBSCertificate is not valid DER: %v", NoCertificate, err)
 	}
 	return nil, err
 }
 
-// withFinalIssuer gives a TBSCertificate that a precertificate signing certificate signed with the name and the authority key
-// identifier of the final issuer (RFC 6962, section 3.2). All other bytes stay as they are, but for the lengths around them.
+// withFinalIssuer returns a TBSCertificate of a precertificate signing certificate, with the name and the authority key
+// identifier of the final issuer (RFC 6962, section 3.2). All other bytes stay the same, except the lengths around
+// them.
 func withFinalIssuer(tbs []byte, final *finalIssuer) ([]byte, error) {
 	input := cryptobyte.String(tbs)
 	var fields cryptobyte.String
@@ -115,8 +116,8 @@ func withFinalIssuer(tbs []byte, final *finalIssuer) ([]byte, error) {
 	return made, nil
 }
 
-// fieldsOf cuts the fields of a TBSCertificate: those before the issuer and those behind it, each as all its bytes, and the
-// extensions one after the other.
+// fieldsOf splits the fields of a TBSCertificate: the bytes of each field before the issuer, those of each field after
+// it, and the extensions.
 func fieldsOf(fields cryptobyte.String) (before, behind []byte, extensions cryptobyte.String, err error) {
 	read := func(into *[]byte, tag tags.Tag) bool {
 		var element cryptobyte.String

@@ -20,8 +20,8 @@ func inPEM(certificates ...[]byte) (text []byte) {
 	return text
 }
 
-// TestPrecertificatesAreTheirFinalCertificates: openssl issues a precertificate and, of the same request, serial number and
-// dates, the final certificate. The entry's TBSCertificate is the final one's, as openssl cuts it.
+// TestPrecertificatesAreTheirFinalCertificates: openssl issues a precertificate and, of the same request, serial number
+// and dates, the final certificate. The entry's TBSCertificate is the final one's, as openssl cuts it.
 func TestPrecertificatesAreTheirFinalCertificates(t *testing.T) {
 	a := madeByOpenssl(t)
 	c := NewChecker(a.roots(t, "root"), Rules{}, NewCutter())
@@ -34,8 +34,10 @@ func TestPrecertificatesAreTheirFinalCertificates(t *testing.T) {
 		{"final-of-rsa", "rsa", []string{"precertificate-of-rsa", "rsa"}, []string{"rsa", "root"}},
 		{"final-of-root", "root", []string{"precertificate-of-root"}, []string{"root"}},
 		{"final-of-signed", "middle", []string{"signed", "signing", "middle"}, []string{"signing", "middle", "root"}},
-		{"final-of-signed-bare", "middle", []string{"signed-bare", "signing", "middle"}, []string{"signing", "middle", "root"}},
-		{"final-of-signed-of-root", "root", []string{"signed-of-root", "signing-of-root"}, []string{"signing-of-root", "root"}},
+		{"final-of-signed-bare", "middle", []string{"signed-bare", "signing", "middle"},
+			[]string{"signing", "middle", "root"}},
+		{"final-of-signed-of-root", "root", []string{"signed-of-root", "signing-of-root"},
+			[]string{"signing-of-root", "root"}},
 	} {
 		entry, err := c.Precertificate(a.chain(t, test.submitted...))
 		if err != nil {
@@ -46,9 +48,11 @@ func TestPrecertificatesAreTheirFinalCertificates(t *testing.T) {
 			t.Errorf("%s: the issuer's key hash is %s, and openssl has %s", test.submitted, got, want)
 		}
 		if want := a.tbs(t, test.final); !bytes.Equal(entry.TBSCertificate, want) {
-			t.Errorf("%s: the TBSCertificate\n%x\nisn't that of openssl\n%x", test.submitted, entry.TBSCertificate, want)
+			t.Errorf("%s: the TBSCertificate\n%x\nisn't that of openssl\n%x", test.submitted,
+				entry.TBSCertificate, want)
 		}
-		if entry.Type != PrecertEntry || entry.Certificate != nil || !bytes.Equal(entry.Precertificate, a.chain(t, test.submitted[0])[0]) {
+		if entry.Type != PrecertEntry || entry.Certificate != nil ||
+			!bytes.Equal(entry.Precertificate, a.chain(t, test.submitted[0])[0]) {
 			t.Errorf("%s: another entry", test.submitted)
 		}
 		if !reflect.DeepEqual(entry.Issuers, a.chain(t, test.issuers...)) {
@@ -57,14 +61,15 @@ func TestPrecertificatesAreTheirFinalCertificates(t *testing.T) {
 	}
 }
 
-// TestReplacedValue: an extension gets another value, and is as critical as it was. (RFC 5280, section 4.2.1.1, has it uncritical;
-// a log takes what was issued.)
+// TestReplacedValue: an extension gets another value, and is as critical as it was. (RFC 5280, section 4.2.1.1, has it
+// uncritical; a log takes what was issued.)
 func TestReplacedValue(t *testing.T) {
 	for _, test := range []struct{ extension, value, want string }{
 		{"300a0603551d230403300102", "8001ff", "300a0603551d2304038001ff"},
 		{"300a0603551d230403300102", "", "30070603551d230400"},
 		{"300d0603551d230101ff0403300102", "80", "300b0603551d230101ff040180"},
-		{"300d0603551d230101ff0403300102", hex.EncodeToString(make([]byte, 128)), "3081" + "8b" + "0603551d230101ff048180" + hex.EncodeToString(make([]byte, 128))},
+		{"300d0603551d230101ff0403300102", hex.EncodeToString(make([]byte, 128)), "3081" + "8b" +
+			"0603551d230101ff048180" + hex.EncodeToString(make([]byte, 128))},
 	} {
 		extension, value := unhex(t, test.extension), unhex(t, test.value)
 		got, err := withValue(extension, value)
@@ -176,14 +181,15 @@ func TestPrecertificatesAgreeWithPython(t *testing.T) {
 		if RefusalOf(err) != test.here || there.Refusal != test.there || (err == nil) != (test.here == "") {
 			t.Errorf("%s: %v here, %q there", test.names, err, there.Refusal)
 		}
-		if err == nil && (!bytes.Equal(entry.IssuerKeyHash[:], there.Hash) || !bytes.Equal(entry.TBSCertificate, there.TBS)) {
+		if err == nil && (!bytes.Equal(entry.IssuerKeyHash[:], there.Hash) ||
+			!bytes.Equal(entry.TBSCertificate, there.TBS)) {
 			t.Errorf("%s: they made two things of it", test.names)
 		}
 	}
 }
 
-// realPrecertificates reads those of examples/real-chains.jsonl, with what stands beside them there: the issuer's key hash and the
-// TBSCertificate, which came from elsewhere.
+// realPrecertificates reads the precertificates of examples/real-chains.jsonl, with the issuer's key hash and the
+// TBSCertificate of each, which came from another program.
 func realPrecertificates(t testing.TB) (found []real) {
 	t.Helper()
 	file, err := os.Open("../../examples/real-chains.jsonl")
@@ -225,7 +231,8 @@ func TestRealPrecertificates(t *testing.T) {
 				t.Errorf("number %d: %v", i, err)
 				continue
 			}
-			hash, tbs := base64.StdEncoding.EncodeToString(entry.IssuerKeyHash[:]), base64.StdEncoding.EncodeToString(entry.TBSCertificate)
+			hash, tbs := base64.StdEncoding.EncodeToString(entry.IssuerKeyHash[:]),
+				base64.StdEncoding.EncodeToString(entry.TBSCertificate)
 			if hash != line.Hash || tbs != line.TBS || !reflect.DeepEqual(entry.Issuers, line.Chain[1:]) {
 				t.Errorf("number %d: another entry", i)
 			}

@@ -2,7 +2,8 @@ package chains
 
 import "errors"
 
-// Refusal is why a chain isn't taken: one word of the list below. Errors of this package wrap one, and say more behind it.
+// Refusal is the reason why a chain is not accepted: one word of the list below. Errors of this package wrap one, with
+// a text after it.
 type Refusal string
 
 func (r Refusal) Error() string { return string(r) }
@@ -27,7 +28,7 @@ const (
 	KeyTooLong Refusal = "key-too-long"
 	// BadSignature: a signature isn't the issuer's, or is of a kind that crypto/x509 doesn't check (MD5, DSA).
 	BadSignature Refusal = "bad-signature"
-	// OutsideWindow: the first one's notAfter lies outside of the log's window.
+	// OutsideWindow: the first certificate's notAfter is outside of the log's window.
 	OutsideWindow Refusal = "outside-window"
 	// Expired: the first one has expired, and the log accepts none such.
 	Expired Refusal = "expired"
@@ -41,7 +42,7 @@ const (
 	NoPoison Refusal = "no-poison"
 	// BadPoison: the poison extension isn't critical, or its value isn't NULL.
 	BadPoison Refusal = "bad-poison"
-	// NoFinalIssuer: behind a precertificate signing certificate there is no issuer of the final certificate.
+	// NoFinalIssuer: no issuer of the final certificate comes after a precertificate signing certificate.
 	NoFinalIssuer Refusal = "no-final-issuer"
 	// NoAuthorityKey: a precertificate names an authority's key, and the precertificate signing certificate doesn't.
 	NoAuthorityKey Refusal = "no-authority-key"
@@ -49,8 +50,10 @@ const (
 
 // Refusals are all of them.
 var Refusals = []Refusal{
-	EmptyChain, ChainTooLong, CertificateTooLong, NoCertificate, NotIssuedByNext, UnknownRoot, NotAnAuthority, KeyTooLong, BadSignature,
-	OutsideWindow, Expired, NotYetValid, NotForServers, IsPrecertificate, NoPoison, BadPoison, NoFinalIssuer, NoAuthorityKey,
+	EmptyChain, ChainTooLong, CertificateTooLong, NoCertificate, NotIssuedByNext, UnknownRoot, NotAnAuthority,
+	KeyTooLong, BadSignature,
+	OutsideWindow, Expired, NotYetValid, NotForServers, IsPrecertificate, NoPoison, BadPoison, NoFinalIssuer,
+	NoAuthorityKey,
 }
 
 // RefusalOf gives the refusal that an error wraps, or none.

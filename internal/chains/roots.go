@@ -33,7 +33,8 @@ type Roots struct {
 
 // LeftOut is a root that isn't taken, and why.
 type LeftOut struct {
-	// From is the file that has it, Number its place among the file's certificates, from 1, and Name what the file calls it, if it does.
+	// From is the file that has it, Number its place among the file's certificates, from 1, and Name what the file
+	// calls it, if it does.
 	From   string
 	Number int
 	Name   string
@@ -51,16 +52,17 @@ var errRemoved = errors.New("it is taken out by its fingerprint")
 
 // RootFiles say where a log's roots are.
 type RootFiles struct {
-	// Paths are files in PEM, files of CCADB (.csv, with a column of certificates in PEM), and folders with such files (.pem, .crt and
-	// .csv). What they have together are the roots.
+	// Paths are PEM files, files of CCADB (.csv with a column of PEM certificates), and folders with such files (.pem,
+	// .crt and .csv). The roots are the certificates in all of them.
 	Paths []string
-	// Without is a file with a SHA-256 fingerprint of a root a line, in hexadecimal, with comments behind #: these aren't taken. None
-	// where it is empty.
+	// Without is a file with the SHA-256 fingerprint of a root in hexadecimal in each line, and comments after #. These
+	// roots are not accepted. An empty path means no file.
 	Without string
 }
 
-// Load reads the roots of all files. A certificate that crypto/x509 doesn't read is left out, and named by LeftOut; a file that can't be
-// read, that is cut off, that has anything but certificates or has none that is read is an error: a log would quietly lose some.
+// Load reads the roots of all files. A certificate that crypto/x509 doesn't read is left out, and named by LeftOut; a
+// file that can't be read, that is cut off, that has anything but certificates or has none that is read is an error: a
+// log would quietly lose some.
 func (f RootFiles) Load() (*Roots, error) {
 	removed, err := f.removed()
 	if err != nil {
@@ -209,8 +211,8 @@ type rootText struct {
 	text []byte
 }
 
-// partsOfCSV reads a file of CCADB: its first line names the columns, and that of a certificate in PEM has PEM in its name. The text may
-// stand between apostrophes.
+// partsOfCSV reads a file of CCADB. Its first line has the names of the columns. The column of certificates has PEM in
+// its name. Its values may be between apostrophes.
 func partsOfCSV(text []byte) ([]rootText, error) {
 	lines := csv.NewReader(bytes.NewReader(text))
 	lines.LazyQuotes = true
@@ -247,8 +249,8 @@ func partsOfCSV(text []byte) ([]rootText, error) {
 	}
 }
 
-// certificatesIn are the bytes of the certificates in PEM, with whatever text between them. A block of another kind, or one that is cut
-// off, is an error.
+// certificatesIn are the bytes of the certificates in PEM, with whatever text between them. A block of another kind, or
+// one that is cut off, is an error.
 func certificatesIn(text []byte) ([][]byte, error) {
 	var found [][]byte
 	rest, number := text, 1
@@ -262,15 +264,15 @@ func certificatesIn(text []byte) ([][]byte, error) {
 		}
 		found = append(found, block.Bytes)
 	}
-	// What pem.Decode can't read it passes over.
+	// pem.Decode skips everything that it cannot read.
 	if begun := bytes.Count(text, []byte("-----BEGIN ")); begun != number-1 {
 		return nil, fmt.Errorf("%d blocks begin, and %d are read", begun, number-1)
 	}
 	return found, nil
 }
 
-// ParseRoots reads roots in PEM: one CERTIFICATE or more, each counted once, and whatever text between them. A block of another kind, or
-// that isn't a certificate, is an error, and so is a text without roots.
+// ParseRoots reads roots in PEM. It accepts one or more blocks CERTIFICATE, each counted once, and any text between
+// them. Another kind of block, a block that is not a certificate, and a text without roots are errors.
 func ParseRoots(text []byte) (*Roots, error) {
 	if len(text) > MaxRootBytes {
 		return nil, fmt.Errorf("chains: roots: more than %d bytes", MaxRootBytes)

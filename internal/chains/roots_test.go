@@ -25,7 +25,7 @@ func puts(t *testing.T, folder string) func(name string, text []byte) string {
 	}
 }
 
-// TestRootFiles: what the files have together are the roots; what isn't taken is named, and nothing else is lost.
+// TestRootFiles: the roots are those of all files. A certificate that is left out is named, and no other is lost.
 func TestRootFiles(t *testing.T) {
 	a := madeByOpenssl(t)
 	root, other := a.pem(t, "root"), a.pem(t, "other")
@@ -35,8 +35,10 @@ func TestRootFiles(t *testing.T) {
 	// As CCADB writes it: the PEM between apostrophes, in a column of that name.
 	var ccadb bytes.Buffer
 	rows := csv.NewWriter(&ccadb)
-	rows.WriteAll([][]string{{"CA Owner", "Common Name or Certificate Name", "PEM Info"}, {"An owner", "A root", "'" + string(root) + "'"},
-		{"An owner", "A strange one", "'" + string(inPEM([]byte("strange"))) + "'"}, {"An owner", "Another root", "'" + string(other) + "'"}})
+	rows.WriteAll([][]string{{"CA Owner", "Common Name or Certificate Name", "PEM Info"},
+		{"An owner", "A root", "'" + string(root) + "'"},
+		{"An owner", "A strange one", "'" + string(inPEM([]byte("strange"))) + "'"},
+		{"An owner", "Another root", "'" + string(other) + "'"}})
 	strange, fingerprint := inPEM([]byte("strange")), sha256.Sum256([]byte("strange"))
 	removed := sha256.Sum256(both[0])
 	pemAt, otherAt, table := put("root.pem", root), put("other.pem", other), put("all.csv", ccadb.Bytes())
@@ -52,9 +54,13 @@ func TestRootFiles(t *testing.T) {
 	}{
 		{RootFiles{Paths: []string{pemAt}}, both[:1], "[]"},
 		{RootFiles{Paths: []string{pemAt, otherAt, pemAt}}, both, "[]"},
-		{RootFiles{Paths: []string{table}}, both, fmt.Sprintf(`[%s, certificate 2 ("A strange one", sha256 %x): x509: malformed certificate]`, table, fingerprint)},
-		{RootFiles{Paths: []string{filepath.Join(folder, "dir")}}, both, fmt.Sprintf(`[%s, certificate 1 (sha256 %x): x509: malformed certificate]`, filepath.Join(folder, "dir", "2.pem"), fingerprint)},
-		{RootFiles{Paths: []string{pemAt, otherAt}, Without: list}, both[1:], fmt.Sprintf(`[%s, certificate 1 (sha256 %x): it is taken out by its fingerprint]`, pemAt, removed)},
+		{RootFiles{Paths: []string{table}}, both, fmt.Sprintf(
+			`[%s, certificate 2 ("A strange one", sha256 %x): x509: malformed certificate]`, table, fingerprint)},
+		{RootFiles{Paths: []string{filepath.Join(folder, "dir")}}, both,
+			fmt.Sprintf(`[%s, certificate 1 (sha256 %x): x509: malformed certificate]`,
+				filepath.Join(folder, "dir", "2.pem"), fingerprint)},
+		{RootFiles{Paths: []string{pemAt, otherAt}, Without: list}, both[1:],
+			fmt.Sprintf(`[%s, certificate 1 (sha256 %x): it is taken out by its fingerprint]`, pemAt, removed)},
 		{RootFiles{Paths: []string{otherAt}, Without: colons}, both[1:], "[]"},
 	} {
 		roots, err := c.of.Load()
@@ -70,18 +76,21 @@ func TestRootFiles(t *testing.T) {
 		}
 	}
 	for what, of := range map[string]RootFiles{
-		"none":                       {},
-		"an absent file":             {Paths: []string{pemAt, filepath.Join(folder, "absent")}},
-		"an empty file":              {Paths: []string{pemAt, put("empty.pem", nil)}},
-		"none that is read":          {Paths: []string{put("strange.pem", strange)}},
-		"all taken out":              {Paths: []string{pemAt}, Without: list},
-		"a key":                      {Paths: []string{put("key.pem", append(append([]byte{}, root...), read(t, a.path("root.key"))...))}},
-		"cut off":                    {Paths: []string{put("cut.pem", append(append([]byte{}, root...), other[:200]...))}},
-		"too long":                   {Paths: []string{put("long.pem", append(make([]byte, MaxRootBytes), root...))}},
-		"a table without PEM":        {Paths: []string{put("none.csv", []byte("a,b\n1,2\n"))}},
-		"a table of uneven rows":     {Paths: []string{put("rows.csv", []byte("a,PEM\n1\n"))}},
-		"a table without rows":       {Paths: []string{pemAt, put("head.csv", []byte("a,PEM\n"))}},
-		"a table with one cut off":   {Paths: []string{pemAt, put("cut.csv", []byte("PEM\n\"'"+string(other[:200])+"'\"\n"))}},
+		"none":              {},
+		"an absent file":    {Paths: []string{pemAt, filepath.Join(folder, "absent")}},
+		"an empty file":     {Paths: []string{pemAt, put("empty.pem", nil)}},
+		"none that is read": {Paths: []string{put("strange.pem", strange)}},
+		"all taken out":     {Paths: []string{pemAt}, Without: list},
+		"a key": {Paths: []string{put("key.pem",
+			append(append([]byte{}, root...), read(t, a.path("root.key"))...))}},
+		"cut off": {Paths: []string{put("cut.pem",
+			append(append([]byte{}, root...), other[:200]...))}},
+		"too long":               {Paths: []string{put("long.pem", append(make([]byte, MaxRootBytes), root...))}},
+		"a table without PEM":    {Paths: []string{put("none.csv", []byte("a,b\n1,2\n"))}},
+		"a table of uneven rows": {Paths: []string{put("rows.csv", []byte("a,PEM\n1\n"))}},
+		"a table without rows":   {Paths: []string{pemAt, put("head.csv", []byte("a,PEM\n"))}},
+		"a table with one cut off": {Paths: []string{pemAt,
+			put("cut.csv", []byte("PEM\n\"'"+string(other[:200])+"'\"\n"))}},
 		"a folder without roots":     {Paths: []string{filepath.Dir(put("bare/read.me", nil))}},
 		"an absent list":             {Paths: []string{pemAt}, Without: filepath.Join(folder, "absent")},
 		"a list with another line":   {Paths: []string{pemAt}, Without: put("words", []byte("root\n"))},

@@ -28,43 +28,54 @@ func TestRules(t *testing.T) {
 		return func(c *x509.Certificate) { c.NotBefore, c.NotAfter = time.Now().Add(from), time.Now().Add(to) }
 	}
 	const year = 365 * 24 * time.Hour
-	poison := pkix.Extension{Id: asn1.ObjectIdentifier{1, 3, 6, 1, 4, 1, 11129, 2, 4, 3}, Critical: true, Value: []byte{5, 0}}
+	poison := pkix.Extension{Id: asn1.ObjectIdentifier{1, 3, 6, 1, 4, 1, 11129, 2, 4, 3}, Critical: true,
+		Value: []byte{5, 0}}
 	servers, current := Rules{ServerAuthentication: true}, Rules{RefuseExpired: true, RefuseNotYetValid: true}
 	for what, test := range map[string]struct {
 		rules  Rules
 		change func(*x509.Certificate)
 		want   Refusal
 	}{
-		"no purpose is named":               {servers, func(*x509.Certificate) {}, ""},
-		"servers":                           {servers, purposed(x509.ExtKeyUsageServerAuth), ""},
-		"clients and servers":               {servers, purposed(x509.ExtKeyUsageClientAuth, x509.ExtKeyUsageServerAuth), ""},
-		"any purpose":                       {servers, purposed(x509.ExtKeyUsageAny), ""},
-		"clients":                           {servers, purposed(x509.ExtKeyUsageClientAuth), NotForServers},
-		"mail":                              {servers, purposed(x509.ExtKeyUsageEmailProtection), NotForServers},
-		"code":                              {servers, purposed(x509.ExtKeyUsageCodeSigning), NotForServers},
-		"mail, and no rule":                 {Rules{}, purposed(x509.ExtKeyUsageEmailProtection), ""},
-		"no purpose at all":                 {servers, encoded(0x30, 0), NotForServers},
-		"a purpose that is cut off":         {servers, encoded(0x30, 4, 6, 3, 0x55, 0x1d), NotForServers},
-		"bytes after the purposes":          {servers, encoded(0x30, 6, 6, 4, 0x55, 0x1d, 0x25, 0, 5, 0), NotForServers},
-		"any purpose, as it is encoded":     {servers, encoded(0x30, 6, 6, 4, 0x55, 0x1d, 0x25, 0), ""},
-		"expired":                           {current, lasts(-2*year, -year), Expired},
-		"expired, and no rule":              {Rules{RefuseNotYetValid: true}, lasts(-2*year, -year), ""},
-		"not yet valid":                     {current, lasts(year, 2*year), NotYetValid},
-		"not yet valid, and no rule":        {Rules{RefuseExpired: true}, lasts(year, 2*year), ""},
-		"valid":                             {current, lasts(-year, year), ""},
-		"expired, and outside of a window":  {Rules{RefuseExpired: true, Window: Window{From: time.Now()}}, lasts(-2*year, -year), OutsideWindow},
-		"expired, and for mail":             {Rules{RefuseExpired: true, ServerAuthentication: true}, func(c *x509.Certificate) { lasts(-2*year, -year)(c); purposed(x509.ExtKeyUsageEmailProtection)(c) }, Expired},
+		"no purpose is named": {servers, func(*x509.Certificate) {}, ""},
+		"servers":             {servers, purposed(x509.ExtKeyUsageServerAuth), ""},
+		"clients and servers": {servers, purposed(x509.ExtKeyUsageClientAuth,
+			x509.ExtKeyUsageServerAuth), ""},
+		"any purpose":               {servers, purposed(x509.ExtKeyUsageAny), ""},
+		"clients":                   {servers, purposed(x509.ExtKeyUsageClientAuth), NotForServers},
+		"mail":                      {servers, purposed(x509.ExtKeyUsageEmailProtection), NotForServers},
+		"code":                      {servers, purposed(x509.ExtKeyUsageCodeSigning), NotForServers},
+		"mail, and no rule":         {Rules{}, purposed(x509.ExtKeyUsageEmailProtection), ""},
+		"no purpose at all":         {servers, encoded(0x30, 0), NotForServers},
+		"a purpose that is cut off": {servers, encoded(0x30, 4, 6, 3, 0x55, 0x1d), NotForServers},
+		"bytes after the purposes": {servers, encoded(0x30, 6, 6, 4, 0x55, 0x1d, 0x25, 0, 5, 0),
+			NotForServers},
+		"any purpose, as it is encoded": {servers, encoded(0x30, 6, 6, 4, 0x55, 0x1d, 0x25, 0), ""},
+		"expired":                       {current, lasts(-2*year, -year), Expired},
+		"expired, and no rule":          {Rules{RefuseNotYetValid: true}, lasts(-2*year, -year), ""},
+		"not yet valid":                 {current, lasts(year, 2*year), NotYetValid},
+		"not yet valid, and no rule":    {Rules{RefuseExpired: true}, lasts(year, 2*year), ""},
+		"valid":                         {current, lasts(-year, year), ""},
+		"expired, and outside of a window": {Rules{RefuseExpired: true, Window: Window{From: time.Now()}},
+			lasts(-2*year, -year), OutsideWindow},
+		"expired, and for mail": {Rules{RefuseExpired: true, ServerAuthentication: true},
+			func(c *x509.Certificate) {
+				lasts(-2*year, -year)(c)
+				purposed(
+					x509.ExtKeyUsageEmailProtection)(c)
+			}, Expired},
 		"expired, of a log without a rule ": {servers, lasts(-2*year, -year), ""},
 	} {
 		template := &x509.Certificate{SerialNumber: big.NewInt(7), NotBefore: root.NotBefore, NotAfter: root.NotAfter}
 		test.change(template)
 		der := signedBy(t, template, root, &newKey(t).PublicKey, key)
 		c := NewChecker(roots, test.rules, byASN1{})
-		if _, err := c.Certificate([][]byte{der}); (err == nil) != (test.want == "") || err != nil && RefusalOf(err) != test.want {
+		if _, err := c.Certificate([][]byte{der}); (err == nil) != (test.want == "") || err != nil &&
+			RefusalOf(err) != test.want {
 			t.Errorf("%s: %v, and %q is wanted", what, err, test.want)
 		}
 		template.ExtraExtensions = append(template.ExtraExtensions, poison)
-		if _, err := c.Precertificate([][]byte{signedBy(t, template, root, &newKey(t).PublicKey, key)}); (err == nil) != (test.want == "") || err != nil && RefusalOf(err) != test.want {
+		if _, err := c.Precertificate([][]byte{signedBy(t, template, root, &newKey(t).PublicKey,
+			key)}); (err == nil) != (test.want == "") || err != nil && RefusalOf(err) != test.want {
 			t.Errorf("%s, as a precertificate: %v, and %q is wanted", what, err, test.want)
 		}
 	}

@@ -1,9 +1,7 @@
-// Package check judges a log from what it published in a folder, and from the timestamps that it answered, by the log's public key
-// alone. It is independent of what writes a log: it uses no other package of this repository.
-//
-// The log has to be at rest: a node that died behind a swap leaves tiles that no head covers yet, until another one goes on.
-//
-// It holds the whole log in memory: it is for trials.
+// Package check judges a log from the objects that it published in a folder and from the SCTs that it returned. It
+// needs only the log's public key. It is independent of the log's code: it uses no other package of this repository.
+// The log must be at rest: a node that died after a swap leaves tiles that no head covers until another node continues.
+// Package check holds the whole log in memory, so it is for tests.
 package check
 
 import (
@@ -81,7 +79,7 @@ func Folder(path string, key []byte, answers []Answer) (Report, error) {
 	}
 	public, ok := parsed.(*ecdsa.PublicKey)
 	if !ok {
-		return Report{}, wrong("the key isn't one of ECDSA")
+		return Report{}, wrong("the key is not an ECDSA key")
 	}
 	f := &folder{objects: map[string][]byte{}, key: public, logID: sha256.Sum256(key)}
 	if err := f.read(path); err != nil {
@@ -154,12 +152,12 @@ type head struct {
 	name            string
 }
 
-// furtherLine is a line of a signature behind the log's: a name, and a key's four bytes and more in base64.
+// furtherLine matches a signature line after the log's: a name, and the four bytes of a key and more in base64.
 var furtherLine = regexp.MustCompile(`^— [^ +]+ [A-Za-z0-9+/]{7,}=*$`)
 
 var headForm = regexp.MustCompile(`^heads/(\d{20})-(\d{20})$`)
 
-// heads reads the signed notes, in the order of their names, and judges what doesn't want the leaves.
+// heads reads the signed notes in the order of their names, and judges everything that does not need the leaves.
 func (f *folder) heads() ([]head, error) {
 	var heads []head
 	for name, content := range f.objects {
@@ -182,14 +180,14 @@ func (f *folder) heads() ([]head, error) {
 	sort.Slice(heads, func(i, j int) bool { return heads[i].name < heads[j].name })
 	for i := 1; i < len(heads); i++ {
 		if heads[i].timestamp <= heads[i-1].timestamp {
-			return nil, wrong("%s isn't later than %s", heads[i].name, heads[i-1].name)
+			return nil, wrong("%s is not later than %s", heads[i].name, heads[i-1].name)
 		}
 	}
 	return heads, nil
 }
 
-// note reads a checkpoint whose first signature is the log's (C2SP tlog-checkpoint, static-ct-api), and checks that one. Of those behind it, of
-// witnesses, it is seen that they have the form of one.
+// note reads a checkpoint whose first signature must be the log's (C2SP tlog-checkpoint, static-ct-api), and verifies
+// that one. Of the witnesses' signatures after it, it checks only the form.
 func (f *folder) note(text string) (head, error) {
 	body, signatures, ok := strings.Cut(text, "\n\n")
 	lines := strings.Split(body, "\n")
@@ -212,7 +210,7 @@ func (f *folder) note(text string) (head, error) {
 	}
 	words := strings.Split(signed[0], " ")
 	if len(words) != 3 || words[0] != "—" || words[1] != lines[0] {
-		return head{}, wrong("the signature isn't the origin's")
+		return head{}, wrong("the signature is not the origin's")
 	}
 	blob, err := base64.StdEncoding.Strict().DecodeString(words[2])
 	if err != nil || len(blob) < 13 || base64.StdEncoding.EncodeToString(blob) != words[2] {
@@ -232,11 +230,12 @@ func (f *folder) note(text string) (head, error) {
 
 // signed checks a DigitallySigned of ECDSA with SHA-256.
 func (f *folder) signed(message, signature []byte) error {
-	if len(signature) < 4 || signature[0] != 4 || signature[1] != 3 || int(signature[2])<<8|int(signature[3]) != len(signature)-4 {
+	if len(signature) < 4 || signature[0] != 4 || signature[1] != 3 ||
+		int(signature[2])<<8|int(signature[3]) != len(signature)-4 {
 		return wrong("no DigitallySigned")
 	}
 	if digest := sha256.Sum256(message); !ecdsa.VerifyASN1(f.key, digest[:], signature[4:]) {
-		return wrong("the signature isn't the key's")
+		return wrong("the signature is not the key's")
 	}
 	return nil
 }
@@ -260,20 +259,21 @@ func (f *folder) mth(size uint64) hash {
 	return root
 }
 
-// swept says whether partial tiles may be gone, since the full one is there (C2SP tlog-tiles).
+// swept reports whether partial tiles may be deleted, since their full one exists (C2SP tlog-tiles).
 func (f *folder) swept(level string, index uint64) bool {
 	return f.objects[nameOf(level, index, 256)] != nil
 }
 
-// judgeHead sees that a head is the tree's, and that each tile that it wants is there.
+// judgeHead checks that a head is the tree's, and that each tile that it needs exists.
 func (f *folder) judgeHead(h head) error {
 	if h.root != f.mth(h.size) {
-		return wrong("%s isn't MTH of the leaves", h.name)
+		return wrong("%s is not the MTH of the leaves", h.name)
 	}
 	for level := 0; h.size>>uint(8*level) > 0; level++ {
 		hashes := h.size >> uint(8*level)
 		if width := hashes % 256; width > 0 {
-			if name := nameOf(strconv.Itoa(level), hashes/256, width); f.objects[name] == nil && !f.swept(strconv.Itoa(level), hashes/256) {
+			if name := nameOf(strconv.Itoa(level), hashes/256, width); f.objects[name] == nil &&
+				!f.swept(strconv.Itoa(level), hashes/256) {
 				return wrong("%s: %s is missing", h.name, name)
 			}
 		}
@@ -333,7 +333,7 @@ func (f *folder) judgeTiles(size uint64) (count int, err error) {
 			}
 		}
 		if !bytes.Equal(content, defined) {
-			return 0, wrong("%s isn't the defined tile", name)
+			return 0, wrong("%s is not the tile of the tree", name)
 		}
 		count++
 	}
@@ -360,7 +360,7 @@ func (f *folder) judgeIssuers() (count int, err error) {
 	return count, nil
 }
 
-// judgeAnswer sees that a timestamp is signed, and that its entry stands in its place.
+// judgeAnswer checks that an SCT is signed, and that its entry is in its place.
 func (f *folder) judgeAnswer(a Answer) error {
 	if !bytes.Equal(a.LogID, f.logID[:]) {
 		return wrong("a timestamp of another log")
@@ -384,7 +384,7 @@ func (f *folder) judgeAnswer(a Answer) error {
 		return wrong("a timestamp of leaf %d, and the last head has %d leaves", index, len(f.leaves))
 	}
 	if !bytes.Equal(f.leaves[index].merkle, message) {
-		return wrong("leaf %d isn't what its timestamp is of", index)
+		return wrong("leaf %d is not the entry of its SCT", index)
 	}
 	return nil
 }

@@ -69,7 +69,8 @@ func (p *published) ReadHashes(indexes []int64) (found []tlog.Hash, err error) {
 	return found, nil
 }
 
-// newLog has 300 leaves, of which the last repeats the first's entry, and four heads, the first of none; bend changes a leaf before anything is made of it.
+// newLog has 300 leaves, of which the last repeats the first's entry, and four heads, the first of none; bend changes a
+// leaf before anything is made of it.
 func newLog(t testing.TB, bend func(i int, e *entered)) *published {
 	key, err := ecdsa.GenerateKey(elliptic.P256(), rand.Reader)
 	must(t, err)
@@ -80,7 +81,8 @@ func newLog(t testing.TB, bend func(i int, e *entered)) *published {
 	digest := sha256.Sum256(issuer)
 	p.objects[fmt.Sprintf("issuer/%x", digest)] = issuer
 	for i := 0; i < 300; i++ {
-		e := entered{timestamp: uint64(100 + i/10), certificate: []byte(fmt.Sprint("certificate ", i%299)), extensions: leafIndex(i), chain: digest[:]}
+		e := entered{timestamp: uint64(100 + i/10), certificate: []byte(fmt.Sprint("certificate ", i%299)),
+			extensions: leafIndex(i), chain: digest[:]}
 		if i%299%3 == 2 {
 			e.kind, e.keyHash, e.precertificate = 1, bytes.Repeat([]byte{7}, 32), []byte("a precertificate")
 		}
@@ -134,7 +136,8 @@ func nameOfHead(size int, timestamp uint64) string {
 
 // head publishes a head.
 func (p *published) head(t testing.TB, size int, timestamp uint64, root tlog.Hash) {
-	p.objects[nameOfHead(size, timestamp)] = []byte(fmt.Sprintf("%s\n%d\n%v\n\n%s", origin, size, root, p.line(t, size, timestamp, root)))
+	p.objects[nameOfHead(size, timestamp)] = []byte(fmt.Sprintf("%s\n%d\n%v\n\n%s", origin, size, root,
+		p.line(t, size, timestamp, root)))
 }
 
 // tiles publishes those of a tree.
@@ -169,7 +172,8 @@ func (p *published) hasHead(name string) bool {
 		if n, _ := fmt.Sscanf(head, "heads/%d-%d", &size, &timestamp); n < 2 || size == 0 {
 			continue
 		}
-		for _, of := range []string{fmt.Sprintf("tile/0/%03d.p/%d", size/256, size%256), fmt.Sprintf("tile/data/%03d.p/%d", size/256, size%256), fmt.Sprintf("tile/1/000.p/%d", size/256)} {
+		for _, of := range []string{fmt.Sprintf("tile/0/%03d.p/%d", size/256, size%256),
+			fmt.Sprintf("tile/data/%03d.p/%d", size/256, size%256), fmt.Sprintf("tile/1/000.p/%d", size/256)} {
 			if of == name {
 				return true
 			}
@@ -192,7 +196,8 @@ func (p *published) answer(t testing.TB, i int) Answer {
 // copied is the same log once more, to be bent.
 func (p *published) copied() *published {
 	other := *p
-	other.objects, other.answers, other.leaves = map[string][]byte{}, append([]Answer{}, p.answers...), append([]entered{}, p.leaves...)
+	other.objects, other.answers, other.leaves = map[string][]byte{}, append([]Answer{}, p.answers...),
+		append([]entered{}, p.leaves...)
 	for name, content := range p.objects {
 		other.objects[name] = append([]byte{}, content...)
 	}
@@ -220,7 +225,8 @@ func (p *published) written(t testing.TB) string {
 	return folder
 }
 
-// TestRight judges a log that is right, also one whose partial tiles went behind their full ones, with what isn't published beside it.
+// TestRight judges a correct log. It may have deleted partial tiles after their full ones, and have files that are not
+// published.
 func TestRight(t *testing.T) {
 	p := newLog(t, nil)
 	want := Report{Heads: 4, Leaves: 300, Tiles: 0, Issuers: 1, Answers: 3, Repeats: 1}
@@ -248,7 +254,8 @@ func TestRight(t *testing.T) {
 	}
 }
 
-// TestWrong bends a log in one place at a time, and signs and hashes the rest of it as it then is: each is found, by what is wrong.
+// TestWrong bends a log in one place at a time, and signs and hashes the rest of it as it then is: each is found, by
+// what is wrong.
 func TestWrong(t *testing.T) {
 	replaced := func(name, old, new string) func(t testing.TB, p *published) {
 		return func(t testing.TB, p *published) {
@@ -320,28 +327,34 @@ func TestWrong(t *testing.T) {
 		"two heads have one moment": {nil, func(t testing.TB, p *published) {
 			gone(last)(t, p)
 			p.head(t, 300, 1002, p.root(t, 300))
-		}, "isn't later than"},
-		"a later head is of fewer leaves": {nil, func(t testing.TB, p *published) { p.head(t, 2, 2000, p.root(t, 2)) }, "isn't later than"},
+		}, "is not later than"},
+		"a later head is of fewer leaves": {nil, func(t testing.TB, p *published) { p.head(t, 2, 2000, p.root(t, 2)) },
+			"is not later than"},
 		"a head in the middle has another root": {nil, func(t testing.TB, p *published) {
 			p.head(t, 257, 1002, p.root(t, 256))
-		}, "isn't MTH of the leaves"},
-		"the first head has another root": {nil, func(t testing.TB, p *published) { p.head(t, 0, 1000, p.root(t, 1)) }, "isn't MTH of the leaves"},
-		"a head is under another's name":  {nil, copied(last, nameOfHead(300, 1004)), "it is the head of 300 leaves at 1003"},
-		"a head has an extension line":    {nil, replaced(last, "\n\n", "\nmore\n\n"), "no signed note"},
-		"a head's size begins with 0":     {nil, replaced(last, "\n300\n", "\n0300\n"), "no size"},
-		"a head's root is short":          {nil, replaced(last, "=\n\n", "\n\n"), "no root"},
-		"a head's root and a return":      {nil, replaced(last, "=\n\n", "=\r\n\n"), "no root"},
+		}, "is not the MTH of the leaves"},
+		"the first head has another root": {nil, func(t testing.TB, p *published) { p.head(t, 0, 1000, p.root(t, 1)) },
+			"is not the MTH of the leaves"},
+		"a head is under another's name": {nil, copied(last, nameOfHead(300, 1004)),
+			"it is the head of 300 leaves at 1003"},
+		"a head has an extension line": {nil, replaced(last, "\n\n", "\nmore\n\n"), "no signed note"},
+		"a head's size begins with 0":  {nil, replaced(last, "\n300\n", "\n0300\n"), "no size"},
+		"a head's root is short":       {nil, replaced(last, "=\n\n", "\n\n"), "no root"},
+		"a head's root and a return":   {nil, replaced(last, "=\n\n", "=\r\n\n"), "no root"},
 		"a head's line and a return": {nil, func(_ testing.TB, p *published) {
 			p.objects[last] = append(bytes.TrimSuffix(p.objects[last], []byte("\n")), "\r\n"...)
 		}, "no signature"},
-		"another signs first":         {nil, replaced(last, "— "+origin, "— other.example"), "the signature isn't the origin's"},
-		"a head is of another origin": {nil, replaced(last, origin+"\n300", "other.example\n300"), "the signature isn't the origin's"},
+		"another signs first": {nil, replaced(last, "— "+origin, "— other.example"),
+			"the signature is not the origin's"},
+		"a head is of another origin": {nil, replaced(last, origin+"\n300", "other.example\n300"),
+			"the signature is not the origin's"},
 		"all of a head is another's": {nil, func(t testing.TB, p *published) {
 			p.objects[last] = []byte(strings.ReplaceAll(string(p.objects[last]), origin, "other.example"))
 		}, "the signature is another key's"},
 		"a head's signature is of another head": {nil, func(t testing.TB, p *published) {
-			p.objects[last] = []byte(strings.Replace(string(p.objects[last]), p.root(t, 300).String(), p.root(t, 257).String(), 1))
-		}, "the signature isn't the key's"},
+			p.objects[last] = []byte(strings.Replace(string(p.objects[last]), p.root(t, 300).String(),
+				p.root(t, 257).String(), 1))
+		}, "the signature is not the key's"},
 		"there is no head": {nil, func(_ testing.TB, p *published) {
 			for name := range p.objects {
 				if strings.HasPrefix(name, "heads/") {
@@ -365,35 +378,68 @@ func TestWrong(t *testing.T) {
 		"a tile of data breaks off": {nil, func(_ testing.TB, p *published) {
 			n := "tile/data/001.p/44"
 			p.objects[n] = p.objects[n][:len(p.objects[n])-1]
-		}, "leaf 43 isn't whole"},
-		"an earlier tile of data is another":       {nil, replaced("tile/data/001.p/1", "certificate 256", "certificate 255"), "tile/data/001.p/1 isn't the defined tile"},
-		"an earlier tile of hashes is another":     {nil, func(_ testing.TB, p *published) { p.objects["tile/0/000.p/2"][40] ^= 1 }, "tile/0/000.p/2 isn't the defined tile"},
-		"a tile has more leaves than there are":    {nil, copied("tile/0/001.p/44", "tile/0/001.p/45"), "has more than the 300 leaves"},
-		"a tile of a level that isn't there":       {nil, copied("tile/1/000.p/1", "tile/2/000.p/1"), "has more than the 300 leaves"},
-		"a tile's name has a part too many":        {nil, copied("tile/0/000", "tile/0/x000/000"), "is written otherwise"},
-		"a tile's width begins with 0":             {nil, copied("tile/0/001.p/44", "tile/0/001.p/044"), "is written otherwise"},
-		"a tile's level begins with 0":             {nil, copied("tile/0/000", "tile/00/000"), "it has no level"},
-		"a tile's level isn't one":                 {nil, copied("tile/0/000", "tile/8/000"), "it has no level"},
-		"an issuer's content is another":           {nil, func(_ testing.TB, p *published) { p.objects["issuer/"+strings.Repeat("00", 32)] = []byte("x") }, "is another issuer"},
-		"a timestamp of another log":               {nil, answered(1, func(a *Answer) { a.LogID = make([]byte, 32) }), "answer 1: check: a timestamp of another log"},
-		"a timestamp's extension is another":       {nil, answered(2, func(a *Answer) { a.Extensions = append([]byte{1}, a.Extensions[1:]...) }), "answer 2: check: a timestamp without leaf_index"},
-		"a timestamp's extensions are more":        {nil, answered(2, func(a *Answer) { a.Extensions = append(a.Extensions[:8:8], 0) }), "a timestamp without leaf_index"},
-		"a timestamp's signature is of another":    {nil, func(_ testing.TB, p *published) { p.answers[2].Signature = p.answers[0].Signature }, "answer 2: check: the signature isn't the key's"},
-		"a timestamp's algorithm is another":       {nil, answered(0, func(a *Answer) { a.Signature[1] = 1 }), "no DigitallySigned"},
-		"a timestamp's hash is another":            {nil, answered(0, func(a *Answer) { a.Signature[0] = 5 }), "no DigitallySigned"},
-		"a timestamp's signature has a byte more":  {nil, answered(0, func(a *Answer) { a.Signature = append(a.Signature, 0) }), "no DigitallySigned"},
-		"a timestamp of a leaf that isn't there":   {nil, signedAgain(func(e *entered) { e.extensions = leafIndex(300) }), "a timestamp of leaf 300, and the last head has 300 leaves"},
-		"a timestamp of another moment is signed":  {nil, signedAgain(func(e *entered) { e.timestamp++ }), "leaf 0 isn't what its timestamp is of"},
-		"a timestamp of another place is signed":   {nil, signedAgain(func(e *entered) { e.extensions = leafIndex(1) }), "leaf 1 isn't what its timestamp is of"},
-		"a timestamp of another content is signed": {nil, signedAgain(func(e *entered) { e.certificate = []byte("another") }), "leaf 0 isn't what its timestamp is of"},
+		}, "leaf 43 is cut off"},
+		"an earlier tile of data is another": {nil, replaced("tile/data/001.p/1", "certificate 256",
+			"certificate 255"), "tile/data/001.p/1 is not the tile of the tree"},
+		"an earlier tile of hashes is another": {nil, func(_ testing.TB,
+			p *published) {
+			p.objects["tile/0/000.p/2"][40] ^= 1
+		}, "tile/0/000.p/2 is not the tile of the tree"},
+		"a tile has more leaves than there are": {nil, copied("tile/0/001.p/44", "tile/0/001.p/45"),
+			"has more than the 300 leaves"},
+		"a tile of a level that isn't there": {nil, copied("tile/1/000.p/1", "tile/2/000.p/1"),
+			"has more than the 300 leaves"},
+		"a tile's name has a part too many": {nil, copied("tile/0/000", "tile/0/x000/000"),
+			"is written otherwise"},
+		"a tile's width begins with 0": {nil, copied("tile/0/001.p/44", "tile/0/001.p/044"),
+			"is written otherwise"},
+		"a tile's level begins with 0": {nil, copied("tile/0/000", "tile/00/000"), "it has no level"},
+		"a tile's level isn't one":     {nil, copied("tile/0/000", "tile/8/000"), "it has no level"},
+		"an issuer's content is another": {nil, func(_ testing.TB,
+			p *published) {
+			p.objects["issuer/"+strings.Repeat("00", 32)] = []byte("x")
+		}, "is another issuer"},
+		"a timestamp of another log": {nil, answered(1, func(a *Answer) { a.LogID = make([]byte, 32) }),
+			"answer 1: check: a timestamp of another log"},
+		"a timestamp's extension is another": {nil, answered(2,
+			func(a *Answer) { a.Extensions = append([]byte{1}, a.Extensions[1:]...) }),
+			"answer 2: check: a timestamp without leaf_index"},
+		"a timestamp's extensions are more": {nil, answered(2,
+			func(a *Answer) { a.Extensions = append(a.Extensions[:8:8], 0) }), "a timestamp without leaf_index"},
+		"a timestamp's signature is of another": {nil, func(_ testing.TB,
+			p *published) {
+			p.answers[2].Signature = p.answers[0].Signature
+		}, "answer 2: check: the signature is not the key's"},
+		"a timestamp's algorithm is another": {nil, answered(0, func(a *Answer) { a.Signature[1] = 1 }),
+			"no DigitallySigned"},
+		"a timestamp's hash is another": {nil, answered(0, func(a *Answer) { a.Signature[0] = 5 }),
+			"no DigitallySigned"},
+		"a timestamp's signature has a byte more": {nil, answered(0,
+			func(a *Answer) { a.Signature = append(a.Signature, 0) }), "no DigitallySigned"},
+		"a timestamp of a leaf that isn't there": {nil, signedAgain(
+			func(e *entered) { e.extensions = leafIndex(300) }),
+			"a timestamp of leaf 300, and the last head has 300 leaves"},
+		"a timestamp of another moment is signed": {nil, signedAgain(func(e *entered) { e.timestamp++ }),
+			"leaf 0 is not the entry of its SCT"},
+		"a timestamp of another place is signed": {nil, signedAgain(func(e *entered) { e.extensions = leafIndex(1) }),
+			"leaf 1 is not the entry of its SCT"},
+		"a timestamp of another content is signed": {nil, signedAgain(
+			func(e *entered) { e.certificate = []byte("another") }), "leaf 0 is not the entry of its SCT"},
 		"a head's name isn't one":                  {nil, copied(last, "heads/300-1003"), "that is no head's name"},
 		"a tile's name isn't one":                  {nil, copied("tile/0/000", "tile/0/0"), "that is no tile's name"},
 		"a partial tile has no width":              {nil, copied("tile/0/000", "tile/0/000.p/0"), "it has no width"},
 		"a partial tile has as many as a full one": {nil, copied("tile/0/000", "tile/0/000.p/256"), "it has no width"},
-		"behind the signature stands none":         {nil, func(_ testing.TB, p *published) { p.objects[last] = append(p.objects[last], "— w.example AAAA\n"...) }, "no signed note"},
-		"the last line of a head has no end":       {nil, func(_ testing.TB, p *published) { p.objects[last] = bytes.TrimSuffix(p.objects[last], []byte("\n")) }, "no signed note"},
+		"behind the signature stands none": {nil, func(_ testing.TB,
+			p *published) {
+			p.objects[last] = append(p.objects[last], "— w.example AAAA\n"...)
+		}, "no signed note"},
+		"the last line of a head has no end": {nil, func(_ testing.TB,
+			p *published) {
+			p.objects[last] = bytes.TrimSuffix(p.objects[last], []byte("\n"))
+		}, "no signed note"},
 		"a head's signature is cut off behind a byte": {nil, func(_ testing.TB, p *published) {
-			p.objects[last] = []byte(fmt.Sprintf("%s\n300\n%v\n\n— %s %s\n", origin, tlog.Hash{}, origin, base64.StdEncoding.EncodeToString(make([]byte, 12))))
+			p.objects[last] = []byte(fmt.Sprintf("%s\n300\n%v\n\n— %s %s\n", origin, tlog.Hash{}, origin,
+				base64.StdEncoding.EncodeToString(make([]byte, 12))))
 		}, "no signature"},
 	} {
 		p := right.copied()
@@ -410,7 +456,7 @@ func TestWrong(t *testing.T) {
 	}
 }
 
-// TestKeysOfLogs: what is no key of ECDSA judges nothing, and a folder that isn't there neither.
+// TestKeysOfLogs: Judge returns an error for a key that is not ECDSA, and for a missing folder.
 func TestKeysOfLogs(t *testing.T) {
 	p := newLog(t, nil)
 	public, _, err := ed25519.GenerateKey(rand.Reader)

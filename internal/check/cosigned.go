@@ -43,7 +43,8 @@ func (e *evidence) fewCosigned() (string, error) {
 	if quorum < 0 || count >= quorum {
 		return "", notShown("%d witnesses cosigned the head, and the quorum is %d", count, quorum)
 	}
-	return fmt.Sprintf("of %d witnesses, %d cosigned the log's head of %d leaves, and %d are wanted. It must be believed "+
+	return fmt.Sprintf("of %d witnesses, %d cosigned the log's head of %d leaves, and %d are wanted. It must be "+
+		"believed "+
 		"that the log gave no more cosignatures", witnesses, count, second.size, quorum), nil
 }
 

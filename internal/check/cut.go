@@ -22,9 +22,10 @@ type extension struct {
 	Value    []byte
 }
 
-// Precertificates judges the precertificates of a log that Folder found to be right, and returns how many it has: each leaf's TBSCertificate must be that of the
-// precertificate beside it without its poison, with the name and the key identifier of the final issuer, and else the same (RFC 6962, section 3.2), and its key hash
-// must be the final issuer's.
+// Precertificates judges the precertificates of a log that Folder found to be right, and returns how many it has: each
+// leaf's TBSCertificate must be that of the precertificate beside it without its poison, with the name and the key
+// identifier of the final issuer, and else the same (RFC 6962, section 3.2), and its key hash must be the final
+// issuer's.
 func Precertificates(path string) (count int, err error) {
 	f := &folder{objects: map[string][]byte{}}
 	if err := f.read(path); err != nil {
@@ -59,7 +60,7 @@ func Precertificates(path string) (count int, err error) {
 			return 0, wrong("leaf %d has another issuer's key hash than its precertificate", i)
 		}
 		if !bytes.Equal(l.entry[37:], tbs) {
-			return 0, wrong("leaf %d isn't what its precertificate is without the poison", i)
+			return 0, wrong("leaf %d differs from its precertificate without the poison", i)
 		}
 	}
 	return count, nil
@@ -104,7 +105,8 @@ func entryOf(precertificate []byte, issuers [][]byte) (keyHash hash, tbs []byte,
 	return sha256.Sum256(issuer.RawSubjectPublicKeyInfo), tbs, err
 }
 
-// cut returns a precertificate's TBSCertificate without the poison, and with the issuer and its key identifier of a signing certificate, if there is one.
+// cut returns a precertificate's TBSCertificate without the poison, and with the issuer and its key identifier of a
+// signing certificate, if there is one.
 func cut(tbs []byte, signing *x509.Certificate) ([]byte, error) {
 	fields, err := inside(tbs)
 	if err != nil || len(fields) == 0 {
@@ -117,7 +119,7 @@ func cut(tbs []byte, signing *x509.Certificate) ([]byte, error) {
 	var made []byte
 	names := 0
 	for _, field := range fields[:last] {
-		// The second of its SEQUENCEs is the issuer, behind that of the signature's algorithm.
+		// The issuer is the second SEQUENCE, after the signature's algorithm.
 		isSequence := field.Class == asn1.ClassUniversal && field.Tag == asn1.TagSequence
 		if isSequence {
 			names++
@@ -142,7 +144,8 @@ func cut(tbs []byte, signing *x509.Certificate) ([]byte, error) {
 	return wrap(0x30, made), nil
 }
 
-// withoutPoison returns extensions without the one poison, and with a signing certificate's own authority key identifier in place of theirs.
+// withoutPoison returns extensions without the one poison, and with a signing certificate's own authority key
+// identifier in place of theirs.
 func withoutPoison(list []byte, signing *x509.Certificate) (kept []byte, err error) {
 	all, err := elements(list)
 	if err != nil {

@@ -49,14 +49,20 @@ func issueFor(t *testing.T, by *issued, template x509.Certificate, key *ecdsa.Pr
 	return &issued{made, key}
 }
 
-// TestEntryOfPrecertificate issues a precertificate and the final certificate of the same fields, by their issuer and by a precertificate signing certificate: the
-// entry must be the final one's TBSCertificate, byte by byte, and its issuer's key hash.
+// TestEntryOfPrecertificate issues a precertificate and the final certificate of the same fields, by their issuer and
+// by a precertificate signing certificate: the entry must be the final one's TBSCertificate, byte by byte, and its
+// issuer's key hash.
 func TestEntryOfPrecertificate(t *testing.T) {
-	authority := issue(t, nil, x509.Certificate{SerialNumber: big.NewInt(1), Subject: pkix.Name{CommonName: "an authority"}, IsCA: true, BasicConstraintsValid: true, SubjectKeyId: []byte("the authority's")})
-	signing := issue(t, authority, x509.Certificate{SerialNumber: big.NewInt(2), Subject: pkix.Name{CommonName: "its signer"}, IsCA: true, BasicConstraintsValid: true, SubjectKeyId: []byte("its"), UnknownExtKeyUsage: []asn1.ObjectIdentifier{signingID}})
+	authority := issue(t, nil, x509.Certificate{SerialNumber: big.NewInt(1),
+		Subject: pkix.Name{CommonName: "an authority"}, IsCA: true, BasicConstraintsValid: true,
+		SubjectKeyId: []byte("the authority's")})
+	signing := issue(t, authority, x509.Certificate{SerialNumber: big.NewInt(2),
+		Subject: pkix.Name{CommonName: "its signer"}, IsCA: true, BasicConstraintsValid: true,
+		SubjectKeyId: []byte("its"), UnknownExtKeyUsage: []asn1.ObjectIdentifier{signingID}})
 	poison := pkix.Extension{Id: poisonID, Critical: true, Value: asn1.NullBytes}
 	other := pkix.Extension{Id: asn1.ObjectIdentifier{1, 2, 3}, Value: bytes.Repeat([]byte{5}, 300)}
-	template := x509.Certificate{SerialNumber: big.NewInt(3), Subject: pkix.Name{CommonName: "a name"}, DNSNames: []string{"name.example"}, ExtraExtensions: []pkix.Extension{other}}
+	template := x509.Certificate{SerialNumber: big.NewInt(3), Subject: pkix.Name{CommonName: "a name"},
+		DNSNames: []string{"name.example"}, ExtraExtensions: []pkix.Extension{other}}
 	final := issue(t, authority, template)
 	for what, of := range map[string]struct {
 		by      *issued
@@ -71,7 +77,8 @@ func TestEntryOfPrecertificate(t *testing.T) {
 		pre.ExtraExtensions = of.more
 		made := issueFor(t, of.by, pre, final.key)
 		keyHash, tbs, err := entryOf(made.Raw, of.issuers)
-		if err != nil || !bytes.Equal(tbs, final.RawTBSCertificate) || keyHash != sha256.Sum256(authority.RawSubjectPublicKeyInfo) {
+		if err != nil || !bytes.Equal(tbs, final.RawTBSCertificate) ||
+			keyHash != sha256.Sum256(authority.RawSubjectPublicKeyInfo) {
 			t.Errorf("%s: %x in place of %x, %v", what, tbs, final.RawTBSCertificate, err)
 		}
 	}
@@ -82,7 +89,9 @@ func TestEntryOfPrecertificate(t *testing.T) {
 		der     []byte
 		issuers [][]byte
 	}{
-		"no poison": {final.Raw, [][]byte{authority.Raw}}, "no issuer": {bySigner.Raw, nil}, "no final issuer": {bySigner.Raw, [][]byte{signing.Raw}}, "no certificate": {[]byte("x"), [][]byte{authority.Raw}},
+		"no poison": {final.Raw, [][]byte{authority.Raw}}, "no issuer": {bySigner.Raw, nil},
+		"no final issuer":        {bySigner.Raw, [][]byte{signing.Raw}},
+		"no certificate":         {[]byte("x"), [][]byte{authority.Raw}},
 		"an issuer that is none": {bySigner.Raw, [][]byte{[]byte("x")}},
 	} {
 		if _, tbs, err := entryOf(of.der, of.issuers); err == nil {
@@ -91,10 +100,12 @@ func TestEntryOfPrecertificate(t *testing.T) {
 	}
 }
 
-// TestPrecertificates judges logs over real precertificates: Folder finds nothing wrong with an entry of another certificate that is signed and in the tree, and
-// Precertificates must.
+// TestPrecertificates judges logs over real precertificates: Folder finds nothing wrong with an entry of another
+// certificate that is signed and in the tree, and Precertificates must.
 func TestPrecertificates(t *testing.T) {
-	authority := issue(t, nil, x509.Certificate{SerialNumber: big.NewInt(1), Subject: pkix.Name{CommonName: "an authority"}, IsCA: true, BasicConstraintsValid: true, SubjectKeyId: []byte("its")})
+	authority := issue(t, nil, x509.Certificate{SerialNumber: big.NewInt(1),
+		Subject: pkix.Name{CommonName: "an authority"}, IsCA: true, BasicConstraintsValid: true,
+		SubjectKeyId: []byte("its")})
 	template := func(i int) x509.Certificate {
 		return x509.Certificate{SerialNumber: big.NewInt(int64(1000 + i)), DNSNames: []string{"name.example"}}
 	}
@@ -110,11 +121,15 @@ func TestPrecertificates(t *testing.T) {
 		bend func(e *entered)
 		says string
 	}{
-		"right":                         {func(e *entered) {}, ""},
-		"another certificate's entry":   {func(e *entered) { e.certificate = finals[5].RawTBSCertificate }, "leaf 2 isn't what its precertificate is"},
-		"an entry with the poison":      {func(e *entered) { e.certificate = pres[2].RawTBSCertificate }, "leaf 2 isn't what its precertificate is"},
-		"another key hash":              {func(e *entered) { e.keyHash = bytes.Repeat([]byte{7}, 32) }, "leaf 2 has another issuer's key hash"},
-		"a certificate as its own pre":  {func(e *entered) { e.precertificate = finals[2].Raw }, "leaf 2: its precertificate"},
+		"right": {func(e *entered) {}, ""},
+		"another certificate's entry": {func(e *entered) { e.certificate = finals[5].RawTBSCertificate },
+			"leaf 2 differs from its precertificate"},
+		"an entry with the poison": {func(e *entered) { e.certificate = pres[2].RawTBSCertificate },
+			"leaf 2 differs from its precertificate"},
+		"another key hash": {func(e *entered) { e.keyHash = bytes.Repeat([]byte{7}, 32) },
+			"leaf 2 has another issuer's key hash"},
+		"a certificate as its own pre": {func(e *entered) { e.precertificate = finals[2].Raw },
+			"leaf 2: its precertificate"},
 		"a precertificate without them": {func(e *entered) { e.chain = nil }, "leaf 2: its precertificate"},
 	} {
 		p := newLog(t, func(i int, e *entered) {
@@ -122,7 +137,8 @@ func TestPrecertificates(t *testing.T) {
 			if pres[i] == nil {
 				return
 			}
-			e.kind, e.keyHash, e.certificate, e.precertificate, e.chain = 1, keyHash[:], finals[i].RawTBSCertificate, pres[i].Raw, digest[:]
+			e.kind, e.keyHash, e.certificate, e.precertificate, e.chain = 1, keyHash[:], finals[i].RawTBSCertificate,
+				pres[i].Raw, digest[:]
 			if i == 2 {
 				of.bend(e)
 			}
@@ -133,7 +149,8 @@ func TestPrecertificates(t *testing.T) {
 			t.Fatalf("%s: %v", what, err)
 		}
 		count, err := Precertificates(folder)
-		if of.says == "" && (err != nil || count != 2) || of.says != "" && (err == nil || !strings.Contains(err.Error(), of.says)) {
+		if of.says == "" && (err != nil || count != 2) || of.says != "" &&
+			(err == nil || !strings.Contains(err.Error(), of.says)) {
 			t.Errorf("%s: %d, %v", what, count, err)
 		}
 	}

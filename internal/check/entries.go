@@ -84,7 +84,8 @@ func (e *evidence) lateMerge() (string, error) {
 	}
 	timestamp, _, ok := timestampOf(e.files["leaf"])
 	if !ok || index < first.size || first.timestamp < timestamp || first.timestamp-timestamp <= e.MaxMergeDelay {
-		return "", notShown("entry %d of %d, and a head of %d leaves at %d", index, timestamp, first.size, first.timestamp)
+		return "", notShown("entry %d of %d, and a head of %d leaves at %d", index, timestamp, first.size,
+			first.timestamp)
 	}
 	return fmt.Sprintf("entry %d has the timestamp %d, and the head of %d leaves that the log signed at %d does not "+
 		"cover it. It must be believed that the maximum merge delay is %d ms",
@@ -165,7 +166,8 @@ func (e *evidence) brokenPromise() (string, error) {
 		if second.timestamp < timestamp || second.timestamp-timestamp <= e.MaxMergeDelay {
 			return "", notShown("the timestamp is %d, and the head was signed at %d", timestamp, second.timestamp)
 		}
-		return fmt.Sprintf("the log promised an entry at %d. It must be believed that its maximum merge delay is %d ms, and "+
+		return fmt.Sprintf("the log promised an entry at %d. It must be believed that its maximum merge delay is %d "+
+			"ms, and "+
 			"that the %d leaves of its head of %d lack it: ask for it by its hash",
 			timestamp, e.MaxMergeDelay, second.size, second.timestamp), nil
 	}

@@ -20,7 +20,7 @@ import (
 	"time"
 )
 
-// about is evidence.json: what a monitor says that it saw, and the log's parameters.
+// about is the file evidence.json: the monitor's statement, and the log's parameters.
 type about struct {
 	Verdict       string `json:"verdict"`
 	Time          string `json:"time"`
@@ -213,7 +213,8 @@ func (e *evidence) shrunk() (string, error) {
 		return "", err
 	}
 	if second.size >= first.size || second.timestamp < first.timestamp {
-		return "", notShown("%d leaves at %d, and %d leaves at %d", first.size, first.timestamp, second.size, second.timestamp)
+		return "", notShown("%d leaves at %d, and %d leaves at %d", first.size, first.timestamp, second.size,
+			second.timestamp)
 	}
 	return fmt.Sprintf("the log signed %d leaves at %d, and %d leaves at %d. Nothing else must be believed", first.size,
 		first.timestamp, second.size, second.timestamp), nil
@@ -225,7 +226,8 @@ func (e *evidence) notLater() (string, error) {
 		return "", err
 	}
 	if second.size <= first.size || second.timestamp > first.timestamp {
-		return "", notShown("%d leaves at %d, and %d leaves at %d", first.size, first.timestamp, second.size, second.timestamp)
+		return "", notShown("%d leaves at %d, and %d leaves at %d", first.size, first.timestamp, second.size,
+			second.timestamp)
 	}
 	return fmt.Sprintf("the log signed %d leaves at %d, and more, %d, at %d, which is not later. Nothing else must be "+
 		"believed", first.size, first.timestamp, second.size, second.timestamp), nil
@@ -262,7 +264,8 @@ func (e *evidence) inconsistent() (string, error) {
 	if leads(first, second, *answer.Consistency) {
 		return "", notShown("the proof leads from head-1 to head-2")
 	}
-	return fmt.Sprintf("the log signed heads of %d and %d leaves, and the proof does not lead from one to the other. It "+
+	return fmt.Sprintf("the log signed heads of %d and %d leaves, and the proof does not lead from one to the "+
+		"other. It "+
 		"must be believed that the log gave this proof: ask it again",
 		first.size, second.size), nil
 }
@@ -272,7 +275,8 @@ func (e *evidence) otherRoot() (string, error) {
 	if err != nil {
 		return "", err
 	}
-	return fmt.Sprintf("the log signed the root %x of %d leaves. It must be believed that the leaves which it gave have "+
+	return fmt.Sprintf("the log signed the root %x of %d leaves. It must be believed that the leaves which it "+
+		"gave have "+
 		"another one: read them again", second.root, second.size), nil
 }
 
@@ -288,7 +292,8 @@ func (e *evidence) oldHead() (string, error) {
 	if age := at.UnixMilli() - int64(second.timestamp); age <= int64(e.MaxMergeDelay) {
 		return "", notShown("the head was %d ms old, and the maximum merge delay is %d ms", age, e.MaxMergeDelay)
 	}
-	return fmt.Sprintf("the log signed its head at %d. It must be believed that this was its newest head at %s, and that "+
+	return fmt.Sprintf("the log signed its head at %d. It must be believed that this was its newest head at %s, "+
+		"and that "+
 		"its maximum merge delay is %d ms", second.timestamp, e.Time, e.MaxMergeDelay), nil
 }
 

@@ -84,7 +84,8 @@ func (c *cursor) number(length int) uint64 {
 
 func (c *cursor) skip(length uint64) { c.at += int(length) }
 
-// issuers returns the fingerprints of a chain, of which this many bytes follow. Of a fingerprint that the tile does not have, it returns zeros.
+// issuers returns the fingerprints of a chain, which has this many more bytes. A fingerprint that the tile does not
+// have is all zeros.
 func (c *cursor) issuers(length uint64) (all []hash) {
 	for ; length > 0; length -= 32 {
 		var issuer hash
@@ -131,7 +132,7 @@ func leavesOf(tile []byte) ([]leaf, error) {
 		}
 		l.issuers = c.issuers(chain)
 		if c.at > len(tile) {
-			return nil, wrong("leaf %d isn't whole", len(leaves))
+			return nil, wrong("leaf %d is cut off", len(leaves))
 		}
 		l.entry, l.inTile = tile[entry:entryEnd], tile[from:c.at]
 		l.merkle = append([]byte{0, 0}, tile[from:merkleEnd]...)

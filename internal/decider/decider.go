@@ -1,5 +1,6 @@
-// Package decider decides what a node of a log does next, by the proved functions for nodes in this process (docs/NODE.md). The library knows a state by three
-// numbers. This package keeps the texts and names that belong to them.
+// Package decider decides what a node of a log does next, by the proved functions for nodes in this process
+// (docs/NODE.md). The library knows a state by three numbers. This package keeps the texts and names that belong to
+// them.
 package decider
 
 import (
@@ -33,8 +34,10 @@ const (
 
 // names are the commands' by their numbers.
 var names = map[wagtenib.NodeCommandKind]string{
-	wagtenib.ReadLock: Read, wagtenib.LookForHead: Look, wagtenib.TakeStep: Step, wagtenib.StageBatch: Stage, wagtenib.SwapLock: Swap,
-	wagtenib.PutObjects: Put, wagtenib.AddToIndex: Place, wagtenib.PublishHead: Head, wagtenib.AnswerAll: Answer, wagtenib.DeleteBatch: Delete,
+	wagtenib.ReadLock: Read, wagtenib.LookForHead: Look, wagtenib.TakeStep: Step, wagtenib.StageBatch: Stage,
+	wagtenib.SwapLock:   Swap,
+	wagtenib.PutObjects: Put, wagtenib.AddToIndex: Place, wagtenib.PublishHead: Head, wagtenib.AnswerAll: Answer,
+	wagtenib.DeleteBatch: Delete,
 }
 
 // Held is a lock's text, and what it says.
@@ -59,15 +62,16 @@ func readText(text string) (known, error) {
 	if err != nil {
 		return known{}, fmt.Errorf("%w: %w", ErrRefused, err)
 	}
-	return known{Held{Text: text, Bundle: wagtenib.BatchName(state), Timestamp: state.Timestamp, Size: size}, state}, nil
+	return known{Held{Text: text, Bundle: wagtenib.BatchName(state), Timestamp: state.Timestamp,
+		Size: size}, state}, nil
 }
 
-// Command is what a node does next, and all that is to be known of the node.
+// Command is the next command for a node, with its data and the node's state after it.
 type Command struct {
 	Do string
 	// Seen is the text that the command starts from, and New the one that is made of it, or is published.
 	Seen, New Held
-	// Objects are those of New, each as it was told.
+	// Objects are the objects of New, in the given order.
 	Objects []string
 	// Bundle is the name of the staged batch that must be deleted.
 	Bundle string
@@ -107,7 +111,8 @@ func WasRead(text string) Told { return &Outcome{kind: wagtenib.LockRead, text: 
 // Bundled returns the outcome if the staged batch of the text that was looked at has these objects.
 func Bundled(objects []string) Told { return &Outcome{kind: wagtenib.BatchRead, objects: objects} }
 
-// Stepped returns the outcome if a step was made to a state's line, with these objects, by the node with this address. The salt is a random number.
+// Stepped returns the outcome if a step was made to a state's line, with these objects, by the node with this address.
+// The salt is a random number.
 func Stepped(line, node string, salt uint64, objects []string) Told {
 	return &Outcome{kind: wagtenib.StepMade, line: line, node: node, salt: salt, objects: objects}
 }
@@ -145,7 +150,7 @@ type Rooted struct {
 	Root [32]byte
 }
 
-// Found is what a node finds of a log when it starts. What is nil, and an empty text, is not there.
+// Found has the data that a node finds at a start. A nil field or an empty text does not exist.
 type Found struct {
 	// Register is the lock's text.
 	Register string
@@ -203,8 +208,10 @@ func (r Refusal) Error() string { return "decider: " + string(r) }
 
 // refusals are the library's errors of a node that must not start.
 var refusals = map[error]Refusal{
-	wagtenib.ErrLockGone: Gone, wagtenib.ErrBehindSeen: BehindSeen, wagtenib.ErrBehindSigned: BehindGuard, wagtenib.ErrTwoRoots: TwoRoots,
-	wagtenib.ErrSignedBehindListed: GuardBehind, wagtenib.ErrBehindListed: BehindListed, wagtenib.ErrBehindPublished: BehindPublished,
+	wagtenib.ErrLockGone: Gone, wagtenib.ErrBehindSeen: BehindSeen, wagtenib.ErrBehindSigned: BehindGuard,
+	wagtenib.ErrTwoRoots:           TwoRoots,
+	wagtenib.ErrSignedBehindListed: GuardBehind, wagtenib.ErrBehindListed: BehindListed,
+	wagtenib.ErrBehindPublished: BehindPublished,
 }
 
 // Function returns the command that follows a command, as wagtenib.NodeNext does.
@@ -242,7 +249,8 @@ func (d *Decider) Next(command *Command, told Told) (*Command, error) {
 		return nil, err
 	}
 	switch node.Kind {
-	case wagtenib.StageBatch, wagtenib.SwapLock, wagtenib.PutObjects, wagtenib.AddToIndex, wagtenib.PublishHead, wagtenib.AnswerAll:
+	case wagtenib.StageBatch, wagtenib.SwapLock, wagtenib.PutObjects, wagtenib.AddToIndex, wagtenib.PublishHead,
+		wagtenib.AnswerAll:
 		next.New, err = ofState(node.Next, made, seen, came)
 	case wagtenib.DeleteBatch:
 		next.Bundle = wagtenib.BatchName(node.Next)
@@ -283,7 +291,8 @@ func (c *Command) objects(before *Command, told Told) ([]string, error) {
 	return objects, nil
 }
 
-// Start reports whether a node that finds this must create the lock. If not, it continues from the lock's text. A Refusal says that it must do neither.
+// Start reports whether a node that finds this must create the lock. If not, it continues from the lock's text. A
+// Refusal says that it must do neither.
 func (d *Decider) Start(found Found) (creates bool, err error) {
 	err = wagtenib.NodeStart([]byte(found.Register), found.inCall())
 	if err == nil || errors.Is(err, wagtenib.ErrCreatesLock) {

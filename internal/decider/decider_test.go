@@ -25,8 +25,10 @@ func textOf(size, timestamp, before, salt uint64) string {
 func TestWay(t *testing.T) {
 	t.Parallel()
 	c := New()
-	seen, new := Held{Text: textOf(3, 7, 5, 1), Timestamp: 7, Size: 3}, Held{Text: textOf(4, 9, 7, 2), Timestamp: 9, Size: 4}
-	seen.Bundle, new.Bundle = "staging/000000000000000700000000000000050000000000000001", "staging/000000000000000900000000000000070000000000000002"
+	seen, new := Held{Text: textOf(3, 7, 5, 1), Timestamp: 7, Size: 3},
+		Held{Text: textOf(4, 9, 7, 2), Timestamp: 9, Size: 4}
+	seen.Bundle, new.Bundle = "staging/000000000000000700000000000000050000000000000001",
+		"staging/000000000000000900000000000000070000000000000002"
 	objects := []string{"tile/0/000.p/4 aa", "tile/data/000.p/4 bb"}
 	command := Begin()
 	for _, step := range []struct {
@@ -36,7 +38,8 @@ func TestWay(t *testing.T) {
 		{WasRead(seen.Text), Command{Do: Look, Seen: seen}},
 		{Published(), Command{Do: Step, Seen: seen}},
 		{Listed("staging/000000000000000800000000000000070000000000000001"), Command{Do: Step, Seen: seen}},
-		{Listed("staging/000000000000000600000000000000040000000000000001"), Command{Do: Delete, Seen: seen, Bundle: "staging/000000000000000600000000000000040000000000000001"}},
+		{Listed("staging/000000000000000600000000000000040000000000000001"),
+			Command{Do: Delete, Seen: seen, Bundle: "staging/000000000000000600000000000000040000000000000001"}},
 		{Done(), Command{Do: Step, Seen: seen}},
 		{Stepped(line(4, 7), "-", 2, objects), Command{Do: Step, Seen: seen}},
 		{Stepped(line(4, 9), "-", 2, objects), Command{Do: Stage, Seen: seen, New: new, Objects: objects}},
@@ -61,7 +64,7 @@ func TestWay(t *testing.T) {
 	}
 }
 
-// TestRefusals: what is not a lock's text or the name of a staged batch is refused, and so is a line that is none.
+// TestRefusals: a text that is not a lock's text, a name that is not a staged batch's, and an invalid line are refused.
 func TestRefusals(t *testing.T) {
 	t.Parallel()
 	c := New()
@@ -70,7 +73,8 @@ func TestRefusals(t *testing.T) {
 	step, err := c.Next(look, Published())
 	must(t, err)
 	for _, err := range []error{
-		second(c.Next(Begin(), WasRead("a text"))), second(c.Next(step, Listed("staging/0"))), second(c.Next(step, Stepped(strings.Repeat("x", 100_000), "-", 1, nil))),
+		second(c.Next(Begin(), WasRead("a text"))), second(c.Next(step, Listed("staging/0"))),
+		second(c.Next(step, Stepped(strings.Repeat("x", 100_000), "-", 1, nil))),
 	} {
 		if !errors.Is(err, ErrRefused) {
 			t.Error(err)
@@ -80,7 +84,8 @@ func TestRefusals(t *testing.T) {
 
 func second(_ *Command, err error) error { return err }
 
-// TestStarts: what a node finds is gone on from, or refused by the name of what is ahead of the register's head.
+// TestStarts: a node continues from what it finds. If something is newer than the register's head, it is refused by
+// name.
 func TestStarts(t *testing.T) {
 	t.Parallel()
 	c := New()
@@ -95,8 +100,10 @@ func TestStarts(t *testing.T) {
 		{Found{Register: text}, "goes"},
 		{Found{Register: text, Guarded: true}, "goes"},
 		{Found{Register: text, Stands: true, Creates: true}, "goes"},
-		{Found{Register: text, Seen: rooted(3, 7, root), Guard: rooted(3, 7, root), Guarded: true, Published: at(3, 7), Listed: at(3, 7)}, "goes"},
-		{Found{Register: text, Seen: rooted(3, 6, other), Guard: rooted(2, 6, other), Guarded: true, Published: at(2, 6), Listed: at(2, 6)}, "goes"},
+		{Found{Register: text, Seen: rooted(3, 7, root), Guard: rooted(3, 7, root), Guarded: true, Published: at(3, 7),
+			Listed: at(3, 7)}, "goes"},
+		{Found{Register: text, Seen: rooted(3, 6, other), Guard: rooted(2, 6, other), Guarded: true,
+			Published: at(2, 6), Listed: at(2, 6)}, "goes"},
 		{Found{Register: text, Seen: rooted(3, 7, other)}, "behind-seen"},
 		{Found{Register: text, Seen: rooted(2, 7, root)}, "behind-seen"},
 		{Found{Register: text, Seen: rooted(4, 6, root)}, "behind-seen"},
@@ -137,7 +144,8 @@ func TestStarts(t *testing.T) {
 	}
 }
 
-// TestOtherCommands has a function return a command of another state or with another number of objects than the node has, and one that does not exist.
+// TestOtherCommands has a function return a command of another state or with another number of objects than the node
+// has, and one that does not exist.
 func TestOtherCommands(t *testing.T) {
 	t.Parallel()
 	made := wagtenib.NodeState{Timestamp: 9, PreviousTimestamp: 7, Salt: 3}
@@ -147,7 +155,8 @@ func TestOtherCommands(t *testing.T) {
 		"another number of objects":   func(c *wagtenib.NodeCommand) { c.Objects++ },
 		"a command that there is not": func(c *wagtenib.NodeCommand) { c.Kind = 10 },
 	} {
-		right, lies := New(), Over(func(command wagtenib.NodeCommand, outcome wagtenib.NodeOutcome) (wagtenib.NodeCommand, error) {
+		right, lies := New(), Over(func(command wagtenib.NodeCommand,
+			outcome wagtenib.NodeOutcome) (wagtenib.NodeCommand, error) {
 			next, err := wagtenib.NodeNext(command, outcome)
 			other(&next)
 			return next, err

@@ -42,7 +42,7 @@ func (j *Janitor) readDamaged(ctx context.Context, newest Newest) error {
 		return nil
 	}
 	j.issuers.again = number + 1
-	// What is not known of it now stays as it was.
+	// An error leaves the recorded state of the tile as it was.
 	_ = j.readTile(ctx, number, newest)
 	return nil
 }

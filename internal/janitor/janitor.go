@@ -1,4 +1,5 @@
-// Package janitor deletes what nobody needs any more of a log, and reads old tiles again. It runs beside a node, in a coroutine of its own, and nothing waits for it.
+// Package janitor deletes what nobody needs any more of a log, and reads old tiles again. It runs beside a node, in a
+// coroutine of its own, and nothing waits for it.
 //
 // It deletes these objects:
 //
@@ -7,7 +8,8 @@
 //   - a head that came less than Keep.Apart after one that stays, Keep.Thin after a later one was published;
 //   - a staged batch that no step needs any more, as the proved decider says (docs/NODE.md).
 //
-// A partial tile is the beginning of its full tile, so readers find what it had. While the node has a fault, the janitor deletes nothing.
+// A partial tile is the beginning of its full tile, so readers find what it had. While the node has a fault, the
+// janitor deletes nothing.
 //
 // Each pass goes on where the last one ended: pass.go has its parts in their order.
 package janitor
@@ -47,7 +49,8 @@ type Decider interface {
 
 // Issuers are the certificates of issuers that the log has put (C2SP static-ct-api).
 type Issuers interface {
-	// Look reads an issuer again, and puts it again if it is wrong and its bytes are known. An error says that the store does not answer.
+	// Look reads an issuer again, and puts it again if it is wrong and its bytes are known. An error says that the
+	// store does not answer.
 	Look(ctx context.Context, fingerprint [32]byte) error
 	// Next returns those that are worth a look now.
 	Next() (fingerprints [][32]byte)
@@ -94,7 +97,8 @@ func (c *Config) check() error {
 	switch {
 	case c.Objects == nil || c.Clock == nil || c.Decider == nil || c.Newest == nil || c.Random == nil:
 		return fmt.Errorf("%w: the objects, the clock, the decider, Newest or Random is missing", ErrConfig)
-	case k.Every <= 0 || k.Tiles <= 0 || k.Heads <= 0 || k.Staged <= 0 || k.Thin <= 0 || k.Apart < 0 || k.Reread <= 0 || k.Call <= 0:
+	case k.Every <= 0 || k.Tiles <= 0 || k.Heads <= 0 || k.Staged <= 0 || k.Thin <= 0 || k.Apart < 0 || k.Reread <= 0 ||
+		k.Call <= 0:
 		return fmt.Errorf("%w: a time of Keep is not above 0", ErrConfig)
 	}
 	return nil
@@ -102,7 +106,8 @@ func (c *Config) check() error {
 
 // Report is what a janitor has done since it started.
 type Report struct {
-	// Tiles, Heads and Staged are how many partial tiles, heads and staged batches it deleted, and Reread how many old data tiles were read and whole.
+	// Tiles, Heads and Staged are how many partial tiles, heads and staged batches it deleted, and Reread how many old
+	// data tiles were read and whole.
 	Tiles, Heads, Staged, Reread uint64
 	// Failures is how often a part of a pass failed, and Failed why the last one did.
 	Failures uint64
@@ -111,7 +116,8 @@ type Report struct {
 	Damaged map[uint64]error
 	// Listed is how many staged batches were left when they were listed last.
 	Listed uint64
-	// SweptTo is the number of entries up to which no partial tile is left, as far as this janitor knows, and Next the data tile that is read again next.
+	// SweptTo is the number of entries up to which no partial tile is left, as far as this janitor knows, and Next the
+	// data tile that is read again next.
 	SweptTo, Next uint64
 }
 
@@ -178,7 +184,8 @@ type settled struct {
 	isSeen      bool
 }
 
-// look takes the newest head, and moves on after a while. The head that it has is at least so old, and at most twice as old.
+// look takes the newest head, and moves on after a while. The head that it has is at least so old, and at most twice as
+// old.
 func (s *settled) look(newest signer.Head, now, after time.Duration) {
 	if !s.isSeen {
 		s.young, s.since, s.isSeen = newest, now, true

@@ -100,12 +100,14 @@ func logOf256(t *testing.T) (kept, signer.Head) {
 	return objects, signer.Head{Size: tile.Width, Timestamp: 1800000001000, Root: root}
 }
 
-// TestKeepsPartialTilesOfDamagedTile bends a full tile, of the data or of the hashes. Its partial ones must stay, and go once it is right again.
+// TestKeepsPartialTilesOfDamagedTile bends a full tile, of the data or of the hashes. Its partial ones must stay, and
+// go once it is right again.
 func TestKeepsPartialTilesOfDamagedTile(t *testing.T) {
 	for level, full := range map[int]string{-1: "tile/data/000", 0: "tile/0/000"} {
 		objects, head := logOf256(t)
 		j, err := New(Config{
-			Objects: objects, Clock: still{}, Decider: decider.New(), Newest: func() (Newest, bool) { return Newest{Head: head}, true },
+			Objects: objects, Clock: still{}, Decider: decider.New(),
+			Newest: func() (Newest, bool) { return Newest{Head: head}, true },
 			Random: func() (uint64, error) { return 0, nil }, Keep: Keep{time.Second, 1, 1, 1, 1, 1, 1, 1},
 		})
 		if err != nil {
@@ -119,12 +121,14 @@ func TestKeepsPartialTilesOfDamagedTile(t *testing.T) {
 			if objects[full] = bent; bent == nil {
 				delete(objects, full)
 			}
-			if err := j.sweepTile(context.Background(), level, 0, head); !errors.Is(err, tile.ErrDamaged) || objects[partial] == nil {
+			if err := j.sweepTile(context.Background(), level, 0, head); !errors.Is(err, tile.ErrDamaged) ||
+				objects[partial] == nil {
 				t.Errorf("%s of %d bytes: %v, and %s has %d", full, len(bent), err, partial, len(objects[partial]))
 			}
 		}
 		objects[full] = right
-		if err := j.sweepTile(context.Background(), level, 0, head); err != nil || objects[partial] != nil || fmt.Sprint(j.Report().Tiles) != "1" {
+		if err := j.sweepTile(context.Background(), level, 0, head); err != nil || objects[partial] != nil ||
+			fmt.Sprint(j.Report().Tiles) != "1" {
 			t.Errorf("%s is whole: %v, and %s has %d bytes", full, err, partial, len(objects[partial]))
 		}
 	}
@@ -136,7 +140,8 @@ func TestRefusesConfigurationWithoutTimes(t *testing.T) {
 	}
 }
 
-// TestSettledHeadIsOldEnough has a head become settled only after it was seen for the whole time, however often newer ones come.
+// TestSettledHeadIsOldEnough has a head become settled only after it was seen for the whole time, however often newer
+// ones come.
 func TestSettledHeadIsOldEnough(t *testing.T) {
 	var s settled
 	head := func(size uint64) signer.Head { return signer.Head{Size: size, Timestamp: 10 * size} }
@@ -151,7 +156,8 @@ func TestSettledHeadIsOldEnough(t *testing.T) {
 // TestNamesOfHeads reads the names that it writes, and no others.
 func TestNamesOfHeads(t *testing.T) {
 	name := headName(signer.Head{Size: 12, Timestamp: 1800000000123})
-	if timestamp, ok := momentOf(name); name != "heads/00000000000000000012-00000001800000000123" || !ok || timestamp != 1800000000123 {
+	if timestamp, ok := momentOf(name); name != "heads/00000000000000000012-00000001800000000123" || !ok ||
+		timestamp != 1800000000123 {
 		t.Errorf("%s is read as %d, %v", name, timestamp, ok)
 	}
 	for _, wrong := range []string{"heads/", "heads/12-13", name + "0", name[:len(name)-1], "tile/0/000"} {

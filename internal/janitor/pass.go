@@ -18,13 +18,15 @@ import (
 const (
 	headsPrefix   = "heads/"
 	stagingPrefix = "staging/"
-	// maxDeleted is how many objects of a kind one pass deletes, maxSwept how many tiles it looks at for partial ones, and maxReread how many it reads again.
+	// maxDeleted is how many objects of a kind one pass deletes, maxSwept how many tiles it looks at for partial ones,
+	// and maxReread how many it reads again.
 	maxDeleted = 256
 	maxSwept   = 16
 	maxReread  = 16
 	// maxDamaged is how many damaged tiles are remembered.
 	maxDamaged = 1024
-	// sweptAgain is how many full tiles of a level before the newest a janitor looks at first. It reads the older ones again in time.
+	// sweptAgain is how many full tiles of a level before the newest a janitor looks at first. It reads the older ones
+	// again in time.
 	sweptAgain = 256
 	// levels are those of the tiles of a log: data, and hashes of at most 2^40 entries.
 	levels = 6
@@ -46,7 +48,7 @@ type reread struct {
 	failed     int
 }
 
-// pass does a part of each kind of work. What fails is done by a later pass.
+// pass does a part of each kind of work. If a part fails, a later pass does it.
 func (j *Janitor) pass(ctx context.Context) {
 	newest, ok := j.config.Newest()
 	if !ok {
@@ -60,7 +62,8 @@ func (j *Janitor) pass(ctx context.Context) {
 		what string
 		do   func(context.Context, Newest) error
 	}{
-		{"partial tiles", j.sweepTiles}, {"heads", j.deleteHeads}, {"staged batches", j.deleteStaged}, {"damaged tiles", j.readDamaged}, {"old tiles", j.readAgain},
+		{"partial tiles", j.sweepTiles}, {"heads", j.deleteHeads}, {"staged batches", j.deleteStaged},
+		{"damaged tiles", j.readDamaged}, {"old tiles", j.readAgain},
 		{"issuers", j.readIssuers},
 	} {
 		if err := part.do(ctx, newest); err != nil && ctx.Err() == nil {
@@ -129,7 +132,8 @@ func (j *Janitor) sweepTiles(ctx context.Context, newest Newest) error {
 	for at := range j.sweep.next {
 		for full := tile.Count(at-1, j.tiles.head.Size); left > 0 && j.sweep.next[at] < full; left-- {
 			if err := j.sweepTile(ctx, at-1, j.sweep.next[at], newest.Head); err != nil {
-				// A tile that fails again and again does not stop the rest. It is swept when it is read again.
+				// A tile that fails again and again does not stop the others. Its partial tiles are deleted when it is
+				// read again.
 				if j.sweep.failed++; j.sweep.failed < maxFailed {
 					return err
 				}
@@ -172,8 +176,9 @@ func (j *Janitor) whole(ctx context.Context, full tlog.Tile, newest signer.Head)
 	return tile.Whole(ctx, full, newest, j.read)
 }
 
-// deleteHeads deletes heads before the one that has stood for Keep.Heads, and of those before the one that has stood for Keep.Thin all that came less than
-// Keep.Apart after one that stays. A node needs the newest head, and otherwise asks only whether there is a later one.
+// deleteHeads deletes the heads before the newest one that is older than Keep.Heads. Of those before the newest one
+// that is older than Keep.Thin it keeps one in each Keep.Apart. A node needs the newest head, and otherwise checks only
+// whether there is a later one.
 func (j *Janitor) deleteHeads(ctx context.Context, _ Newest) error {
 	now := j.config.Clock.Elapsed()
 	if j.thin.head == (signer.Head{}) || now < j.thinned.due {
@@ -258,8 +263,9 @@ func (j *Janitor) deleteStaged(ctx context.Context, newest Newest) error {
 	return nil
 }
 
-// readAgain reads so many old data tiles again, with the hash tiles from their leaves to the root, that all are read within Keep.Reread. It begins at a random one,
-// so that a log that is started often is read all the same. It deletes the partial tiles of each full one that is whole.
+// readAgain reads so many old data tiles again, with the hash tiles from their leaves to the root, that all are read
+// within Keep.Reread. It begins at a random one, so that a log that is started often is read all the same. It deletes
+// the partial tiles of each full one that is whole.
 func (j *Janitor) readAgain(ctx context.Context, newest Newest) error {
 	full := tile.Count(-1, newest.Head.Size)
 	if full == 0 || j.tiles.head.Size == 0 {
@@ -289,7 +295,7 @@ func (j *Janitor) readAgain(ctx context.Context, newest Newest) error {
 		j.reread.owed -= each
 		j.reread.next++
 	}
-	// What one pass could not read is not owed any more: the store is too slow for it.
+	// What one pass could not read is dropped: the store is too slow for it.
 	j.reread.owed = min(j.reread.owed, each)
 	return nil
 }

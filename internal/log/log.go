@@ -1,5 +1,5 @@
-// Package log says what a front sees of a log: submissions that are answered with their places, the newest published head, and
-// the published objects. The log of wagtenib/internal/serve is one.
+// Package log says what a front sees of a log: submissions that are answered with their places, the newest published
+// head, and the published objects. The log of wagtenib/internal/serve is one.
 package log
 
 import (
@@ -10,7 +10,7 @@ import (
 	"wagtenib/internal/chains"
 )
 
-// What Submit refuses by. Each is found by errors.Is; what it wraps says more.
+// The kinds of errors of Submit. Use errors.Is. A wrapped error says more.
 var (
 	// ErrBusy: so many wait already that no more is taken. To be sent again later (503 with Retry-After at a front).
 	ErrBusy = errors.New("log: busy")
@@ -21,15 +21,15 @@ var (
 	// ErrEnded: the log takes no more.
 	ErrEnded = errors.New("log: ended")
 	// ErrClock: the machine's clock isn't where it was expected, and nothing is stepped until it is.
-	ErrClock = errors.New("log: the clock isn't where it was expected")
+	ErrClock = errors.New("log: the clock is wrong")
 	// ErrStore: a store, the register, the step or the signer doesn't answer, or gives what can't be.
-	ErrStore = errors.New("log: a store doesn't give what it has to")
+	ErrStore = errors.New("log: a store failed or is damaged")
 )
 
 // Entry is what chains.Checker gives of a submission, with its issuers' certificates.
 type Entry = chains.Entry
 
-// Place is where an entry stands, with the signed certificate timestamp that says so (RFC 6962, section 3.2).
+// Place is an entry's index and timestamp, with its signed certificate timestamp (RFC 6962, section 3.2).
 type Place struct {
 	// LeafIndex counts from 0; it is below 2^40.
 	LeafIndex uint64
@@ -62,48 +62,52 @@ type Figures struct {
 	// Entries is the size of the newest published head, and HeadAge its age by the machine's clock.
 	Entries uint64
 	HeadAge time.Duration
-	// Unpublished is how many entries more the newest decided state has that is known, and SinceRound how long ago it is that a round went well, behind which no fault
-	// stands: a node without submissions makes one each second.
+	// Unpublished is the number of entries of the newest known state that are not published yet. SinceRound is the time
+	// since the last successful round. A node without submissions makes a round each second.
 	Unpublished uint64
 	SinceRound  time.Duration
-	// Steps counts swaps that were won, LostSwaps those that another node was faster with, Unknown those whose outcome had to be
-	// settled by reading the register.
+	// Steps counts swaps that were won, LostSwaps those that another node was faster with, Unknown those whose outcome
+	// had to be settled by reading the register.
 	Steps, LostSwaps, Unknown uint64
-	// Repeats counts submissions that were answered with a place that they had, Helped the heads of others that were rolled out,
-	// HandedOver the submissions that another node answered.
+	// Repeats counts submissions that were answered with an existing entry. Helped counts the heads of other nodes that
+	// this node published. HandedOver counts submissions that another node answered.
 	Repeats, Helped, HandedOver uint64
 	// SignerStarts counts how often the signer was started, or was found.
 	SignerStarts uint64
-	// Swept counts partial tiles that were deleted behind their full one, SweptHeads heads that were behind a later one, and Scrubbed data
-	// tiles that were read again and were right.
+	// Swept counts deleted partial tiles, SweptHeads deleted old heads, and Scrubbed data tiles that were read again
+	// and were right.
 	Swept, SweptHeads, Scrubbed uint64
 	// Written counts the bytes that steps put, in their bundles and as objects.
 	Written uint64
 	// Phases are the parts of a step, in their order, and Batches how many submissions steps took in.
 	Phases  []Phase
 	Batches Batches
-	// SweptBundles counts bundles of steps that were deleted since nobody needs them, and Staged is how many there were when they were listed last.
+	// SweptBundles counts bundles of steps that were deleted since nobody needs them, and Staged is how many there were
+	// when they were listed last.
 	SweptBundles, Staged uint64
-	// TendFailures counts what failed of sweeping, which is tried again, and TendFailure is the last of it, in one line.
+	// TendFailures counts what failed of sweeping, which is tried again, and TendFailure is the last of it, in one
+	// line.
 	TendFailures uint64
 	TendFailure  string
-	// SweptTo is up to how many entries no partial tile is left below the full ones, by what this node knows, and ReadNext is the data tile that it reads again
-	// next.
+	// SweptTo is up to how many entries no partial tile is left below the full ones, by what this node knows, and
+	// ReadNext is the data tile that it reads again next.
 	SweptTo, ReadNext uint64
-	// Damaged is how many data tiles, by what was read last, are missing, can't be read or aren't the log's, or stand below hash tiles of
-	// which one of these is so; the log goes on all the same. Damage is what was seen of one of them, in one line.
+	// Damaged is the number of data tiles that were missing, unreadable or wrong when they were last read, or have such
+	// a hash tile above them. The log continues. Damage describes one of them in a line.
 	Damaged int
 	// DamagedIssuers is how many issuers are missing or have another content, by what was read last.
 	DamagedIssuers int
 	Damage         string
-	// Mended counts objects of the log that were missing or had another content and were made again, and LastMended says which was last.
+	// Mended counts objects of the log that were missing or had another content and were made again, and LastMended
+	// says which was last.
 	Mended     uint64
 	LastMended string
-	// Witnesses are how those stand that cosign the log's heads.
+	// Witnesses has the state of each witness that cosigns the log's heads.
 	Witnesses []Witness
 	// Fault is what keeps the log from going on, in one line; empty where nothing does.
 	Fault string
-	// Faults counts how often something began to keep it from that, and LastFault is the last of it: one may be over before anybody looks.
+	// Faults counts how often something began to keep it from that, and LastFault is the last of it: one may be over
+	// before anybody looks.
 	Faults    uint64
 	LastFault string
 }
@@ -123,7 +127,7 @@ type Batches struct {
 	AtMost map[int]uint64
 }
 
-// Witness is how a witness stands to a log whose heads it cosigns.
+// Witness is the state of a witness that cosigns a log's heads.
 type Witness struct {
 	Name string
 	// Missed is how many heads it was asked to cosign since it last did, and Cosigned how many it cosigned.
@@ -136,18 +140,21 @@ type Witness struct {
 
 // Log is one log. Its methods may be called at once.
 type Log interface {
-	// Submit answers once the head that covers the entry is published; ErrBusy, ErrTooLarge, ErrEnded, ErrClock, ErrStore, or the
-	// context's error. An entry whose submission wasn't answered may stand in the log all the same.
+	// Submit returns after a published head covers the entry. Its errors are ErrBusy, ErrTooLarge, ErrEnded, ErrClock,
+	// ErrStore, and the context's. After an error the entry may be in the log anyway.
 	Submit(ctx context.Context, entry Entry) (Place, error)
 	// Checkpoint is the newest published head.
 	Checkpoint(ctx context.Context) (Head, error)
-	// HeadOf is a published head of at least so many entries: the newest that is known, without a look at what is newer, where that has them; else it is
-	// the newest one, which may have fewer.
+	// HeadOf returns a published head of at least so many entries. It returns the newest known head if that has them.
+	// Otherwise it reads the newest one, which may have fewer.
 	HeadOf(ctx context.Context, entries uint64) (Head, error)
-	// Object reads a published object by its name (tile/.., issuer/..); stores.TooLong where it has more than most bytes, of which none is read; stores.ErrAbsent where there is none, stores.ErrName
-	// where none can be. A full tile is the newest head's tree's; where it isn't, or the tree lacks one, it is ErrStore.
+	// Object reads a published object by its name (tile/.., issuer/..). It returns stores.TooLong without reading if
+	// the object has more than most bytes, stores.ErrAbsent if there is none, and stores.ErrName if the name is
+	// invalid. A full tile is compared with the newest head's tree. If it differs, or is missing although the tree has
+	// it, Object returns ErrStore.
 	Object(ctx context.Context, name string, most int64) ([]byte, error)
-	// IndexOf gives where the leaf with this hash is said to stand; stores.ErrAbsent where that isn't known. It need not be true.
+	// IndexOf returns the index of the leaf with this hash as the deduplication index has it, or stores.ErrAbsent. It
+	// need not be correct.
 	IndexOf(ctx context.Context, leafHash [32]byte) (uint64, error)
 	// End takes no more, publishes, and answers who waits, within the context.
 	End(ctx context.Context) error

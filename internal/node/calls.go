@@ -7,7 +7,8 @@ import (
 	"wagtenib/internal/stores"
 )
 
-// limited gives each call to a store its time limit. A node has no other way to its stores, so no call can hold it for ever.
+// limited gives each call to a store its time limit. A node has no other way to its stores, so no call can hold it for
+// ever.
 type limited struct {
 	clock Clock
 	long  time.Duration
@@ -50,7 +51,10 @@ func (o limitedObjects) Get(ctx context.Context, name string, max int64) ([]byte
 }
 
 func (o limitedObjects) List(ctx context.Context, prefix, after string, max int) ([]string, error) {
-	return within(ctx, o.limited, func(ctx context.Context) ([]string, error) { return o.of.Objects.List(ctx, prefix, after, max) })
+	return within(ctx, o.limited, func(ctx context.Context) ([]string, error) {
+		return o.of.Objects.List(ctx,
+			prefix, after, max)
+	})
 }
 
 func (o limitedObjects) Delete(ctx context.Context, name string) error {
@@ -84,7 +88,8 @@ type limitedIndex struct {
 	index Index
 }
 
-func (i limitedIndex) Find(ctx context.Context, identities []stores.Identity) (map[stores.Identity]stores.Place, error) {
+func (i limitedIndex) Find(ctx context.Context,
+	identities []stores.Identity) (map[stores.Identity]stores.Place, error) {
 	return within(ctx, i.limited, func(ctx context.Context) (map[stores.Identity]stores.Place, error) {
 		return i.index.Find(ctx, identities)
 	})

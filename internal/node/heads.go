@@ -88,7 +88,8 @@ func (l *Loop) headOf(ctx context.Context, k *state) (Head, error) {
 func matches(head Head, k *state) error {
 	name := headName(k.Size, k.Timestamp)
 	if head.Size != k.Size || head.Timestamp != k.Timestamp {
-		return fmt.Errorf("%w: %w: %s has the head of %d entries at %d ms", ErrDamaged, errOtherHead, name, head.Size, head.Timestamp)
+		return fmt.Errorf("%w: %w: %s has the head of %d entries at %d ms", ErrDamaged, errOtherHead, name, head.Size,
+			head.Timestamp)
 	}
 	if head.Root != k.Root {
 		return fmt.Errorf("%w: the lock's text has another root than the signed head %s", ErrDamaged, name)
@@ -107,7 +108,8 @@ func (l *Loop) raise(ctx context.Context, published stores.Published, head Head,
 	return nil
 }
 
-// restore makes the newest state whole again, as far as its staged batch goes: objects that are missing or have another content, and its head.
+// restore makes the newest state whole again, as far as its staged batch goes: objects that are missing or have another
+// content, and its head.
 func (l *Loop) restore(ctx context.Context, k *state) (Head, error) {
 	newest, err := l.learn(ctx)
 	if err != nil {
@@ -145,8 +147,9 @@ func (l *Loop) restore(ctx context.Context, k *state) (Head, error) {
 	return head, nil
 }
 
-// putHead has a state's head signed, and puts it beside something else. If another node put one, that is the head: the signatures of one head differ. The signer refuses a head that is
-// older than its last one; then the other node's is in the store, or a later one.
+// putHead has a state's head signed, and puts it beside something else. If another node put one, that is the head: the
+// signatures of one head differ. The signer refuses a head that is older than its last one; then the other node's is in
+// the store, or a later one.
 func (l *Loop) putHead(
 	ctx context.Context, k *state, of step.Head, objects []step.Object, beside func(context.Context) error,
 ) (Head, error) {
@@ -204,7 +207,8 @@ func (l *Loop) signedHead(ctx context.Context, k *state, of step.Head, objects [
 	}
 	blob := binary.BigEndian.AppendUint32(nil, l.verifier.KeyHash())
 	blob = append(binary.BigEndian.AppendUint64(blob, k.Timestamp), signed...)
-	made, err := l.parseNote([]byte(of.Checkpoint + "\n" + l.signatureLine() + base64.StdEncoding.EncodeToString(blob) + "\n"))
+	made, err := l.parseNote([]byte(of.Checkpoint + "\n" + l.signatureLine() +
+		base64.StdEncoding.EncodeToString(blob) + "\n"))
 	if err != nil || matches(made, k) != nil {
 		return Head{}, fmt.Errorf("node: the step's note is not one of %s: %w", l.config.Origin, errNote)
 	}
@@ -238,7 +242,8 @@ func (n *Node) readHead(ctx context.Context, name string) (Head, error) {
 	return head, nil
 }
 
-// foreign returns why a note that was not verified is another log's, or another key's, or nil if it is neither: then the settings have another origin, or another key.
+// foreign returns why a note that was not verified is another log's, or another key's, or nil if it is neither: then
+// the settings have another origin, or another key.
 func (n *Node) foreign(err error) error {
 	var of *note.UnverifiedNoteError
 	if !errors.As(err, &of) {
@@ -254,7 +259,8 @@ func (n *Node) foreign(err error) error {
 	return fmt.Errorf("%w: another key than the settings' signed it", errForeign)
 }
 
-// signatureOf returns the DigitallySigned of a note whose first signature is the log's (C2SP static-ct-api, signatures of type 5).
+// signatureOf returns the DigitallySigned of a note whose first signature is the log's (C2SP static-ct-api, signatures
+// of type 5).
 func (n *Node) signatureOf(content []byte) ([]byte, error) {
 	opened, err := note.Open(content, note.VerifierList(n.verifier))
 	if err != nil {

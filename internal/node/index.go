@@ -10,8 +10,9 @@ import (
 	"wagtenib/internal/tile"
 )
 
-// index adds the places of the entries, so many at once as the index takes. Those of this node's own step replace what the index has wrong: the round before the
-// step found it. Another node's step, or one from before a restart, comes out of its staged batch, which does not say what the index had wrong, so each is compared.
+// index adds the places of the entries, so many at once as the index takes. Those of this node's own step replace what
+// the index has wrong: the round before the step found it. Another node's step, or one from before a restart, comes out
+// of its staged batch, which does not say what the index had wrong, so each is compared.
 func (p *pass) index(ctx context.Context) error {
 	if p.config.Stores.Leaves != nil {
 		if err := addAll(ctx, p.config.Stores.Leaves, p.made.leaves); err != nil {
@@ -58,7 +59,8 @@ func addAll(ctx context.Context, to Index, placed []stores.Placed) error {
 // unused is the identity of no submission: it is looked up to see whether the index answers.
 var unused = stores.Identity(sha256.Sum256([]byte("an identity of no submission")))
 
-// indexWorks looks a state's newest entry up in the index, and adds it again, which changes nothing. It returns an error if the index does not answer.
+// indexWorks looks a state's newest entry up in the index, and adds it again, which changes nothing. It returns an
+// error if the index does not answer.
 func (l *Loop) indexWorks(ctx context.Context, k *state) error {
 	newest := l.newestLeaf(ctx, k)
 	if newest == nil {
@@ -72,14 +74,15 @@ func (l *Loop) indexWorks(ctx context.Context, k *state) error {
 		return err
 	}
 	place := stores.Place{Index: k.Size - 1, Timestamp: newest.Timestamp}
-	if err := addAll(ctx, l.config.Stores.Index, []stores.Placed{{Identity: id, Place: place}}); err != nil || l.config.Stores.Leaves == nil {
+	if err := addAll(ctx, l.config.Stores.Index, []stores.Placed{{Identity: id, Place: place}}); err != nil ||
+		l.config.Stores.Leaves == nil {
 		return err
 	}
 	return addAll(ctx, l.config.Stores.Leaves, []stores.Placed{{Identity: leaf, Place: place}})
 }
 
-// newestLeaf returns a state's newest entry, or nil if there is none, or if it cannot be read or is not the tree's: then the step says so, and a damaged edge is made
-// again.
+// newestLeaf returns a state's newest entry, or nil if there is none, or if it cannot be read or is not the tree's:
+// then the step says so, and a damaged edge is made again.
 func (l *Loop) newestLeaf(ctx context.Context, k *state) *tile.Leaf {
 	if k.Size == 0 {
 		return nil
@@ -91,7 +94,8 @@ func (l *Loop) newestLeaf(ctx context.Context, k *state) *tile.Leaf {
 	return leaf
 }
 
-// wrongOf returns those places of which the index has another one that is not the entry's. They were added, so the index has one of each.
+// wrongOf returns those places of which the index has another one that is not the entry's. They were added, so the
+// index has one of each.
 func (p *pass) wrongOf(ctx context.Context, placed []stores.Placed) (wrong []stores.Placed, err error) {
 	identities, right := make([]stores.Identity, 0, len(placed)), map[stores.Placed]bool{}
 	for _, one := range placed {
@@ -129,5 +133,6 @@ func (p *pass) isPlaceOf(ctx context.Context, placed stores.Placed) (bool, error
 	if err != nil {
 		return false, err
 	}
-	return identity(leaf.Type, leaf.IssuerKeyHash, leaf.Certificate) == placed.Identity && leaf.Timestamp == placed.Place.Timestamp, nil
+	return identity(leaf.Type, leaf.IssuerKeyHash, leaf.Certificate) == placed.Identity &&
+		leaf.Timestamp == placed.Place.Timestamp, nil
 }

@@ -28,12 +28,14 @@ type Loop struct {
 
 // last is how far this node itself came.
 type last struct {
-	// published is the line of the newest state that this node knows to be published, and stepping the command to step from it.
+	// published is the line of the newest state that this node knows to be published, and stepping the command to step
+	// from it.
 	published string
 	stepping  *decider.Command
 	// unneeded are names of staged batches that may be deleted once the decider says so.
 	unneeded []string
-	// decided says that this round had a step decided by the lock, won or lost. A round that writes nothing does not show that a store takes writes.
+	// decided says that this round had a step decided by the lock, won or lost. A round that writes nothing does not
+	// show that a store takes writes.
 	decided bool
 	// written is how many bytes this round's step writes, and answered how many submissions it answered.
 	written, answered int
@@ -51,8 +53,8 @@ const (
 // errMoves: other nodes went on while something was compared. The next round learns it.
 var errMoves = errors.New("node: another node went on meanwhile")
 
-// Run makes round after round until the context ends, or until End was called and all that wait are answered. It returns nil then. A round that fails is followed
-// by a pause that doubles.
+// Run makes round after round until the context ends, or until End was called and all that wait are answered. It
+// returns nil then. A round that fails is followed by a pause that doubles.
 func (l *Loop) Run(ctx context.Context) error {
 	pause := minBackoff
 	for ctx.Err() == nil {
@@ -83,8 +85,9 @@ func (l *Loop) Run(ctx context.Context) error {
 // MaxBack is how long the clients that were answered are waited for at most.
 const MaxBack = 8 * time.Millisecond
 
-// rest waits until the next step may begin, after a round that began then had one decided. It also waits a moment for as many submissions as this round answered: without
-// that, two halves of the clients wait for each other's steps. While the node ends, it does not wait.
+// rest waits until the next step may begin, after a round that began then had one decided. It also waits a moment for
+// as many submissions as this round answered: without that, two halves of the clients wait for each other's steps.
+// While the node ends, it does not wait.
 func (l *Loop) rest(ctx context.Context, began time.Duration) {
 	if !l.last.decided || l.pool.isEnding() {
 		return
@@ -107,7 +110,8 @@ func (l *Loop) rest(ctx context.Context, began time.Duration) {
 	}
 }
 
-// record keeps what a round failed by, until a step is decided. If waiting does not help, or did not help for a while, the waiting submissions are refused.
+// record keeps what a round failed by, until a step is decided. If waiting does not help, or did not help for a while,
+// the waiting submissions are refused.
 func (l *Loop) record(err error) {
 	if err == nil {
 		if l.last.decided {
@@ -190,10 +194,12 @@ func (l *Loop) round(ctx context.Context) error {
 
 // isStale reports whether a head without new entries is due: none was ever published, or the newest is too old.
 func (l *Loop) isStale(k *state) bool {
-	return k.IsBegin() || l.config.Machine.Clock.Now().UnixMilli()-int64(k.Timestamp) > l.config.Pace.Refresh.Milliseconds()
+	return k.IsBegin() || l.config.Machine.Clock.Now().UnixMilli()-int64(
+		k.Timestamp) > l.config.Pace.Refresh.Milliseconds()
 }
 
-// withoutKnown returns those of a batch that the log does not have. The others have come into it since they were looked up, and their tickets say so.
+// withoutKnown returns those of a batch that the log does not have. The others have come into it since they were looked
+// up, and their tickets say so.
 func (l *Loop) withoutKnown(ctx context.Context, k *state, batch []*Ticket) (added []*Ticket, err error) {
 	if len(batch) == 0 {
 		return nil, nil
@@ -218,12 +224,14 @@ func (l *Loop) withoutKnown(ctx context.Context, k *state, batch []*Ticket) (add
 	return added, nil
 }
 
-// learn reads the lock. A text that is not a later state's than the one before is refused; if the later one comes back, the log goes on.
+// learn reads the lock. A text that is not a later state's than the one before is refused; if the later one comes back,
+// the log goes on.
 func (l *Loop) learn(ctx context.Context) (*state, error) {
 	before := l.seen.newest
 	text, err := l.config.Stores.Lock.Read(ctx)
 	if errors.Is(err, stores.ErrAbsent) {
-		return nil, fmt.Errorf("%w: it is gone, and had %d entries at %d ms (stop all nodes, and see \"Backup\" in OPERATING.md)", ErrRolledBack, before.Size, before.Timestamp)
+		return nil, fmt.Errorf("%w: it is gone, and had %d entries at %d ms (stop all nodes, and see \"Backup\" in "+
+			"OPERATING.md)", ErrRolledBack, before.Size, before.Timestamp)
 	}
 	if err != nil {
 		l.seen.isVouched = false
@@ -238,7 +246,8 @@ func (l *Loop) learn(ctx context.Context) (*state, error) {
 			return nil, err
 		}
 		if k.head() != before.head() && !follows(k.Size, k.Timestamp, before.head()) {
-			return nil, fmt.Errorf("%w: it had %d entries at %d ms, and has %d at %d ms", ErrRolledBack, before.Size, before.Timestamp, k.Size, k.Timestamp)
+			return nil, fmt.Errorf("%w: it had %d entries at %d ms, and has %d at %d ms", ErrRolledBack, before.Size,
+				before.Timestamp, k.Size, k.Timestamp)
 		}
 	}
 	if l.config.Machine.Clock.Elapsed()-l.seen.heard > maxUnheard {
@@ -261,7 +270,8 @@ func (l *Loop) read(text string) (*state, error) {
 	if errors.Is(err, decider.ErrRefused) {
 		return nil, fmt.Errorf("%w: the lock's text is not one of a log: %.40q", ErrDamaged, text)
 	}
-	if err == nil && (k.look.Do != decider.Look || k.look.Seen.Text != text || k.look.Seen.Size != k.Size || k.look.Seen.Timestamp != k.Timestamp) {
+	if err == nil && (k.look.Do != decider.Look || k.look.Seen.Text != text || k.look.Seen.Size != k.Size ||
+		k.look.Seen.Timestamp != k.Timestamp) {
 		err = fmt.Errorf("%w: %s after a text that was read", errCommand, k.look.Do)
 	}
 	if err != nil {
@@ -271,8 +281,9 @@ func (l *Loop) read(text string) (*state, error) {
 	return k, nil
 }
 
-// timekeeper gives the timestamps of steps. A timestamp in a log never goes back, and one of the future stops the log until then. So the time of day is
-// compared with the time since boot and with the newest head, and there is no timestamp while it is wrong.
+// timekeeper gives the timestamps of steps. A timestamp in a log never goes back, and one of the future stops the log
+// until then. So the time of day is compared with the time since boot and with the newest head, and there is no
+// timestamp while it is wrong.
 type timekeeper struct {
 	of      Clock
 	maxSkew time.Duration
@@ -287,7 +298,8 @@ type timekeeper struct {
 
 // newTimekeeper reads the clock when the node starts, so that the node sees if the clock is set while it starts.
 func newTimekeeper(of Machine, maxSkew time.Duration) timekeeper {
-	return timekeeper{of: of.Clock, sources: of.Sources, maxSkew: maxSkew, read: of.Clock.Now(), since: of.Clock.Elapsed()}
+	return timekeeper{of: of.Clock, sources: of.Sources, maxSkew: maxSkew, read: of.Clock.Now(),
+		since: of.Clock.Elapsed()}
 }
 
 // isVouched compares the time of day with other clocks. It reports false if none says what time it is.
@@ -302,7 +314,8 @@ func (t *timekeeper) isVouched(now time.Time, elapsed time.Duration) (bool, erro
 	return isVouched, nil
 }
 
-// maxStood is how far a node's first timestamp may be after the newest head's, if only this machine's clock says what time it is.
+// maxStood is how far a node's first timestamp may be after the newest head's, if only this machine's clock says what
+// time it is.
 const maxStood = 24 * time.Hour
 
 // check returns ErrClock if the time of day was set since it was believed, or is before the newest head's.
@@ -320,10 +333,12 @@ func (t *timekeeper) check(newest uint64) error {
 		return fmt.Errorf("%w: it is behind %s by %v (set it right)", ErrClock, head, early.Round(time.Millisecond))
 	}
 	if off := now.Sub(t.read) - (elapsed - t.since); !isVouched && (off > t.maxSkew || -off > t.maxSkew) {
-		return fmt.Errorf("%w: it was set by %v while this node ran (set it right)", ErrClock, off.Round(time.Millisecond))
+		return fmt.Errorf("%w: it was set by %v while this node ran (set it right)", ErrClock,
+			off.Round(time.Millisecond))
 	}
 	if ahead := now.Sub(time.UnixMilli(int64(newest))); !isVouched && !t.isBelieved && newest > 0 && ahead > maxStood {
-		return fmt.Errorf("%w: it is ahead of the log's newest head by %v, and nothing else says what time it is (set it right, and name the day by ctserve clock)", ErrClock, ahead.Round(time.Millisecond))
+		return fmt.Errorf("%w: it is ahead of the log's newest head by %v, and nothing else says what time it is "+
+			"(set it right, and name the day by ctserve clock)", ErrClock, ahead.Round(time.Millisecond))
 	}
 	t.read, t.since, t.isBelieved = now, elapsed, true
 	return nil

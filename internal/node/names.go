@@ -64,7 +64,8 @@ func (k *state) published() stores.Published {
 // parseText reads a text of the lock.
 func parseText(text string) (*state, error) {
 	lines := strings.Split(text, "\n")
-	if len(lines) != 4 || lines[3] != "" || !strings.HasPrefix(lines[1], nodeWord) || !strings.HasPrefix(lines[2], saltWord) {
+	if len(lines) != 4 || lines[3] != "" || !strings.HasPrefix(lines[1], nodeWord) ||
+		!strings.HasPrefix(lines[2], saltWord) {
 		return nil, fmt.Errorf("%w: the lock's text is not one of a log: %.40q", ErrDamaged, text)
 	}
 	read, err := step.ParseState(lines[0])
@@ -78,7 +79,8 @@ func parseText(text string) (*state, error) {
 	return k, nil
 }
 
-// HeadIn returns the head of the state that a text of the lock names. The error is ErrDamaged if it is not one of a log.
+// HeadIn returns the head of the state that a text of the lock names. The error is ErrDamaged if it is not one of a
+// log.
 func HeadIn(text string) (signer.Head, error) {
 	k, err := parseText(text)
 	if err != nil {
@@ -87,7 +89,8 @@ func HeadIn(text string) (signer.Head, error) {
 	return k.head(), nil
 }
 
-// Identity returns the identity of a leaf's entry: SHA-256 over its type, and the certificate, or the issuer's key hash and the TBSCertificate.
+// Identity returns the identity of a leaf's entry: SHA-256 over its type, and the certificate, or the issuer's key hash
+// and the TBSCertificate.
 func Identity(leaf *tile.Leaf) stores.Identity {
 	return identity(leaf.Type, leaf.IssuerKeyHash, leaf.Certificate)
 }
@@ -100,7 +103,8 @@ func (c *Config) where() string {
 	return c.Address
 }
 
-// textAfter returns the lock's text of a step, and the name of its staged batch, as the decider makes them (docs/NODE.md).
+// textAfter returns the lock's text of a step, and the name of its staged batch, as the decider makes them
+// (docs/NODE.md).
 func (c *Config) textAfter(before uint64, line string, to step.State, salt uint64) (text, bundle string) {
 	return fmt.Sprintf("%s\n%s%s\n%s%016x%016x\n", line, nodeWord, c.where(), saltWord, before, salt),
 		fmt.Sprintf("%s%016x%016x%016x", stagingPrefix, to.Timestamp, before, salt)
@@ -116,7 +120,8 @@ func reference(object step.Object) string {
 	return object.Name + " " + hex.EncodeToString(object.Digest[:])
 }
 
-// identityOf returns SHA-256 over what of a submission is in its leaf: the type, and the certificate, or the issuer's key hash and the TBSCertificate.
+// identityOf returns SHA-256 over what of a submission is in its leaf: the type, and the certificate, or the issuer's
+// key hash and the TBSCertificate.
 func identityOf(s step.Submission) stores.Identity {
 	if len(s.LeafCertificate) > 0 {
 		return identity(chains.X509Entry, s.LeafCertificate)
@@ -134,7 +139,8 @@ func identity(of chains.EntryType, what ...[]byte) (id stores.Identity) {
 	return id
 }
 
-// placesIn returns the places of all entries in a step's objects, by their identities and by the hashes of their leaves. A partial tile that grew has those of earlier steps as well.
+// placesIn returns the places of all entries in a step's objects, by their identities and by the hashes of their
+// leaves. A partial tile that grew has those of earlier steps as well.
 func placesIn(objects []step.Object) (placed, hashed []stores.Placed, err error) {
 	for _, object := range objects {
 		if !strings.HasPrefix(object.Name, tile.DataPrefix) {
@@ -148,7 +154,8 @@ func placesIn(objects []step.Object) (placed, hashed []stores.Placed, err error)
 			l := &leaves[i]
 			index, _ := l.Index()
 			place := stores.Place{Index: index, Timestamp: l.Timestamp}
-			placed = append(placed, stores.Placed{Identity: identity(l.Type, l.IssuerKeyHash, l.Certificate), Place: place})
+			placed = append(placed, stores.Placed{Identity: identity(l.Type, l.IssuerKeyHash,
+				l.Certificate), Place: place})
 			hashed = append(hashed, stores.Placed{Identity: stores.Identity(l.Hash()), Place: place})
 		}
 	}

@@ -20,7 +20,8 @@ import (
 
 // The errors of a node that cannot continue. Each is found by errors.Is.
 var (
-	// ErrRolledBack: the lock is gone or was rolled back, or the store has a head that the lock's state does not descend from. The node takes no step.
+	// ErrRolledBack: the lock is gone or was rolled back, or the store has a head that the lock's state does not
+	// descend from. The node takes no step.
 	ErrRolledBack = errors.New("node: the lock is older than the log")
 	// ErrDamaged: an object is missing, or it is not the one that the lock's state names.
 	ErrDamaged = tile.ErrDamaged
@@ -48,7 +49,8 @@ type Objects interface {
 	Delete(ctx context.Context, name string) error
 }
 
-// Lock is the compare-and-set cell that decides which state comes next, and says how far the log is published (stores.Register has what an engine owes).
+// Lock is the compare-and-set cell that decides which state comes next, and says how far the log is published
+// (stores.Register has what an engine owes).
 type Lock interface {
 	Create(ctx context.Context, text string) error
 	Read(ctx context.Context) (string, error)
@@ -64,7 +66,8 @@ type Index interface {
 	Replace(ctx context.Context, placed []stores.Placed) error
 }
 
-// Memory keeps the newest head that this machine accepted. It must not be in any store or backup: it shows that all stores are old together.
+// Memory keeps the newest head that this machine accepted. It must not be in any store or backup: it shows that all
+// stores are old together.
 type Memory interface {
 	// Load returns what Save was given last, and nil if nothing was saved.
 	Load(ctx context.Context) (*signer.Head, error)
@@ -85,12 +88,14 @@ type Clock interface {
 
 // Sources are other clocks than this machine's.
 type Sources interface {
-	// Compare compares a time of day, and the time since boot at which it was read, with the other clocks. It returns an error if one differs by more than it may,
-	// and otherwise whether one agrees. Starts says that the node has not believed its clock yet.
+	// Compare compares a time of day, and the time since boot at which it was read, with the other clocks. It returns
+	// an error if one differs by more than it may, and otherwise whether one agrees. Starts says that the node has not
+	// believed its clock yet.
 	Compare(now time.Time, elapsed time.Duration, starts bool) (isVouched bool, err error)
 }
 
-// Signer signs heads and timestamps that its guard approves (signer.Signer). If it has a method Verifier, that one verifies the log's signatures of notes.
+// Signer signs heads and timestamps that its guard approves (signer.Signer). If it has a method Verifier, that one
+// verifies the log's signatures of notes.
 type Signer interface {
 	Key() []byte
 	// IsGuarded reports whether there is a guard. Without one, Last knows no head.
@@ -134,7 +139,8 @@ type Proved struct {
 type Machine struct {
 	Clock  Clock
 	Memory Memory
-	// Parallel calls functions side by side, waits for all of them and returns the first error. After an error their context ends.
+	// Parallel calls functions side by side, waits for all of them and returns the first error. After an error their
+	// context ends.
 	Parallel func(ctx context.Context, all ...func(context.Context) error) error
 	// Random returns a random number.
 	Random func() (uint64, error)
@@ -204,7 +210,8 @@ func (c *Config) check() error {
 		return fmt.Errorf("%w: the clock, the memory, Parallel or Random of Machine is missing", ErrConfig)
 	case c.Origin == "" || strings.ContainsAny(c.Origin, " +\n\r\t"):
 		return fmt.Errorf("%w: the origin %q is empty, or has a space or a plus sign", ErrConfig, c.Origin)
-	case c.Pace.Look <= 0 || c.Pace.Refresh <= 0 || c.Pace.Call <= 0 || c.Pace.Round <= 0 || c.Pace.Patience <= 0 || c.Pace.MaxSkew <= 0 || c.Pace.Help < 0:
+	case c.Pace.Look <= 0 || c.Pace.Refresh <= 0 || c.Pace.Call <= 0 || c.Pace.Round <= 0 || c.Pace.Patience <= 0 ||
+		c.Pace.MaxSkew <= 0 || c.Pace.Help < 0:
 		return fmt.Errorf("%w: a time of Pace is not above 0", ErrConfig)
 	case c.Limits.MaxBatch <= 0 || c.Limits.MaxQueue <= 0:
 		return fmt.Errorf("%w: a number of Limits is not above 0", ErrConfig)
@@ -234,7 +241,8 @@ type Node struct {
 	health health
 }
 
-// Stepping returns the newest command to make a step, by which the decider says which staged batches may be deleted. It is nil before the first.
+// Stepping returns the newest command to make a step, by which the decider says which staged batches may be deleted. It
+// is nil before the first.
 func (n *Node) Stepping() *decider.Command { return n.stepping.Load() }
 
 // Snapshot returns the newest published head that this node knows, or nil before the first.
@@ -260,11 +268,13 @@ func (n *Node) Decided() signer.Head {
 // followFor is for how long after a state another node is taken for the one that makes the steps.
 const followFor = 3 * time.Second
 
-// Leader returns the address of the other node that set the lock's newest state a short while ago, or nothing. Nodes that compete starve each other, since the one that
-// won knows the next state first. So submissions are forwarded to that node.
+// Leader returns the address of the other node that set the lock's newest state a short while ago, or nothing. Nodes
+// that compete starve each other, since the one that won knows the next state first. So submissions are forwarded to
+// that node.
 func (n *Node) Leader() string {
 	k := n.newest.Load()
-	if k == nil || n.config.Address == "" || k.node == n.config.Address || n.config.Machine.Clock.Elapsed()-k.readAt > followFor {
+	if k == nil || n.config.Address == "" || k.node == n.config.Address ||
+		n.config.Machine.Clock.Elapsed()-k.readAt > followFor {
 		return ""
 	}
 	return k.node
@@ -276,7 +286,8 @@ func (n *Node) End() { n.pool.end() }
 // IsEnding reports whether End was called.
 func (n *Node) IsEnding() bool { return n.pool.isEnding() }
 
-// RefuseAll answers all that still wait with an error, and returns how many these were. It must be called after Run has returned only.
+// RefuseAll answers all that still wait with an error, and returns how many these were. It must be called after Run has
+// returned only.
 func (n *Node) RefuseAll(err error) int { return n.pool.refuse(err) }
 
 // show makes a head the one that readers see, unless they see a later one.

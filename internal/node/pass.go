@@ -24,12 +24,14 @@ type pass struct {
 	batch   []*Ticket
 }
 
-// places are those of a step's entries by their identities, and by the hashes of their leaves. replaced are those that the index has wrong.
+// places are those of a step's entries by their identities, and by the hashes of their leaves. replaced are those that
+// the index has wrong.
 type places struct{ placed, leaves, replaced []stores.Placed }
 
 // made is a step of this node, or another node's out of its staged batch.
 type made struct {
-	// text and bundle are the lock's text that this node's step leads to, and the name of its staged batch; both are empty of another node's step.
+	// text and bundle are the lock's text that this node's step leads to, and the name of its staged batch; both are
+	// empty of another node's step.
 	text, bundle string
 	content      []byte
 	objects      []step.Object
@@ -94,8 +96,8 @@ func (p *pass) carryOut(ctx context.Context) (bool, error) {
 	return true, p.goOn(told)
 }
 
-// reach gets to where a step may be made. If the newest state is not published, its own node does that, or this one. It reports false if the next round must
-// look again.
+// reach gets to where a step may be made. If the newest state is not published, its own node does that, or this one. It
+// reports false if the next round must look again.
 func (p *pass) reach(ctx context.Context) (bool, error) {
 	if l := p.last; l.stepping != nil && l.published == p.from.line && l.stepping.Seen.Text == p.from.text {
 		p.command = l.stepping
@@ -173,17 +175,8 @@ func (p *pass) waitsForOther() bool {
 	return p.config.Machine.Clock.Elapsed()-p.from.readAt < p.config.Pace.Help
 }
 
-// references names objects for the decider.
-func references(objects []step.Object) []string {
-	named := make([]string, len(objects))
-	for i, object := range objects {
-		named[i] = reference(object)
-	}
-	return named
-}
-
-// step has the proved step made of the batch, over the edge that is remembered, or over the store's if that one is not the state's. If the store's is damaged,
-// what the staged batch has of it is put again.
+// step has the proved step made of the batch, over the edge that is remembered, or over the store's if that one is not
+// the state's. If the store's is damaged, what the staged batch has of it is put again.
 func (p *pass) step(ctx context.Context) error {
 	defer p.took(decider.Step, p.config.Machine.Clock.Elapsed())
 	stepped, err := p.stepOver(ctx)
@@ -218,13 +211,15 @@ func (p *pass) step(ctx context.Context) error {
 		next++
 		placed := stores.Placed{Identity: t.identity, Place: stores.Place{Index: r.LeafIndex, Timestamp: r.Timestamp}}
 		p.made.placed = append(p.made.placed, placed)
-		p.made.leaves = append(p.made.leaves, stores.Placed{Identity: stores.Identity(tlog.RecordHash(r.Sign)), Place: placed.Place})
+		p.made.leaves = append(p.made.leaves, stores.Placed{Identity: stores.Identity(tlog.RecordHash(r.Sign)),
+			Place: placed.Place})
 		if t.misplaced {
 			p.made.replaced = append(p.made.replaced, placed)
 		}
 	}
 	m := &p.made
-	m.isNew, m.content, m.objects, m.head, m.receipts = true, stepped.Bundle, stepped.Objects, stepped.Head, stepped.Receipts
+	m.isNew, m.content, m.objects, m.head, m.receipts = true, stepped.Bundle, stepped.Objects, stepped.Head,
+		stepped.Receipts
 	m.text, m.bundle = p.config.textAfter(p.from.Timestamp, stepped.Line, stepped.State, salt)
 	told := decider.Stepped(stepped.Line, p.config.where(), salt, references(stepped.Objects))
 	if err := p.goOn(told); err != nil {
@@ -277,8 +272,8 @@ func (p *pass) stepOver(ctx context.Context) (*step.Stepped, error) {
 	return stepped, nil
 }
 
-// isMade returns an error unless the command is about this pass's own step: from the text that was read to the text, the staged batch and the objects that it
-// made. A lock that is swapped to any other text could not be gone on from.
+// isMade returns an error unless the command is about this pass's own step: from the text that was read to the text,
+// the staged batch and the objects that it made. A lock that is swapped to any other text could not be gone on from.
 func (p *pass) isMade() error {
 	of, m := p.command, &p.made
 	if !m.isNew || of.Seen.Text != p.from.text || of.New.Text != m.text || of.New.Bundle != m.bundle {
@@ -291,7 +286,8 @@ func (p *pass) isMade() error {
 func (p *pass) hasObjects() error {
 	named := references(p.made.objects)
 	if len(named) != len(p.command.Objects) {
-		return fmt.Errorf("%w: %s of %d objects and not of %d", errCommand, p.command.Do, len(p.command.Objects), len(named))
+		return fmt.Errorf("%w: %s of %d objects and not of %d", errCommand, p.command.Do,
+			len(p.command.Objects), len(named))
 	}
 	for i := range named {
 		if named[i] != p.command.Objects[i] {
@@ -345,7 +341,8 @@ func (p *pass) swap(ctx context.Context) (decider.Told, error) {
 		return nil, err
 	}
 	if k.text != p.command.New.Text {
-		// Another node was quick enough to publish this state and to go on. The waiting submissions are found by the next round.
+		// Another node was quick enough to publish this state and to go on. The waiting submissions are found by the
+		// next round.
 		return nil, nil
 	}
 	p.from = k
@@ -355,8 +352,8 @@ func (p *pass) swap(ctx context.Context) (decider.Told, error) {
 	return decider.Done(), nil
 }
 
-// swapped swaps, and again if the outcome is unknown: that settles it, since a lock that has the new text says so. If it stays unknown, the next round's reading
-// settles it.
+// swapped swaps, and again if the outcome is unknown: that settles it, since a lock that has the new text says so. If
+// it stays unknown, the next round's reading settles it.
 func (l *Loop) swapped(ctx context.Context, old, new string) (won bool, err error) {
 	for range maxSwaps {
 		err = l.config.Stores.Lock.Swap(ctx, old, new)
@@ -376,8 +373,8 @@ func (l *Loop) swapped(ctx context.Context, old, new string) (won bool, err erro
 	return false, fmt.Errorf("node: the swap: %w", err)
 }
 
-// put puts a state's objects under their public names. Beside that it adds the places of its entries, and keeps the state as the newest one that this node
-// accepted. None of these needs another one, and the head needs all.
+// put puts a state's objects under their public names. Beside that it adds the places of its entries, and keeps the
+// state as the newest one that this node accepted. None of these needs another one, and the head needs all.
 func (p *pass) put(ctx context.Context) (decider.Told, error) {
 	if err := errors.Join(p.isFrom(), p.hasObjects()); err != nil {
 		return nil, err
@@ -430,8 +427,8 @@ func (p *pass) publish(ctx context.Context) (decider.Told, error) {
 	return decider.Done(), nil
 }
 
-// sign signs the timestamps of the batch beside the put of its head, which the guard approved and enough witnesses cosigned. Nobody sees them before that head is
-// published. A failure is none yet: answer signs again.
+// sign signs the timestamps of the batch beside the put of its head, which the guard approved and enough witnesses
+// cosigned. Nobody sees them before that head is published. A failure is none yet: answer signs again.
 func (p *pass) sign(ctx context.Context) error {
 	if len(p.batch) == 0 {
 		return nil
@@ -443,7 +440,8 @@ func (p *pass) sign(ctx context.Context) error {
 	return nil
 }
 
-// answer signs the timestamps of the batch, if they are not signed yet, and answers it. Its entries are under a published head.
+// answer signs the timestamps of the batch, if they are not signed yet, and answers it. Its entries are under a
+// published head.
 func (p *pass) answer(ctx context.Context) (decider.Told, error) {
 	if err := p.isFrom(); err != nil || len(p.batch) == 0 {
 		return decider.Done(), err
@@ -463,7 +461,8 @@ func (p *pass) answer(ctx context.Context) (decider.Told, error) {
 	return decider.Done(), nil
 }
 
-// deleteUnneeded deletes the staged batches that this node knows of, if the decider says that no node needs them any more.
+// deleteUnneeded deletes the staged batches that this node knows of, if the decider says that no node needs them any
+// more.
 func (p *pass) deleteUnneeded(ctx context.Context) error {
 	for _, name := range p.last.unneeded {
 		if err := p.goOn(decider.Listed(name)); err != nil {
@@ -480,7 +479,8 @@ func (p *pass) deleteUnneeded(ctx context.Context) error {
 	return nil
 }
 
-// keepEdge remembers what the next step may need: the partial tiles of this step, and those from before that are still the edge's.
+// keepEdge remembers what the next step may need: the partial tiles of this step, and those from before that are still
+// the edge's.
 func (p *pass) keepEdge() {
 	p.edge = p.made.edge
 	for _, object := range p.made.objects {

@@ -9,7 +9,8 @@ import (
 	"wagtenib/internal/stores"
 )
 
-// Place is where a submission's entry is, with the signature that promises it: what an SCT is made of (RFC 6962, section 3.2).
+// Place is where a submission's entry is, with the signature that promises it: what an SCT is made of (RFC 6962,
+// section 3.2).
 type Place struct {
 	Index, Timestamp uint64
 	Signature        []byte
@@ -26,8 +27,8 @@ type Answer struct {
 type Ticket struct {
 	submission step.Submission
 	identity   stores.Identity
-	// wrong is the place that the index had when the submission was looked up, if another entry is there. misplaced says that the index has a place that
-	// must be replaced.
+	// wrong is the place that the index had when the submission was looked up, if another entry is there. misplaced
+	// says that the index has a place that must be replaced.
 	wrong     *stores.Place
 	misplaced bool
 	// isMovable says that the submission may be forwarded to another node.
@@ -46,7 +47,8 @@ func (t *Ticket) Answer() Answer { return t.answer }
 type pool struct {
 	mu      sync.Mutex
 	waiting []*Ticket
-	// open is how many tickets have no answer yet: those that wait and those that are in a step. bytes is how many bytes these have.
+	// open is how many tickets have no answer yet: those that wait and those that are in a step. bytes is how many
+	// bytes these have.
 	open, bytes int
 	ended       bool
 	limits      Limits
@@ -101,7 +103,8 @@ func (p *pool) add(of *Request) (*Ticket, error) {
 	if p.open >= p.limits.MaxQueue {
 		return nil, fmt.Errorf("%w: %d (submit again later)", ErrBusy, p.open)
 	}
-	t := &Ticket{submission: of.submission, identity: of.identity, wrong: of.wrong, isMovable: of.isMovable, done: make(chan struct{})}
+	t := &Ticket{submission: of.submission, identity: of.identity, wrong: of.wrong, isMovable: of.isMovable,
+		done: make(chan struct{})}
 	if max := p.limits.MaxQueueBytes; max > 0 && p.bytes+t.length() > max {
 		return nil, fmt.Errorf("%w: %d, of %d bytes (submit again later)", ErrBusy, p.open, p.bytes)
 	}

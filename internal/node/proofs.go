@@ -35,7 +35,8 @@ func (l *Loop) reading(objects []step.Object) tile.Reader {
 }
 
 // consistency returns a consistency proof from a size to a head's (RFC 6962, section 2.1.2).
-func (n *Node) consistency(ctx context.Context, first uint64, head signer.Head, read tile.Reader) (proof [][32]byte, err error) {
+func (n *Node) consistency(ctx context.Context, first uint64, head signer.Head,
+	read tile.Reader) (proof [][32]byte, err error) {
 	if first == 0 {
 		return nil, nil
 	}
@@ -70,8 +71,10 @@ func paths(ctx context.Context, indexes []uint64, head signer.Head, read tile.Re
 	return all, err
 }
 
-// signTimestamps has the timestamps of receipts signed, with their paths in the tree of the signer's last head. A head is the first one that is tried as the last.
-func (n *Node) signTimestamps(ctx context.Context, receipts []step.Receipt, head signer.Head, read tile.Reader) ([][]byte, error) {
+// signTimestamps has the timestamps of receipts signed, with their paths in the tree of the signer's last head. A head
+// is the first one that is tried as the last.
+func (n *Node) signTimestamps(ctx context.Context, receipts []step.Receipt, head signer.Head,
+	read tile.Reader) ([][]byte, error) {
 	for try := 0; ; try++ {
 		last := &head
 		if try > 0 {
@@ -83,7 +86,8 @@ func (n *Node) signTimestamps(ctx context.Context, receipts []step.Receipt, head
 		asked, indexes := make([]signer.Receipt, len(receipts)), make([]uint64, len(receipts))
 		for i, r := range receipts {
 			if last == nil || r.LeafIndex >= last.Size {
-				return nil, fmt.Errorf("node: entry %d is not in the signer's last head: %w", r.LeafIndex, signer.ErrRefused)
+				return nil, fmt.Errorf("node: entry %d is not in the signer's last head: %w", r.LeafIndex,
+					signer.ErrRefused)
 			}
 			asked[i], indexes[i] = signer.Receipt{Leaf: r.Sign, Index: r.LeafIndex}, r.LeafIndex
 		}

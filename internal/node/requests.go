@@ -10,8 +10,8 @@ import (
 	"wagtenib/internal/tile"
 )
 
-// Request is one submission of a client. It must be looked up before it is enqueued, and may then be looked up again. Its methods are for one coroutine, which is
-// not the loop's.
+// Request is one submission of a client. It must be looked up before it is enqueued, and may then be looked up again.
+// Its methods are for one coroutine, which is not the loop's.
 type Request struct {
 	node       *Node
 	submission step.Submission
@@ -44,11 +44,13 @@ func (r *Request) Wait(ctx context.Context, t *Ticket) (Answer, error) {
 	}
 }
 
-// Movable says that the submission may be forwarded to another node. It is answered by ErrElsewhere if another node makes the steps.
+// Movable says that the submission may be forwarded to another node. It is answered by ErrElsewhere if another node
+// makes the steps.
 func (r *Request) Movable() { r.isMovable = true }
 
-// Lookup returns where the log has the entry already, with a new signature over its first timestamp, or nil. A place that the index has is believed only if the
-// proved claim accepts the entry's audit path under the head that readers see.
+// Lookup returns where the log has the entry already, with a new signature over its first timestamp, or nil. A place
+// that the index has is believed only if the proved claim accepts the entry's audit path under the head that readers
+// see.
 func (r *Request) Lookup(ctx context.Context) (*Place, error) {
 	c, err := r.Find(ctx)
 	if err != nil || c == nil {
@@ -82,7 +84,8 @@ func (r *Request) Find(ctx context.Context) (*Candidate, error) {
 	return &Candidate{now, place}, nil
 }
 
-// Claim returns the entry at a candidate's place, with a new signature over its first timestamp, or nil if another entry is there. It may read two data tiles.
+// Claim returns the entry at a candidate's place, with a new signature over its first timestamp, or nil if another
+// entry is there. It may read two data tiles.
 func (r *Request) Claim(ctx context.Context, c *Candidate) (*Place, error) {
 	n, now, place := r.node, c.at, c.place
 	receipt, err := n.claimed(ctx, now, place, r)

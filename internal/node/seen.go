@@ -12,8 +12,9 @@ import (
 	"wagtenib/internal/stores"
 )
 
-// A node continues from no state that is older than what it accepted before, or older than what the store has: a lock that was rolled back would make it sign a second
-// history. The newest head that it accepted is kept in a memory of its machine's own, since the stores may all be rolled back together.
+// A node continues from no state that is older than what it accepted before, or older than what the store has: a lock
+// that was rolled back would make it sign a second history. The newest head that it accepted is kept in a memory of its
+// machine's own, since the stores may all be rolled back together.
 
 // seen is what a node saw of the log.
 type seen struct {
@@ -22,20 +23,23 @@ type seen struct {
 	// newest is the state of the text that was read last, and heard is when that was, by Elapsed.
 	newest *state
 	heard  time.Duration
-	// isVouched says that enough witnesses cosigned the newest head again since this node started, or since it could not read the lock.
+	// isVouched says that enough witnesses cosigned the newest head again since this node started, or since it could
+	// not read the lock.
 	isVouched bool
 	// asked is when the witnesses were asked for the time, by Elapsed.
 	asked time.Duration
 }
 
-// maxUnheard is for how long a node may not have read the lock, until it looks for heads that are later than what it reads.
+// maxUnheard is for how long a node may not have read the lock, until it looks for heads that are later than what it
+// reads.
 const maxUnheard = 3 * time.Second
 
 // isAccepted reports whether a state is the newest that this node accepted, or the one that all logs begin with.
 func (l *Loop) isAccepted(k *state) bool { return k.IsBegin() || l.seen.accepted.line == k.line }
 
-// accept checks a state and then keeps it as the newest one. It must be called before anything of the state is published or signed, and before a step is made
-// from it. Objects are those of the state that may not be in the store yet.
+// accept checks a state and then keeps it as the newest one. It must be called before anything of the state is
+// published or signed, and before a step is made from it. Objects are those of the state that may not be in the store
+// yet.
 func (l *Loop) accept(ctx context.Context, k *state, objects []step.Object) error {
 	if l.isAccepted(k) {
 		return nil
@@ -55,7 +59,8 @@ func (l *Loop) keep(ctx context.Context, k *state) error {
 	return nil
 }
 
-// descends returns ErrRolledBack unless a state continues from the newest that this node accepted, and the store has no head of another history.
+// descends returns ErrRolledBack unless a state continues from the newest that this node accepted, and the store has no
+// head of another history.
 func (l *Loop) descends(ctx context.Context, k *state, objects []step.Object) error {
 	err := l.compare(ctx, k, objects)
 	if errors.Is(err, ErrRolledBack) && l.seen.accepted.text != "" {
@@ -94,13 +99,16 @@ func (l *Loop) compare(ctx context.Context, k *state, objects []step.Object) err
 // isOlder is the refusal of a state that is older than a head that this node accepted.
 func isOlder(k *state, accepted signer.Head) error {
 	if k.Size == accepted.Size && k.Timestamp == accepted.Timestamp {
-		return fmt.Errorf("%w: it has another root of %d entries at %d ms than this node accepted", ErrRolledBack, k.Size, k.Timestamp)
+		return fmt.Errorf("%w: it has another root of %d entries at %d ms than this node accepted", ErrRolledBack,
+			k.Size, k.Timestamp)
 	}
-	return fmt.Errorf("%w: it has %d entries at %d ms, and this node accepted %d at %d ms", ErrRolledBack, k.Size, k.Timestamp, accepted.Size, accepted.Timestamp)
+	return fmt.Errorf("%w: it has %d entries at %d ms, and this node accepted %d at %d ms", ErrRolledBack, k.Size,
+		k.Timestamp, accepted.Size, accepted.Timestamp)
 }
 
-// headsUpTo compares the names of the store's heads from the newest accepted one on. In one history they are in the order of their timestamps and end with the
-// state's, unless other nodes went on meanwhile. If the state is the very next, there is none between. The last one before the state's is returned.
+// headsUpTo compares the names of the store's heads from the newest accepted one on. In one history they are in the
+// order of their timestamps and end with the state's, unless other nodes went on meanwhile. If the state is the very
+// next, there is none between. The last one before the state's is returned.
 func (l *Loop) headsUpTo(ctx context.Context, k *state, isNext bool) (last string, err error) {
 	after, before, own := "", l.seen.accepted.head(), headName(k.Size, k.Timestamp)
 	if before.Timestamp > 0 {
@@ -122,7 +130,8 @@ func (l *Loop) headsUpTo(ctx context.Context, k *state, isNext bool) (last strin
 			if err != nil {
 				return "", err
 			}
-			if isNext || !follows(size, timestamp, before) || !follows(k.Size, k.Timestamp, signer.Head{Size: size, Timestamp: timestamp}) {
+			if isNext || !follows(size, timestamp, before) ||
+				!follows(k.Size, k.Timestamp, signer.Head{Size: size, Timestamp: timestamp}) {
 				return "", foreign(k, name)
 			}
 			last, before = name, signer.Head{Size: size, Timestamp: timestamp}
@@ -151,7 +160,8 @@ func (l *Loop) isLater(ctx context.Context, k *state, name string) error {
 	return foreign(k, name)
 }
 
-// extends returns ErrRolledBack unless the proved decision accepts a state's head after another head, by a consistency proof (docs/NODE.md, "A lock that falls").
+// extends returns ErrRolledBack unless the proved decision accepts a state's head after another head, by a consistency
+// proof (docs/NODE.md, "A lock that falls").
 func (l *Loop) extends(ctx context.Context, k *state, head signer.Head, objects []step.Object) error {
 	if head == (signer.Head{}) {
 		// Nothing was accepted before.
@@ -165,7 +175,8 @@ func (l *Loop) extends(ctx context.Context, k *state, head signer.Head, objects 
 		}
 	}
 	if err := wagtenib.NodeAccept(treeHead(head), treeHead(k.head()), proof); err != nil {
-		return fmt.Errorf("%w: its %d entries at %d ms do not continue the %d at %d ms that the log had: %v", ErrRolledBack, k.Size, k.Timestamp, head.Size, head.Timestamp, err)
+		return fmt.Errorf("%w: its %d entries at %d ms do not continue the %d at %d ms that the log had: %v",
+			ErrRolledBack, k.Size, k.Timestamp, head.Size, head.Timestamp, err)
 	}
 	return nil
 }
@@ -175,8 +186,8 @@ func treeHead(head signer.Head) wagtenib.TreeHead {
 	return wagtenib.TreeHead{TreeSize: head.Size, Timestamp: head.Timestamp, Root: head.Root}
 }
 
-// looksBack checks that neither the store nor the lock knows a later head than the state of the lock's text. This node could not read the lock for a while, so
-// it does not know what was decided meanwhile.
+// looksBack checks that neither the store nor the lock knows a later head than the state of the lock's text. This node
+// could not read the lock for a while, so it does not know what was decided meanwhile.
 func (l *Loop) looksBack(ctx context.Context, k *state) error {
 	later, err := l.config.Stores.Objects.List(ctx, headsPrefix, headName(k.Size, k.Timestamp), 1)
 	if err != nil {
@@ -199,5 +210,6 @@ func (l *Loop) looksBack(ctx context.Context, k *state) error {
 	if again != k.text {
 		return errMoves
 	}
-	return fmt.Errorf("%w: it has %d entries at %d ms, and %d at %d ms are published", ErrRolledBack, k.Size, k.Timestamp, published.Size, published.Timestamp)
+	return fmt.Errorf("%w: it has %d entries at %d ms, and %d at %d ms are published", ErrRolledBack, k.Size,
+		k.Timestamp, published.Size, published.Timestamp)
 }

@@ -54,3 +54,12 @@ func (l *Loop) putRight(ctx context.Context, name string, content []byte) error 
 	l.config.Machine.Observer.Repaired(name)
 	return nil
 }
+
+// references names objects for the decider.
+func references(objects []step.Object) []string {
+	named := make([]string, len(objects))
+	for i, object := range objects {
+		named[i] = reference(object)
+	}
+	return named
+}

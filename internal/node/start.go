@@ -11,20 +11,23 @@ import (
 	"wagtenib/internal/tile"
 )
 
-// Start looks at the lock, the stores, the signer and the machine's memory, and returns a node if the node may continue from there. The caller must then
-// call Run of the loop in one coroutine. Otherwise it refuses with ErrRolledBack, ErrDamaged, ErrIndex or signer.ErrState.
+// Start looks at the lock, the stores, the signer and the machine's memory, and returns a node if the node may continue
+// from there. The caller must then call Run of the loop in one coroutine. Otherwise it refuses with ErrRolledBack,
+// ErrDamaged, ErrIndex or signer.ErrState.
 func Start(ctx context.Context, config Config) (*Node, *Loop, error) {
 	if err := config.check(); err != nil {
 		return nil, nil, err
 	}
 	n := newNode(config)
-	l := &Loop{Node: n, edge: map[string][]byte{}, witnessed: make([]uint64, len(config.Witnesses.All)), clock: newTimekeeper(config.Machine, config.Pace.MaxSkew)}
+	l := &Loop{Node: n, edge: map[string][]byte{}, witnessed: make([]uint64, len(config.Witnesses.All)),
+		clock: newTimekeeper(config.Machine, config.Pace.MaxSkew)}
 	remembered, err := config.Machine.Memory.Load(ctx)
 	if err != nil {
 		return nil, nil, fmt.Errorf("node: the memory: %w", err)
 	}
 	if remembered != nil {
-		l.seen.accepted.Size, l.seen.accepted.Timestamp, l.seen.accepted.Root = remembered.Size, remembered.Timestamp, remembered.Root
+		l.seen.accepted.Size, l.seen.accepted.Timestamp, l.seen.accepted.Root = remembered.Size, remembered.Timestamp,
+			remembered.Root
 	}
 	for range startOver {
 		started, err := l.takeUp(ctx, remembered)
@@ -189,22 +192,28 @@ func (l *Loop) movedSince(ctx context.Context, f found) (bool, error) {
 // refused returns why the node does not continue.
 func refused(refusal decider.Refusal, f found) error {
 	if f.k == nil {
-		return fmt.Errorf("%w: %s: there is no lock, and this is no new log (see \"Backup\" in OPERATING.md)", ErrRolledBack, refusal)
+		return fmt.Errorf("%w: %s: there is no lock, and this is no new log (see \"Backup\" in OPERATING.md)",
+			ErrRolledBack, refusal)
 	}
 	of := fmt.Sprintf("the lock has %d entries at %d ms", f.k.Size, f.k.Timestamp)
 	switch refusal {
 	case decider.TwoRoots:
 		return fmt.Errorf("%w: %s, and the signer approved another root of these", ErrDamaged, of)
 	case decider.GuardBehind:
-		return fmt.Errorf("%w: it is older than the log, whose store has a head of %d entries at %d ms (see \"Backup\" in OPERATING.md)", signer.ErrState, f.Listed.Size, f.Listed.Timestamp)
+		return fmt.Errorf("%w: it is older than the log, whose store has a head of %d entries at %d ms (see "+
+			"\"Backup\" in OPERATING.md)", signer.ErrState, f.Listed.Size, f.Listed.Timestamp)
 	case decider.BehindGuard:
-		return fmt.Errorf("%w: %s, and the signer approved %d at %d ms", ErrRolledBack, of, f.last.Size, f.last.Timestamp)
+		return fmt.Errorf("%w: %s, and the signer approved %d at %d ms", ErrRolledBack, of, f.last.Size,
+			f.last.Timestamp)
 	case decider.BehindSeen:
-		return fmt.Errorf("%w: %s, and this machine accepted %d at %d ms, or another root", ErrRolledBack, of, f.Seen.Size, f.Seen.Timestamp)
+		return fmt.Errorf("%w: %s, and this machine accepted %d at %d ms, or another root", ErrRolledBack, of,
+			f.Seen.Size, f.Seen.Timestamp)
 	case decider.BehindListed:
-		return fmt.Errorf("%w: %s, and the store has a head of %d at %d ms", ErrRolledBack, of, f.Listed.Size, f.Listed.Timestamp)
+		return fmt.Errorf("%w: %s, and the store has a head of %d at %d ms", ErrRolledBack, of, f.Listed.Size,
+			f.Listed.Timestamp)
 	case decider.BehindPublished:
-		return fmt.Errorf("%w: %s, and %d at %d ms are published", ErrRolledBack, of, f.published.Size, f.published.Timestamp)
+		return fmt.Errorf("%w: %s, and %d at %d ms are published", ErrRolledBack, of, f.published.Size,
+			f.published.Timestamp)
 	}
 	return fmt.Errorf("%w: %s: %s", ErrRolledBack, refusal, of)
 }
@@ -238,14 +247,16 @@ func (l *Loop) create(ctx context.Context) error {
 	return nil
 }
 
-// showNewest shows readers the head of the lock's state if the store has it, so that they need not wait for the first round.
+// showNewest shows readers the head of the lock's state if the store has it, so that they need not wait for the first
+// round.
 func (l *Loop) showNewest(ctx context.Context, f found) error {
 	if f.k.IsBegin() || f.published.Before(f.k.published()) {
 		return nil
 	}
 	head, err := l.headOf(ctx, f.k)
 	if errors.Is(err, errForeign) && !l.isOurs(ctx) {
-		return fmt.Errorf("%w: the store has heads, and none that was read is this log's: %v (correct --origin or --signing-key)", ErrConfig, err)
+		return fmt.Errorf("%w: the store has heads, and none that was read is this log's: %v (correct --origin or "+
+			"--signing-key)", ErrConfig, err)
 	}
 	if errors.Is(err, stores.ErrAbsent) || errors.Is(err, ErrDamaged) {
 		// It is not served. The loop makes it again, or says why it cannot.
@@ -279,8 +290,8 @@ func (l *Loop) isOurs(ctx context.Context) bool {
 	return false
 }
 
-// knowsNewest returns ErrIndex if the index lacks the newest entry of a published state: its node added all places before it published the head. If the entry
-// cannot be read, the step says so.
+// knowsNewest returns ErrIndex if the index lacks the newest entry of a published state: its node added all places
+// before it published the head. If the entry cannot be read, the step says so.
 func (l *Loop) knowsNewest(ctx context.Context, k *state) error {
 	newest := l.newestLeaf(ctx, k)
 	if newest == nil {
@@ -306,7 +317,8 @@ func (l *Loop) knows(ctx context.Context, id, leaf stores.Identity, index uint64
 		isKnown = isKnown && ok && place.Index == index
 	}
 	if !isKnown {
-		return fmt.Errorf("%w: it lacks the newest entry, %d (all nodes must share one index; build a lost one from the tiles again by ctserve index)", ErrIndex, index)
+		return fmt.Errorf("%w: it lacks the newest entry, %d (all nodes must share one index; build a lost one from "+
+			"the tiles again by ctserve index)", ErrIndex, index)
 	}
 	return nil
 }

@@ -17,9 +17,9 @@ import (
 	"wagtenib/internal/witness"
 )
 
-// A log all of whose stores are rolled back together cannot show that to itself, but its witnesses saw more. A head is signed, then cosigned by enough
-// witnesses, then published. Before a node takes anything, enough witnesses must cosign the newest head again, and none may say that it saw more
-// (docs/WITNESS.md).
+// A log all of whose stores are rolled back together cannot show that to itself, but its witnesses saw more. A head is
+// signed, then cosigned by enough witnesses, then published. Before a node takes anything, enough witnesses must cosign
+// the newest head again, and none may say that it saw more (docs/WITNESS.md).
 
 // Witness is one witness of the log (C2SP tlog-witness). witness.Client is one over HTTP.
 type Witness interface {
@@ -29,7 +29,8 @@ type Witness interface {
 	AddCheckpoint(ctx context.Context, body []byte) (status int, answer string, err error)
 }
 
-// Witnesses are all witnesses of the log, and how many of them must cosign. Without witnesses, heads are published by the log's signature only.
+// Witnesses are all witnesses of the log, and how many of them must cosign. Without witnesses, heads are published by
+// the log's signature only.
 type Witnesses struct {
 	All     []Witness
 	Quorums witness.Quorums
@@ -56,7 +57,8 @@ func (w Witnesses) check(cosign time.Duration) error {
 	return nil
 }
 
-// maxUnvouched is for how long a node may not have read the lock, until the newest head must be cosigned again before anything is taken.
+// maxUnvouched is for how long a node may not have read the lock, until the newest head must be cosigned again before
+// anything is taken.
 const maxUnvouched = time.Minute
 
 var (
@@ -66,8 +68,9 @@ var (
 	errEnough = errors.New("node: enough witnesses cosigned")
 )
 
-// cosign adds the lines of enough cosignatures to a head that the log signed. No head may be put before that. The first head of a node that is not vouched is also
-// the one with which it starts. It may be the first one of a log that begins again from nothing, of which the witnesses saw more.
+// cosign adds the lines of enough cosignatures to a head that the log signed. No head may be put before that. The first
+// head of a node that is not vouched is also the one with which it starts. It may be the first one of a log that begins
+// again from nothing, of which the witnesses saw more.
 func (l *Loop) cosign(ctx context.Context, k *state, head *Head, objects []step.Object) error {
 	if len(l.config.Witnesses.All) == 0 {
 		return nil
@@ -97,15 +100,16 @@ func (l *Loop) vouch(ctx context.Context, k *state) error {
 		l.last.published = ""
 		return err
 	}
-	if _, err := l.gather(ctx, &asking{k: k, note: ownNote(head.Note), least: l.config.Witnesses.Quorums.Start, whole: true}); err != nil {
+	if _, err := l.gather(ctx, &asking{k: k, note: ownNote(head.Note),
+		least: l.config.Witnesses.Quorums.Start, whole: true}); err != nil {
 		return err
 	}
 	l.seen.isVouched = true
 	return nil
 }
 
-// askTime has the witnesses cosign the newest head again now and then, while the clock is wrong: their cosignatures say what time it is. What keeps them from it is
-// reported once the clock is right.
+// askTime has the witnesses cosign the newest head again now and then, while the clock is wrong: their cosignatures say
+// what time it is. What keeps them from it is reported once the clock is right.
 func (l *Loop) askTime(ctx context.Context, k *state) {
 	now := l.config.Machine.Clock.Elapsed()
 	if len(l.config.Witnesses.All) == 0 || l.config.Machine.Sources == nil || now-l.seen.asked < maxUnvouched {
@@ -159,8 +163,8 @@ func (a *asking) heard(line string, err error) error {
 	return nil
 }
 
-// gather asks all witnesses at once, and returns the lines of those that cosigned. Unless all are waited for, the calls to the others end with the last
-// cosignature that is needed.
+// gather asks all witnesses at once, and returns the lines of those that cosigned. Unless all are waited for, the calls
+// to the others end with the last cosignature that is needed.
 func (l *Loop) gather(ctx context.Context, a *asking) ([]byte, error) {
 	all := l.config.Witnesses.All
 	calls := make([]func(context.Context) error, len(all))
@@ -180,7 +184,8 @@ func (l *Loop) gather(ctx context.Context, a *asking) ([]byte, error) {
 	case a.behind != nil:
 		return nil, l.unwitnessed(ctx, a)
 	}
-	return nil, fmt.Errorf("%w: of %d entries at %d ms: %d of %d did, and %d are needed: %w", ErrWitnesses, a.k.Size, a.k.Timestamp, a.given, len(all), a.least, a.other)
+	return nil, fmt.Errorf("%w: of %d entries at %d ms: %d of %d did, and %d are needed: %w", ErrWitnesses, a.k.Size,
+		a.k.Timestamp, a.given, len(all), a.least, a.other)
 }
 
 // unwitnessed returns what it means that a witness saw more: other nodes went on meanwhile, or the log was rolled back.
@@ -195,8 +200,8 @@ func (l *Loop) unwitnessed(ctx context.Context, a *asking) error {
 	return fmt.Errorf("%w: it has %d entries at %d ms: %v", ErrRolledBack, a.k.Size, a.k.Timestamp, a.behind)
 }
 
-// cosignature has one witness cosign a head. It is asked from the size that it is known to have cosigned last, and then from the one that it says. Only the
-// coroutine that asks this witness uses its number in witnessed.
+// cosignature has one witness cosign a head. It is asked from the size that it is known to have cosigned last, and then
+// from the one that it says. Only the coroutine that asks this witness uses its number in witnessed.
 func (l *Loop) cosignature(ctx context.Context, which int, a *asking) (line string, err error) {
 	ctx, cancel := l.config.Machine.Clock.Within(ctx, l.config.Pace.Cosign)
 	defer cancel()
@@ -225,7 +230,8 @@ func (l *Loop) cosignature(ctx context.Context, which int, a *asking) (line stri
 			}
 			l.witnessed[which] = old
 		case http.StatusUnprocessableEntity:
-			return "", fmt.Errorf("%w: %s refuses the proof from %d entries to %d: %.80q", ErrWitnessAhead, name, r.Old, a.k.Size, answer)
+			return "", fmt.Errorf("%w: %s refuses the proof from %d entries to %d: %.80q", ErrWitnessAhead, name, r.Old,
+				a.k.Size, answer)
 		default:
 			return "", fmt.Errorf("node: the witness %s answers %d: %.80q", name, status, answer)
 		}

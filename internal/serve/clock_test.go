@@ -113,8 +113,8 @@ func TestRequiresSynchronizedClock(t *testing.T) {
 	got.submit(t, l, 5, 6)
 }
 
-// A log that stood for more than a day goes on, if nothing else says what time it is, on the day that its operator
-// names only.
+// TestNameDay: a log that was stopped for more than a day continues only on the day that its operator confirms, if
+// nothing else confirms the time.
 func TestNameDay(t *testing.T) {
 	t.Parallel()
 	p, got := newPlace(t), &answers{}

@@ -12,8 +12,8 @@ import (
 // maxJoined is how many identities a lookup has at most that shares a call with others.
 const maxJoined = 8
 
-// finder has lookups that come at the same time share a call to the index: each submission looks up one identity. Lookups
-// that come while a call is made share the next one.
+// finder has lookups that come at the same time share a call to the index: each submission looks up one identity.
+// Lookups that come while a call is made share the next one.
 type finder struct {
 	stores.Places
 
@@ -23,7 +23,7 @@ type finder struct {
 	isGoing bool
 }
 
-// lookup is one call. What it found, and its error, may be read after done is closed.
+// lookup is one call. Its result and its error may be read after done is closed.
 type lookup struct {
 	identities map[stores.Identity]bool
 	done       chan struct{}

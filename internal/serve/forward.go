@@ -176,8 +176,8 @@ func (f *Forwarder) askTime(ctx context.Context) {
 // Close closes the connections that are kept.
 func (f *Forwarder) Close() { f.transport.CloseIdleConnections() }
 
-// OfNodes returns the handler of what other nodes forward, over a handler that takes it. It tells no time while this
-// node's clock is wrong: if all clocks are wrong alike, no two nodes must have each other believe them.
+// OfNodes returns the handler for requests that other nodes forward, over a handler for submissions. It sends no time
+// while this node's clock is wrong, so that two nodes with the same wrong time do not confirm each other.
 func (l *Log) OfNodes(front http.Handler) http.Handler {
 	return http.HandlerFunc(func(w http.ResponseWriter, r *http.Request) {
 		if errors.Is(l.node.Fault(), node.ErrClock) {

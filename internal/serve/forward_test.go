@@ -77,8 +77,8 @@ func forwards(f *serve.Forwarder) (isAnswered bool, text string, err error) {
 	return isAnswered, w.Body.String(), err
 }
 
-// A node forwards to the node that set the newest state, with the client's address. It takes the submission itself if the
-// other one answers with 500 or more, or not at all, and asks it no more for a while.
+// A node forwards to the node that set the newest state, with the client's address. It takes the submission itself if
+// the other one answers with 500 or more, or not at all, and asks it no more for a while.
 func TestForward(t *testing.T) {
 	t.Parallel()
 	p, o := newPlace(t), newOtherNode(t)
@@ -121,7 +121,8 @@ func TestForward(t *testing.T) {
 	must(t, err)
 }
 
-// A submission that may be forwarded does not wait here while another node makes the steps, and one that must not be does.
+// A submission that may be forwarded does not wait here while another node makes the steps, and one that must not be
+// does.
 func TestElsewhere(t *testing.T) {
 	t.Parallel()
 	p, o := newPlace(t), newOtherNode(t)

@@ -66,7 +66,7 @@ func storedIDs(ctx context.Context, in stores.Objects) ([]string, error) {
 	return names, nil
 }
 
-// hasItsIndex returns node.ErrIndex unless the index has the id that the store has. If neither has one, they get one.
+// hasItsIndex returns node.ErrIndex unless the index has the id that the store has. If neither has one, it sets both.
 func (l *Log) hasItsIndex(ctx context.Context) error {
 	index, objects := l.config.Stores.Index, l.config.Stores.Objects
 	names, err := storedIDs(ctx, objects)
@@ -96,7 +96,8 @@ func (l *Log) hasItsIndex(ctx context.Context) error {
 		own = idName(id)
 	}
 	if len(names) > 1 {
-		return fmt.Errorf("%w: its id is %s, and the store has %s: nodes with an index of their own each started at once "+
+		return fmt.Errorf("%w: its id is %s, and the store has %s: nodes with an index of their own each started "+
+			"at once "+
 			"(give all nodes the same index, and delete the other ids)",
 			node.ErrIndex, own, strings.Join(names, " and "))
 	}
@@ -129,9 +130,8 @@ func takeID(ctx context.Context, of Stores) error {
 }
 
 // RebuildIndex sets the places of all entries of a log from its tiles, each of which is compared with the tree of the
-// newest state. It goes from the newest to the first, so that a node may be started before it ends, and that an entry
-// that the log has twice gets its first place. After each tile it tells how many entries are left. The log may run at
-// the same time.
+// newest state. It works from the newest entry to the first, so a node may start before it ends, and a duplicate entry
+// gets its first place. After each tile it reports how many entries are left. The log may run at the same time.
 func RebuildIndex(ctx context.Context, of Stores, told func(left uint64)) error {
 	text, err := of.Lock.Read(ctx)
 	if err != nil {

@@ -23,8 +23,8 @@ const (
 	maxIssuer, maxDamaged = 1 << 20, 1024
 )
 
-// issuers puts the certificates of issuers under issuer/<SHA-256> (C2SP static-ct-api), each once. Of many submissions
-// at once with one issuer, one puts it and the others wait for it.
+// issuers stores the certificates of issuers under issuer/<SHA-256> (C2SP static-ct-api), each once. If many
+// submissions with one issuer come at once, one stores it and the others wait.
 type issuers struct {
 	objects  stores.Objects
 	repaired func(name string)

@@ -50,7 +50,8 @@ func TestPageSaysBounds(t *testing.T) {
 	// Half of what is written are partial tiles, and these stay for as long again as they have to.
 	partials := float64(maxWritten) / 2 * 2 * keepTiles.Seconds()
 	trial.Says(t, trial.Page(t, "../../docs/SERVICE.md"), map[string]bool{
-		"An entry has at most 128 KiB because a step holds 255 of them, in the partial data tile, beside 12 MiB of new ones": MaxEntry == 128<<10 && tile.Width-1 == 255 && MaxBatchBytes == 12<<20,
+		"An entry has at most 128 KiB because a step holds 255 of them, in the partial data tile, beside 12 MiB of " +
+			"new ones": MaxEntry == 128<<10 && tile.Width-1 == 255 && MaxBatchBytes == 12<<20,
 		"So a data tile has at most 34 MB. Answers hold at most 15 of these at once, and two for one address": math.Round(float64(largest)/1e6) == 34 && largest < stores.MaxObject &&
 			answers/largest == 15 && ofOne/largest == 2,
 		"which stay for five to ten minutes until they are deleted: up to 5 GB": partials >= 5e9 && partials < 5.1e9,

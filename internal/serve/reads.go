@@ -17,9 +17,8 @@ const (
 	maxReading, slowReading = 30 * time.Second, time.Second
 )
 
-// readings let requests for the newest head that come at the same time share a reading of the lock. So the step, which
-// swaps the lock, does not wait behind each of them. A reading that has begun may be too early, so a request that comes
-// meanwhile shares the next one.
+// readings let concurrent requests for the newest head share a reading of the lock, so that the step's swap of the lock
+// does not wait for each of them. A reading that has begun may be too early, so a later request shares the next one.
 type readings struct {
 	mu sync.Mutex
 	// next has not begun; nil if nobody waits for it. isGoing says that somebody makes one after the other.
@@ -81,7 +80,8 @@ func (r *readings) beside(read func(context.Context) (log.Head, error)) {
 	}
 }
 
-// Checkpoint is log.Log's. It never falls behind what is published when it is called.
+// Checkpoint returns the newest head, as log.Log says. It is never older than the head that was published at the time
+// of the call.
 func (l *Log) Checkpoint(ctx context.Context) (log.Head, error) {
 	shared := l.readings.join(l.newest)
 	select {

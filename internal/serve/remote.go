@@ -25,7 +25,7 @@ type remote struct {
 	// turn is held by the call that is under way, and calls waits for that.
 	turn  chan struct{}
 	calls sync.WaitGroup
-	// isElsewhere says that it answered from another machine, and so has another clock.
+	// isElsewhere reports that it answered from another machine, and so has another clock.
 	isElsewhere atomic.Bool
 }
 
@@ -112,7 +112,7 @@ func (r *remote) missed(err error) {
 	r.counts.witness(r.Name, func(w *log.Witness) { w.Missed, w.Fault = w.Missed+1, err.Error() })
 }
 
-// standing returns how the witness stands to the log.
+// standing returns the witness's state for the log.
 func (r *remote) standing() log.Witness {
 	r.counts.mu.Lock()
 	defer r.counts.mu.Unlock()

@@ -99,7 +99,7 @@ type Config struct {
 type MachineConfig struct {
 	Files Files
 	Clock ClockBounds
-	// Of is the machine's clock; nil is this machine's.
+	// Of is the machine's clock. A nil Of is this machine's.
 	Of Clock
 }
 

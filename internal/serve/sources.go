@@ -127,7 +127,7 @@ func (s *sources) byWitnesses(now time.Time, elapsed time.Duration) (isSaid bool
 	return true, s.off(now.Sub(middle.at), middle.within, "the witnesses")
 }
 
-// off returns an error if a clock is ahead of another one by more than the bound, or behind it.
+// off returns an error if a clock differs from another one by more than the bound.
 func (s *sources) off(ahead, within time.Duration, of string) error {
 	switch {
 	case ahead > s.bounds.MaxSkew+within:

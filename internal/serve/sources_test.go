@@ -22,7 +22,8 @@ func (s still) sources(said ...time.Duration) *sources {
 	return of
 }
 
-// The witness in the middle counts: one of three that lies neither stops a node nor vouches for its clock. Witnesses refuse a node at its start only.
+// TestWitnessInTheMiddle: the median of the witnesses counts. One wrong witness of three neither stops a node nor
+// confirms its clock. Witnesses refuse a node only at its start.
 func TestWitnessInTheMiddle(t *testing.T) {
 	clock := still{now: time.Now()}
 	const far = time.Hour
@@ -46,7 +47,8 @@ func TestWitnessInTheMiddle(t *testing.T) {
 		}
 	}
 	// A cosignature of more than ten minutes ago does not count.
-	if isVouched, err := clock.sources(0).Compare(clock.now, clock.Elapsed()+forgotten+time.Minute, true); isVouched || err != nil {
+	if isVouched, err := clock.sources(0).Compare(clock.now, clock.Elapsed()+forgotten+time.Minute, true); isVouched ||
+		err != nil {
 		t.Errorf("an old word counts: %t, %v", isVouched, err)
 	}
 }

@@ -1,4 +1,5 @@
-// Package settingsfile reads a program's settings: its command line, and the file that this names, which has what it takes, a line each.
+// Package settingsfile reads a program's settings: its command line, and the file that this names, which has what it
+// takes, a line each.
 package settingsfile
 
 import (
@@ -13,14 +14,14 @@ import (
 
 // Rules are those of one program's file, by the names of its flags.
 type Rules struct {
-	// Only are those that the command line alone may have.
+	// Only has the flags that may be only in the command line.
 	Only []string
-	// Several are those that may stand in several lines, and beside the command line's.
+	// Several has the flags that may be in several lines, and in the command line as well.
 	Several []string
 }
 
-// Flags are those of a program, or of one of its commands, by its name. What is wrong with its words is told to one writer, and so is, where help
-// is asked for, this page with each flag behind it.
+// Flags returns the flags of a program, or of one of its commands, by its name. Errors in its arguments are written to
+// one writer. If help is requested, the page is written there with each flag after it.
 func Flags(name, page string, to io.Writer) *flag.FlagSet {
 	flags := flag.NewFlagSet(name, flag.ContinueOnError)
 	flags.SetOutput(to)
@@ -31,8 +32,8 @@ func Flags(name, page string, to io.Writer) *flag.FlagSet {
 	return flags
 }
 
-// Ends says whether a program ends by what came of its words, and with which status: with 0 where help was asked for, and with 2 at a fault, which
-// is told.
+// Ends reports whether a program ends because of its arguments, and with which status: 0 if help was requested, and 2
+// after an error, which it writes.
 func Ends(err error, to io.Writer) (status int, ends bool) {
 	switch {
 	case err == nil:
@@ -44,14 +45,14 @@ func Ends(err error, to io.Writer) (status int, ends bool) {
 	return 2, true
 }
 
-// Parse sets flags by the words of a command line, of which none may be left over, and what these don't set by the file that the flag config
-// names, where it names one. Where help was asked for it gives flag.ErrHelp.
+// Parse sets flags from the arguments of a command line, which must have nothing else. It sets the other flags from the
+// file that the flag config names, if there is one. If help was requested it returns flag.ErrHelp.
 func (r Rules) Parse(flags *flag.FlagSet, words []string) error {
 	if err := flags.Parse(words); err != nil {
 		return err
 	}
 	if flags.NArg() > 0 {
-		return fmt.Errorf("%q isn't expected", flags.Arg(0))
+		return fmt.Errorf("%q isn't expected (see --help)", flags.Arg(0))
 	}
 	if path := flags.Lookup("config").Value.String(); path != "" {
 		return r.read(flags, path)
@@ -59,8 +60,8 @@ func (r Rules) Parse(flags *flag.FlagSet, words []string) error {
 	return nil
 }
 
-// Settle parses, and then has settle look at what was set. What is wrong with either is told as this fault; where help was asked for, it gives
-// flag.ErrHelp, and settle looks at nothing.
+// Settle parses, and then calls settle to check the settings. An error of either is wrapped in fault. If help was
+// requested it returns flag.ErrHelp, and does not call settle.
 func (r Rules) Settle(flags *flag.FlagSet, words []string, settle func() error, fault error) error {
 	err := r.Parse(flags, words)
 	if err == nil {
@@ -72,8 +73,8 @@ func (r Rules) Settle(flags *flag.FlagSet, words []string, settle func() error, 
 	return fmt.Errorf("%w: %v", fault, err)
 }
 
-// read sets from a file, with a line 'name value' a flag and comments behind #, what the command line didn't. What a line sets, its flag
-// looks at.
+// read sets the flags that the command line did not set, from a file. Each line has a name and a value. Comments begin
+// with #. The flag checks the value.
 func (r Rules) read(flags *flag.FlagSet, path string) error {
 	file, err := os.Open(path)
 	if err != nil {
@@ -93,7 +94,7 @@ func (r Rules) read(flags *flag.FlagSet, path string) error {
 		case flags.Lookup(name) == nil || has(r.Only, name):
 			return fmt.Errorf("%s, line %d: there is no setting %q", path, number, name)
 		case seen[name] > 0 && !several:
-			return fmt.Errorf("%s, line %d: %s stands in line %d already", path, number, name, seen[name])
+			return fmt.Errorf("%s, line %d: %s is in line %d already", path, number, name, seen[name])
 		}
 		seen[name] = number
 		if given[name] && !several {

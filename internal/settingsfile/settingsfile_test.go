@@ -11,7 +11,8 @@ import (
 	"testing"
 )
 
-// TestParse: the command line counts before the file, several lines add up where they may, and each line that isn't one is named.
+// TestParse: the command line counts before the file, several lines add up where they may, and each line that isn't one
+// is named.
 func TestParse(t *testing.T) {
 	rules := Rules{Only: []string{"config"}, Several: []string{"log"}}
 	for _, c := range []struct{ text, words, size, logs, fault string }{
@@ -19,7 +20,7 @@ func TestParse(t *testing.T) {
 		{"size 3\nlog a", "--size 4 --log z", "4", "[z a]", ""},
 		{"config x", "", "0", "[]", `line 1: there is no setting "config"`},
 		{"size 3\nother 4", "", "3", "[]", `line 2: there is no setting "other"`},
-		{"size 3\n\nsize 4", "", "3", "[]", "line 3: size stands in line 1 already"},
+		{"size 3\n\nsize 4", "", "3", "[]", "line 3: size is in line 1 already"},
 		{"size three", "", "0", "[]", "line 1: size: "},
 		{"size 3\n" + strings.Repeat("x", 1<<17), "", "3", "[]", "token too long"},
 		{"size 3", "--size 4 more", "4", "[]", `"more" isn't expected`},
@@ -31,13 +32,14 @@ func TestParse(t *testing.T) {
 			t.Fatal(err)
 		}
 		err := rules.Parse(flags, append([]string{"--config", path}, strings.Fields(c.words)...))
-		if (err == nil) != (c.fault == "") || err != nil && !strings.Contains(err.Error(), c.fault) || fmt.Sprint(*size) != c.size || fmt.Sprint(*logs) != c.logs {
+		if (err == nil) != (c.fault == "") || err != nil && !strings.Contains(err.Error(), c.fault) ||
+			fmt.Sprint(*size) != c.size || fmt.Sprint(*logs) != c.logs {
 			t.Errorf("%.40q: %v, %d, %v", c.text, err, *size, *logs)
 		}
 	}
 }
 
-// TestParseAlone: without a file the words count alone, one that isn't there is told, and so is who asks for help.
+// TestParseAlone: without a file only the arguments count. A missing file is an error, and help is flag.ErrHelp.
 func TestParseAlone(t *testing.T) {
 	flags, size, _ := made()
 	if err := (Rules{}).Parse(flags, []string{"--size", "4"}); err != nil || *size != 4 {
@@ -53,7 +55,8 @@ func TestParseAlone(t *testing.T) {
 	}
 }
 
-// TestSettle: what is wrong with the words, or with what they set, is the program's fault of usage; where help is asked for, nothing is looked at.
+// TestSettle: an error in the arguments, or in the settings, is the program's usage error. If help is requested,
+// nothing is checked.
 func TestSettle(t *testing.T) {
 	usage, unfit := errors.New("program"), errors.New("4 is too much")
 	for _, c := range []struct {
@@ -81,7 +84,7 @@ func TestSettle(t *testing.T) {
 	}
 }
 
-// TestFlags: help is a program's page with each flag behind it, and a wrong word is told with it.
+// TestFlags: help is a program's page with each flag after it. It is also written for a wrong argument.
 func TestFlags(t *testing.T) {
 	for _, c := range []struct{ words, told string }{
 		{"--size 3", ""},
@@ -100,7 +103,7 @@ func TestFlags(t *testing.T) {
 	}
 }
 
-// TestEnds: words that were taken end nothing; who asks for help is told no fault.
+// TestEnds: a program with right arguments does not end. A request for help is not an error.
 func TestEnds(t *testing.T) {
 	for _, c := range []struct {
 		err    error

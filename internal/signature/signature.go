@@ -70,7 +70,8 @@ func Verify(publicKey, message, digitallySigned []byte) error {
 		return err
 	}
 	const header = 4
-	if len(digitallySigned) < header || int(binary.BigEndian.Uint16(digitallySigned[2:])) != len(digitallySigned)-header {
+	if len(digitallySigned) < header || int(binary.BigEndian.Uint16(digitallySigned[2:])) != len(
+		digitallySigned)-header {
 		return fmt.Errorf("%w: no DigitallySigned", ErrSigner)
 	}
 	hash, algorithm, signed := digitallySigned[0], digitallySigned[1], digitallySigned[header:]

@@ -9,7 +9,8 @@ import (
 	"time"
 )
 
-// asker has one peer, for one exchange at a time, and opens it again if it has ended. Its methods may be called concurrently.
+// asker has one peer, for one exchange at a time, and opens it again if it has ended. Its methods may be called
+// concurrently.
 type asker struct {
 	open  func(context.Context) (*Peer, error)
 	limit time.Duration
@@ -21,7 +22,8 @@ type asker struct {
 	stop context.CancelFunc
 }
 
-// newAsker returns an asker of the peer that open returns. The first exchange opens it. limit is the timeout of an exchange.
+// newAsker returns an asker of the peer that open returns. The first exchange opens it. limit is the timeout of an
+// exchange.
 func newAsker(open func(context.Context) (*Peer, error), limit time.Duration) *asker {
 	c := &asker{open: open, limit: limit, turn: make(chan *Peer, 1)}
 	c.turn <- nil
@@ -41,11 +43,12 @@ func (c *asker) close() {
 	c.turn <- nil
 }
 
-// ask sends a line to the peer, calls read with the reply, and returns read's error. It opens the peer first if none is open. If the error is an ErrReply, the peer is
-// closed before the next exchange.
+// ask sends a line to the peer, calls read with the reply, and returns read's error. It opens the peer first if none is
+// open. If the error is an ErrReply, the peer is closed before the next exchange.
 //
-// ask returns if the context ends, but the exchange continues until its reply or its limit: other callers share the peer, so a caller that leaves must not close it.
-// Until then the line may still be read, and read may be called. So if ask returns an error, a caller must not use anything that read sets.
+// ask returns if the context ends, but the exchange continues until its reply or its limit: other callers share the
+// peer, so a caller that leaves must not close it. Until then the line may still be read, and read may be called. So if
+// ask returns an error, a caller must not use anything that read sets.
 func (c *asker) ask(ctx context.Context, line []byte, read func(reply []byte) error) error {
 	var peer *Peer
 	select {
@@ -78,7 +81,8 @@ func (c *asker) ask(ctx context.Context, line []byte, read func(reply []byte) er
 }
 
 // askInTurn asks while this goroutine has the turn. It returns the peer for the next exchange, or nil.
-func (c *asker) askInTurn(ctx context.Context, peer *Peer, line []byte, read func([]byte) error) (left *Peer, err error) {
+func (c *asker) askInTurn(ctx context.Context, peer *Peer, line []byte,
+	read func([]byte) error) (left *Peer, err error) {
 	if peer != nil && peer.hasUnread() {
 		// No request has been sent yet, so a new peer can take this one's place.
 		peer.Close()

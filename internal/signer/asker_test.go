@@ -32,14 +32,15 @@ func said(c *asker, ctx context.Context, line string) (reply string, err error) 
 	return reply, nil
 }
 
-// TestUnaskedReply has a program reply twice to its first line, as one does that reads a line in two parts: the second reply must not be taken for the one to
-// the next line. The program is started again, and no request fails.
+// TestUnaskedReply has a program reply twice to its first line, as one does that reads a line in two parts: the second
+// reply must not be taken for the one to the next line. The program is started again, and no request fails.
 func TestUnaskedReply(t *testing.T) {
 	t.Parallel()
 	folder := t.TempDir()
 	second := filepath.Join(folder, "second")
 	must(t, syscall.Mkfifo(second, 0o600))
-	program := []string{"sh", "-c", `read -r x; echo "$x"; echo stale; echo said >"$1"; while read -r x; do echo "$x"; done`, "sh", second}
+	program := []string{"sh", "-c",
+		`read -r x; echo "$x"; echo stale; echo said >"$1"; while read -r x; do echo "$x"; done`, "sh", second}
 	c := newAsker(func(context.Context) (*Peer, error) { return Start(program) }, trial.Longest)
 	defer c.close()
 	for i := 1; i <= 3; i++ {
@@ -62,7 +63,8 @@ func TestUnaskedReply(t *testing.T) {
 	}
 }
 
-// TestWrongReplyEndsTheProgram has what reads a reply refuse it: the program is ended for a reply that is none, and for nothing else, before anybody else asks it.
+// TestWrongReplyEndsTheProgram has what reads a reply refuse it: the program is ended for a reply that is none, and for
+// nothing else, before anybody else asks it.
 func TestWrongReplyEndsTheProgram(t *testing.T) {
 	t.Parallel()
 	c := newAsker(func(context.Context) (*Peer, error) {
@@ -135,8 +137,8 @@ func TestCallerWithAnEndedContext(t *testing.T) {
 	}
 }
 
-// TestCallerLeaves has callers leave while the program works on what they asked: it must not be killed for them, since others share it, and its reply must
-// not be given to the next caller.
+// TestCallerLeaves has callers leave while the program works on what they asked: it must not be killed for them, since
+// others share it, and its reply must not be given to the next caller.
 func TestCallerLeaves(t *testing.T) {
 	t.Parallel()
 	folder := t.TempDir()
@@ -145,7 +147,8 @@ func TestCallerLeaves(t *testing.T) {
 		must(t, syscall.Mkfifo(fifo, 0o600))
 	}
 	// The program says in one FIFO that it has read a line, and replies once the other one says so.
-	program := []string{"sh", "-c", `while read -r x; do echo "$x" >"$1"; read -r y <"$2"; echo "$x"; done`, "sh", reads, goes}
+	program := []string{"sh", "-c", `while read -r x; do echo "$x" >"$1"; read -r y <"$2"; echo "$x"; done`,
+		"sh", reads, goes}
 	c := newAsker(func(context.Context) (*Peer, error) { return Start(program) }, trial.Longest)
 	defer c.close()
 	for i := 0; i < 5; i++ {

@@ -14,8 +14,8 @@ type Client struct {
 	guarded bool
 }
 
-// NewClient returns a client of the signer that open (Start or Dial) finds. If the signer is opened again later, it must have the same key. The timeout is for
-// one request.
+// NewClient returns a client of the signer that open (Start or Dial) finds. If the signer is opened again later, it
+// must have the same key. The timeout is for one request.
 func NewClient(ctx context.Context, open func(context.Context) (*Peer, error), timeout time.Duration) (*Client, error) {
 	c := &Client{}
 	c.asker = newAsker(func(ctx context.Context) (*Peer, error) {

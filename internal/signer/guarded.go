@@ -15,21 +15,23 @@ const (
 	maxSwaps = 5
 	// maxSkew is the maximum difference between two clocks.
 	maxSkew = time.Minute
-	// maxAheadOfClock is how far a head that is ahead of this machine's clock may be after the last one, in milliseconds.
+	// maxAheadOfClock is how far a head that is ahead of this machine's clock may be after the last one, in
+	// milliseconds.
 	maxAheadOfClock = 3_600_000
 )
 
 // Guard has the settings of a key's guard.
 type Guard struct {
-	// State keeps the text of the state, with the head that the guard approved last. All signers of one log share it. If two signers approve two heads at
-	// once, one of them wins. If they approve the same head, both write the same text, and both sign that head. No state occurs twice, since timestamps rise.
+	// State keeps the text of the state, with the head that the guard approved last. All signers of one log share it.
+	// If two signers approve two heads at once, one of them wins. If they approve the same head, both write the same
+	// text, and both sign that head. No state occurs twice, since timestamps rise.
 	State stores.Register
 	// Create creates the state of a new log if there is none.
 	Create bool
 }
 
-// Guarded is a key with a guard, which is proved code in this process. It signs the bytes that the guard wrote, and only after the register has
-// the state with these bytes in place of the one that the guard judged over.
+// Guarded is a key with a guard, which is proved code in this process. It signs the bytes that the guard wrote, and
+// only after the register has the state with these bytes in place of the one that the guard judged over.
 type Guarded struct {
 	key   *Key
 	guard Guard
@@ -65,8 +67,8 @@ func (g *Guarded) take(ctx context.Context) error {
 	}
 }
 
-// look reads the state in the register. The error is ErrState only if the state is missing, damaged or rolled back. A register that does not answer may have a
-// valid state.
+// look reads the state in the register. The error is ErrState only if the state is missing, damaged or rolled back. A
+// register that does not answer may have a valid state.
 func (g *Guarded) look(ctx context.Context) (State, error) {
 	g.state = nil
 	text, err := g.guard.State.Read(ctx)
@@ -101,8 +103,9 @@ func (g *Guarded) known(ctx context.Context) (State, error) {
 	return g.look(ctx)
 }
 
-// maxAhead returns how far a head's timestamp may be after the last one's, in milliseconds. A head that is not ahead of this machine's clock may be as far as its
-// timestamp says, since the log may have been stopped. A head that is ahead of it may have been made by a wrong clock, so it may be an hour after the last one.
+// maxAhead returns how far a head's timestamp may be after the last one's, in milliseconds. A head that is not ahead of
+// this machine's clock may be as far as its timestamp says, since the log may have been stopped. A head that is ahead
+// of it may have been made by a wrong clock, so it may be an hour after the last one.
 func maxAhead(head Head) uint64 {
 	if now := time.Now().Add(maxSkew).UnixMilli(); now < 0 || head.Timestamp > uint64(now) {
 		return maxAheadOfClock
@@ -144,8 +147,8 @@ func (g *Guarded) Last(ctx context.Context) (*Head, error) {
 	return state.last, err
 }
 
-// begun returns the state over which a head is judged. A log's first head may have leaves. Before such a head the register gets the state of the
-// empty tree's head, which nobody signs.
+// begun returns the state over which a head is judged. A log's first head may have leaves. Before such a head the
+// register gets the state of the empty tree's head, which nobody signs.
 func (g *Guarded) begun(ctx context.Context, head Head) (State, error) {
 	state, err := g.known(ctx)
 	if err != nil || !state.Begins(head) {
@@ -162,8 +165,8 @@ func (g *Guarded) begun(ctx context.Context, head Head) (State, error) {
 	return empty, nil
 }
 
-// SignHead returns the signature of a head, as Signer says. The register has the new state before the head is signed. If the process ends in between, the head is
-// approved but not signed.
+// SignHead returns the signature of a head, as Signer says. The register has the new state before the head is signed.
+// If the process ends in between, the head is approved but not signed.
 func (g *Guarded) SignHead(ctx context.Context, head Head, consistency [][32]byte) ([]byte, error) {
 	if err := g.take(ctx); err != nil {
 		return nil, err

@@ -48,7 +48,8 @@ func textOf(last *Head) string {
 	if last == nil {
 		return none
 	}
-	return fmt.Sprintf(`{"guard":1,"last":{"sha256_root_hash":"%s","timestamp":%d,"tree_size":%d}}`, base64.StdEncoding.EncodeToString(last.Root[:]), last.Timestamp, last.Size)
+	return fmt.Sprintf(`{"guard":1,"last":{"sha256_root_hash":"%s","timestamp":%d,"tree_size":%d}}`,
+		base64.StdEncoding.EncodeToString(last.Root[:]), last.Timestamp, last.Size)
 }
 
 // kept returns what the register of a guard's state has.
@@ -244,17 +245,30 @@ func TestWrongSigner(t *testing.T) {
 		change          func(signed [][]byte) [][]byte
 		heads, receipts bool
 	}{
-		"as they are":      {func(signed [][]byte) [][]byte { return signed }, true, true},
-		"the last is none": {func(signed [][]byte) [][]byte { return append(signed[:len(signed)-1:len(signed)-1], nil) }, false, false},
-		"another key's":    {func(signed [][]byte) [][]byte { return append([][]byte{foreign}, signed[1:]...) }, false, false},
-		"another's":        {func(signed [][]byte) [][]byte { return append([][]byte{later}, signed[1:]...) }, false, false},
-		"the other way":    {func(signed [][]byte) [][]byte { return [][]byte{signed[len(signed)-1], signed[0]} }, true, false},
-		"one less":         {func(signed [][]byte) [][]byte { return signed[:1] }, true, false},
-		"one more":         {func(signed [][]byte) [][]byte { return append(signed, signed[0]) }, true, false},
+		"as they are": {func(signed [][]byte) [][]byte { return signed }, true, true},
+		"the last is none": {func(signed [][]byte) [][]byte {
+			return append(signed[:len(signed)-1:len(signed)-1],
+				nil)
+		}, false, false},
+		"another key's": {func(signed [][]byte) [][]byte {
+			return append([][]byte{foreign},
+				signed[1:]...)
+		}, false, false},
+		"another's": {func(signed [][]byte) [][]byte {
+			return append([][]byte{later},
+				signed[1:]...)
+		}, false, false},
+		"the other way": {func(signed [][]byte) [][]byte {
+			return [][]byte{signed[len(signed)-1],
+				signed[0]}
+		}, true, false},
+		"one less": {func(signed [][]byte) [][]byte { return signed[:1] }, true, false},
+		"one more": {func(signed [][]byte) [][]byte { return append(signed, signed[0]) }, true, false},
 	} {
 		c := askedAtASocket(ctx, t, wrongly{key, wrong.change})
 		signed, err := c.SignHead(ctx, head, nil)
-		if (err == nil) != wrong.heads || err != nil && !errors.Is(err, ErrReply) || err == nil && CheckHead(key.Key(), head, signed) != nil {
+		if (err == nil) != wrong.heads || err != nil && !errors.Is(err, ErrReply) || err == nil &&
+			CheckHead(key.Key(), head, signed) != nil {
 			t.Errorf("%s: a head: %v", what, err)
 		}
 		all, err := c.SignTimestamps(ctx, receipts)
@@ -332,7 +346,8 @@ func TestTimestampTooFar(t *testing.T) {
 			must(t, err)
 			must(t, CheckHead(key.Key(), head, signed))
 		}
-		for _, head := range []Head{right.head(t, 20, now+2*hour+1), right.head(t, 9, now+2*hour+1), right.head(t, 8, 1<<63), fork.head(t, 9, now+3*hour)} {
+		for _, head := range []Head{right.head(t, 20, now+2*hour+1), right.head(t, 9, now+2*hour+1),
+			right.head(t, 8, 1<<63), fork.head(t, 9, now+3*hour)} {
 			_, err := s.SignHead(ctx, head, right.proof(t, 9, 20))
 			refused(t, "timestamp-too-far", err)
 			wants(t, err, TooFar)
@@ -420,9 +435,11 @@ func TestStates(t *testing.T) {
 	first := right.head(t, 5, 100)
 	_, err := NewGuarded(ctx, key, Guard{State: register(t, t.TempDir())})
 	wants(t, err, ErrState)
-	for _, text := range []string{"x", `{"guard":2,"last":null}`, `{"guard":1,"last":{}}`, `{"last":null,"guard":1}`, `{"guard": 1, "last": null}`, textOf(&first)[1:],
+	for _, text := range []string{"x", `{"guard":2,"last":null}`, `{"guard":1,"last":{}}`, `{"last":null,"guard":1}`,
+		`{"guard": 1, "last": null}`, textOf(&first)[1:],
 		strings.ReplaceAll(textOf(&first), ":", ": "), " " + textOf(&first), textOf(&first) + " ",
-		strings.Replace(textOf(&first), `"tree_size":5`, `"tree_size":05`, 1), strings.Replace(textOf(&first), `"timestamp"`, `"x":1,"timestamp"`, 1)} {
+		strings.Replace(textOf(&first), `"tree_size":5`, `"tree_size":05`, 1),
+		strings.Replace(textOf(&first), `"timestamp"`, `"x":1,"timestamp"`, 1)} {
 		of := Guard{State: register(t, t.TempDir())}
 		must(t, of.State.Create(ctx, text))
 		if _, err := NewGuarded(ctx, key, of); !errors.Is(err, ErrState) {
@@ -466,13 +483,15 @@ func TestRolledBackState(t *testing.T) {
 	must(t, err)
 	newest, err := os.ReadFile(text)
 	must(t, err)
-	for _, state := range []string{string(old), none, textOf(&Head{5, 50, [32]byte{1}}), textOf(&Head{4, 60, [32]byte{}}), strings.Replace(string(newest), ":", ": ", 1)} {
+	for _, state := range []string{string(old), none, textOf(&Head{5, 50, [32]byte{1}}),
+		textOf(&Head{4, 60, [32]byte{}}), strings.Replace(string(newest), ":", ": ", 1)} {
 		must(t, stores.KeepFile(text, []byte(state)))
 		if _, err := g.Last(ctx); !errors.Is(err, ErrState) {
 			t.Errorf("%s: %v", state, err)
 		}
 		for _, of := range []*list{l, fork} {
-			if signed, err := g.SignHead(ctx, of.head(t, 8, 80), of.proof(t, 3, 8)); !errors.Is(err, ErrState) || signed != nil {
+			if signed, err := g.SignHead(ctx, of.head(t, 8, 80), of.proof(t, 3, 8)); !errors.Is(err, ErrState) ||
+				signed != nil {
 				t.Errorf("%s: signed, %v", state, err)
 			}
 		}
@@ -532,7 +551,8 @@ func TestTwoSigners(t *testing.T) {
 			_, err := b.SignHead(ctx, apart.head(t, 20, timestamp), nil)
 			failed <- err
 		}()
-		if x, y := <-failed, <-failed; (x == nil) == (y == nil) || !errors.Is(fmt.Errorf("%w", orElse(x, y)), ErrMoved) {
+		if x, y := <-failed, <-failed; (x == nil) == (y == nil) ||
+			!errors.Is(fmt.Errorf("%w", orElse(x, y)), ErrMoved) {
 			t.Errorf("%v and %v", x, y)
 		}
 		if timestamp > 202 {
@@ -666,7 +686,8 @@ func TestUnreadStates(t *testing.T) {
 	go func() { _ = Listen(ctx, g, path) }()
 	var c *Client
 	for c == nil {
-		if c, err = NewClient(ctx, func(ctx context.Context) (*Peer, error) { return Dial(ctx, path) }, trial.Longest); err != nil {
+		if c, err = NewClient(ctx, func(ctx context.Context) (*Peer, error) { return Dial(ctx, path) },
+			trial.Longest); err != nil {
 			wants(t, err, ErrGone)
 			time.Sleep(time.Millisecond)
 		}
@@ -677,7 +698,8 @@ func TestUnreadStates(t *testing.T) {
 		_, err := s.SignHead(ctx, right.head(t, size+1, uint64(size+1)), right.proof(t, size, size+1))
 		must(t, err)
 		size++
-		for fails, isState := range map[error]bool{errors.New("a register that is late"): false, context.DeadlineExceeded: false, stores.ErrAbsent: true} {
+		for fails, isState := range map[error]bool{errors.New("a register that is late"): false,
+			context.DeadlineExceeded: false, stores.ErrAbsent: true} {
 			state.set(fails)
 			if _, err := s.Last(ctx); err == nil || errors.Is(err, ErrState) != isState {
 				t.Errorf("%v: %v", fails, err)
@@ -708,7 +730,8 @@ func TestConcurrentRequests(t *testing.T) {
 					failed <- fmt.Errorf("a head: %v", err)
 					return
 				}
-				if signed, err := g.SignTimestamps(ctx, []Receipt{receipt}); err != nil || Check(key.Key(), receipt.Leaf, signed[0]) != nil {
+				if signed, err := g.SignTimestamps(ctx, []Receipt{receipt}); err != nil ||
+					Check(key.Key(), receipt.Leaf, signed[0]) != nil {
 					failed <- fmt.Errorf("a timestamp: %v", err)
 					return
 				}
@@ -1049,7 +1072,8 @@ func TestHalfRequests(t *testing.T) {
 	ctx, err := limited(t), errTried
 	for err != nil && ctx.Err() == nil {
 		var c *Client
-		if c, err = NewClient(ctx, func(ctx context.Context) (*Peer, error) { return Dial(ctx, path) }, trial.Longest); err == nil {
+		if c, err = NewClient(ctx, func(ctx context.Context) (*Peer, error) { return Dial(ctx, path) },
+			trial.Longest); err == nil {
 			_, err = c.Last(ctx)
 			c.Close()
 		}
@@ -1071,8 +1095,10 @@ func TestWrongRequests(t *testing.T) {
 		must(t, err)
 		return string(line)
 	}
-	lines := []string{"x", "[]", `{"head":7}`, text(request{Head: &short}), text(request{Head: head, Consistency: [][]byte{{1}}}),
-		text(request{Receipts: []receiptLine{{Leaf: right.leaves[0], Path: [][]byte{make([]byte, 33)}}}}), text(request{Receipts: make([]receiptLine, MaxReceipts+1)}),
+	lines := []string{"x", "[]", `{"head":7}`, text(request{Head: &short}),
+		text(request{Head: head, Consistency: [][]byte{{1}}}),
+		text(request{Receipts: []receiptLine{{Leaf: right.leaves[0], Path: [][]byte{make([]byte, 33)}}}}),
+		text(request{Receipts: make([]receiptLine, MaxReceipts+1)}),
 		text(request{Receipts: make([]receiptLine, 1)}), "{}", text(request{Head: head})}
 	var output strings.Builder
 	must(t, Serve(limited(t), g, strings.NewReader(strings.Join(lines, "\n")+"\n"), &output))
@@ -1086,7 +1112,8 @@ func TestWrongRequests(t *testing.T) {
 		if i == 6 && !strings.Contains(came.Failed, "a request for 4097 timestamps") {
 			t.Errorf("more than may be asked for at once: %s", line)
 		}
-		if wanted := i == len(lines)-1; (len(came.Signatures) == 1) != wanted || !wanted && i != len(lines)-2 && came.Failed+came.Refused == "" {
+		if wanted := i == len(lines)-1; (len(came.Signatures) == 1) != wanted || !wanted && i != len(lines)-2 &&
+			came.Failed+came.Refused == "" {
 			t.Errorf("%.80s: %s", lines[i], line)
 		}
 	}
@@ -1115,7 +1142,8 @@ func TestErrorsThroughASocket(t *testing.T) {
 		{errors.New("x"), ErrGone, ErrRefused},
 	} {
 		c := askedAtASocket(ctx, t, unable{key, of.why})
-		if _, err := c.SignHead(ctx, Head{Size: 1, Timestamp: 1}, nil); !errors.Is(err, of.kind) || errors.Is(err, of.not) {
+		if _, err := c.SignHead(ctx, Head{Size: 1, Timestamp: 1}, nil); !errors.Is(err, of.kind) ||
+			errors.Is(err, of.not) {
 			t.Errorf("%v comes as %v", of.why, err)
 		}
 	}

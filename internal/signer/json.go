@@ -6,8 +6,8 @@ import (
 	"strconv"
 )
 
-// Lines about timestamps are JSON of one fixed form, without spaces and without escapes in base64. This code reads such a line once, whereas encoding/json
-// reads it several times. encoding/json reads the lines of every other form.
+// Lines about timestamps are JSON of one fixed form, without spaces and without escapes in base64. This code reads such
+// a line once, whereas encoding/json reads it several times. encoding/json reads the lines of every other form.
 
 // appendBase64 appends bytes as a JSON string in base64.
 func appendBase64(line, content []byte) []byte {

@@ -53,13 +53,18 @@ func TestCursorReadsOneForm(t *testing.T) {
 		`{"of":[{"number":0}]}`: {0},
 		`{"of":[{"text":"eA==","number":7},{"number":18446744073709551615}]}`: {7, math.MaxUint64},
 	} {
-		if numbers, texts, ok := readForm(line); !ok || !reflect.DeepEqual(numbers, want) || strings.Contains(line, "eA==") && !reflect.DeepEqual(texts, []string{"x"}) {
+		if numbers, texts, ok := readForm(line); !ok || !reflect.DeepEqual(numbers, want) ||
+			strings.Contains(line, "eA==") && !reflect.DeepEqual(texts, []string{"x"}) {
 			t.Errorf("%s: %v, %q, %v", line, numbers, texts, ok)
 		}
 	}
-	for _, line := range []string{``, `{`, `{"of":[}`, `{"of":[]`, `{"of":[]} `, `{"of":[{"number":07}]}`, `{"of":[{"number":-1}]}`, `{"of":[{"number":}]}`,
-		`{"of":[{"number":18446744073709551616}]}`, `{"of":[{"number":1}{"number":2}]}`, `{"of":[{"number":1},]}`, `{"of":[{"text":"eA=","number":1}]}`,
-		`{"of":[{"text":"e\u0041==","number":1}]}`, `{"of":[{"text":"eA==,"number":1}]}`, "{\"of\":[{\"text\":\"eA\r==\",\"number\":1}]}", `{"of":[{"text":"eA==`, `{"of":[{"text":7,"number":1}]}`, `{"of": []}`} {
+	for _, line := range []string{``, `{`, `{"of":[}`, `{"of":[]`, `{"of":[]} `, `{"of":[{"number":07}]}`,
+		`{"of":[{"number":-1}]}`, `{"of":[{"number":}]}`,
+		`{"of":[{"number":18446744073709551616}]}`, `{"of":[{"number":1}{"number":2}]}`, `{"of":[{"number":1},]}`,
+		`{"of":[{"text":"eA=","number":1}]}`,
+		`{"of":[{"text":"e\u0041==","number":1}]}`, `{"of":[{"text":"eA==,"number":1}]}`,
+		"{\"of\":[{\"text\":\"eA\r==\",\"number\":1}]}", `{"of":[{"text":"eA==`, `{"of":[{"text":7,"number":1}]}`,
+		`{"of": []}`} {
 		if numbers, texts, ok := readForm(line); ok {
 			t.Errorf("%s: %v, %q", line, numbers, texts)
 		}

@@ -23,7 +23,8 @@ const maxKeyFile = 64 << 10
 // algorithms are the two bytes before a signature: sha256 and ecdsa (RFC 5246, section 7.4.1.4.1).
 var algorithms = [2]byte{4, 3}
 
-// Key is a log's private key, from a file or in a PKCS#11 token. As a Signer it has no guard, so it signs everything that a caller asks for.
+// Key is a log's private key, from a file or in a PKCS#11 token. As a Signer it has no guard, so it signs everything
+// that a caller asks for.
 type Key struct {
 	private crypto.Signer
 	public  []byte
@@ -39,8 +40,8 @@ func (k *Key) Close() error {
 	return k.module.Close()
 }
 
-// OpenKey reads a private key of P-256 in PEM (EC PRIVATE KEY or PRIVATE KEY) from a file that only its owner may read. If the path is a PKCS#11 URI (RFC 7512),
-// it finds the key in a token. Such a key never leaves the token.
+// OpenKey reads a private key of P-256 in PEM (EC PRIVATE KEY or PRIVATE KEY) from a file that only its owner may read.
+// If the path is a PKCS#11 URI (RFC 7512), it finds the key in a token. Such a key never leaves the token.
 func OpenKey(path string) (*Key, error) {
 	if IsToken(path) {
 		return openToken(path)
@@ -125,7 +126,8 @@ func (k *Key) sign(message []byte) ([]byte, error) {
 	if err != nil {
 		return nil, fmt.Errorf("signer: %w", err)
 	}
-	return append([]byte{algorithms[0], algorithms[1], byte(len(signature) >> 8), byte(len(signature))}, signature...), nil
+	return append([]byte{algorithms[0], algorithms[1], byte(len(signature) >> 8), byte(len(signature))},
+		signature...), nil
 }
 
 // Key returns the log's public key, as Signer says.
@@ -167,7 +169,8 @@ func (k *Key) signAll(ctx context.Context, messages [][]byte) ([][]byte, error) 
 	return signatures, nil
 }
 
-// inParallel calls do for each index below count, in as many goroutines as there are processors. It returns the first error, and stops if the context ends.
+// inParallel calls do for each index below count, in as many goroutines as there are processors. It returns the first
+// error, and stops if the context ends.
 func inParallel(ctx context.Context, count int, do func(at int) error) error {
 	all, ctx := errgroup.WithContext(ctx)
 	all.SetLimit(runtime.GOMAXPROCS(0))

@@ -14,7 +14,8 @@ import (
 	"golang.org/x/sys/unix"
 )
 
-// Peer is a signer in another process, which Start started or Dial connected to. It replies to a line with a line. It must be used for one exchange at a time.
+// Peer is a signer in another process, which Start started or Dial connected to. It replies to a line with a line. It
+// must be used for one exchange at a time.
 type Peer struct {
 	in    io.WriteCloser
 	out   *bufio.Reader
@@ -46,7 +47,8 @@ func Start(arguments []string, environment ...string) (*Peer, error) {
 	if len(environment) > 0 {
 		command.Env = append(command.Environ(), environment...)
 	}
-	// The process has a group of its own. A signal that a terminal sends to this process does not end it, and Close ends its children too.
+	// The process has a group of its own. A signal that a terminal sends to this process does not end it, and Close
+	// ends its children too.
 	command.SysProcAttr = &syscall.SysProcAttr{Setpgid: true}
 	stderr := &tail{}
 	command.Stderr = stderr
@@ -77,7 +79,8 @@ func Start(arguments []string, environment ...string) (*Peer, error) {
 	return &Peer{in: in, out: bufio.NewReaderSize(out, 1<<16), from: from, close: end}, nil
 }
 
-// pipeSize is the size of a pipe in bytes. With it, a line of a megabyte needs one write, instead of one for each 64 KiB.
+// pipeSize is the size of a pipe in bytes. With it, a line of a megabyte needs one write, instead of one for each 64
+// KiB.
 const pipeSize = 1 << 20
 
 // growPipe sets a pipe's size. If the system refuses, the pipe works as before.
@@ -109,7 +112,8 @@ func Dial(ctx context.Context, path string) (*Peer, error) {
 	return &Peer{in: connection, out: bufio.NewReaderSize(connection, 1<<16), from: from, close: end}, nil
 }
 
-// hasUnread reports whether there are bytes that belong to no request. They must not be read as the reply to the next one.
+// hasUnread reports whether there are bytes that belong to no request. They must not be read as the reply to the next
+// one.
 func (peer *Peer) hasUnread() bool {
 	if peer.out.Buffered() > 0 {
 		return true
@@ -132,8 +136,8 @@ type outcome struct {
 	err   error
 }
 
-// exchange sends a line with its line end, and returns the reply without one. After an error the peer is closed. Bytes that arrive before the line is sent are an
-// error.
+// exchange sends a line with its line end, and returns the reply without one. After an error the peer is closed. Bytes
+// that arrive before the line is sent are an error.
 func (peer *Peer) exchange(ctx context.Context, limit time.Duration, line []byte) ([]byte, error) {
 	if peer.hasUnread() {
 		return nil, fmt.Errorf("%w: it wrote before a request %.500s", ErrGone, peer.Close())

@@ -49,7 +49,8 @@ func TestReadLine(t *testing.T) {
 		}
 	}
 	for _, text := range []string{most + "x\n", most + "xx"} {
-		if line, err := readLine(bufio.NewReader(strings.NewReader(text))); err == nil || !strings.Contains(err.Error(), "more than 67108864 bytes") {
+		if line, err := readLine(bufio.NewReader(strings.NewReader(text))); err == nil ||
+			!strings.Contains(err.Error(), "more than 67108864 bytes") {
 			t.Errorf("of %d bytes: %d, %v", len(text), len(line), err)
 		}
 	}
@@ -64,11 +65,14 @@ func TestKeepsStandardError(t *testing.T) {
 			t.Errorf("%d, %v", n, err)
 		}
 	}
-	if text := string(said.bytes); len(text) != maxStderr || !strings.HasSuffix(text, strings.Repeat("b", 300)+"the end") || !strings.HasPrefix(text, "a") {
+	if text := string(said.bytes); len(text) != maxStderr ||
+		!strings.HasSuffix(text, strings.Repeat("b", 300)+"the end") || !strings.HasPrefix(text, "a") {
 		t.Errorf("%d bytes: %q", len(text), text)
 	}
-	e := script(t, "read x; for i in 1 2 3 4 5 6 7 8 9 10; do printf '%0100d' 0 >&2; done; echo why it ends >&2; exit 1")
-	if _, err := e.exchange(limited(t), trial.Longest, []byte("x\n")); !errors.Is(err, ErrGone) || !strings.Contains(err.Error(), "why it ends") {
+	e := script(t, "read x; for i in 1 2 3 4 5 6 7 8 9 10; do printf '%0100d' 0 >&2; done; echo why it ends >&2; "+
+		"exit 1")
+	if _, err := e.exchange(limited(t), trial.Longest, []byte("x\n")); !errors.Is(err, ErrGone) ||
+		!strings.Contains(err.Error(), "why it ends") {
 		t.Error(err)
 	}
 }
@@ -105,7 +109,8 @@ func alive(pid int) bool { return syscall.Kill(pid, 0) == nil }
 // TestCloseKills: Close ends a process and its children, even if they ignore signals.
 func TestCloseKills(t *testing.T) {
 	t.Parallel()
-	e, err := Start([]string{"sh", "-c", "trap '' TERM HUP INT; read -r x; sleep 600 & echo $$ $!; while :; do wait; done"})
+	e, err := Start([]string{"sh", "-c",
+		"trap '' TERM HUP INT; read -r x; sleep 600 & echo $$ $!; while :; do wait; done"})
 	must(t, err)
 	reply, err := e.exchange(limited(t), trial.Longest, []byte("x\n"))
 	must(t, err)
@@ -148,7 +153,8 @@ func TestCloseKills(t *testing.T) {
 func TestUnreadLines(t *testing.T) {
 	t.Parallel()
 	e := script(t, "head -c 1 >/dev/null; exec <&-; echo yes; exec sleep 600")
-	if reply, err := e.exchange(limited(t), trial.Longest, []byte(strings.Repeat("x", 1<<20)+"\n")); !errors.Is(err, ErrGone) || reply != nil {
+	if reply, err := e.exchange(limited(t), trial.Longest, []byte(strings.Repeat("x", 1<<20)+"\n")); !errors.Is(err,
+		ErrGone) || reply != nil {
 		t.Errorf("%q, %v", reply, err)
 	}
 }
@@ -183,7 +189,8 @@ func TestDialCloses(t *testing.T) {
 	must(t, err)
 	ended, cancel := context.WithCancel(context.Background())
 	cancel()
-	if _, err = e.exchange(ended, trial.Longest, []byte("x\n")); !errors.Is(err, ErrGone) || !strings.Contains(err.Error(), context.Canceled.Error()) {
+	if _, err = e.exchange(ended, trial.Longest, []byte("x\n")); !errors.Is(err, ErrGone) ||
+		!strings.Contains(err.Error(), context.Canceled.Error()) {
 		t.Errorf("a context that has ended: %v", err)
 	}
 	waits("after an error")
@@ -215,7 +222,8 @@ func TestWaiting(t *testing.T) {
 		t.Error("a caller whose context has ended waits")
 	}
 	c.turn <- e
-	if _, err := said(c, limited(t), "half a line"); !errors.Is(err, ErrGone) || !strings.Contains(err.Error(), "none in 50ms") {
+	if _, err := said(c, limited(t), "half a line"); !errors.Is(err, ErrGone) ||
+		!strings.Contains(err.Error(), "none in 50ms") {
 		t.Errorf("no reply: %v", err)
 	}
 	fails, opens := errors.New("it isn't there"), 0
@@ -291,7 +299,8 @@ func TestPipeSize(t *testing.T) {
 		}
 	}))
 	// (as the process itself sees both: 1032 is F_GETPIPE_SZ)
-	seen, err := Start([]string{"python3", "-c", "import fcntl; input(); print(*(fcntl.fcntl(of, 1032) for of in (0, 1)), flush=True)"})
+	seen, err := Start([]string{"python3", "-c",
+		"import fcntl; input(); print(*(fcntl.fcntl(of, 1032) for of in (0, 1)), flush=True)"})
 	trial.Must(t, err)
 	defer seen.Close()
 	reply, err := seen.exchange(limited(t), trial.Longest, []byte("\n"))

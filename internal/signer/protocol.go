@@ -110,7 +110,8 @@ func answer(ctx context.Context, s Signer, line []byte) (reply, error) {
 // answerReceipts returns the signer's reply to a request for timestamps.
 func answerReceipts(ctx context.Context, s Signer, receipts []Receipt) (reply, error) {
 	if len(receipts) > MaxReceipts {
-		return reply{}, fmt.Errorf("%w: a request for %d timestamps, more than %d", ErrReply, len(receipts), MaxReceipts)
+		return reply{}, fmt.Errorf("%w: a request for %d timestamps, more than %d", ErrReply,
+			len(receipts), MaxReceipts)
 	}
 	signatures, err := s.SignTimestamps(ctx, receipts)
 	return reply{Signatures: signatures}, err
@@ -148,8 +149,8 @@ func Serve(ctx context.Context, s Signer, from io.Reader, to io.Writer) error {
 	}
 }
 
-// ServeState answers the first request with the reason why no signer can start: a fault of the guard's state. The process that started the signer then
-// logs this reason.
+// ServeState answers the first request with the reason why no signer can start: a fault of the guard's state. The
+// process that started the signer then logs this reason.
 func ServeState(reason error, from io.Reader, to io.Writer) error {
 	if _, err := readLine(bufio.NewReader(from)); err != nil {
 		return fmt.Errorf("signer: %w", err)

@@ -64,10 +64,11 @@ func TestWrongReplies(t *testing.T) {
 		kind    error
 		closes  bool
 	}{
-		"no key":                     {[]string{"{}"}, ErrReply, true},
-		"no JSON in place of a key":  {[]string{"no"}, ErrReply, true},
-		"a state that isn't one":     {[]string{`{"failed":"there is none","bad_state":true}`}, ErrState, true},
-		"a root of 3 bytes":          {[]string{opened(t, key), `{"last":{"sha256_root_hash":"AAAA","timestamp":5,"tree_size":2}}`}, ErrReply, true},
+		"no key":                    {[]string{"{}"}, ErrReply, true},
+		"no JSON in place of a key": {[]string{"no"}, ErrReply, true},
+		"a state that isn't one":    {[]string{`{"failed":"there is none","bad_state":true}`}, ErrState, true},
+		"a root of 3 bytes": {[]string{opened(t, key),
+			`{"last":{"sha256_root_hash":"AAAA","timestamp":5,"tree_size":2}}`}, ErrReply, true},
 		"no JSON in place of a head": {[]string{opened(t, key), "no"}, ErrReply, true},
 		"a failure":                  {[]string{opened(t, key), `{"failed":"the disk"}`}, ErrGone, true},
 		"a head":                     {[]string{opened(t, key), `{"last":null}`}, nil, false},
@@ -191,7 +192,8 @@ func TestServeState(t *testing.T) {
 	must(t, ServeState(why, strings.NewReader("{\"open\":true}\n{\"last\":true}\n"), &output))
 	var came reply
 	must(t, json.Unmarshal([]byte(output.String()), &came))
-	if !came.BadState || came.Failed != why.Error() || strings.Count(output.String(), "\n") != 1 || !strings.HasSuffix(output.String(), "\n") {
+	if !came.BadState || came.Failed != why.Error() || strings.Count(output.String(), "\n") != 1 ||
+		!strings.HasSuffix(output.String(), "\n") {
 		t.Errorf("%q", output.String())
 	}
 	output.Reset()
@@ -216,7 +218,8 @@ func TestServeFails(t *testing.T) {
 	if err := Serve(limited(t), key, iotest.ErrReader(broken), io.Discard); !errors.Is(err, broken) {
 		t.Errorf("reading: %v", err)
 	}
-	if err := Serve(limited(t), key, strings.NewReader("{\"open\":true}\n"), failingWriter{broken}); !errors.Is(err, broken) {
+	if err := Serve(limited(t), key, strings.NewReader("{\"open\":true}\n"),
+		failingWriter{broken}); !errors.Is(err, broken) {
 		t.Errorf("writing: %v", err)
 	}
 }
@@ -363,7 +366,8 @@ func TestListenEnds(t *testing.T) {
 	case <-limited(t).Done():
 		t.Error("it still listens after its context ended")
 	}
-	if err := Listen(limited(t), newKey(t), filepath.Join(folder, "nowhere", "socket")); !errors.Is(err, os.ErrNotExist) {
+	if err := Listen(limited(t), newKey(t), filepath.Join(folder, "nowhere", "socket")); !errors.Is(err,
+		os.ErrNotExist) {
 		t.Error(err)
 	}
 }

@@ -5,8 +5,8 @@ import (
 	"strconv"
 )
 
-// A line about timestamps has a leaf and a path for each one, and a step may have a thousand. This code writes and reads such a line once. encoding/json reads
-// the lines of other programs, which may have another form.
+// A line about timestamps has a leaf and a path for each one, and a step may have a thousand. This code writes and
+// reads such a line once. encoding/json reads the lines of other programs, which may have another form.
 
 // appendReceipts appends the request for timestamps, without its line end.
 func appendReceipts(line []byte, receipts []Receipt) []byte {

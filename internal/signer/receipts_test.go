@@ -31,7 +31,8 @@ func TestReceiptsAreWritten(t *testing.T) {
 		if len(receipts) > 0 && string(line) != "before"+string(want) {
 			t.Errorf("%s, and not %s", line, want)
 		}
-		if read, ok := readReceipts(line[len("before"):]); !ok || len(read) != len(receipts) || len(read) > 0 && !reflect.DeepEqual(read, receipts) {
+		if read, ok := readReceipts(line[len("before"):]); !ok || len(read) != len(receipts) || len(read) > 0 &&
+			!reflect.DeepEqual(read, receipts) {
 			t.Errorf("%s is read as %+v, %v", line, read, ok)
 		}
 		signatures := [][]byte{}
@@ -39,10 +40,12 @@ func TestReceiptsAreWritten(t *testing.T) {
 			signatures = append(signatures, one.Leaf)
 		}
 		written := appendSignatures(nil, signatures)
-		if want, err = json.Marshal(reply{Signatures: signatures}); len(receipts) > 0 && (err != nil || string(written) != string(want)) {
+		if want, err = json.Marshal(reply{Signatures: signatures}); len(receipts) > 0 &&
+			(err != nil || string(written) != string(want)) {
 			t.Errorf("%s, and not %s, %v", written, want, err)
 		}
-		if came, err := readReply(written); err != nil || len(came.Signatures) != len(signatures) || len(signatures) > 0 && !reflect.DeepEqual(came.Signatures, signatures) {
+		if came, err := readReply(written); err != nil || len(came.Signatures) != len(signatures) ||
+			len(signatures) > 0 && !reflect.DeepEqual(came.Signatures, signatures) {
 			t.Errorf("%s is read as %+v, %v", written, came, err)
 		}
 	}
@@ -52,14 +55,19 @@ func TestReceiptsAreWritten(t *testing.T) {
 // form.
 func TestReceiptsOfAnotherForm(t *testing.T) {
 	line := string(appendReceipts(nil, someReceipts()))
-	for _, other := range []string{"", "{}", `{"open":true}`, line[:len(line)-1], line + " ", " " + line, strings.Replace(line, `"leaf_index":7`, `"leaf_index":"7"`, 1), strings.Replace(line, `"leaf_index":7,`, "", 1),
-		strings.Replace(line, "receipts", "receipt", 1), `{"receipts":[{"audit_path":["eA=="],"leaf_index":0,"leaf_input":"eA=="}]}`, `{"receipts":[{"leaf_input":"eA==","leaf_index":0}]}`} {
+	for _, other := range []string{"", "{}", `{"open":true}`, line[:len(line)-1], line + " ", " " + line,
+		strings.Replace(line, `"leaf_index":7`, `"leaf_index":"7"`, 1), strings.Replace(line, `"leaf_index":7,`, "", 1),
+		strings.Replace(line, "receipts", "receipt", 1),
+		`{"receipts":[{"audit_path":["eA=="],"leaf_index":0,"leaf_input":"eA=="}]}`,
+		`{"receipts":[{"leaf_input":"eA==","leaf_index":0}]}`} {
 		if read, ok := readReceipts([]byte(other)); ok {
 			t.Errorf("%s is read as %+v", other, read)
 		}
 	}
 	for text, want := range map[string]reply{
-		`{"signatures": ["eA=="]}`: {Signatures: [][]byte{{'x'}}}, `{"refused":"older","fault":"of it"}`: {Refused: "older", Fault: "of it"}, `{"moved":true,"failed":"so"}`: {Moved: true, Failed: "so"},
+		`{"signatures": ["eA=="]}`:             {Signatures: [][]byte{{'x'}}},
+		`{"refused":"older","fault":"of it"}`:  {Refused: "older", Fault: "of it"},
+		`{"moved":true,"failed":"so"}`:         {Moved: true, Failed: "so"},
 		`{"signatures":["eA=="],"moved":true}`: {Signatures: [][]byte{{'x'}}, Moved: true},
 	} {
 		if came, err := readReply([]byte(text)); err != nil || !reflect.DeepEqual(came, want) {
@@ -80,7 +88,8 @@ func TestHashesOfAnotherLength(t *testing.T) {
 		for _, length := range lengths {
 			path = append(path, bytes.Repeat([]byte{7}, length))
 		}
-		line, err := json.Marshal(request{Receipts: []receiptLine{{path, 7, []byte("a leaf")}, {hashBytes([][32]byte{{1}}), 8, []byte("another")}}})
+		line, err := json.Marshal(request{Receipts: []receiptLine{{path, 7, []byte("a leaf")},
+			{hashBytes([][32]byte{{1}}), 8, []byte("another")}}})
 		must(t, err)
 		if read, ok := readReceipts(line); ok {
 			t.Errorf("hashes of %d bytes are read as %+v", lengths, read)

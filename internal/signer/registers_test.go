@@ -94,7 +94,8 @@ func TestFaultyState(t *testing.T) {
 		timestamp++
 		head := l.head(t, size+2, timestamp)
 		signed, err := g.SignHead(ctx, head, l.proof(t, size, size+2))
-		if !errors.Is(err, of.kind) || (signed == nil) != (err != nil) || err == nil && CheckHead(key.Key(), head, signed) != nil {
+		if !errors.Is(err, of.kind) || (signed == nil) != (err != nil) || err == nil &&
+			CheckHead(key.Key(), head, signed) != nil {
 			t.Errorf("%s: %v", of.what, err)
 		}
 		if state.calls["swap"] != of.swaps {
@@ -182,10 +183,12 @@ func TestKeyWithAnEndedContext(t *testing.T) {
 	gone, cancel := context.WithCancel(context.Background())
 	cancel()
 	key := newKey(t)
-	if signed, err := key.SignHead(gone, Head{Size: 1, Timestamp: 1}, nil); !errors.Is(err, context.Canceled) || signed != nil {
+	if signed, err := key.SignHead(gone, Head{Size: 1, Timestamp: 1}, nil); !errors.Is(err, context.Canceled) ||
+		signed != nil {
 		t.Errorf("a head: %v", err)
 	}
-	if signed, err := key.SignTimestamps(gone, []Receipt{{Leaf: leaf("x")}}); !errors.Is(err, context.Canceled) || signed != nil {
+	if signed, err := key.SignTimestamps(gone, []Receipt{{Leaf: leaf("x")}}); !errors.Is(err, context.Canceled) ||
+		signed != nil {
 		t.Errorf("a timestamp: %v", err)
 	}
 }

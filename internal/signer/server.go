@@ -18,8 +18,9 @@ const (
 	retryDelay = 20 * time.Millisecond
 )
 
-// listenAt listens at a Unix socket that only this user and its group can connect to. It replaces a socket that exists at the path. It binds the socket in
-// a folder of its own first, so that nobody can connect before the socket's mode is set.
+// listenAt listens at a Unix socket that only this user and its group can connect to. It replaces a socket that exists
+// at the path. It binds the socket in a folder of its own first, so that nobody can connect before the socket's mode is
+// set.
 func listenAt(path string) (net.Listener, error) {
 	if info, err := os.Stat(path); err == nil && info.Mode()&os.ModeSocket == 0 {
 		return nil, fmt.Errorf("signer: %s exists and is not a socket", path)
@@ -45,7 +46,8 @@ func listenAt(path string) (net.Listener, error) {
 	return listener, nil
 }
 
-// Listen serves the clients of a Unix socket: this user and its group. It returns if it cannot listen, or after the context ended.
+// Listen serves the clients of a Unix socket: this user and its group. It returns if it cannot listen, or after the
+// context ended.
 func Listen(ctx context.Context, s Signer, path string) error {
 	listener, err := listenAt(path)
 	if err != nil {
@@ -72,8 +74,8 @@ func newServer() *server {
 	return &server{slots: make(chan struct{}, maxConnections), open: map[*serverConn]bool{}, timeout: requestTimeout}
 }
 
-// serve serves the connections of a listener until the listener is closed. It retries after any other error, for example if there is no free file
-// descriptor.
+// serve serves the connections of a listener until the listener is closed. It retries after any other error, for
+// example if there is no free file descriptor.
 func (s *server) serve(ctx context.Context, signer Signer, listener net.Listener) error {
 	for {
 		connection, err := listener.Accept()
@@ -97,8 +99,8 @@ func (s *server) serve(ctx context.Context, signer Signer, listener net.Listener
 	}
 }
 
-// admit waits for a free slot until the context ends. If there is none, it closes the connection that has been idle for the longest time. That client can
-// connect again.
+// admit waits for a free slot until the context ends. If there is none, it closes the connection that has been idle for
+// the longest time. That client can connect again.
 func (s *server) admit(ctx context.Context, conn *serverConn) bool {
 	for full := false; ; full = true {
 		if full {
@@ -146,7 +148,8 @@ func (s *server) closeIdle() {
 	}
 }
 
-// serverConn is the connection of a client that sends a request and waits for its reply. Its timeout applies to a request that has begun and to a reply.
+// serverConn is the connection of a client that sends a request and waits for its reply. Its timeout applies to a
+// request that has begun and to a reply.
 type serverConn struct {
 	net.Conn
 	mu sync.Mutex

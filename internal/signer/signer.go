@@ -1,5 +1,5 @@
-// Package signer signs for a log with ECDSA over P-256 and SHA-256 (RFC 6962, section 2.1.4). A guard decides what may be signed (docs/GUARD.md). The signer
-// of ctserve is a process of its own, which Client asks.
+// Package signer signs for a log with ECDSA over P-256 and SHA-256 (RFC 6962, section 2.1.4). A guard decides what may
+// be signed (docs/GUARD.md). The signer of ctserve is a process of its own, which Client asks.
 package signer
 
 import (
@@ -17,12 +17,15 @@ import (
 type Signer interface {
 	// Key returns the log's public key, a SubjectPublicKeyInfo in DER.
 	Key() []byte
-	// IsGuarded reports whether a guard approves each head, and each timestamp's leaf by its path in the last head's tree, before it is signed.
+	// IsGuarded reports whether a guard approves each head, and each timestamp's leaf by its path in the last head's
+	// tree, before it is signed.
 	IsGuarded() bool
-	// Last returns the head that the guard approved last. It returns nil before the first head, and if there is no guard.
+	// Last returns the head that the guard approved last. It returns nil before the first head, and if there is no
+	// guard.
 	Last(ctx context.Context) (*Head, error)
-	// SignHead returns the DigitallySigned of a head (RFC 6962, section 3.5): two bytes of algorithms, two bytes of length, and the signature. The proof leads
-	// from the last head to this one (section 2.1.2). The last head may be signed again. A head that the guard does not approve is a Refusal.
+	// SignHead returns the DigitallySigned of a head (RFC 6962, section 3.5): two bytes of algorithms, two bytes of
+	// length, and the signature. The proof leads from the last head to this one (section 2.1.2). The last head may be
+	// signed again. A head that the guard does not approve is a Refusal.
 	SignHead(ctx context.Context, head Head, consistency [][32]byte) ([]byte, error)
 	// SignTimestamps returns the DigitallySigned of each timestamp (section 3.2), or an error.
 	SignTimestamps(ctx context.Context, receipts []Receipt) ([][]byte, error)
@@ -48,15 +51,16 @@ func (h Head) message() []byte {
 // CheckHead reports whether a DigitallySigned is the key's signature of a head.
 func CheckHead(key []byte, head Head, signed []byte) error { return Check(key, head.message(), signed) }
 
-// Receipt is a timestamp to sign. Its bytes are those of its leaf (RFC 6962, sections 3.2 and 3.4). The path leads from the leaf's index to the root of the last
-// head.
+// Receipt is a timestamp to sign. Its bytes are those of its leaf (RFC 6962, sections 3.2 and 3.4). The path leads from
+// the leaf's index to the root of the last head.
 type Receipt struct {
 	Leaf  []byte
 	Index uint64
 	Path  [][32]byte
 }
 
-// Refusal is the reason why the guard does not approve a head or a timestamp (docs/GUARD.md has the names). Nothing was signed.
+// Refusal is the reason why the guard does not approve a head or a timestamp (docs/GUARD.md has the names). Nothing was
+// signed.
 type Refusal struct{ Name, Fault string }
 
 func (r Refusal) Error() string {
@@ -82,8 +86,8 @@ var (
 	ErrState = errors.New("signer: no valid guard state")
 	// ErrGone: the signer's process does not start, has ended, or sent no reply in time.
 	ErrGone = errors.New("signer: no reply from the signer")
-	// ErrReply: a reply does not belong to the request. The process is then ended, or the connection closed, since its next reply may not belong to its request
-	// either.
+	// ErrReply: a reply does not belong to the request. The process is then ended, or the connection closed, since its
+	// next reply may not belong to its request either.
 	ErrReply = errors.New("signer: the reply does not belong to the request")
 	// ErrKey: a file has no key that a log can use.
 	ErrKey = errors.New("signer: not a log's key")
@@ -91,7 +95,8 @@ var (
 	ErrSignature = errors.New("signer: not the key's signature")
 )
 
-// Check reports whether a DigitallySigned is the key's signature of a message. The key is a SubjectPublicKeyInfo in DER.
+// Check reports whether a DigitallySigned is the key's signature of a message. The key is a SubjectPublicKeyInfo in
+// DER.
 func Check(key, message, signed []byte) error {
 	public, err := parsePublicKey(key)
 	if err != nil {
@@ -113,7 +118,8 @@ func parsePublicKey(key []byte) (*ecdsa.PublicKey, error) {
 }
 
 func check(public *ecdsa.PublicKey, message, signed []byte) error {
-	if len(signed) < 4 || signed[0] != algorithms[0] || signed[1] != algorithms[1] || int(signed[2])<<8|int(signed[3]) != len(signed)-4 {
+	if len(signed) < 4 || signed[0] != algorithms[0] || signed[1] != algorithms[1] ||
+		int(signed[2])<<8|int(signed[3]) != len(signed)-4 {
 		return fmt.Errorf("%w: it is not ECDSA with SHA-256", ErrSignature)
 	}
 	if hash := sha256.Sum256(message); !ecdsa.VerifyASN1(public, hash[:], signed[4:]) {

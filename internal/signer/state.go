@@ -64,7 +64,8 @@ func stateOf(last *Head) (State, error) {
 	return state, nil
 }
 
-// ReadState returns the state of a register's text. Each state has one text, byte for byte, and every other text is ErrState.
+// ReadState returns the state of a register's text. Each state has one text, byte for byte, and every other text is
+// ErrState.
 func ReadState(text string) (State, error) {
 	var line stateLine
 	if err := json.Unmarshal([]byte(text), &line); err != nil {
@@ -87,10 +88,12 @@ func (s State) Text() string { return s.text }
 // Last returns the last head, or nil before the first one.
 func (s State) Last() *Head { return s.last }
 
-// Signed returns the bytes that are signed for the last head. A signer must sign them only after the register has the state.
+// Signed returns the bytes that are signed for the last head. A signer must sign them only after the register has the
+// state.
 func (s State) Signed() []byte { return s.signed }
 
-// Since reports whether the state is seen, an earlier reading, or a later one. If it was rolled back, the error is ErrState.
+// Since reports whether the state is seen, an earlier reading, or a later one. If it was rolled back, the error is
+// ErrState.
 func (s State) Since(seen State) error {
 	if seen.last == nil {
 		seen = s
@@ -104,8 +107,8 @@ func (s State) Since(seen State) error {
 	return nil
 }
 
-// Begin returns the state after the head of the empty tree, a millisecond before a log's first head with leaves. No register may lose its head, so
-// only a state without one begins.
+// Begin returns the state after the head of the empty tree, a millisecond before a log's first head with leaves. No
+// register may lose its head, so only a state without one begins.
 func (s State) Begin(first Head) (State, error) {
 	empty := wagtenib.TreeHead{Root: sha256.Sum256(nil)}
 	if first.Timestamp > 0 {
@@ -129,8 +132,9 @@ func (s State) afterFirst(head wagtenib.TreeHead) (State, error) {
 	return approved(signed)
 }
 
-// After returns the state after a head, whose signed bytes may then be signed. The proof leads from the last head to it. The head's timestamp may be at most
-// maxAhead milliseconds after the last one's. A head that the guard does not approve is a Refusal.
+// After returns the state after a head, whose signed bytes may then be signed. The proof leads from the last head to
+// it. The head's timestamp may be at most maxAhead milliseconds after the last one's. A head that the guard does not
+// approve is a Refusal.
 func (s State) After(head Head, consistency [][32]byte, maxAhead uint64) (State, error) {
 	next := wagtenib.TreeHead{TreeSize: head.Size, Timestamp: head.Timestamp, Root: head.Root}
 	if s.last == nil {
@@ -143,7 +147,8 @@ func (s State) After(head Head, consistency [][32]byte, maxAhead uint64) (State,
 	return approved(signed)
 }
 
-// approved returns the state after a head whose signed bytes the guard wrote. The text is that of the head in these bytes.
+// approved returns the state after a head whose signed bytes the guard wrote. The text is that of the head in these
+// bytes.
 func approved(signed wagtenib.SignedBytes) (State, error) {
 	head, err := wagtenib.GuardState(signed[:], signed[:])
 	if err != nil {
@@ -154,7 +159,8 @@ func approved(signed wagtenib.SignedBytes) (State, error) {
 	return state, err
 }
 
-// Receipt reports whether the bytes of a timestamp's leaf may be signed after the last head. If they may not, the error is a Refusal.
+// Receipt reports whether the bytes of a timestamp's leaf may be signed after the last head. If they may not, the error
+// is a Refusal.
 func (s State) Receipt(receipt Receipt) error {
 	if s.last == nil {
 		return Refusal{Name: "no-head"}
@@ -162,18 +168,26 @@ func (s State) Receipt(receipt Receipt) error {
 	return refusedReceipt(wagtenib.GuardReceipt(s.signed, receipt.Leaf, receipt.Index, receipt.Path))
 }
 
-// headRefusals and receiptRefusals are the names of what the guard refuses (docs/GUARD.md). proofFaults and leafFaults are the faults in these refusals.
+// headRefusals and receiptRefusals are the names of what the guard refuses (docs/GUARD.md). proofFaults and leafFaults
+// are the faults in these refusals.
 var (
-	headRefusals = map[wagtenib.Code]string{wagtenib.ErrSizeFalls: "size-falls", wagtenib.ErrTimestampNotLater: "timestamp-not-later", wagtenib.ErrFork: "fork",
+	headRefusals = map[wagtenib.Code]string{wagtenib.ErrSizeFalls: "size-falls",
+		wagtenib.ErrTimestampNotLater: "timestamp-not-later", wagtenib.ErrFork: "fork",
 		wagtenib.ErrTimestampTooFar: TooFar.Name, wagtenib.ErrNotFirst: "not-first"}
-	receiptRefusals = map[wagtenib.Code]string{wagtenib.ErrLaterLeaf: "later-leaf", wagtenib.ErrOtherIndex: "other-index"}
-	proofFaults     = map[wagtenib.Code]string{wagtenib.ErrIndexOutOfRange: "index-out-of-range", wagtenib.ErrPathTooLong: "path-too-long", wagtenib.ErrPathTooShort: "path-too-short",
-		wagtenib.ErrRootMismatch: "root-mismatch", wagtenib.ErrEmptyPath: "empty-path", wagtenib.ErrFirstMismatch: "first-mismatch", wagtenib.ErrSizesOutOfRange: "sizes-out-of-range"}
-	leafFaults = map[wagtenib.Code]string{wagtenib.ErrTruncated: "truncated", wagtenib.ErrBadVersion: "bad-version", wagtenib.ErrBadLeafType: "bad-leaf-type",
-		wagtenib.ErrBadEntryType: "bad-entry-type", wagtenib.ErrEmptyVector: "empty-vector", wagtenib.ErrTrailing: "trailing"}
+	receiptRefusals = map[wagtenib.Code]string{wagtenib.ErrLaterLeaf: "later-leaf",
+		wagtenib.ErrOtherIndex: "other-index"}
+	proofFaults = map[wagtenib.Code]string{wagtenib.ErrIndexOutOfRange: "index-out-of-range",
+		wagtenib.ErrPathTooLong: "path-too-long", wagtenib.ErrPathTooShort: "path-too-short",
+		wagtenib.ErrRootMismatch: "root-mismatch", wagtenib.ErrEmptyPath: "empty-path",
+		wagtenib.ErrFirstMismatch: "first-mismatch", wagtenib.ErrSizesOutOfRange: "sizes-out-of-range"}
+	leafFaults = map[wagtenib.Code]string{wagtenib.ErrTruncated: "truncated", wagtenib.ErrBadVersion: "bad-version",
+		wagtenib.ErrBadLeafType:  "bad-leaf-type",
+		wagtenib.ErrBadEntryType: "bad-entry-type", wagtenib.ErrEmptyVector: "empty-vector",
+		wagtenib.ErrTrailing: "trailing"}
 )
 
-// refusedBy returns the refusal of an answer of the guard. of has the refusals without a fault, and faulty those with one, by their names.
+// refusedBy returns the refusal of an answer of the guard. of has the refusals without a fault, and faulty those with
+// one, by their names.
 func refusedBy(err error, of map[wagtenib.Code]string, faulty map[string]map[wagtenib.Code]string) error {
 	var code wagtenib.Code
 	if err == nil || !errors.As(err, &code) {
@@ -198,5 +212,6 @@ func refusedHead(err error) error {
 }
 
 func refusedReceipt(err error) error {
-	return refusedBy(err, receiptRefusals, map[string]map[wagtenib.Code]string{"no-leaf": leafFaults, "not-there": proofFaults})
+	return refusedBy(err, receiptRefusals, map[string]map[wagtenib.Code]string{"no-leaf": leafFaults,
+		"not-there": proofFaults})
 }

@@ -18,29 +18,37 @@ import (
 // TestReadsOnlyItsTexts: the text of each state is read back, and no text that differs from it in a byte is read.
 func TestReadsOnlyItsTexts(t *testing.T) {
 	t.Parallel()
-	heads := []*Head{nil, {}, {1, 1, [32]byte{62, 63}}, {1<<64 - 1, 1<<64 - 1, [32]byte{31: 255}}, {1 << 53, 1<<53 + 1, [32]byte{9, 8, 7}}}
+	heads := []*Head{nil, {}, {1, 1, [32]byte{62, 63}}, {1<<64 - 1, 1<<64 - 1, [32]byte{31: 255}},
+		{1 << 53, 1<<53 + 1, [32]byte{9, 8, 7}}}
 	for _, head := range heads {
 		text := textOf(head)
 		state, err := ReadState(text)
 		must(t, err)
-		if last := state.Last(); state.Text() != text || (last == nil) != (head == nil) || last != nil && (*last != *head || !bytes.Equal(state.Signed(), head.message())) {
+		if last := state.Last(); state.Text() != text || (last == nil) != (head == nil) || last != nil &&
+			(*last != *head || !bytes.Equal(state.Signed(), head.message())) {
 			t.Errorf("%s is read as %+v", text, state)
 		}
 		if head == nil && len(state.Signed()) != 0 {
 			t.Errorf("before the first head %x is signed", state.Signed())
 		}
 		for i := range text {
-			for _, other := range []string{text[:i] + text[i+1:], text[:i] + " " + text[i:], text[:i] + string(text[i]^1) + text[i+1:]} {
-				if state, err := ReadState(other); err == nil && state.Text() != other || err != nil && !errors.Is(err, ErrState) {
+			for _, other := range []string{text[:i] + text[i+1:], text[:i] + " " + text[i:],
+				text[:i] + string(text[i]^1) + text[i+1:]} {
+				if state, err := ReadState(other); err == nil && state.Text() != other || err != nil &&
+					!errors.Is(err, ErrState) {
 					t.Errorf("%s is read as %s, %v", other, state.Text(), err)
 				}
 			}
 		}
 	}
 	whole := textOf(heads[3])
-	for _, text := range []string{"", "\n", "null", "{}", `{"guard":1}`, `{"guard":1,"last":{}}`, whole + "\n", whole + whole, none + "{", strings.ToUpper(whole), strings.Replace(whole, `"guard":1,`, "", 1),
-		strings.Replace(whole, "18446744073709551615", "18446744073709551616", 1), strings.Replace(whole, "18446744073709551615", "1e3", 1), strings.Replace(whole, "P8=", "", 1), strings.Replace(whole, "=", "", 1),
-		`{"guard":1,"last":null,"last":null}`, strings.Replace(whole, `}}`, `},"guard":1}`, 1), strings.Replace(whole, "A", "\\u0041", 1), "\ufeff" + whole} {
+	for _, text := range []string{"", "\n", "null", "{}", `{"guard":1}`, `{"guard":1,"last":{}}`, whole + "\n", whole +
+		whole, none + "{", strings.ToUpper(whole), strings.Replace(whole, `"guard":1,`, "", 1),
+		strings.Replace(whole, "18446744073709551615", "18446744073709551616", 1),
+		strings.Replace(whole, "18446744073709551615", "1e3", 1), strings.Replace(whole, "P8=", "", 1),
+		strings.Replace(whole, "=", "", 1),
+		`{"guard":1,"last":null,"last":null}`, strings.Replace(whole, `}}`, `},"guard":1}`, 1),
+		strings.Replace(whole, "A", "\\u0041", 1), "\ufeff" + whole} {
 		if state, err := ReadState(text); !errors.Is(err, ErrState) {
 			t.Errorf("%q is read as %s, %v", text, state.Text(), err)
 		}
@@ -59,19 +67,25 @@ func TestIsRolledBack(t *testing.T) {
 		seen, now *Head
 		isBack    bool
 	}{
-		{nil, nil, false}, {nil, &Head{5, 50, [32]byte{1}}, false}, {&Head{5, 50, [32]byte{1}}, nil, true}, {&Head{0, 0, [32]byte{}}, nil, true},
-		{&Head{5, 50, [32]byte{1}}, &Head{5, 50, [32]byte{1}}, false}, {&Head{5, 50, [32]byte{1}}, &Head{5, 50, [32]byte{2}}, true},
-		{&Head{5, 50, [32]byte{1}}, &Head{5, 51, [32]byte{1}}, false}, {&Head{5, 50, [32]byte{1}}, &Head{6, 51, [32]byte{2}}, false},
-		{&Head{5, 50, [32]byte{1}}, &Head{6, 50, [32]byte{2}}, true}, {&Head{5, 50, [32]byte{1}}, &Head{4, 60, [32]byte{2}}, true},
+		{nil, nil, false}, {nil, &Head{5, 50, [32]byte{1}}, false}, {&Head{5, 50, [32]byte{1}}, nil, true},
+		{&Head{0, 0, [32]byte{}}, nil, true},
+		{&Head{5, 50, [32]byte{1}}, &Head{5, 50, [32]byte{1}}, false},
+		{&Head{5, 50, [32]byte{1}}, &Head{5, 50, [32]byte{2}}, true},
+		{&Head{5, 50, [32]byte{1}}, &Head{5, 51, [32]byte{1}}, false},
+		{&Head{5, 50, [32]byte{1}}, &Head{6, 51, [32]byte{2}}, false},
+		{&Head{5, 50, [32]byte{1}}, &Head{6, 50, [32]byte{2}}, true},
+		{&Head{5, 50, [32]byte{1}}, &Head{4, 60, [32]byte{2}}, true},
 	} {
-		if err := state(of.now).Since(state(of.seen)); (err != nil) != of.isBack || err != nil && !errors.Is(err, ErrState) {
+		if err := state(of.now).Since(state(of.seen)); (err != nil) != of.isBack || err != nil &&
+			!errors.Is(err, ErrState) {
 			t.Errorf("%d: %v", i, err)
 		}
 	}
 }
 
-// TestFirstHead: before its first head with leaves a log gets the head of the empty tree in its register, which is not signed. A head of no leaves is the first
-// only if its root is that of the empty tree. After a head nothing begins again.
+// TestFirstHead: before its first head with leaves a log gets the head of the empty tree in its register, which is not
+// signed. A head of no leaves is the first only if its root is that of the empty tree. After a head nothing begins
+// again.
 func TestFirstHead(t *testing.T) {
 	t.Parallel()
 	ctx, l := limited(t), listOf(t, 9, 9)
@@ -94,7 +108,8 @@ func TestFirstHead(t *testing.T) {
 	signed, err = g.SignHead(ctx, head, nil)
 	must(t, err)
 	must(t, CheckHead(g.Key(), head, signed))
-	if due := []string{textOf(&empty), textOf(&empty), textOf(&head)}; strings.Join(texts, "\n") != strings.Join(due, "\n") {
+	if due := []string{textOf(&empty), textOf(&empty), textOf(&head)}; strings.Join(texts,
+		"\n") != strings.Join(due, "\n") {
 		t.Errorf("the register had %q, and not %q", texts, due)
 	}
 	for _, text := range []string{textOf(&empty), textOf(&head)} {
@@ -113,7 +128,8 @@ func TestFirstHead(t *testing.T) {
 	}
 }
 
-// TestKilledAfterTheEmptyHead kills (-9) a signer after its register got the head of the empty tree, which comes before the first head with leaves. The next one goes on.
+// TestKilledAfterTheEmptyHead kills (-9) a signer after its register got the head of the empty tree, which comes before
+// the first head with leaves. The next one goes on.
 func TestKilledAfterTheEmptyHead(t *testing.T) {
 	t.Parallel()
 	program, err := os.Executable()
@@ -152,7 +168,8 @@ func readText(t *testing.T, folder string) []byte {
 func TestDamagedRegister(t *testing.T) {
 	t.Parallel()
 	ctx, l, fork := limited(t), listOf(t, 9, 9), listOf(t, 9, 0)
-	for _, damaged := range []string{"", "\n", " ", "{", "null", "{}", `{"guard":1}`, `{"guard":1,"last":{}}`, `{"guard":1,"last":null} `, "\x00"} {
+	for _, damaged := range []string{"", "\n", " ", "{", "null", "{}", `{"guard":1}`, `{"guard":1,"last":{}}`,
+		`{"guard":1,"last":null} `, "\x00"} {
 		folder := t.TempDir()
 		g := guardedIn(t, newKey(t), folder)
 		_, err := g.SignHead(ctx, l.head(t, 5, 100), nil)
@@ -162,16 +179,19 @@ func TestDamagedRegister(t *testing.T) {
 			t.Errorf("%q: the last head is %+v, %v", damaged, last, err)
 		}
 		for _, create := range []bool{false, true} {
-			if _, err := NewGuarded(ctx, newKey(t), Guard{State: register(t, folder), Create: create}); !errors.Is(err, ErrState) {
+			if _, err := NewGuarded(ctx, newKey(t), Guard{State: register(t, folder), Create: create}); !errors.Is(
+				err, ErrState) {
 				t.Errorf("%q: a signer starts, %v", damaged, err)
 			}
 		}
 		for _, of := range []*list{l, fork} {
-			if signed, err := g.SignHead(ctx, of.head(t, 9, 101), of.proof(t, 5, 9)); !errors.Is(err, ErrState) || signed != nil {
+			if signed, err := g.SignHead(ctx, of.head(t, 9, 101), of.proof(t, 5, 9)); !errors.Is(err, ErrState) ||
+				signed != nil {
 				t.Errorf("%q: a head: %v", damaged, err)
 			}
 		}
-		if signed, err := g.SignTimestamps(ctx, []Receipt{l.receipt(t, 1, 5)}); !errors.Is(err, ErrState) || signed != nil {
+		if signed, err := g.SignTimestamps(ctx, []Receipt{l.receipt(t, 1, 5)}); !errors.Is(err, ErrState) ||
+			signed != nil {
 			t.Errorf("%q: a timestamp: %v", damaged, err)
 		}
 		if text := readText(t, folder); string(text) != damaged {
@@ -200,18 +220,20 @@ func TestRefusedStays(t *testing.T) {
 	} {
 		signed, err := g.SignHead(ctx, of.head, of.proof)
 		var refusal Refusal
-		if !errors.As(err, &refusal) || refusal != (Refusal{"inconsistent", fault}) || signed != nil || kept(t, g) != before {
+		if !errors.As(err, &refusal) || refusal != (Refusal{"inconsistent", fault}) || signed != nil ||
+			kept(t, g) != before {
 			t.Errorf("%s: %v, and %s stands", fault, err, kept(t, g))
 		}
 	}
 	receipt := l.receipt(t, 1, 5)
 	for fault, of := range map[string]Receipt{
-		"no-leaf truncated":            {receipt.Leaf[:4], 1, receipt.Path},
-		"no-leaf bad-version":          {append([]byte{1}, receipt.Leaf[1:]...), 1, receipt.Path},
-		"no-leaf bad-leaf-type":        {append([]byte{0, 1}, receipt.Leaf[2:]...), 1, receipt.Path},
-		"no-leaf trailing":             {append(bytes.Clone(receipt.Leaf), 0), 1, receipt.Path},
-		"no-leaf empty-vector":         {leaf(""), 1, receipt.Path},
-		"no-leaf bad-entry-type":       {append(append(bytes.Clone(receipt.Leaf[:10]), 0, 9), receipt.Leaf[12:]...), 1, receipt.Path},
+		"no-leaf truncated":     {receipt.Leaf[:4], 1, receipt.Path},
+		"no-leaf bad-version":   {append([]byte{1}, receipt.Leaf[1:]...), 1, receipt.Path},
+		"no-leaf bad-leaf-type": {append([]byte{0, 1}, receipt.Leaf[2:]...), 1, receipt.Path},
+		"no-leaf trailing":      {append(bytes.Clone(receipt.Leaf), 0), 1, receipt.Path},
+		"no-leaf empty-vector":  {leaf(""), 1, receipt.Path},
+		"no-leaf bad-entry-type": {append(append(bytes.Clone(receipt.Leaf[:10]), 0, 9), receipt.Leaf[12:]...),
+			1, receipt.Path},
 		"not-there index-out-of-range": {receipt.Leaf, 5, receipt.Path},
 		"not-there path-too-long":      {receipt.Leaf, 1, append(l.receipt(t, 1, 5).Path, [32]byte{})},
 		"not-there path-too-short":     {receipt.Leaf, 1, receipt.Path[:1]},
@@ -219,22 +241,28 @@ func TestRefusedStays(t *testing.T) {
 	} {
 		signed, err := g.SignTimestamps(ctx, []Receipt{receipt, of})
 		var refusal Refusal
-		if !errors.As(err, &refusal) || refusal.Name+" "+refusal.Fault != fault || signed != nil || kept(t, g) != before {
+		if !errors.As(err, &refusal) || refusal.Name+" "+refusal.Fault != fault || signed != nil ||
+			kept(t, g) != before {
 			t.Errorf("%s: %v, and %s stands", fault, err, kept(t, g))
 		}
 	}
 }
 
-// TestAnswersOfTheGuard: each answer of the guard is an error, whose kind is by its code. An answer that is no refusal is none.
+// TestAnswersOfTheGuard: each answer of the guard is an error, whose kind is by its code. An answer that is no refusal
+// is none.
 func TestAnswersOfTheGuard(t *testing.T) {
 	t.Parallel()
-	for code, kind := range map[wagtenib.Code]error{wagtenib.ErrState: ErrState, wagtenib.ErrTimestampTooFar: TooFar, wagtenib.ErrFork: Refusal{Name: "fork"}, wagtenib.ErrMemory: wagtenib.ErrMemory, 4000: wagtenib.Code(4000)} {
-		if err := refusedHead(code); !errors.Is(err, kind) || errors.Is(err, ErrRefused) != errors.As(kind, &Refusal{}) {
+	for code, kind := range map[wagtenib.Code]error{wagtenib.ErrState: ErrState, wagtenib.ErrTimestampTooFar: TooFar,
+		wagtenib.ErrFork: Refusal{Name: "fork"}, wagtenib.ErrMemory: wagtenib.ErrMemory, 4000: wagtenib.Code(4000)} {
+		if err := refusedHead(code); !errors.Is(err, kind) ||
+			errors.Is(err, ErrRefused) != errors.As(kind, &Refusal{}) {
 			t.Errorf("%v: %v", code, err)
 		}
 	}
-	for code, kind := range map[wagtenib.Code]error{wagtenib.ErrState: ErrState, wagtenib.ErrLaterLeaf: Refusal{Name: "later-leaf"}, wagtenib.ErrNotFirst: wagtenib.ErrNotFirst} {
-		if err := refusedReceipt(code); !errors.Is(err, kind) || errors.Is(err, ErrRefused) != errors.As(kind, &Refusal{}) {
+	for code, kind := range map[wagtenib.Code]error{wagtenib.ErrState: ErrState,
+		wagtenib.ErrLaterLeaf: Refusal{Name: "later-leaf"}, wagtenib.ErrNotFirst: wagtenib.ErrNotFirst} {
+		if err := refusedReceipt(code); !errors.Is(err, kind) ||
+			errors.Is(err, ErrRefused) != errors.As(kind, &Refusal{}) {
 			t.Errorf("%v: %v", code, err)
 		}
 	}

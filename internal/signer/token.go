@@ -24,12 +24,14 @@ type token struct {
 	id                                     []byte
 }
 
-// parseToken reads a URI: pkcs11:token=LABEL;object=LABEL?module-path=PATH&pin-source=file:PATH. It may have serial instead of token or besides it, and id
-// instead of object or besides it. It must not have the PIN itself, since other users could read it among a process's arguments.
+// parseToken reads a URI: pkcs11:token=LABEL;object=LABEL?module-path=PATH&pin-source=file:PATH. It may have serial
+// instead of token or besides it, and id instead of object or besides it. It must not have the PIN itself, since other
+// users could read it among a process's arguments.
 func parseToken(uri string) (*token, error) {
 	path, query, _ := strings.Cut(strings.TrimPrefix(uri, tokenScheme), "?")
 	of, id := &token{}, ""
-	into := map[string]*string{"token": &of.label, "serial": &of.serial, "object": &of.object, "id": &id, "module-path": &of.module, "pin-source": &of.pinFile}
+	into := map[string]*string{"token": &of.label, "serial": &of.serial, "object": &of.object, "id": &id,
+		"module-path": &of.module, "pin-source": &of.pinFile}
 	seen := map[string]bool{}
 	for _, part := range []struct{ text, between string }{{path, ";"}, {query, "&"}} {
 		for _, attribute := range strings.Split(part.text, part.between) {
@@ -39,7 +41,8 @@ func parseToken(uri string) (*token, error) {
 			name, value, _ := strings.Cut(attribute, "=")
 			value, err := url.PathUnescape(value)
 			if into[name] == nil || seen[name] || value == "" || err != nil {
-				return nil, fmt.Errorf("%w: attribute %q of the PKCS#11 URI is unknown, repeated or empty", ErrKey, name)
+				return nil, fmt.Errorf("%w: attribute %q of the PKCS#11 URI is unknown, repeated or empty",
+					ErrKey, name)
 			}
 			*into[name], seen[name] = value, true
 		}
@@ -49,7 +52,8 @@ func parseToken(uri string) (*token, error) {
 	}
 	of.pinFile = strings.TrimPrefix(of.pinFile, "file:")
 	if of.module == "" || of.label+of.serial == "" || of.object+id == "" || of.pinFile == "" {
-		return nil, fmt.Errorf("%w: a PKCS#11 URI must have token or serial, object or id, module-path and pin-source", ErrKey)
+		return nil, fmt.Errorf("%w: a PKCS#11 URI must have token or serial, object or id, module-path and pin-source",
+			ErrKey)
 	}
 	return of, nil
 }

@@ -26,8 +26,9 @@ func TestToken(t *testing.T) {
 		"another token":  "pkcs11:token=other;object=key" + query,
 		"another module": "pkcs11:token=log-token;object=key?module-path=/nowhere.so&pin-source=" + pin,
 		"another PIN":    "pkcs11:token=log-token;object=key?module-path=" + module + "&pin-source=" + wrong,
-		"no PIN":         "pkcs11:token=log-token;object=key?module-path=" + module + "&pin-source=" + wrong + ".absent",
-		"of P-384":       "pkcs11:token=log-token;object=large" + query,
+		"no PIN": "pkcs11:token=log-token;object=key?module-path=" + module + "&pin-source=" +
+			wrong + ".absent",
+		"of P-384": "pkcs11:token=log-token;object=large" + query,
 	} {
 		if _, err := OpenKey(uri); err == nil {
 			t.Errorf("%s: it is taken", what)
@@ -35,7 +36,8 @@ func TestToken(t *testing.T) {
 	}
 	message := []byte("what is signed")
 	var public []byte
-	for _, of := range []string{"pkcs11:token=log-token;object=key", "pkcs11:token=log-token;id=%01", "pkcs11:token=log-token;object=key;id=%01"} {
+	for _, of := range []string{"pkcs11:token=log-token;object=key", "pkcs11:token=log-token;id=%01",
+		"pkcs11:token=log-token;object=key;id=%01"} {
 		key, err := OpenKey(of + query)
 		if err != nil {
 			t.Fatalf("%s: %v", of, err)
@@ -53,12 +55,14 @@ func TestToken(t *testing.T) {
 		}
 		public = key.Key()
 		folder := t.TempDir()
-		for name, text := range map[string][]byte{"message": message, "signature": signed[4:], "key.pem": pem.EncodeToMemory(&pem.Block{Type: "PUBLIC KEY", Bytes: public})} {
+		for name, text := range map[string][]byte{"message": message, "signature": signed[4:],
+			"key.pem": pem.EncodeToMemory(&pem.Block{Type: "PUBLIC KEY", Bytes: public})} {
 			if err := os.WriteFile(filepath.Join(folder, name), text, 0o600); err != nil {
 				t.Fatal(err)
 			}
 		}
-		command := exec.Command("openssl", "dgst", "-sha256", "-verify", "key.pem", "-signature", "signature", "message")
+		command := exec.Command("openssl", "dgst", "-sha256", "-verify", "key.pem", "-signature",
+			"signature", "message")
 		command.Dir = folder
 		if said, err := command.CombinedOutput(); err != nil {
 			t.Errorf("%s: openssl: %s", of, said)
@@ -93,7 +97,8 @@ func TestTokenIsReleased(t *testing.T) {
 		}
 	}
 	isLetGo("nothing")
-	for _, path := range []string{"token=log-token;object=key", "serial=" + serial + ";object=key", "token=log-token;serial=" + serial + ";object=key"} {
+	for _, path := range []string{"token=log-token;object=key", "serial=" + serial + ";object=key",
+		"token=log-token;serial=" + serial + ";object=key"} {
 		key, err := OpenKey(of(path, pin))
 		if err != nil {
 			t.Fatalf("%s: %v", path, err)
@@ -117,14 +122,20 @@ func TestTokenIsReleased(t *testing.T) {
 
 // TestTokenURIs: a URI has each attribute once, and the required ones.
 func TestTokenURIs(t *testing.T) {
-	of, err := parseToken("pkcs11:token=A%20token;serial=12;object=key;id=%00%01?module-path=/m.so&pin-source=file:/pin")
-	if err != nil || of.label != "A token" || of.serial != "12" || of.object != "key" || string(of.id) != "\x00\x01" || of.module != "/m.so" || of.pinFile != "/pin" {
+	of, err := parseToken("pkcs11:token=A%20token;serial=12;object=key;id=%00%01?" +
+		"module-path=/m.so&pin-source=file:/pin")
+	if err != nil || of.label != "A token" || of.serial != "12" || of.object != "key" || string(of.id) != "\x00\x01" ||
+		of.module != "/m.so" || of.pinFile != "/pin" {
 		t.Errorf("%v: %+v", err, of)
 	}
 	for _, uri := range []string{
-		"pkcs11:", "pkcs11:token=a;object=k?module-path=/m", "pkcs11:token=a;object=k?pin-source=/p", "pkcs11:token=a?module-path=/m&pin-source=/p",
-		"pkcs11:object=k?module-path=/m&pin-source=/p", "pkcs11:token=a;token=b;object=k?module-path=/m&pin-source=/p", "pkcs11:token=;object=k?module-path=/m&pin-source=/p",
-		"pkcs11:token=%zz;object=k?module-path=/m&pin-source=/p", "pkcs11:token=a;object=k?module-path=/m&pin-source=/p&pin-value=1234", "pkcs11:token=a;object=k;colour=red?module-path=/m&pin-source=/p",
+		"pkcs11:", "pkcs11:token=a;object=k?module-path=/m", "pkcs11:token=a;object=k?pin-source=/p",
+		"pkcs11:token=a?module-path=/m&pin-source=/p",
+		"pkcs11:object=k?module-path=/m&pin-source=/p", "pkcs11:token=a;token=b;object=k?module-path=/m&pin-source=/p",
+		"pkcs11:token=;object=k?module-path=/m&pin-source=/p",
+		"pkcs11:token=%zz;object=k?module-path=/m&pin-source=/p",
+		"pkcs11:token=a;object=k?module-path=/m&pin-source=/p&pin-value=1234",
+		"pkcs11:token=a;object=k;colour=red?module-path=/m&pin-source=/p",
 	} {
 		if _, err := parseToken(uri); !errors.Is(err, ErrKey) {
 			t.Errorf("%s: %v", uri, err)

@@ -28,7 +28,8 @@ const (
 
 var errUnreachable = errors.New("sim: the node does not run")
 
-// submit has a client submit a number to a machine, and returns once it is answered, or the node dies, or the client gives up.
+// submit has a client submit a number to a machine, and returns once it is answered, or the node dies, or the client
+// gives up.
 func (w *world) submit(m *machine, number int) error {
 	p, n := m.process, m.node
 	if p == nil || p.dead || n == nil {
@@ -49,7 +50,8 @@ func (w *world) submit(m *machine, number int) error {
 	return err
 }
 
-// serve does what an HTTP handler does with a submission: it looks the entry up, and has it wait for a step if the log does not have it.
+// serve does what an HTTP handler does with a submission: it looks the entry up, and has it wait for a step if the log
+// does not have it.
 func (w *world) serve(m *machine, n *node.Node, number int) error {
 	ctx, cancel := within(w.background(), requestWithin)
 	defer cancel()
@@ -85,7 +87,8 @@ func (w *world) serve(m *machine, n *node.Node, number int) error {
 
 // answers gives a client its answer, and judges it.
 func (w *world) answers(m *machine, number int, place node.Place) {
-	w.log("client", fmt.Sprintf("entry %d", number), fmt.Sprintf("%s answers %d at %d ms", m.name, place.Index, place.Timestamp), "")
+	w.log("client", fmt.Sprintf("entry %d", number), fmt.Sprintf("%s answers %d at %d ms", m.name, place.Index,
+		place.Timestamp), "")
 	w.judge.answered(m, number, place.Index, place.Timestamp, place.Signature)
 }
 
@@ -149,8 +152,10 @@ func (w *world) reader() {
 				w.judge.treeOf(now.Head, m.name+" shows a head whose tree is not whole")
 			}
 			if now.Head != last[i].head {
-				if line := cells(m.node.Snapshot().Line + "\nnode -\nsalt " + strings.Repeat("0", 32) + "\n"); line == nil || line.size != now.Size || line.timestamp != now.Timestamp {
-					w.judge.breaks("a reader sees a head with its state", "%s shows the head of %d entries at %d ms with another state", m.name, now.Size, now.Timestamp)
+				if line := cells(m.node.Snapshot().Line + "\nnode -\nsalt " + strings.Repeat("0", 32) +
+					"\n"); line == nil || line.size != now.Size || line.timestamp != now.Timestamp {
+					w.judge.breaks("a reader sees a head with its state",
+						"%s shows the head of %d entries at %d ms with another state", m.name, now.Size, now.Timestamp)
 				}
 				w.judge.read(m, now.Head, string(now.Note), last[i].head)
 			}

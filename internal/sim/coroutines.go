@@ -7,7 +7,8 @@ import (
 	"time"
 )
 
-// scheduler runs coroutines one at a time. The seed chooses which of those that can run is next, and time passes only while none can.
+// scheduler runs coroutines one at a time. The seed chooses which of those that can run is next, and time passes only
+// while none can.
 type scheduler struct {
 	random  *rand.Rand
 	now     time.Duration
@@ -83,7 +84,8 @@ func (c *coroutine) carryOut() (returned bool) {
 	return true
 }
 
-// wait stops the current coroutine until a condition holds, or for a while. It reports whether the condition held. All that takes time in a history is this call.
+// wait stops the current coroutine until a condition holds, or for a while. It reports whether the condition held. All
+// that takes time in a history is this call.
 func (s *scheduler) wait(long time.Duration, until func() bool) bool {
 	c := s.current
 	if c.of != nil && c.of.dead {
@@ -175,7 +177,8 @@ func (s *scheduler) stopAll() {
 	s.all, s.idle = nil, nil
 }
 
-// simulated is a context in virtual time. It has no channel, so nothing but the simulation's calls can wait for its end.
+// simulated is a context in virtual time. It has no channel, so nothing but the simulation's calls can wait for its
+// end.
 type simulated struct {
 	context.Context
 	world    *scheduler

@@ -9,7 +9,8 @@ import (
 	"wagtenib/internal/stores"
 )
 
-// befalls has a fault happen at a call of a machine. It returns the fault if that is the outcome of this call. Any other fault changes the world before the call.
+// befalls has a fault happen at a call of a machine. It returns the fault if that is the outcome of this call. Any
+// other fault changes the world before the call.
 func (w *world) befalls(m *machine, f Fault, store string) *Fault {
 	if store == "memory" && (f.Kind == CallHangs || f.Kind == DoneLate || f.Kind == AnswersLate) {
 		// A disk of the machine's own either works or fails.
@@ -146,7 +147,8 @@ func (w *world) swapsHead(which int) bool {
 func (w *world) bendsEdge() bool {
 	size, timestamp := w.judge.newest.Size, w.judge.newest.Timestamp
 	if w.stores.published != (stores.Published{Size: size, Timestamp: timestamp}) {
-		// A node may not put another content over the tile of a state that is not published: the lock may have been rolled back.
+		// A node may not put another content over the tile of a state that is not published: the lock may have been
+		// rolled back.
 		return false
 	}
 	name := fmt.Sprintf("tile/data/%03d.p/%d", size/256, size%256)
@@ -194,12 +196,14 @@ func (w *world) misplaces(which int) bool {
 // rollsBack sets parts of the stores back by the same time.
 func (w *world) rollsBack(f Fault) bool {
 	of := map[Kind][]part{
-		ObjectsRolledBack: {objectsPart}, LockRolledBack: {lockPart}, GuardRolledBack: {guardPart}, LockAndGuardRolledBack: {lockPart, guardPart},
+		ObjectsRolledBack: {objectsPart}, LockRolledBack: {lockPart}, GuardRolledBack: {guardPart},
+		LockAndGuardRolledBack:   {lockPart, guardPart},
 		ObjectsAndLockRolledBack: {objectsPart, lockPart}, ObjectsAndGuardRolledBack: {objectsPart, guardPart},
 		AllRolledBack: {objectsPart, lockPart, guardPart, indexPart},
 	}[f.Kind]
 	if f.Kind == AllRolledBack && !w.allRemember() && len(w.observers) == 0 {
-		// Nothing would show a machine that did not accept the newest head that all stores are old together (OPERATING.md, "Backup").
+		// Nothing would show a machine that did not accept the newest head that all stores are old together
+		// (OPERATING.md, "Backup").
 		return false
 	}
 	happened := false
@@ -228,7 +232,8 @@ func (w *world) rollsBack(f Fault) bool {
 // allRemember reports whether every machine's memory has the newest head that is published.
 func (w *world) allRemember() bool {
 	for _, m := range w.machines {
-		if m.remembered == nil || m.remembered.Size < uint64(len(w.judge.leaves)) || m.remembered.Timestamp < w.judge.newest.Timestamp {
+		if m.remembered == nil || m.remembered.Size < uint64(len(w.judge.leaves)) ||
+			m.remembered.Timestamp < w.judge.newest.Timestamp {
 			return false
 		}
 	}

@@ -40,8 +40,8 @@ func newKey() (*ecdsa.PrivateKey, []byte) {
 // signatures are those of the log's key.
 var signatures made
 
-// made has the signatures that a key made in this process, by what was signed. The key signs the same each time, and nobody else has it, so a signature is
-// the key's if it is one of these.
+// made has the signatures that a key made in this process, by what was signed. The key signs the same each time, and
+// nobody else has it, so a signature is the key's if it is one of these.
 type made struct{ all sync.Map }
 
 // sign returns the key's signature of a message.
@@ -75,7 +75,8 @@ var ownVerifier = verifier{witness.OfRFC6962(Origin, keyDER), func(text, signatu
 	if err != nil || !bytes.HasPrefix(text, []byte(Origin+"\n")) || len(signature) <= 8 {
 		return false
 	}
-	return isSigned(headMessage(signer.Head{Size: size, Timestamp: binary.BigEndian.Uint64(signature), Root: root}), signature[8:])
+	return isSigned(headMessage(signer.Head{Size: size, Timestamp: binary.BigEndian.Uint64(signature),
+		Root: root}), signature[8:])
 }}
 
 // Verifier is what a node verifies the log's signatures of notes by.
@@ -102,7 +103,8 @@ func headMessage(head signer.Head) []byte {
 	return append(binary.BigEndian.AppendUint64(message, head.Size), head.Root[:]...)
 }
 
-// guarded is the signer of a machine: the key behind the proved guard, over a state in the lock's engine (docs/GUARD.md).
+// guarded is the signer of a machine: the key behind the proved guard, over a state in the lock's engine
+// (docs/GUARD.md).
 type guarded struct {
 	m *machine
 	// busy says that a call is at work: the signer takes one at a time.
@@ -162,8 +164,8 @@ func (g *guarded) Last(ctx context.Context) (*signer.Head, error) {
 	return state.Last(), nil
 }
 
-// SignHead signs a head that the guard approves, after the lock's engine has the guard's new state. Before the first head with leaves it gets that of
-// the empty tree.
+// SignHead signs a head that the guard approves, after the lock's engine has the guard's new state. Before the first
+// head with leaves it gets that of the empty tree.
 func (g *guarded) SignHead(ctx context.Context, head signer.Head, consistency [][32]byte) ([]byte, error) {
 	inner, done, err := g.turn(ctx)
 	if err != nil {

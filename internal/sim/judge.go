@@ -17,8 +17,8 @@ import (
 	"wagtenib/internal/stores"
 )
 
-// judge looks at each object as it is put, at each head as it is signed, and at each answer as it is given. It has one list of leaves, which only grows. It uses
-// none of the code that it judges.
+// judge looks at each object as it is put, at each head as it is signed, and at each answer as it is given. It has one
+// list of leaves, which only grows. It uses none of the code that it judges.
 type judge struct {
 	w         *world
 	violation *Violation
@@ -36,7 +36,8 @@ type judge struct {
 	stats    Stats
 }
 
-// allows reports whether an identity may get a second entry: the index lost its place, or has a wrong one, since the last one.
+// allows reports whether an identity may get a second entry: the index lost its place, or has a wrong one, since the
+// last one.
 func (e *excuses) allows(identity [32]byte) bool {
 	if e.again[identity] {
 		delete(e.again, identity)
@@ -47,7 +48,8 @@ func (e *excuses) allows(identity [32]byte) bool {
 
 // Stats are the numbers of a history.
 type Stats struct {
-	Calls, Switches, Heads, Cosigned, Deleted, Partials, OldHeads, Staged, Reread, Entries, Answers, Repeats, Reads, Starts int
+	Calls, Switches, Heads, Cosigned, Deleted, Partials, OldHeads, Staged, Reread, Entries, Answers, Repeats,
+	Reads, Starts int
 }
 
 // leaf is an entry of the list.
@@ -88,8 +90,8 @@ func (j *judge) put(name string, content []byte) {
 	}
 }
 
-// putHead judges a head that is put: it is signed by the key, it has its name's size and timestamp, all of its tree is in the store, and the tree's leaves
-// begin with the list.
+// putHead judges a head that is put: it is signed by the key, it has its name's size and timestamp, all of its tree is
+// in the store, and the tree's leaves begin with the list.
 func (j *judge) putHead(name, note string) {
 	head, err := readNote(note)
 	if err != nil {
@@ -113,7 +115,8 @@ func (j *judge) putHead(name, note string) {
 		j.breaks("one head a timestamp", "%s and the head of %d entries have one timestamp", name, j.newest.Size)
 	}
 	if head.Timestamp > j.newest.Timestamp != (head.Size >= j.newest.Size) && head.Size != j.newest.Size {
-		j.breaks("heads do not go back", "%s is put after the head of %d entries at %d ms", name, j.newest.Size, j.newest.Timestamp)
+		j.breaks("heads do not go back", "%s is put after the head of %d entries at %d ms", name, j.newest.Size,
+			j.newest.Timestamp)
 	}
 	if head.Timestamp > j.newest.Timestamp {
 		j.newest = head
@@ -132,10 +135,12 @@ func (j *judge) judgeTime(head signer.Head, name string) {
 
 // signs judges a head that the key signs. All of its tree must be in the store by then.
 func (j *judge) signs(head signer.Head) {
-	j.isLists(head, fmt.Sprintf("a signed head of %d entries at %d ms", head.Size, head.Timestamp), "a signed head is the list's")
+	j.isLists(head, fmt.Sprintf("a signed head of %d entries at %d ms", head.Size, head.Timestamp),
+		"a signed head is the list's")
 }
 
-// swaps judges a step on which the lock decides: it is made of the text before, whose head is published, and its staged batch is in the store.
+// swaps judges a step on which the lock decides: it is made of the text before, whose head is published, and its staged
+// batch is in the store.
 func (j *judge) swaps(old, new string) {
 	before, after := cells(old), cells(new)
 	if before == nil || after == nil {
@@ -147,10 +152,13 @@ func (j *judge) swaps(old, new string) {
 	}
 	staged, ok := j.w.stores.objects["staging/"+after.name]
 	if digest := sha256.Sum256(staged); !j.w.excuses.missing && (!ok || hex.EncodeToString(digest[:]) != after.bundle) {
-		j.breaks("a step is staged", "the lock gets the text of %d entries, whose staged batch %s is not in the store", after.size, after.name)
+		j.breaks("a step is staged", "the lock gets the text of %d entries, whose staged batch %s is not in the store",
+			after.size, after.name)
 	}
-	if _, ok := j.w.stores.objects[fmt.Sprintf("heads/%020d-%020d", before.size, before.timestamp)]; !ok && !before.isBegin() && !j.w.excuses.missing {
-		j.breaks("a step is made of a published state", "the lock gets the text of %d entries, and the state before has no head", after.size)
+	if _, ok := j.w.stores.objects[fmt.Sprintf("heads/%020d-%020d", before.size, before.timestamp)]; !ok &&
+		!before.isBegin() && !j.w.excuses.missing {
+		j.breaks("a step is made of a published state",
+			"the lock gets the text of %d entries, and the state before has no head", after.size)
 	}
 }
 
@@ -202,7 +210,8 @@ func (j *judge) answered(m *machine, number int, index, timestamp uint64, signed
 		j.breaks("a promise is signed", "%s, and the signature is not the key's over that entry", what)
 	}
 	if !j.w.excuses.loss && j.w.stores.published.Size <= index {
-		j.breaks("a promise is under a published head", "%s, and %d entries are published", what, j.w.stores.published.Size)
+		j.breaks("a promise is under a published head", "%s, and %d entries are published", what,
+			j.w.stores.published.Size)
 	}
 }
 
@@ -218,13 +227,15 @@ func (j *judge) read(m *machine, head signer.Head, note string, before signer.He
 	case head.Size >= uint64(len(j.roots)) || j.roots[head.Size] != head.Root:
 		j.breaks("a reader sees the list", "%s, which is not the list's", what)
 	case head.Size < before.Size || head.Timestamp < before.Timestamp:
-		j.breaks("a reader sees no older head", "%s after one of %d entries at %d ms", what, before.Size, before.Timestamp)
+		j.breaks("a reader sees no older head", "%s after one of %d entries at %d ms", what, before.Size,
+			before.Timestamp)
 	case !j.w.excuses.loss && j.w.stores.published.Before(stores.Published{Size: head.Size, Timestamp: head.Timestamp}):
 		j.breaks("a reader sees published heads", "%s, which is not published", what)
 	}
 }
 
-// readNote reads a signed head: its text has three lines, and its signature is of type 5 (C2SP static-ct-api, tlog-checkpoint).
+// readNote reads a signed head: its text has three lines, and its signature is of type 5 (C2SP static-ct-api,
+// tlog-checkpoint).
 func readNote(note string) (head signer.Head, err error) {
 	text, signatures, ok := strings.Cut(note, "\n\n")
 	lines := strings.Split(text, "\n")

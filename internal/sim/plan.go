@@ -37,19 +37,20 @@ const (
 	// ClockForward and ClockBack: the node's time of day is set.
 	ClockForward
 	ClockBack
-	// WitnessSays: a witness answers wrongly. WitnessRolledBack: a witness forgets what it cosigned last, if the log's quorums bear that.
+	// WitnessSays: a witness answers wrongly. WitnessRolledBack: a witness forgets what it cosigned last, if the log's
+	// quorums bear that.
 	WitnessSays
 	WitnessRolledBack
-	// PutLost: a put is acknowledged, and the object is not there. From here on the faults are losses: a store does not keep what it acknowledged. A history
-	// has at most one of these, since two may be a loss that no node can see.
+	// PutLost: a put is acknowledged, and the object is not there. From here on the faults are losses: a store does not
+	// keep what it acknowledged. A history has at most one of these, since two may be a loss that no node can see.
 	PutLost
 	// NewestLost: the newest object of the store is gone.
 	NewestLost
 	// ObjectBent: an object has another content. HeadForged: a head has a signature that is not the key's.
 	ObjectBent
 	HeadForged
-	// HeadSwapped: the newest head has the content of another head. EdgeBent: a tile at the edge of the newest head's tree has another content, of which the newest
-	// staged batch has the right one.
+	// HeadSwapped: the newest head has the content of another head. EdgeBent: a tile at the edge of the newest head's
+	// tree has another content, of which the newest staged batch has the right one.
 	HeadSwapped
 	EdgeBent
 	// IndexLost: some of the newest places are gone from the index. IndexWrong: a place is another entry's.
@@ -57,7 +58,8 @@ const (
 	IndexWrong
 	// MemoryLost: the machine's memory is gone, and the node is killed.
 	MemoryLost
-	// The stores are rolled back to an earlier state: the objects, the lock, the guard's state, two of these together, or all.
+	// The stores are rolled back to an earlier state: the objects, the lock, the guard's state, two of these together,
+	// or all.
 	ObjectsRolledBack
 	LockRolledBack
 	GuardRolledBack
@@ -72,9 +74,12 @@ const (
 )
 
 var kindNames = [kinds]string{
-	"call fails", "call hangs", "done, says failed", "answers late", "done late", "killed before", "killed after", "paused", "away", "store full", "read-only",
-	"clock forward", "clock back", "witness says", "witness rolled back", "put lost", "newest object lost", "object bent", "head forged", "head swapped", "edge bent", "index lost", "index wrong", "memory lost",
-	"objects rolled back", "lock rolled back", "guard rolled back", "lock, guard rolled back", "objects, lock rolled back", "objects, guard rolled back",
+	"call fails", "call hangs", "done, says failed", "answers late", "done late", "killed before", "killed after",
+	"paused", "away", "store full", "read-only",
+	"clock forward", "clock back", "witness says", "witness rolled back", "put lost", "newest object lost",
+	"object bent", "head forged", "head swapped", "edge bent", "index lost", "index wrong", "memory lost",
+	"objects rolled back", "lock rolled back", "guard rolled back", "lock, guard rolled back",
+	"objects, lock rolled back", "objects, guard rolled back",
 	"all rolled back", "lock gone",
 }
 
@@ -82,11 +87,13 @@ func (k Kind) String() string { return kindNames[k] }
 
 // Fault happens at one call of the history.
 type Fault struct {
-	// At is the number of the call, from 1 on, of all calls of all nodes. On is how the call begins: the fault happens at the first such call from At on.
+	// At is the number of the call, from 1 on, of all calls of all nodes. On is how the call begins: the fault happens
+	// at the first such call from At on.
 	At   int
 	On   string
 	Kind Kind
-	// Long is for how long it lasts, or by how much a clock is set, and Count for how many calls, in tens, a store is rolled back, or which object is meant.
+	// Long is for how long it lasts, or by how much a clock is set, and Count for how many calls, in tens, a store is
+	// rolled back, or which object is meant.
 	Long  time.Duration
 	Count int
 }
@@ -119,7 +126,8 @@ type Plan struct {
 
 func (p Plan) String() string {
 	var text strings.Builder
-	fmt.Fprintf(&text, "seed %d, %d nodes, %d witnesses %+v, janitors: %v", p.Seed, p.Machines, p.Witnesses.Count, p.Witnesses.Quorums, p.Janitors)
+	fmt.Fprintf(&text, "seed %d, %d nodes, %d witnesses %+v, janitors: %v", p.Seed, p.Machines, p.Witnesses.Count,
+		p.Witnesses.Quorums, p.Janitors)
 	for _, f := range p.Faults {
 		fmt.Fprintf(&text, "\n  fault: %v", f)
 	}
@@ -141,7 +149,8 @@ func NewPlan(seed int64) Plan {
 	}
 	switch random.Intn(10) {
 	case 0, 1, 2, 3:
-		plan.Faults = append(plan.Faults, newFault(random, PutLost+Kind(random.Intn(int(kinds-PutLost))), 50+60*plan.Machines))
+		plan.Faults = append(plan.Faults, newFault(random, PutLost+Kind(random.Intn(int(kinds-PutLost))),
+			50+60*plan.Machines))
 	case 4:
 		plan.pausesOne(random)
 	case 5:
@@ -174,24 +183,30 @@ func NewPlan(seed int64) Plan {
 	return plan
 }
 
-// fillsTile has more entries submitted than a tile has, after a few that make partial tiles. Janitors get fewer faults, so that most of these logs go on.
+// fillsTile has more entries submitted than a tile has, after a few that make partial tiles. Janitors get fewer faults,
+// so that most of these logs go on.
 func (p *Plan) fillsTile(random *rand.Rand, next int) {
 	if p.Janitors {
 		p.Faults = p.Faults[:len(p.Faults)/3]
 	}
-	burst := Client{Begins: time.Duration(1000+random.Intn(3000)) * time.Millisecond, Machine: random.Intn(p.Machines), Burst: true}
+	burst := Client{Begins: time.Duration(1000+random.Intn(3000)) * time.Millisecond,
+		Machine: random.Intn(p.Machines), Burst: true}
 	for range 250 + random.Intn(25) {
 		burst.Numbers = append(burst.Numbers, next)
 		next++
 	}
-	p.Clients = append(p.Clients, burst, Client{Begins: burst.Begins + 6*time.Second, Machine: random.Intn(p.Machines), Numbers: []int{0, next, next + 1}})
+	p.Clients = append(p.Clients, burst, Client{Begins: burst.Begins + 6*time.Second, Machine: random.Intn(p.Machines),
+		Numbers: []int{0, next, next + 1}})
 }
 
-// pausesOne pauses a node, and then rolls stores back to about that time. So the state that the node saw last is the newest again, and others saw more.
+// pausesOne pauses a node, and then rolls stores back to about that time. So the state that the node saw last is the
+// newest again, and others saw more.
 func (p *Plan) pausesOne(random *rand.Rand) {
 	p.Machines = 2 + random.Intn(2)
-	of := []Kind{LockRolledBack, LockAndGuardRolledBack, LockAndGuardRolledBack, ObjectsAndLockRolledBack}[random.Intn(4)]
-	still := Fault{At: 60 + random.Intn(160), Kind: Paused, Long: []time.Duration{900 * time.Millisecond, 1900 * time.Millisecond, 4 * time.Second}[random.Intn(3)]}
+	of := []Kind{LockRolledBack, LockAndGuardRolledBack, LockAndGuardRolledBack,
+		ObjectsAndLockRolledBack}[random.Intn(4)]
+	still := Fault{At: 60 + random.Intn(160), Kind: Paused, Long: []time.Duration{900 * time.Millisecond,
+		1900 * time.Millisecond, 4 * time.Second}[random.Intn(3)]}
 	still.On = []string{"lock: swap", "objects: put staging", ""}[random.Intn(3)]
 	back := Fault{At: still.At + 30 + random.Intn(120), Kind: of}
 	back.Count = (back.At-still.At)/10 - random.Intn(2)
@@ -213,10 +228,12 @@ func (p *Plan) pausesOne(random *rand.Rand) {
 	}
 }
 
-// restarts has a store lose something that only a node that starts can see, or has to mend, and has the nodes start again.
+// restarts has a store lose something that only a node that starts can see, or has to mend, and has the nodes start
+// again.
 func (p *Plan) restarts(random *rand.Rand) {
 	p.Machines = 1 + random.Intn(2)
-	lost := Fault{At: 50 + 30*p.Machines + random.Intn(80), Kind: []Kind{IndexLost, HeadSwapped, EdgeBent, GuardRolledBack, LockRolledBack}[random.Intn(5)], Count: 1 + random.Intn(6)}
+	lost := Fault{At: 50 + 30*p.Machines + random.Intn(80), Kind: []Kind{IndexLost, HeadSwapped, EdgeBent,
+		GuardRolledBack, LockRolledBack}[random.Intn(5)], Count: 1 + random.Intn(6)}
 	lost.On = "lock: read"
 	p.Faults = append(p.Faults[:len(p.Faults)/4], lost)
 	for i := range p.Machines {
@@ -224,11 +241,13 @@ func (p *Plan) restarts(random *rand.Rand) {
 		p.Faults = append(p.Faults, Fault{At: lost.At + i, On: "lock: read", Kind: KilledBefore})
 	}
 	for i := range p.Machines {
-		p.Clients = append(p.Clients, Client{Machine: i, Numbers: []int{2000 + 10*i, 2001 + 10*i, 2002 + 10*i, 2003 + 10*i}})
+		p.Clients = append(p.Clients, Client{Machine: i, Numbers: []int{2000 + 10*i, 2001 + 10*i,
+			2002 + 10*i, 2003 + 10*i}})
 	}
 }
 
-// clockIsSlow returns a plan in which only the clock of a node is set back, by less than it may be off. Nothing else is wrong, so each client gets its answers.
+// clockIsSlow returns a plan in which only the clock of a node is set back, by less than it may be off. Nothing else is
+// wrong, so each client gets its answers.
 func (p *Plan) clockIsSlow(random *rand.Rand) Plan {
 	p.Faults = []Fault{{At: 40 + random.Intn(100), Kind: ClockBack, Long: 8 * time.Second}}
 	p.Witnesses, p.Answers = Witnesses{}, 0
@@ -243,10 +262,12 @@ func (p *Plan) clockIsSlow(random *rand.Rand) Plan {
 func (p *Plan) misplacesOne(random *rand.Rand) {
 	p.Machines = 1 + random.Intn(2)
 	wrong := Fault{At: 70 + 30*p.Machines + random.Intn(40), On: "lock: read", Kind: IndexWrong, Count: random.Intn(12)}
-	cut := Fault{At: wrong.At, On: []string{"index: replace", "index: add", "lock: swap"}[random.Intn(3)], Kind: []Kind{KilledBefore, KilledAfter, CallFails, Away}[random.Intn(4)], Long: 4 * time.Second}
+	cut := Fault{At: wrong.At, On: []string{"index: replace", "index: add", "lock: swap"}[random.Intn(3)],
+		Kind: []Kind{KilledBefore, KilledAfter, CallFails, Away}[random.Intn(4)], Long: 4 * time.Second}
 	p.Faults, p.Clients = []Fault{wrong, cut}, []Client{{Numbers: []int{0, 1, 2, 3}, Burst: true}}
 	for _, begins := range []time.Duration{15 * time.Second, 30 * time.Second} {
-		p.Clients = append(p.Clients, Client{Begins: begins, Machine: random.Intn(p.Machines), Numbers: []int{0, 1, 2, 3}})
+		p.Clients = append(p.Clients, Client{Begins: begins, Machine: random.Intn(p.Machines),
+			Numbers: []int{0, 1, 2, 3}})
 	}
 }
 
@@ -255,16 +276,20 @@ func (p *Plan) rollsAllBack(random *rand.Rand) {
 	p.Witnesses = quorums[random.Intn(len(quorums))]
 	p.Faults = p.Faults[:len(p.Faults)/2]
 	if random.Intn(2) == 0 {
-		p.Faults = append(p.Faults, Fault{At: 60 + random.Intn(100), Kind: WitnessRolledBack, Count: 1 + random.Intn(12)})
+		p.Faults = append(p.Faults, Fault{At: 60 + random.Intn(100), Kind: WitnessRolledBack,
+			Count: 1 + random.Intn(12)})
 	}
-	p.Faults = append(p.Faults, Fault{At: 60 + random.Intn(100*p.Machines), Kind: AllRolledBack, Count: 1 + random.Intn(12)})
-	p.Clients = append(p.Clients, Client{Machine: random.Intn(p.Machines), Numbers: []int{3000, 3001, 3002, 3003, 3004, 3005}})
+	p.Faults = append(p.Faults, Fault{At: 60 + random.Intn(100*p.Machines), Kind: AllRolledBack,
+		Count: 1 + random.Intn(12)})
+	p.Clients = append(p.Clients, Client{Machine: random.Intn(p.Machines),
+		Numbers: []int{3000, 3001, 3002, 3003, 3004, 3005}})
 	if random.Intn(2) == 0 {
 		p.beginsAgain(random)
 	}
 }
 
-// beginsAgain rolls the log back to its creation, and a witness with it. The witness that was not needed for the first heads saw none.
+// beginsAgain rolls the log back to its creation, and a witness with it. The witness that was not needed for the first
+// heads saw none.
 func (p *Plan) beginsAgain(random *rand.Rand) {
 	count := 4 + random.Intn(3)
 	p.Machines, p.Witnesses = 1, quorums[2]
@@ -272,7 +297,8 @@ func (p *Plan) beginsAgain(random *rand.Rand) {
 		p.Clients[i].Machine = 0
 	}
 	at := 10*count + 9 + random.Intn(5)
-	p.Faults = []Fault{{At: at, Kind: AllRolledBack, Count: count}, {At: at + 5, Kind: WitnessRolledBack, Count: 12 + random.Intn(3)}}
+	p.Faults = []Fault{{At: at, Kind: AllRolledBack, Count: count},
+		{At: at + 5, Kind: WitnessRolledBack, Count: 12 + random.Intn(3)}}
 }
 
 // quorums are those of logs with witnesses.
@@ -285,11 +311,13 @@ var quorums = []Witnesses{
 
 // moments are the calls between which a step may be cut off, as their lines begin.
 var timestamps = []string{
-	"objects: put staging", "lock: swap", "lock: swap", "lock: read", "objects: put tile", "index: add", "memory: save", "guard: swap", "objects: put heads", "lock: raise",
+	"objects: put staging", "lock: swap", "lock: swap", "lock: read", "objects: put tile", "index: add", "memory: save",
+	"guard: swap", "objects: put heads", "lock: raise",
 	"witness1: add", "witness2: add", "objects: delete", "objects: list",
 }
 
-// newFault returns a fault at one of the first calls. Half of the faults of a call happen at one of the calls that decide.
+// newFault returns a fault at one of the first calls. Half of the faults of a call happen at one of the calls that
+// decide.
 func newFault(random *rand.Rand, kind Kind, calls int) Fault {
 	f := Fault{At: 1 + random.Intn(calls), Kind: kind, Count: 1 + random.Intn(12)}
 	if kind <= Paused && random.Intn(2) == 0 {
@@ -297,9 +325,11 @@ func newFault(random *rand.Rand, kind Kind, calls int) Fault {
 	}
 	switch kind {
 	case ClockForward, ClockBack:
-		f.Long = []time.Duration{3 * time.Second, 30 * time.Second, 50 * time.Minute, 3 * time.Hour, 400 * 24 * time.Hour}[random.Intn(5)]
+		f.Long = []time.Duration{3 * time.Second, 30 * time.Second, 50 * time.Minute, 3 * time.Hour,
+			400 * 24 * time.Hour}[random.Intn(5)]
 	default:
-		f.Long = []time.Duration{30 * time.Millisecond, 700 * time.Millisecond, 4 * time.Second, 25 * time.Second}[random.Intn(4)]
+		f.Long = []time.Duration{30 * time.Millisecond, 700 * time.Millisecond, 4 * time.Second,
+			25 * time.Second}[random.Intn(4)]
 	}
 	return f
 }

@@ -15,8 +15,9 @@ func numbers(first, many int) (all []int) {
 	return all
 }
 
-// TestResumedStepReplacesWrongPlace has the index give an entry the place of another one, and kills the node before it replaces that place. The node that resumes
-// the step must replace it. Otherwise the entry is logged a third time, when it is submitted again.
+// TestResumedStepReplacesWrongPlace has the index give an entry the place of another one, and kills the node before it
+// replaces that place. The node that resumes the step must replace it. Otherwise the entry is logged a third time, when
+// it is submitted again.
 func TestResumedStepReplacesWrongPlace(t *testing.T) {
 	for which := range 4 {
 		plan := sim.Plan{
@@ -36,12 +37,14 @@ func TestResumedStepReplacesWrongPlace(t *testing.T) {
 			t.Errorf("%v\n%s", result.Violation, sim.Explain(plan, proved))
 		}
 		if result.Counts[sim.IndexWrong] != 1 || result.Counts[sim.KilledBefore] != 1 {
-			t.Errorf("place %d: the faults happened %d and %d times and not once each", which, result.Counts[sim.IndexWrong], result.Counts[sim.KilledBefore])
+			t.Errorf("place %d: the faults happened %d and %d times and not once each", which,
+				result.Counts[sim.IndexWrong], result.Counts[sim.KilledBefore])
 		}
 	}
 }
 
-// TestJanitorDeletes has a log grow beyond a tile, with two nodes and their janitors. They must delete the partial tiles below the full one, and heads.
+// TestJanitorDeletes has a log grow beyond a tile, with two nodes and their janitors. They must delete the partial
+// tiles below the full one, and heads.
 func TestJanitorDeletes(t *testing.T) {
 	plan := sim.Plan{
 		Seed: 1, Machines: 2, Janitors: true,
@@ -57,6 +60,7 @@ func TestJanitorDeletes(t *testing.T) {
 		t.Errorf("%v\n%s", result.Violation, sim.Explain(plan, proved))
 	}
 	if s := result.Stats; s.Partials < 8 || s.OldHeads < 8 || s.Reread == 0 || s.Repeats < 8 {
-		t.Errorf("of more than 8 partial tiles and heads, %d and %d were deleted, %d tiles were read again, and %d entries were answered again", s.Partials, s.OldHeads, s.Reread, s.Repeats)
+		t.Errorf("of more than 8 partial tiles and heads, %d and %d were deleted, %d tiles were read again, and %d "+
+			"entries were answered again", s.Partials, s.OldHeads, s.Reread, s.Repeats)
 	}
 }

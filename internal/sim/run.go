@@ -24,7 +24,8 @@ type Result struct {
 }
 
 const (
-	// scriptWithin is how long the clients' scripts may take, and calmWithin how long the log may take to go on after all faults have ended.
+	// scriptWithin is how long the clients' scripts may take, and calmWithin how long the log may take to go on after
+	// all faults have ended.
 	scriptWithin = 10 * time.Minute
 	calmWithin   = 3 * time.Minute
 	// namedWithin is how long a node that says why it stopped is asked again, if a store lost something.
@@ -55,7 +56,8 @@ func Run(plan Plan, proved node.Proved, logs bool) (result Result) {
 				w.judge.stats.Reread += int(report.Reread)
 			}
 		}
-		result.Violation, result.Counts, result.Stats, result.Lines = w.judge.violation, w.judge.counts, w.judge.stats, w.history.lines
+		result.Violation, result.Counts, result.Stats, result.Lines = w.judge.violation, w.judge.counts, w.judge.stats,
+			w.history.lines
 		result.Stopped = w.stopped
 	}()
 	w.run(forever-1, func() bool { return over || w.judge.violation != nil })
@@ -123,11 +125,13 @@ func (w *world) findsLeaves() {
 // forgets judges whether a node that goes on has forgotten a submission.
 func (w *world) forgets(m *machine) {
 	if n := m.node; n != nil && !w.wait(settleWithin, func() bool { return m.node != n || n.Waiting() == 0 }) {
-		w.judge.breaks("no submission is forgotten", "%s goes on, and %d submissions wait for ever", m.name, n.Waiting())
+		w.judge.breaks("no submission is forgotten", "%s goes on, and %d submissions wait for ever",
+			m.name, n.Waiting())
 	}
 }
 
-// repeats submits what clients have submitted once more, and twice, to a node that goes on. The judge compares the answers.
+// repeats submits what clients have submitted once more, and twice, to a node that goes on. The judge compares the
+// answers.
 func (w *world) repeats(m *machine) {
 	for number := range 3 {
 		for range 2 {
@@ -139,7 +143,8 @@ func (w *world) repeats(m *machine) {
 
 // isNamed reports whether an error says why a node does not go on.
 func isNamed(err error) bool {
-	for _, named := range []error{node.ErrRolledBack, node.ErrDamaged, node.ErrIndex, node.ErrClock, signer.ErrState, signer.ErrRefused} {
+	for _, named := range []error{node.ErrRolledBack, node.ErrDamaged, node.ErrIndex, node.ErrClock, signer.ErrState,
+		signer.ErrRefused} {
 		if errors.Is(err, named) {
 			return true
 		}

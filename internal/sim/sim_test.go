@@ -30,7 +30,8 @@ func count(t *testing.T, normal int) int {
 	return n
 }
 
-// TestHistories runs the histories of many seeds, and explains the first that breaks a rule. It prints how often each kind of fault happened.
+// TestHistories runs the histories of many seeds, and explains the first that breaks a rule. It prints how often each
+// kind of fault happened.
 func TestHistories(t *testing.T) {
 	began := time.Now()
 	histories := count(t, 300)
@@ -50,7 +51,8 @@ func TestHistories(t *testing.T) {
 	if missing := total.Missing(); histories >= 300 && len(missing) > 0 {
 		t.Errorf("faults that never happened: %v", missing)
 	}
-	if s := total.Stats; histories >= 300 && (s.Partials == 0 || s.OldHeads == 0 || s.Staged == 0 || s.Reread == 0 || s.Cosigned == 0) {
+	if s := total.Stats; histories >= 300 && (s.Partials == 0 || s.OldHeads == 0 || s.Staged == 0 || s.Reread == 0 ||
+		s.Cosigned == 0) {
 		t.Errorf("janitors or witnesses did nothing of a kind: %+v", s)
 	}
 }

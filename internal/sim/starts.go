@@ -8,7 +8,8 @@ import (
 	"wagtenib/internal/stores"
 )
 
-// refuses returns why a machine's node must not start with the stores as they are now, or nothing. It looks at the stores by itself.
+// refuses returns why a machine's node must not start with the stores as they are now, or nothing. It looks at the
+// stores by itself.
 func (w *world) refuses(m *machine) string {
 	k := cells(w.stores.text)
 	if k == nil || w.stores.text == "" {
@@ -35,7 +36,8 @@ func (w *world) refuses(m *machine) string {
 		return fmt.Sprintf("%s, and the machine remembers %d at %d ms", of, seen.Size, seen.Timestamp)
 	case last != nil && ahead(last.Size, last.Timestamp):
 		return fmt.Sprintf("%s, and %d at %d ms were signed", of, last.Size, last.Timestamp)
-	case last == nil && listed.Timestamp > 0, last != nil && (last.Size < listed.Size || last.Timestamp < listed.Timestamp):
+	case last == nil && listed.Timestamp > 0, last != nil &&
+		(last.Size < listed.Size || last.Timestamp < listed.Timestamp):
 		return fmt.Sprintf("the guard is older than the head of %d entries at %d ms", listed.Size, listed.Timestamp)
 	case w.lacksNewest(k, published):
 		return fmt.Sprintf("the index lacks the newest entry, %d", k.size-1)
@@ -45,14 +47,16 @@ func (w *world) refuses(m *machine) string {
 
 // lacksNewest reports whether the index lacks the newest entry of a published state whose tiles are whole.
 func (w *world) lacksNewest(k *cell, published stores.Published) bool {
-	if k.size == 0 || k.size > uint64(len(w.judge.leaves)) || w.excuses.missing || published != (stores.Published{Size: k.size, Timestamp: k.timestamp}) {
+	if k.size == 0 || k.size > uint64(len(w.judge.leaves)) || w.excuses.missing ||
+		published != (stores.Published{Size: k.size, Timestamp: k.timestamp}) {
 		return false
 	}
 	_, ok := w.stores.index[stores.Identity(w.judge.leaves[k.size-1].identity)]
 	return !ok
 }
 
-// remembers judges a head with entries that a node puts: its machine remembers the state, so that a start from older stores is refused.
+// remembers judges a head with entries that a node puts: its machine remembers the state, so that a start from older
+// stores is refused.
 func (j *judge) remembers(m *machine, name string) {
 	if !strings.HasPrefix(name, "heads/") || strings.HasPrefix(name, fmt.Sprintf("heads/%020d-", 0)) {
 		return

@@ -33,7 +33,8 @@ type memory struct {
 	guard string
 	// index has the places by identities, and leaves by the hashes of leaves.
 	index, leaves map[stores.Identity]stores.Place
-	// call is the number of the newest call. changes are those of each part, from the first on, so that the newest can be undone.
+	// call is the number of the newest call. changes are those of each part, from the first on, so that the newest can
+	// be undone.
 	call    int
 	changes [parts][]change
 	denied
@@ -50,7 +51,8 @@ type change struct {
 }
 
 func newMemory() memory {
-	return memory{objects: map[string][]byte{}, index: map[stores.Identity]stores.Place{}, leaves: map[stores.Identity]stores.Place{}, guard: signer.NoHead}
+	return memory{objects: map[string][]byte{}, index: map[stores.Identity]stores.Place{},
+		leaves: map[stores.Identity]stores.Place{}, guard: signer.NoHead}
 }
 
 // set gives an object a content, or none.
@@ -73,7 +75,8 @@ func (s *memory) set(name string, content []byte) {
 // setLock gives the lock a text and what is published.
 func (s *memory) setLock(text string, published stores.Published) {
 	before, was := s.text, s.published
-	s.changes[lockPart] = append(s.changes[lockPart], change{call: s.call, undo: func() { s.text, s.published = before, was }})
+	s.changes[lockPart] = append(s.changes[lockPart], change{call: s.call,
+		undo: func() { s.text, s.published = before, was }})
 	s.text, s.published = text, published
 }
 
@@ -257,7 +260,8 @@ func short(text string) string {
 // index is the index as a machine's node sees it.
 type index struct{ m *machine }
 
-func (i index) Find(ctx context.Context, identities []stores.Identity) (found map[stores.Identity]stores.Place, err error) {
+func (i index) Find(ctx context.Context,
+	identities []stores.Identity) (found map[stores.Identity]stores.Place, err error) {
 	err = i.m.call(ctx, "index", fmt.Sprintf("find %d", len(identities)), false, func() error {
 		found = map[stores.Identity]stores.Place{}
 		for _, id := range identities {
@@ -284,7 +288,8 @@ func (i index) Replace(ctx context.Context, placed []stores.Placed) error {
 // leaves is the index by the hashes of leaves, as a machine's node sees it.
 type leaves struct{ m *machine }
 
-func (l leaves) Find(ctx context.Context, hashes []stores.Identity) (found map[stores.Identity]stores.Place, err error) {
+func (l leaves) Find(ctx context.Context,
+	hashes []stores.Identity) (found map[stores.Identity]stores.Place, err error) {
 	err = l.m.call(ctx, "index", fmt.Sprintf("find %d leaves", len(hashes)), false, func() error {
 		found = map[stores.Identity]stores.Place{}
 		for _, hash := range hashes {

@@ -50,8 +50,8 @@ type standing struct {
 	at              time.Duration
 }
 
-// deletes judges a name that is deleted: a staged batch that is not the newest state's, an object that has a wrong content, a partial tile whose full one is
-// there, or a head after which a later one was put.
+// deletes judges a name that is deleted: a staged batch that is not the newest state's, an object that has a wrong
+// content, a partial tile whose full one is there, or a head after which a later one was put.
 func (j *judge) deletes(name string) {
 	j.stats.Deleted++
 	if strings.HasPrefix(name, "staging/") {
@@ -68,7 +68,8 @@ func (j *judge) deletes(name string) {
 	case strings.HasPrefix(name, "heads/"):
 		j.stats.OldHeads++
 	}
-	if put, ok := j.tiles[full]; ok && isPartial && isThere && !j.w.excuses.tiles && j.w.now > j.w.bentAt+readWithin && !bytes.Equal(put.last(), j.w.stores.objects[full]) {
+	if put, ok := j.tiles[full]; ok && isPartial && isThere && !j.w.excuses.tiles && j.w.now > j.w.bentAt+readWithin &&
+		!bytes.Equal(put.last(), j.w.stores.objects[full]) {
 		j.breaks("what is left of a damaged tile stays", "%s is deleted, and %s is missing or bent", name, full)
 	}
 	if put, ok := j.tiles[name]; j.w.excuses.missing || ok && isThere && !bytes.Equal(put.last(), stored) || !isThere {
@@ -151,9 +152,10 @@ func (j *judge) garbage() string {
 		case strings.HasPrefix(name, "heads/") && j.isOld(name):
 			return name
 		case strings.HasPrefix(name, "staging/"):
-			// A swap may still need a batch that was made of the newest state. The newest state's own may be needed as well, and the one before it is deleted by
-			// the next step or listing.
-			if parts := name[len("staging/"):]; newest != nil && parts != newest.name && parts[16:32] != newest.name[:16] {
+			// A swap may still need a batch that was made of the newest state. The newest state's own may be needed as
+			// well, and the one before it is deleted by the next step or listing.
+			if parts := name[len("staging/"):]; newest != nil && parts != newest.name &&
+				parts[16:32] != newest.name[:16] {
 				return name
 			}
 		}
@@ -164,7 +166,8 @@ func (j *judge) garbage() string {
 // isOld reports whether a head must be gone by now: another one stood for twice as long as heads stay, and some passes.
 func (j *judge) isOld(name string) bool {
 	for _, later := range j.standing {
-		if name < fmt.Sprintf("heads/%020d-%020d", later.size, later.timestamp) && later.at <= j.w.now-2*keep.Heads-10*keep.Every {
+		if name < fmt.Sprintf("heads/%020d-%020d", later.size, later.timestamp) &&
+			later.at <= j.w.now-2*keep.Heads-10*keep.Every {
 			return true
 		}
 	}

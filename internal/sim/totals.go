@@ -11,7 +11,8 @@ import (
 type Totals struct {
 	Histories, Stopped int
 	Stats              Stats
-	// happened says how often each kind of fault happened, in how many histories, and how many of these went on afterwards.
+	// happened says how often each kind of fault happened, in how many histories, and how many of these went on
+	// afterwards.
 	happened, in, wentOn [kinds]int
 	// reasons says how often the log stopped, by the beginning of why.
 	reasons map[string]int

@@ -15,7 +15,8 @@ import (
 // ranges makes the judge's trees.
 var ranges = &compact.RangeFactory{Hash: rfc6962.DefaultHasher.HashChildren}
 
-// puts has all contents that were put of one tile, the last one at the end, and the leaves of those that were read as a data tile.
+// puts has all contents that were put of one tile, the last one at the end, and the leaves of those that were read as a
+// data tile.
 type puts struct {
 	contents [][]byte
 	read     map[int][]leaf
@@ -23,7 +24,8 @@ type puts struct {
 
 func (p *puts) last() []byte { return p.contents[len(p.contents)-1] }
 
-// keepTile keeps what is put of a tile. After a rollback, the tile of another tree may get a name that a tile had before.
+// keepTile keeps what is put of a tile. After a rollback, the tile of another tree may get a name that a tile had
+// before.
 func (j *judge) keepTile(name string, content []byte) {
 	p, ok := j.tiles[name]
 	if !ok {
@@ -47,8 +49,9 @@ func (p *puts) leavesAt(which int) ([]leaf, error) {
 	return leaves, err
 }
 
-// tile returns what was put of a tile, and the numbers of the contents that may be a head's: the one in the store; or if the store lost or bent something, the
-// last one that was put; or all, the last one first, if the tile of another tree may have got the name.
+// tile returns what was put of a tile, and the numbers of the contents that may be a head's: the one in the store; or
+// if the store lost or bent something, the last one that was put; or all, the last one first, if the tile of another
+// tree may have got the name.
 func (j *judge) tile(prefix string, n, width uint64, name string) (of *puts, may []int, ok bool) {
 	tile := fmt.Sprintf("%s%03d", prefix, n)
 	if width < 256 {
@@ -106,7 +109,8 @@ func (j *judge) treeOf(head signer.Head, name string) (added []leaf, ok bool) {
 	return added, true
 }
 
-// tileOf returns the leaves of one data tile of a head's tree, which the tile of their hashes must have. Added are the leaves after the list in the tiles before.
+// tileOf returns the leaves of one data tile of a head's tree, which the tile of their hashes must have. Added are the
+// leaves after the list in the tiles before.
 func (j *judge) tileOf(head signer.Head, first, width uint64, added []leaf, name string) ([]leaf, bool) {
 	data, may, ok := j.tile("tile/data/", first/256, width, name)
 	if !ok {
@@ -134,13 +138,15 @@ func (j *judge) tileOf(head signer.Head, first, width uint64, added []leaf, name
 		expected = append(expected, leaves[i].hash...)
 	}
 	if !slices.ContainsFunc(may, func(which int) bool { return bytes.Equal(hashes.contents[which], expected) }) {
-		j.breaks("a tile is whole", "%s: the tile of the hashes of %d entries from %d on is of other ones", name, width, first)
+		j.breaks("a tile is whole", "%s: the tile of the hashes of %d entries from %d on is of other ones",
+			name, width, first)
 		return nil, false
 	}
 	return leaves, true
 }
 
-// isOf reports whether the leaves of a data tile are a head's: they agree with the list, and the last ones lead to the root.
+// isOf reports whether the leaves of a data tile are a head's: they agree with the list, and the last ones lead to the
+// root.
 func (j *judge) isOf(head signer.Head, first uint64, leaves, added []leaf) bool {
 	known := min(max(len(j.leaves)-int(first), 0), len(leaves))
 	for i := range known {
@@ -173,7 +179,8 @@ func (j *judge) rootOf(added []leaf) (root [32]byte) {
 	return root
 }
 
-// isLists judges whether a head is of the tree whose tiles are in the store, and whether that tree's leaves begin with the list.
+// isLists judges whether a head is of the tree whose tiles are in the store, and whether that tree's leaves begin with
+// the list.
 func (j *judge) isLists(head signer.Head, name, rule string) {
 	if j.w.excuses.signed {
 		return

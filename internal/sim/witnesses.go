@@ -51,7 +51,8 @@ var cosigners = func() (all []cosigner) {
 		c := cosigner{name: fmt.Sprintf("witness%d", i+1), key: ed25519.NewKeyFromSeed(seed[:]), made: &made{}}
 		real := witness.OfCosigner(c.name, c.key.Public().(ed25519.PublicKey))
 		c.verifier = verifier{real, func(text, signature []byte) bool {
-			return len(signature) == 8+ed25519.SignatureSize && c.made.isSigned(witness.Message(binary.BigEndian.Uint64(signature), string(text)), signature[8:])
+			return len(signature) == 8+ed25519.SignatureSize &&
+				c.made.isSigned(witness.Message(binary.BigEndian.Uint64(signature), string(text)), signature[8:])
 		}}
 		all = append(all, c)
 	}
@@ -97,7 +98,8 @@ func (a asked) AddCheckpoint(ctx context.Context, body []byte) (status int, answ
 	return status, answer, err
 }
 
-// answers does what a witness does (C2SP tlog-witness): it checks the log's signature, asks the proved decision, keeps the message, and cosigns it.
+// answers does what a witness does (C2SP tlog-witness): it checks the log's signature, asks the proved decision, keeps
+// the message, and cosigns it.
 func (o *observer) answers(body []byte) (status int, answer string) {
 	r, err := witness.ParseRequest(body)
 	if err != nil {
@@ -182,7 +184,8 @@ func (o *observer) rollBack(by int) bool {
 	return true
 }
 
-// mayRoll reports whether one more witness may be rolled back in this history: witnesses that are all rolled back with the log show nothing.
+// mayRoll reports whether one more witness may be rolled back in this history: witnesses that are all rolled back with
+// the log show nothing.
 func (w *world) mayRoll() bool {
 	rolled := 0
 	for _, o := range w.observers {
@@ -197,7 +200,8 @@ func (w *world) mayRoll() bool {
 func (j *judge) cosigns(by *observer, head signer.Head) {
 	j.stats.Cosigned++
 	if !by.rolled {
-		j.isLists(head, fmt.Sprintf("%s cosigns a head of %d entries at %d ms, which", by.name, head.Size, head.Timestamp), "a cosigned head is the list's")
+		j.isLists(head, fmt.Sprintf("%s cosigns a head of %d entries at %d ms, which", by.name, head.Size,
+			head.Timestamp), "a cosigned head is the list's")
 	}
 }
 

@@ -81,11 +81,13 @@ type machine struct {
 type excuses struct {
 	// loss says that the log may stop, if it says why. clock says that it may stop for its clock.
 	loss, clock bool
-	// tiles says that a tile's name may get two contents, repeats that an identity may have two entries, and missing that objects may be missing or bent.
+	// tiles says that a tile's name may get two contents, repeats that an identity may have two entries, and missing
+	// that objects may be missing or bent.
 	tiles, repeats, missing bool
 	// ahead says that a node may have started by a wrong clock.
 	ahead bool
-	// signed says that only the witnesses show that the log was longer. They see a head after it was signed, so one of another list may be signed. It must not be put.
+	// signed says that only the witnesses show that the log was longer. They see a head after it was signed, so one of
+	// another list may be signed. It must not be put.
 	signed bool
 	// again has the identities that may get one more entry.
 	again map[[32]byte]bool
@@ -101,7 +103,8 @@ var (
 
 // newWorld returns the world of a plan.
 func newWorld(plan Plan, proved node.Proved, logs bool) *world {
-	w := &world{plan: plan, proved: proved, events: events{faults: slices.Clone(plan.Faults)}, stores: newMemory(), history: history{isKept: logs}}
+	w := &world{plan: plan, proved: proved, events: events{faults: slices.Clone(plan.Faults)}, stores: newMemory(),
+		history: history{isKept: logs}}
 	w.random = rand.New(rand.NewSource(plan.Seed ^ 0x5deece66d))
 	w.judge, w.excuses.again = newJudge(w), map[[32]byte]bool{}
 	w.newObservers()
@@ -168,10 +171,13 @@ func (m *machine) config() node.Config {
 		Stores: node.Stores{Objects: objects{m}, Lock: lock{m}, Index: index{m}, Leaves: leaves{m}},
 		Proved: m.w.proved,
 		Signer: m.signer, Witnesses: m.witnesses(),
-		Machine: node.Machine{Clock: clock{m}, Memory: remembering{m}, Parallel: m.w.parallel, Random: func() (uint64, error) { return m.w.random.Uint64(), nil }},
+		Machine: node.Machine{Clock: clock{m}, Memory: remembering{m}, Parallel: m.w.parallel,
+			Random: func() (uint64, error) { return m.w.random.Uint64(), nil }},
 		Pace: node.Pace{
-			Look: time.Second, Refresh: time.Hour, Help: 400*time.Millisecond + time.Duration(m.w.random.Intn(400))*time.Millisecond,
-			Call: 2 * time.Second, Cosign: 3 * time.Second, Round: 60 * time.Second, Patience: 5 * time.Second, MaxSkew: maxSkew,
+			Look: time.Second, Refresh: time.Hour, Help: 400*time.Millisecond +
+				time.Duration(m.w.random.Intn(400))*time.Millisecond,
+			Call: 2 * time.Second, Cosign: 3 * time.Second, Round: 60 * time.Second, Patience: 5 * time.Second,
+			MaxSkew: maxSkew,
 		},
 		Limits: node.Limits{MaxBatch: 300, MaxQueue: 1000},
 	}
@@ -241,7 +247,8 @@ func (m *machine) call(ctx context.Context, store, what string, writes bool, do 
 }
 
 // befallen does a call, or does not, by its fate. It returns the fault's name.
-func (m *machine) befallen(ctx *simulated, store, what string, writes bool, fate *Fault, do func() error) (fault string, err error) {
+func (m *machine) befallen(ctx *simulated, store, what string, writes bool, fate *Fault,
+	do func() error) (fault string, err error) {
 	w := m.w
 	kind := kinds
 	if fate != nil {

@@ -30,7 +30,8 @@ func (w *wrapped) Next(command *decider.Command, told decider.Told) (*decider.Co
 
 // skips returns a decider that leaves one command out, as if it were done.
 func skips(do string) node.Decider {
-	return &wrapped{Decider: decider.New(), next: func(w *wrapped, _, next *decider.Command, err error) (*decider.Command, error) {
+	return &wrapped{Decider: decider.New(), next: func(w *wrapped, _, next *decider.Command,
+		err error) (*decider.Command, error) {
 		if err != nil || next.Do != do {
 			return next, err
 		}
@@ -56,7 +57,8 @@ func (o other) Step(line string, edge [][]byte, batch []step.Submission, now, mo
 	return o.Stepper.Step(line, edge, batch, now, most)
 }
 
-// TestWrappedDecisions changes the order and the steps from outside, and has the judge find each change within a few seeds, by the rule that says so.
+// TestWrappedDecisions changes the order and the steps from outside, and has the judge find each change within a few
+// seeds, by the rule that says so.
 func TestWrappedDecisions(t *testing.T) {
 	steps := step.New(sim.Origin)
 	for _, of := range []struct {
@@ -66,26 +68,30 @@ func TestWrappedDecisions(t *testing.T) {
 		{"nothing is staged", "a stop is named", node.Proved{Decider: skips(decider.Stage), Steps: steps}},
 		{"no object is put", "a head's tree is in the store", node.Proved{Decider: skips(decider.Put), Steps: steps}},
 		{"no head is put", "a stop is named", node.Proved{Decider: skips(decider.Head), Steps: steps}},
-		{"a step goes on from a state that is not published", "a step is made of a published state", node.Proved{Steps: steps, Decider: &wrapped{
-			Decider: decider.New(),
-			told: func(command *decider.Command, told decider.Told) decider.Told {
-				if command.Do == decider.Look {
-					return decider.Published()
-				}
-				return told
-			},
-		}}},
-		{"the newest staged batch is deleted", "the newest staged batch stays", node.Proved{Steps: steps, Decider: &wrapped{
-			Decider: decider.New(),
-			next: func(_ *wrapped, command, next *decider.Command, err error) (*decider.Command, error) {
-				if err == nil && command.Do == decider.Step && next.Do == decider.Delete {
-					next.Bundle = next.Seen.Bundle
-				}
-				return next, err
-			},
-		}}},
-		{"timestamps are of the future", "no timestamp of the future", node.Proved{Decider: decider.New(), Steps: ahead{steps}}},
-		{"another certificate is logged", "a promise is kept", node.Proved{Decider: decider.New(), Steps: other{steps}}},
+		{"a step goes on from a state that is not published", "a step is made of a published state",
+			node.Proved{Steps: steps, Decider: &wrapped{
+				Decider: decider.New(),
+				told: func(command *decider.Command, told decider.Told) decider.Told {
+					if command.Do == decider.Look {
+						return decider.Published()
+					}
+					return told
+				},
+			}}},
+		{"the newest staged batch is deleted", "the newest staged batch stays",
+			node.Proved{Steps: steps, Decider: &wrapped{
+				Decider: decider.New(),
+				next: func(_ *wrapped, command, next *decider.Command, err error) (*decider.Command, error) {
+					if err == nil && command.Do == decider.Step && next.Do == decider.Delete {
+						next.Bundle = next.Seen.Bundle
+					}
+					return next, err
+				},
+			}}},
+		{"timestamps are of the future", "no timestamp of the future",
+			node.Proved{Decider: decider.New(), Steps: ahead{steps}}},
+		{"another certificate is logged", "a promise is kept",
+			node.Proved{Decider: decider.New(), Steps: other{steps}}},
 	} {
 		found := ""
 		for seed := int64(0); seed < 40 && found == ""; seed++ {

@@ -1,4 +1,4 @@
-// Package softhsm makes tokens of PKCS#11 for tests, where softhsm2 and opensc are installed.
+// Package softhsm makes PKCS#11 tokens for tests. It needs softhsm2 and opensc.
 package softhsm
 
 import (
@@ -9,8 +9,8 @@ import (
 	"testing"
 )
 
-// Token makes a token log-token with a key of P-256 (key, 01) and one of P-384 (large, 02), and gives the module and the PIN's file. The
-// processes that the test starts find it, too. Without softhsm the test is left out.
+// Token makes a token log-token with a key of P-256 (key, 01) and one of P-384 (large, 02), and gives the module and
+// the PIN's file. The processes that the test starts find it, too. Without softhsm the test is left out.
 func Token(t *testing.T) (module, pin string) {
 	t.Helper()
 	found, _ := filepath.Glob("/usr/lib/*/softhsm/libsofthsm2.so")
@@ -22,7 +22,7 @@ func Token(t *testing.T) (module, pin string) {
 	}
 	for _, tool := range []string{"softhsm2-util", "pkcs11-tool"} {
 		if _, err := exec.LookPath(tool); err != nil || module == "" {
-			t.Skip("softhsm2 and opensc aren't installed")
+			t.Skip("softhsm2 and opensc are not installed")
 		}
 	}
 	folder := t.TempDir()
@@ -37,8 +37,10 @@ func Token(t *testing.T) (module, pin string) {
 	}
 	for _, words := range []string{
 		"softhsm2-util --init-token --free --label log-token --so-pin 12345678 --pin 8765",
-		"pkcs11-tool --module " + module + " --login --pin 8765 --keypairgen --key-type EC:prime256v1 --label key --id 01",
-		"pkcs11-tool --module " + module + " --login --pin 8765 --keypairgen --key-type EC:secp384r1 --label large --id 02",
+		"pkcs11-tool --module " + module +
+			" --login --pin 8765 --keypairgen --key-type EC:prime256v1 --label key --id 01",
+		"pkcs11-tool --module " + module +
+			" --login --pin 8765 --keypairgen --key-type EC:secp384r1 --label large --id 02",
 	} {
 		parts := strings.Fields(words)
 		if said, err := exec.Command(parts[0], parts[1:]...).CombinedOutput(); err != nil {

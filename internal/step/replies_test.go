@@ -25,7 +25,8 @@ func lineOf(size, timestamp uint64, hashes ...[32]byte) string {
 	return line
 }
 
-// TestWrongBegins: the line of a log without entries has neither entries nor a bundle, and is of the moment that was asked for.
+// TestWrongBegins: the line of a log without entries has neither entries nor a bundle, and is of the moment that was
+// asked for.
 func TestWrongBegins(t *testing.T) {
 	begins := func(line string) *Stepper {
 		of := Proved()
@@ -37,7 +38,8 @@ func TestWrongBegins(t *testing.T) {
 	if line, err := begins(right).Begin(5); err != nil || line != right {
 		t.Fatalf("%s, %v", line, err)
 	}
-	for what, line := range map[string]string{"an entry": lineOf(1, 5, root), "another moment": lineOf(0, 6, root), "a bundle": lineOf(0, 5, root, [32]byte{1}), "no state": "growth"} {
+	for what, line := range map[string]string{"an entry": lineOf(1, 5, root), "another moment": lineOf(0, 6, root),
+		"a bundle": lineOf(0, 5, root, [32]byte{1}), "no state": "growth"} {
 		if _, err := begins(line).Begin(5); !errors.Is(err, ErrReply) {
 			t.Errorf("%s: %v", what, err)
 		}
@@ -52,7 +54,8 @@ func TestWrongNeeds(t *testing.T) {
 		return Over(origin, of)
 	}
 	line := lineOf(1, 5)
-	if names, err := needs("tile/0/000.p/1", "tile/data/000.p/1").Needs(line); err != nil || strings.Join(names, " ") != "tile/0/000.p/1 tile/data/000.p/1" {
+	if names, err := needs("tile/0/000.p/1", "tile/data/000.p/1").Needs(line); err != nil ||
+		strings.Join(names, " ") != "tile/0/000.p/1 tile/data/000.p/1" {
 		t.Errorf("%q, %v", names, err)
 	}
 	for _, name := range []string{"", "heads/1", "/tile/0/000", "issuer/00"} {
@@ -89,7 +92,8 @@ func TestWrongHeads(t *testing.T) {
 		bent := right
 		bend(&bent)
 		due := what == "as it is"
-		if _, err := steps(&wagtenib.Step{Published: bent, State: line, Bundle: bundle}).Step(before, nil, nil, 7, MaxAhead); due != (err == nil) || !due && !errors.Is(err, ErrReply) {
+		if _, err := steps(&wagtenib.Step{Published: bent, State: line, Bundle: bundle}).Step(before, nil, nil, 7,
+			MaxAhead); due != (err == nil) || !due && !errors.Is(err, ErrReply) {
 			t.Errorf("a step's head has %s: %v", what, err)
 		}
 		of := Proved()
@@ -98,12 +102,13 @@ func TestWrongHeads(t *testing.T) {
 			t.Errorf("a head that is resumed has %s: %v", what, err)
 		}
 	}
-	// What is whole in itself isn't the reply to another request.
+	// A reply that is right for another request is refused.
 	whole := wagtenib.Step{Published: right, State: line, Bundle: bundle}
 	for what, of := range map[string]struct {
 		before string
 		now    uint64
-	}{"of another moment": {before, 8}, "of another size": {lineOf(2, 5), 7}, "behind another line": {lineOf(3, 6), 7}} {
+	}{"of another moment": {before, 8}, "of another size": {lineOf(2, 5), 7},
+		"behind another line": {lineOf(3, 6), 7}} {
 		if _, err := steps(&whole).Step(of.before, nil, nil, of.now, MaxAhead); !errors.Is(err, ErrReply) {
 			t.Errorf("a step %s: %v", what, err)
 		}
@@ -121,25 +126,29 @@ func TestWrongHeads(t *testing.T) {
 func TestWrongClaims(t *testing.T) {
 	of := Proved()
 	of.Claim = func(string, uint64, uint64, []wagtenib.Hash, []byte) ([]byte, error) { return nil, nil }
-	if receipt, err := Over(origin, of).Claim(lineOf(3, 7), 1, 6, nil, Submission{LeafCertificate: []byte("x")}); !errors.Is(err, ErrReply) || receipt != nil {
+	if receipt, err := Over(origin, of).Claim(lineOf(3, 7), 1, 6, nil,
+		Submission{LeafCertificate: []byte("x")}); !errors.Is(err, ErrReply) || receipt != nil {
 		t.Errorf("%+v, %v", receipt, err)
 	}
 	c := New(origin)
-	if _, err := c.Claim(lineOf(3, 7), 1, 6, [][]byte{make([]byte, 31)}, Submission{LeafCertificate: []byte("x")}); !errors.Is(err, NoClaim) {
+	if _, err := c.Claim(lineOf(3, 7), 1, 6, [][]byte{make([]byte, 31)},
+		Submission{LeafCertificate: []byte("x")}); !errors.Is(err, NoClaim) {
 		t.Error(err)
 	}
 	for what, s := range map[string]Submission{
 		"nothing":             {},
 		"a short fingerprint": {LeafCertificate: []byte("x"), Chain: [][]byte{make([]byte, 31)}},
 		"too many issuers":    {LeafCertificate: []byte("x"), Chain: make2048()},
-		"a short key hash":    {PreCertificate: []byte("p"), TBSCertificate: []byte("t"), IssuerKeyHash: make([]byte, 31)},
-		"no precertificate":   {TBSCertificate: []byte("t"), IssuerKeyHash: make([]byte, 32)},
-		"a long certificate":  {LeafCertificate: make([]byte, 1<<24)},
+		"a short key hash": {PreCertificate: []byte("p"), TBSCertificate: []byte("t"),
+			IssuerKeyHash: make([]byte, 31)},
+		"no precertificate":  {TBSCertificate: []byte("t"), IssuerKeyHash: make([]byte, 32)},
+		"a long certificate": {LeafCertificate: make([]byte, 1<<24)},
 	} {
 		if _, err := c.Claim(lineOf(3, 7), 1, 6, nil, s); !errors.Is(err, BadBatch) {
 			t.Errorf("%s: %v", what, err)
 		}
-		if _, err := c.Step(lineOf(0, 5, sha256.Sum256(nil)), nil, []Submission{{LeafCertificate: []byte("x")}, s}, 6, MaxAhead); !errors.Is(err, BadBatch) {
+		if _, err := c.Step(lineOf(0, 5, sha256.Sum256(nil)), nil, []Submission{{LeafCertificate: []byte("x")}, s}, 6,
+			MaxAhead); !errors.Is(err, BadBatch) {
 			t.Errorf("%s: %v", what, err)
 		}
 	}
@@ -161,7 +170,7 @@ func TestClaimOfOne(t *testing.T) {
 	if err != nil || string(receipt.Sign) != string(one.Receipts[0].Sign) {
 		t.Errorf("%+v, %v", receipt, err)
 	}
-	// (what is appended to an object goes not into the one behind it)
+	// Bytes that are appended to an object must not change the next one.
 	for _, object := range one.Objects {
 		if cap(object.Content) != len(object.Content) {
 			t.Errorf("%s has room for %d bytes behind it", object.Name, cap(object.Content)-len(object.Content))

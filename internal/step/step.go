@@ -1,4 +1,5 @@
-// Package step makes the steps of a log, by the proved functions in this process (docs/GROWTH.md). It compares each reply with its request.
+// Package step makes the steps of a log, by the proved functions in this process (docs/GROWTH.md). It compares each
+// reply with its request.
 package step
 
 import (
@@ -11,7 +12,8 @@ import (
 	"wagtenib/bindings/go/wagtenib"
 )
 
-// MaxAhead is how many milliseconds a step's timestamp is beyond its line's at most, unless a caller has a reason for more: an hour.
+// MaxAhead is how many milliseconds a step's timestamp is beyond its line's at most, unless a caller has a reason for
+// more: an hour.
 const MaxAhead = 3_600_000
 
 // ErrReply is the error of a reply that isn't one to the request.
@@ -55,10 +57,11 @@ func (r Refusal) Error() string { return "refused: " + texts[r] }
 
 // Functions are the proved functions of a step, or others in tests.
 type Functions struct {
-	Begin  func(timestamp uint64) (state string, err error)
-	Needs  func(state string) (names []string, err error)
-	Step   func(origin, state string, edge, batch []byte, now, most uint64) (*wagtenib.Step, error)
-	Claim  func(state string, index, timestamp uint64, path []wagtenib.Hash, submission []byte) (signed []byte, err error)
+	Begin func(timestamp uint64) (state string, err error)
+	Needs func(state string) (names []string, err error)
+	Step  func(origin, state string, edge, batch []byte, now, most uint64) (*wagtenib.Step, error)
+	Claim func(state string, index, timestamp uint64, path []wagtenib.Hash,
+		submission []byte) (signed []byte, err error)
 	Resume func(origin, state string, bundle []byte) (*wagtenib.Published, error)
 }
 
@@ -67,7 +70,8 @@ func Proved() Functions {
 	return Functions{wagtenib.StepBegin, wagtenib.StepNeeds, wagtenib.MakeStep, wagtenib.StepClaim, wagtenib.StepResume}
 }
 
-// Stepper makes the steps of one log. It keeps nothing of the log from one call to the next. Its methods may be called at once.
+// Stepper makes the steps of one log. It keeps nothing of the log from one call to the next. Its methods may be called
+// at once.
 type Stepper struct {
 	origin    string
 	functions Functions
@@ -79,14 +83,15 @@ func New(origin string) *Stepper { return Over(origin, Proved()) }
 // Over returns a stepper over other functions than the proved ones, for tests.
 func Over(origin string, functions Functions) *Stepper { return &Stepper{origin, functions} }
 
-// Receipt is where an entry of a batch stands, and the bytes under its timestamp's signature (RFC 6962, section 3.2).
+// Receipt has the index of an entry of a batch, and the bytes that its timestamp's signature covers (RFC 6962, section
+// 3.2).
 type Receipt struct {
 	LeafIndex uint64
 	Timestamp uint64
 	Sign      []byte
 }
 
-// Head is a head that is to be signed.
+// Head is a tree head to sign.
 type Head struct {
 	// Checkpoint is the body of its note, and Sign the bytes under its signature (RFC 6962, section 3.5).
 	Checkpoint string
@@ -116,7 +121,8 @@ func headOf(p wagtenib.Published, s State) (h Head, err error) {
 	h.Head.Timestamp = binary.BigEndian.Uint64(h.Sign[2:])
 	h.Head.TreeSize = binary.BigEndian.Uint64(h.Sign[10:])
 	h.Head.RootHash = h.Sign[18:]
-	if h.Sign[0] != 0 || h.Sign[1] != 1 || h.Head.TreeSize != s.Size || h.Head.Timestamp != s.Timestamp || !bytes.Equal(h.Head.RootHash, s.Root[:]) {
+	if h.Sign[0] != 0 || h.Sign[1] != 1 || h.Head.TreeSize != s.Size || h.Head.Timestamp != s.Timestamp ||
+		!bytes.Equal(h.Head.RootHash, s.Root[:]) {
 		return Head{}, fmt.Errorf("%w: the head isn't the state's", ErrReply)
 	}
 	if h.Checkpoint == "" {
@@ -131,7 +137,8 @@ func (s *Stepper) Begin(timestamp uint64) (string, error) {
 	if err != nil {
 		return "", refused(err)
 	}
-	if state, err := ParseState(line); err != nil || state.Size != 0 || state.Timestamp != timestamp || !state.IsBegin() {
+	if state, err := ParseState(line); err != nil || state.Size != 0 || state.Timestamp != timestamp ||
+		!state.IsBegin() {
 		return "", fmt.Errorf("%w: the state isn't that of a log without entries", ErrReply)
 	}
 	return line, nil
@@ -163,8 +170,9 @@ type Stepped struct {
 	Objects []Object
 }
 
-// Step returns the state after a batch, with the objects that it publishes. The edge are the contents of the names that Needs
-// returns, in that order. `now` is at most so many milliseconds (most) beyond the line's timestamp, or it is TooFar.
+// Step returns the state after a batch, with the objects that it publishes. The edge are the contents of the names that
+// Needs returns, in that order. `now` is at most so many milliseconds (most) beyond the line's timestamp, or it is
+// TooFar.
 func (s *Stepper) Step(line string, edge [][]byte, batch []Submission, now, most uint64) (*Stepped, error) {
 	before, err := ParseState(line)
 	if err != nil {
@@ -200,7 +208,8 @@ func stepped(reply *wagtenib.Step, line string, size uint64, batch int, now uint
 		}
 		receipts[i] = Receipt{r.LeafIndex, r.Timestamp, r.Signed}
 	}
-	if state.Size != size || state.Timestamp != now || state.Before != Digest(line) || state.Bundle != sha256.Sum256(reply.Bundle) {
+	if state.Size != size || state.Timestamp != now || state.Before != Digest(line) ||
+		state.Bundle != sha256.Sum256(reply.Bundle) {
 		return nil, fmt.Errorf("%w: the state isn't the one behind this batch", ErrReply)
 	}
 	objects, err := objectsIn(reply.Bundle, reply.Objects)
@@ -214,8 +223,9 @@ func stepped(reply *wagtenib.Step, line string, size uint64, batch int, now uint
 	return &Stepped{head, reply.State, reply.Bundle, receipts, state, objects}, nil
 }
 
-// Claim returns the receipt of a submission whose entry is at this index of the log of this line, if the audit path, hashes from the leaf up
-// (RFC 9162, section 2.1.3.2), leads from the entry's leaf to the line's root. Otherwise it returns NoClaim.
+// Claim returns the receipt of a submission whose entry is at this index of the log of this line, if the audit path,
+// hashes from the leaf up (RFC 9162, section 2.1.3.2), leads from the entry's leaf to the line's root. Otherwise it
+// returns NoClaim.
 func (s *Stepper) Claim(line string, index, timestamp uint64, path [][]byte, submission Submission) (*Receipt, error) {
 	hashes := make([]wagtenib.Hash, len(path))
 	for i, hash := range path {

@@ -27,9 +27,12 @@ func TestSteps(t *testing.T) {
 	}
 	one, err := c.Step(line, nil, []Submission{{LeafCertificate: []byte("one")}}, 7, MaxAhead)
 	must(t, err)
-	// The root of one leaf is the leaf's hash: by hand, from RFC 6962, sections 2.1 and 3.4, and static-ct-api's extension.
-	leaf := "\x00\x00\x00" + "\x00\x00\x00\x00\x00\x00\x00\x07" + "\x00\x00" + "\x00\x00\x03one" + "\x00\x08\x00\x00\x05\x00\x00\x00\x00\x00"
-	if one.State.Root != sha256.Sum256([]byte(leaf)) || one.State.Size != 1 || string(one.Receipts[0].Sign) != leaf[1:] {
+	// The root of one leaf is the leaf's hash: by hand, from RFC 6962, sections 2.1 and 3.4, and static-ct-api's
+	// extension.
+	leaf := "\x00\x00\x00" + "\x00\x00\x00\x00\x00\x00\x00\x07" + "\x00\x00" + "\x00\x00\x03one" +
+		"\x00\x08\x00\x00\x05\x00\x00\x00\x00\x00"
+	if one.State.Root != sha256.Sum256([]byte(leaf)) || one.State.Size != 1 ||
+		string(one.Receipts[0].Sign) != leaf[1:] {
 		t.Errorf("%+v", one)
 	}
 	names, err = c.Needs(one.Line)
@@ -38,20 +41,24 @@ func TestSteps(t *testing.T) {
 	}
 	objects := one.Objects
 	edge := [][]byte{objects[0].Content, objects[1].Content}
-	two, err := c.Step(one.Line, edge, []Submission{{IssuerKeyHash: make([]byte, 32), PreCertificate: []byte("p"), TBSCertificate: []byte("t")}}, 8, MaxAhead)
+	two, err := c.Step(one.Line, edge, []Submission{{IssuerKeyHash: make([]byte, 32), PreCertificate: []byte("p"),
+		TBSCertificate: []byte("t")}}, 8, MaxAhead)
 	must(t, err)
 	resumed, err := c.Resume(two.Line, two.Bundle)
 	must(t, err)
 	objects = two.Objects
-	if len(objects) != 2 || len(resumed.Objects) != 2 || resumed.Checkpoint != two.Checkpoint || !bytes.Equal(resumed.Sign, two.Sign) {
+	if len(objects) != 2 || len(resumed.Objects) != 2 || resumed.Checkpoint != two.Checkpoint ||
+		!bytes.Equal(resumed.Sign, two.Sign) {
 		t.Fatalf("%+v and %+v", objects, resumed)
 	}
 	for i := range objects {
-		if one, other := objects[i], resumed.Objects[i]; one.Name != other.Name || !bytes.Equal(one.Content, other.Content) || one.Digest != other.Digest || one.Digest != sha256.Sum256(one.Content) {
+		if one, other := objects[i], resumed.Objects[i]; one.Name != other.Name ||
+			!bytes.Equal(one.Content, other.Content) || one.Digest != other.Digest ||
+			one.Digest != sha256.Sum256(one.Content) {
 			t.Errorf("%s and %s", objects[i].Name, resumed.Objects[i].Name)
 		}
 	}
-	// Of two leaves the path is the other's hash.
+	// The path in a tree of two leaves is the other leaf's hash.
 	first := sha256.Sum256([]byte(leaf))
 	path, entry := [][]byte{objects[0].Content[32:64]}, Submission{LeafCertificate: []byte("one")}
 	claimed, err := c.Claim(two.Line, 0, 7, path, entry)
@@ -80,7 +87,7 @@ func TestSteps(t *testing.T) {
 	}
 }
 
-// TestOutOfMemory has a function refuse for want of memory: that is told, and nothing is returned.
+// TestOutOfMemory: the error of a function that is out of memory is returned, and nothing else.
 func TestOutOfMemory(t *testing.T) {
 	of := Proved()
 	of.Step = func(string, string, []byte, []byte, uint64, uint64) (*wagtenib.Step, error) {
@@ -106,7 +113,7 @@ func oneEntry(t *testing.T) (c *Stepper, before string, first *Stepped) {
 // oneSubmission is its batch.
 var oneSubmission = []Submission{{LeafCertificate: []byte("one")}}
 
-// TestWrongStates has a function reply a step's state that has one thing of it wrong: what it says must follow from the request.
+// TestWrongStates: a state in a reply with one wrong field is refused, since it must follow from the request.
 func TestWrongStates(t *testing.T) {
 	line, right := oneReply(t)
 	asked := func(state string) error {
@@ -116,8 +123,9 @@ func TestWrongStates(t *testing.T) {
 		return err
 	}
 	must(t, asked(right.State))
-	// Where the numbers and hashes stand in the line, in bytes.
-	for what, at := range map[string]int{"the size": 7, "the moment": 15, "the root": 16, "the bundle's digest": 48, "the digest of the line before": 112} {
+	// The offsets of the numbers and hashes in the line, in bytes.
+	for what, at := range map[string]int{"the size": 7, "the moment": 15, "the root": 16, "the bundle's digest": 48,
+		"the digest of the line before": 112} {
 		digits := []byte(right.State)
 		digit := &digits[len(growth)+2*at]
 		if *digit++; *digit > '9' {
@@ -129,7 +137,8 @@ func TestWrongStates(t *testing.T) {
 	}
 }
 
-// TestReceipts has a batch with repeats in it answered in its order, and a function reply other receipts than one for each submission.
+// TestReceipts has a batch with repeats in it answered in its order, and a function reply other receipts than one for
+// each submission.
 func TestReceipts(t *testing.T) {
 	c := New(origin)
 	line, err := c.Begin(5)
@@ -143,7 +152,8 @@ func TestReceipts(t *testing.T) {
 	must(t, err)
 	for i, index := range []uint64{1, 2, 1, 3, 2} {
 		first := map[uint64]int{1: 0, 2: 1, 3: 3}[index]
-		if r := right.Receipts[i]; r.LeafIndex != index || !bytes.Equal(r.Sign, right.Receipts[first].Sign) || !bytes.Contains(r.Sign, batch[i].LeafCertificate) {
+		if r := right.Receipts[i]; r.LeafIndex != index || !bytes.Equal(r.Sign, right.Receipts[first].Sign) ||
+			!bytes.Contains(r.Sign, batch[i].LeafCertificate) {
 			t.Errorf("receipt %d is of entry %d", i, r.LeafIndex)
 		}
 	}
@@ -197,14 +207,15 @@ func oneReply(t *testing.T) (line string, reply *wagtenib.Step) {
 	return line, reply
 }
 
-// TestReferences has a function tell other places in a bundle than an object's: each is told apart from a reply.
+// TestReferences: a reference to other bytes of a bundle than an object's is refused.
 func TestReferences(t *testing.T) {
 	line, one := oneReply(t)
 	right := one.Objects[0]
 	bundle := string(one.Bundle)
 	for what, wrong := range map[string]wagtenib.Object{
-		"none that is published":  {Name: "heads/1", Start: 3, Length: 4, Digest: sha256.Sum256([]byte(bundle[3:7]))},
-		"behind the end":          {Name: "tile/0/000.p/1", Start: uint64(len(bundle)), Length: 1, Digest: sha256.Sum256(nil)},
+		"none that is published": {Name: "heads/1", Start: 3, Length: 4, Digest: sha256.Sum256([]byte(bundle[3:7]))},
+		"behind the end": {Name: "tile/0/000.p/1", Start: uint64(len(bundle)), Length: 1,
+			Digest: sha256.Sum256(nil)},
 		"farther than a number":   {Name: "tile/0/000.p/1", Start: 1, Length: 1<<64 - 1, Digest: sha256.Sum256(nil)},
 		"begins behind the end":   {Name: "tile/0/000.p/1", Start: 1<<64 - 1, Length: 1, Digest: sha256.Sum256(nil)},
 		"one byte further":        {Name: right.Name, Start: right.Start + 1, Length: 32, Digest: right.Digest},
@@ -231,7 +242,8 @@ func TestTexts(t *testing.T) {
 	if s, err := ParseState("growth " + zeros); err != nil || !s.IsBegin() {
 		t.Errorf("%+v, %v", s, err)
 	}
-	for _, line := range []string{"", "growth ", zeros, "growth " + zeros + "0", "growth " + zeros[1:] + "g", "growth " + zeros[1:] + "A", "Growth " + zeros, "growth " + zeros + "\n", "growth f" + zeros[1:]} {
+	for _, line := range []string{"", "growth ", zeros, "growth " + zeros + "0", "growth " + zeros[1:] + "g",
+		"growth " + zeros[1:] + "A", "Growth " + zeros, "growth " + zeros + "\n", "growth f" + zeros[1:]} {
 		if s, err := ParseState(line); !errors.Is(err, ErrState) {
 			t.Errorf("%q: %+v, %v", line, s, err)
 		}

@@ -35,8 +35,8 @@ func tilesOf(t *testing.T, size int64) (all []tlog.Tile, contents [][]byte) {
 	return all, contents
 }
 
-// TestBent bends each hash of each tile of a tree, one at a time: a full tile of which the one above it was read is found, and so is what stands below a hash of
-// the one above; of all others nothing is said.
+// TestBent changes each hash of each tile of a tree, one at a time. Bent finds a full tile whose upper tile was read,
+// and a tile below a changed hash. It reports no other tile.
 func TestBent(t *testing.T) {
 	all, contents := tilesOf(t, 70)
 	if tile, found := Bent(all, contents); found {
@@ -74,13 +74,15 @@ func TestBent(t *testing.T) {
 			}
 		}
 	}
-	// (16 full tiles of leaves below 4 below one, and the hashes of the level above: each is seen; of the two leaves at the end nothing is)
+	// (16 full tiles of leaves below 4 below one, and the hashes of the level above: each is seen; of the two leaves at
+	// the end nothing is)
 	if compared < 64+16+4 || others == 0 {
 		t.Errorf("%d hashes were compared, and %d not", compared, others)
 	}
 }
 
-// TestBentPart: what was read without the tile above it is compared with nothing, and a tile that is cut off is bent, or what stands below it.
+// TestBentPart: a tile that was read without the one above it is compared with nothing. If a tile is cut off, Bent
+// reports it or the tile below it.
 func TestBentPart(t *testing.T) {
 	all, contents := tilesOf(t, 16)
 	var low []tlog.Tile

@@ -20,7 +20,8 @@ type Leaf struct {
 	// Timestamp is in milliseconds since 1970.
 	Timestamp uint64
 	Type      chains.EntryType
-	// IssuerKeyHash is of a precertificate, 32 bytes; Certificate is a certificate, or a precertificate's TBSCertificate.
+	// IssuerKeyHash is of a precertificate, 32 bytes; Certificate is a certificate, or a precertificate's
+	// TBSCertificate.
 	IssuerKeyHash, Certificate []byte
 	// Extensions are those of the timestamp, without their length.
 	Extensions []byte
@@ -37,8 +38,8 @@ type Leaf struct {
 // Length returns how many bytes of its tile the leaf takes.
 func (l *Leaf) Length() int { return l.length }
 
-// Input gives the bytes of the tree's leaf, a MerkleTreeLeaf: version v1 and the type timestamped_entry, two bytes of zero, before the entry
-// (RFC 6962, section 3.4).
+// Input gives the bytes of the tree's leaf, a MerkleTreeLeaf: version v1 and the type timestamped_entry, two bytes of
+// zero, before the entry (RFC 6962, section 3.4).
 func (l *Leaf) Input() []byte { return append([]byte{0, 0}, l.Entry...) }
 
 // Hash is the leaf's (RFC 6962, section 2.1).
@@ -53,7 +54,7 @@ func (l *Leaf) Hash() (hash [32]byte) {
 // leafIndex begins the one extension leaf_index: its type 0, and two bytes of the length of an index.
 var leafIndex = []byte{0, 0, 5}
 
-// Index gives the index of the leaf in the log, where its extensions name it and nothing else.
+// Index returns the index of the leaf in the log, if its extensions have only that.
 func (l *Leaf) Index() (index uint64, ok bool) {
 	if len(l.Extensions) != len(leafIndex)+5 || !bytes.HasPrefix(l.Extensions, leafIndex) {
 		return 0, false
@@ -66,12 +67,13 @@ func Extensions(index uint64) []byte {
 	return append(leafIndex[:len(leafIndex):len(leafIndex)], binary.BigEndian.AppendUint64(nil, index)[3:]...)
 }
 
-// ReadData returns the leaves of a data tile, at most Width. The error is ErrTile. A judge of a log from outside (internal/check, cmd/ctread) has a reader of its own.
+// ReadData returns the leaves of a data tile, at most Width. The error is ErrTile. A judge of a log from outside
+// (internal/check, cmd/ctread) has a reader of its own.
 func ReadData(tile []byte) (leaves []Leaf, err error) {
 	for rest := cryptobyte.String(tile); !rest.Empty(); {
 		leaf, ok := readLeaf(&rest)
 		if !ok {
-			return nil, fmt.Errorf("%w: entry %d isn't one", ErrTile, len(leaves))
+			return nil, fmt.Errorf("%w: entry %d is invalid", ErrTile, len(leaves))
 		}
 		if len(leaves) == Width {
 			return nil, fmt.Errorf("%w: it has more than %d entries", ErrTile, Width)
@@ -81,7 +83,7 @@ func ReadData(tile []byte) (leaves []Leaf, err error) {
 	return leaves, nil
 }
 
-// readLeaf reads the leaf with which bytes begin, and leaves those behind it.
+// readLeaf reads the leaf at the beginning of the bytes, and leaves those after it.
 func readLeaf(tile *cryptobyte.String) (leaf Leaf, ok bool) {
 	whole := *tile
 	var certificate, extensions, precertificate, chain cryptobyte.String

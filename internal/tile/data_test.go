@@ -11,8 +11,8 @@ import (
 	"wagtenib/internal/chains"
 )
 
-// A leaf of each type, field by field (C2SP static-ct-api, "Log Entries"; RFC 6962, section 3.4): the timestamp 1,700,000,000,123 ms, the index
-// 0x0102030405.
+// A leaf of each type, field by field (C2SP static-ct-api, "Log Entries"; RFC 6962, section 3.4): the timestamp
+// 1,700,000,000,123 ms, the index 0x0102030405.
 const (
 	timestamp  = "0000018bcfe5687b"
 	extensions = "0008" + "000005" + "0102030405"
@@ -41,7 +41,8 @@ func TestRead(t *testing.T) {
 		keyHash, certificate, precertificate, chain, entry string
 	}{
 		{chains.X509Entry, "", "300141", "", issuer, timestamp + "0000" + "000003" + "300141" + extensions},
-		{chains.PrecertEntry, keyHash, "300154", "300150", "", timestamp + "0001" + keyHash + "000003" + "300154" + extensions},
+		{chains.PrecertEntry, keyHash, "300154", "300150", "", timestamp + "0001" + keyHash + "000003" + "300154" +
+			extensions},
 	} {
 		l := &leaves[i]
 		index, ok := l.Index()
@@ -52,8 +53,10 @@ func TestRead(t *testing.T) {
 			found []byte
 			due   string
 		}{
-			"issuer's key hash": {l.IssuerKeyHash, due.keyHash}, "certificate": {l.Certificate, due.certificate}, "extensions": {l.Extensions, extensions[4:]},
-			"precertificate": {l.Precertificate, due.precertificate}, "chain": {l.Chain, due.chain}, "entry": {l.Entry, due.entry}, "input": {l.Input(), "0000" + due.entry},
+			"issuer's key hash": {l.IssuerKeyHash, due.keyHash}, "certificate": {l.Certificate, due.certificate},
+			"extensions":     {l.Extensions, extensions[4:]},
+			"precertificate": {l.Precertificate, due.precertificate}, "chain": {l.Chain, due.chain},
+			"entry": {l.Entry, due.entry}, "input": {l.Input(), "0000" + due.entry},
 		} {
 			if hex.EncodeToString(it.found) != it.due {
 				t.Errorf("the %s of leaf %d is %x, and not %s", what, i, it.found, it.due)
@@ -63,7 +66,7 @@ func TestRead(t *testing.T) {
 			t.Errorf("the hash of leaf %d is another", i)
 		}
 	}
-	// (what is put behind an entry goes not into the tile)
+	// Bytes that are appended to an entry must not change the tile.
 	_ = append(leaves[0].Entry, make([]byte, 40)...)
 	if !bytes.Equal(leaves[0].Chain, unhex(t, issuer)) {
 		t.Error("a leaf's chain was overwritten")
@@ -108,7 +111,8 @@ func TestIndex(t *testing.T) {
 			t.Errorf("%d is written as %x, and read as %d, %t", index, l.Extensions, found, ok)
 		}
 	}
-	for _, other := range []string{"", "0000050102030405ff", "00000501020304", "0100050102030405", "0000040102030405", "000005010203040500000501020304ff"} {
+	for _, other := range []string{"", "0000050102030405ff", "00000501020304", "0100050102030405", "0000040102030405",
+		"000005010203040500000501020304ff"} {
 		if found, ok := (&Leaf{Extensions: unhex(t, other)}).Index(); ok || found != 0 {
 			t.Errorf("%s is read as %d", other, found)
 		}

@@ -49,12 +49,15 @@ func TestMade(t *testing.T) {
 		t.Error(err)
 	}
 	broken := errors.New("the disk")
-	if _, err := c.root(ctx, 3, func(context.Context, string) ([]byte, error) { return nil, broken }); !errors.Is(err, broken) {
+	if _, err := c.root(ctx, 3, func(context.Context, string) ([]byte, error) { return nil, broken }); !errors.Is(
+		err, broken) {
 		t.Error(err)
 	}
 	for _, err := range []error{
-		func() error { _, err := c.path(ctx, 3, 3, tiles); return err }(), func() error { _, err := c.proof(ctx, 0, 3, tiles); return err }(),
-		func() error { _, err := c.proof(ctx, 3, 3, tiles); return err }(), func() error { _, err := c.root(ctx, 0, tiles); return err }(),
+		func() error { _, err := c.path(ctx, 3, 3, tiles); return err }(),
+		func() error { _, err := c.proof(ctx, 0, 3, tiles); return err }(),
+		func() error { _, err := c.proof(ctx, 3, 3, tiles); return err }(),
+		func() error { _, err := c.root(ctx, 0, tiles); return err }(),
 	} {
 		if !errors.Is(err, ErrRange) {
 			t.Error(err)
@@ -84,7 +87,8 @@ func times[T any](count int, what T) []T {
 // TestWrongReadings has functions return what can't be a result.
 func TestWrongReadings(t *testing.T) {
 	reads := func(context.Context, string) ([]byte, error) { return make([]byte, 32), nil }
-	for _, names := range [][]string{nil, {}, {"heads/1"}, {"tile/data/000.p/1"}, {""}, times(maxTiles+1, "tile/0/000")} {
+	for _, names := range [][]string{nil, {}, {"heads/1"}, {"tile/data/000.p/1"}, {""},
+		times(maxTiles+1, "tile/0/000")} {
 		r := returning(names, nil, nil)
 		if path, err := r.path(limited(t), 0, 2, reads); !errors.Is(err, ErrReply) || path != nil {
 			t.Errorf("%.60q: a path: %x, %v", names, path, err)

@@ -14,12 +14,13 @@ import (
 var (
 	// ErrBusy: so many are made already that no more is taken.
 	ErrBusy = errors.New("tile: busy")
-	// ErrWrong: what was made isn't of the tree with the root that was named.
-	ErrWrong = errors.New("tile: the tiles aren't those of the tree")
+	// ErrWrong: the result is not of the tree with the given root.
+	ErrWrong = errors.New("tile: the tiles are not those of the tree")
 )
 
-// Prover makes audit paths, consistency proofs and roots out of the tiles of a log, by the proved functions. If the tiles are wrong, so are these: a caller that has a root
-// checks them by CheckPath and CheckProof. Its methods may be called at once.
+// Prover makes audit paths, consistency proofs and roots from the tiles of a log, with the proved functions. If the
+// tiles are wrong, the results are wrong too. A caller that has a root checks them with CheckPath and CheckProof. Its
+// methods may be called concurrently.
 type Prover struct {
 	functions ProofFunctions
 	object    Objects
@@ -47,8 +48,8 @@ type made[T any] struct {
 	err  error
 }
 
-// within has something made, in its time, if a place is free. It returns once the context ends. A reading that doesn't heed the end of its context keeps its
-// place until it is done.
+// within has something made, in its time, if a place is free. It returns once the context ends. A reading that doesn't
+// heed the end of its context keeps its place until it is done.
 func within[T any](ctx context.Context, r *Prover, ask func(context.Context) (T, error)) (what T, err error) {
 	if err := ctx.Err(); err != nil {
 		return what, err
@@ -75,8 +76,8 @@ func within[T any](ctx context.Context, r *Prover, ask func(context.Context) (T,
 	}
 }
 
-// tiles reads the tiles of a tree out of those of one of `of` leaves: a partial tile is the beginning of a wider one, and of each
-// tile only the widest may stand.
+// tiles returns the tiles of a tree from those of a tree with `of` leaves. A partial tile is the beginning of a wider
+// one, and only the widest of each tile may exist.
 func (r *Prover) tiles(of uint64) tiles {
 	return func(ctx context.Context, name string) ([]byte, error) {
 		// tlog writes the height of tiles, and C2SP doesn't.
@@ -86,7 +87,7 @@ func (r *Prover) tiles(of uint64) tiles {
 		}
 		width, hashes, before := tile.W, of>>(8*tile.L), 256*uint64(tile.N)
 		if hashes < before+uint64(width) {
-			return nil, fmt.Errorf("%w: %s isn't in a tree of %d", ErrReply, name, of)
+			return nil, fmt.Errorf("%w: %s is not in a tree of %d", ErrReply, name, of)
 		}
 		tile.W = 256
 		if hashes-before < 256 {
@@ -103,18 +104,25 @@ func (r *Prover) tiles(of uint64) tiles {
 	}
 }
 
-// Path is the audit path of a leaf in the tree of size leaves, made of the tiles of the tree of `of` leaves, at least as many.
+// Path is the audit path of a leaf in the tree of size leaves, made of the tiles of the tree of `of` leaves, at least
+// as many.
 func (r *Prover) Path(ctx context.Context, index, size, of uint64) ([][32]byte, error) {
-	return within(ctx, r, func(ctx context.Context) ([][32]byte, error) { return r.path(ctx, index, size, r.tiles(of)) })
+	return within(ctx, r, func(ctx context.Context) ([][32]byte, error) {
+		return r.path(ctx, index, size,
+			r.tiles(of))
+	})
 }
 
-// Proof is the consistency proof from the tree of the first leaves to that of size. From none, and between trees of one size, it
-// is empty.
+// Proof is the consistency proof from the tree of the first leaves to that of size. From none, and between trees of one
+// size, it is empty.
 func (r *Prover) Proof(ctx context.Context, first, size, of uint64) ([][32]byte, error) {
 	if first == 0 || first == size {
 		return nil, nil
 	}
-	return within(ctx, r, func(ctx context.Context) ([][32]byte, error) { return r.proof(ctx, first, size, r.tiles(of)) })
+	return within(ctx, r, func(ctx context.Context) ([][32]byte, error) {
+		return r.proof(ctx, first, size,
+			r.tiles(of))
+	})
 }
 
 // Root is the Merkle Tree Hash of the first size leaves.

@@ -18,8 +18,8 @@ var must = trial.Must
 
 func limited(t testing.TB) context.Context { return trial.Limited(t, trial.Longest) }
 
-// TestTiles: a tile is read as the widest that stands in the tree, and what is given are the hashes that were asked for; what has another length is wrong, and what
-// is no tile of hashes of the tree isn't asked for.
+// TestTiles: the widest version of a tile in the tree is read, and the requested hashes are returned. A tile of another
+// length is wrong. No other tiles are read.
 func TestTiles(t *testing.T) {
 	wide := make([]byte, 32*256)
 	for i := range wide {
@@ -67,7 +67,8 @@ func TestTiles(t *testing.T) {
 		if err != nil || asked != of.asked || !bytes.Equal(read, wide[:32*of.gives]) {
 			t.Errorf("%s of %d: of %s %d bytes, %v", of.name, of.size, asked, len(read), err)
 		}
-		for _, wrong := range [][]byte{nil, wide[:32*of.has-1], wide[:32*(of.has-1)], append(wide[:32*of.has:32*of.has], 0)} {
+		for _, wrong := range [][]byte{nil, wide[:32*of.has-1], wide[:32*(of.has-1)],
+			append(wide[:32*of.has:32*of.has], 0)} {
 			content = wrong
 			if _, err := tiles(limited(t), of.name); !errors.Is(err, ErrWrong) {
 				t.Errorf("%s of %d has %d bytes: %v", of.name, of.size, len(wrong), err)
@@ -81,7 +82,8 @@ func TestTiles(t *testing.T) {
 	}
 }
 
-// TestReadings reads a tree of three leaves, whose nodes are computed by hand (RFC 6962, section 2.1), out of the tiles of a larger one.
+// TestReadings reads a tree of three leaves, whose nodes are computed by hand (RFC 6962, section 2.1), out of the tiles
+// of a larger one.
 func TestReadings(t *testing.T) {
 	ctx := limited(t)
 	leaf := func(i byte) [32]byte { return sha256.Sum256([]byte{0, i}) }
@@ -111,7 +113,7 @@ func TestReadings(t *testing.T) {
 	if found, err := r.Root(ctx, 1, 4); err != nil || found != zero {
 		t.Errorf("a root of one: %x, %v", found, err)
 	}
-	// What isn't the tree's is wrong, whatever differs.
+	// Each difference from the tree is wrong.
 	for what, err := range map[string]error{
 		"a path to another leaf":           CheckPath(path, 3, root, 2, one),
 		"a path of another place":          CheckPath(path, 3, root, 1, two),
@@ -137,8 +139,8 @@ func TestReadings(t *testing.T) {
 	}
 }
 
-// TestClientGoes: a client that goes away ends the reading for it, and its place is free again. A client that is gone already asks for nothing, and if no
-// place is free no client waits.
+// TestClientGoes: a client that goes away ends the reading for it, and its place is free again. A client that is gone
+// already asks for nothing, and if no place is free no client waits.
 func TestClientGoes(t *testing.T) {
 	asked, tile := make(chan context.Context, 4), sha256.Sum256([]byte{0, 0})
 	isThere := false
@@ -179,15 +181,17 @@ func TestClientGoes(t *testing.T) {
 	}
 }
 
-// TestOneBehindAnother: where one thing is made at once, who asks for the next as soon as it has an answer, or an error, is always taken.
-func TestOneBehindAnother(t *testing.T) {
+// TestOneAfterAnother: if only one proof is made at a time, a caller that asks for the next one directly after an
+// answer or an error is always accepted.
+func TestOneAfterAnother(t *testing.T) {
 	r, ctx, broken := NewProver(nil, 1), limited(t), errors.New("the disk")
 	for i := 0; i < 20000; i++ {
 		var fails error
 		if i%2 == 1 {
 			fails = broken
 		}
-		if what, err := within(ctx, r, func(context.Context) (int, error) { return i, fails }); what != i || err != fails {
+		if what, err := within(ctx, r, func(context.Context) (int, error) { return i, fails }); what != i ||
+			err != fails {
 			t.Fatalf("thing %d: %d, %v", i, what, err)
 		}
 	}

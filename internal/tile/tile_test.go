@@ -45,12 +45,14 @@ func TestReadsPartialTileOutOfFullOne(t *testing.T) {
 		}
 		return nil, stores.ErrAbsent
 	})
-	for name, expected := range map[string][]byte{"tile/data/000.p/3": partial, "tile/0/000.p/2": hashes[:64], "tile/0/001.p/4": hashes} {
+	for name, expected := range map[string][]byte{"tile/data/000.p/3": partial, "tile/0/000.p/2": hashes[:64],
+		"tile/0/001.p/4": hashes} {
 		if content, err := read(context.Background(), name); err != nil || !bytes.Equal(content, expected) {
 			t.Errorf("%s has %d bytes and not %d: %v", name, len(content), len(expected), err)
 		}
 	}
-	for name, expected := range map[string]error{"tile/0/002.p/1": ErrDamaged, "tile/0/003.p/1": broken, "tile/0/004.p/1": ErrDamaged, "tile/0/004": ErrDamaged, "tile/0/000.p/0": ErrDamaged} {
+	for name, expected := range map[string]error{"tile/0/002.p/1": ErrDamaged, "tile/0/003.p/1": broken,
+		"tile/0/004.p/1": ErrDamaged, "tile/0/004": ErrDamaged, "tile/0/000.p/0": ErrDamaged} {
 		if _, err := read(context.Background(), name); !errors.Is(err, expected) {
 			t.Errorf("%s: %v and not %v", name, err, expected)
 		}

@@ -8,7 +8,7 @@ import (
 	"testing"
 )
 
-// asProgram says that a process of tests is to be the program that they are of, with the words behind it.
+// asProgram is the environment variable that makes a test process run as the program that it tests, with its arguments.
 const asProgram = "TRIAL_PROGRAM"
 
 // Main is the TestMain of a program's tests: the tests, or the program itself where Runs has started it.

@@ -14,7 +14,7 @@ import (
 	"time"
 )
 
-// Longest is how long a test waits for what is to come, on a machine that has much else to do.
+// Longest is the time limit of a wait in a test, which is long enough for a busy machine.
 const Longest = 30 * time.Minute
 
 // Must fails the test at an error.
@@ -35,7 +35,8 @@ func Eventually(t testing.TB, what string, holds func() bool) {
 	}
 }
 
-// PassOn gives on what comes, however much of it nobody has taken yet, and closes behind the last: who tells isn't kept waiting by who looks at something else.
+// PassOn passes on all values of a channel, and closes the other one after the last. It buffers any number of them, so
+// the sender never waits for the receiver.
 func PassOn[T any](from <-chan T, to chan<- T) {
 	defer close(to)
 	var waiting []T
@@ -75,8 +76,8 @@ func Limited(t testing.TB, most time.Duration) context.Context {
 	return ctx
 }
 
-// ShortFiles does something while no file of this process gets longer than so many bytes: what is written beyond fails, as on a full disk. No other test
-// runs beside it.
+// ShortFiles calls a function while no file of this process can grow beyond most bytes. A write beyond that fails, as
+// on a full disk. No other test may run in parallel.
 func ShortFiles(t testing.TB, most uint64, do func() error) error {
 	t.Helper()
 	var before syscall.Rlimit
@@ -100,7 +101,7 @@ func Says(t testing.TB, page string, sentences map[string]bool) {
 	t.Helper()
 	for sentence, isSo := range sentences {
 		if !strings.Contains(page, sentence) {
-			t.Errorf("the page doesn't say %q", sentence)
+			t.Errorf("the page does not say %q", sentence)
 		}
 		if !isSo {
 			t.Errorf("it isn't so that %q", sentence)
@@ -108,7 +109,8 @@ func Says(t testing.TB, page string, sentences map[string]bool) {
 	}
 }
 
-// Free gives an address of loopback at which nobody listens: of a host by chance, where nobody else's connections take its port before it is listened at.
+// Free returns an address of loopback at which nobody listens. Its host is random, so no other connection takes its
+// port before it is used.
 func Free(t testing.TB) string {
 	t.Helper()
 	var host [3]byte

@@ -6,13 +6,15 @@ import "fmt"
 // number and commit are set by cmd/build.sh (go build -ldflags "-X ..").
 var number, commit string
 
-// Number is the version, as 0.1.0; "unreleased" where the build wasn't told.
+// Number returns the version, for example 0.1.0. It is "unreleased" if the build did not set it.
 func Number() string { return or(number, "unreleased") }
 
-// Commit is the commit's first 12 digits, with + behind it where files differed from it; "unknown" where the build wasn't told.
+// Commit returns the first 12 digits of the commit, with + after it if files differed from it. It is "unknown" if the
+// build did not set it.
 func Commit() string { return or(commit, "unknown") }
 
-// Line returns what a program answers to --version. It names the build tag wagtenib_sha_instructions if the build has it.
+// Line returns what a program answers to --version. It names the build tag wagtenib_sha_instructions if the build has
+// it.
 func Line(program string) string {
 	return fmt.Sprintf("%s %s (commit %s%s)\n", program, Number(), Commit(), option)
 }

@@ -18,8 +18,9 @@ const maxAccepted = 64 << 10
 // ErrAccepted means that a file has no checkpoint that the log signed.
 var ErrAccepted = errors.New("witness: no accepted head of a monitor")
 
-// AcceptedBy returns the size and the root of the tree that a monitor accepted last. The monitor keeps the log's signed checkpoint in a file (ctwatch run
-// --accepted-folder) after it read all leaves and compared their root. The note must have a signature by each of the log's keys.
+// AcceptedBy returns the size and the root of the tree that a monitor accepted last. The monitor keeps the log's signed
+// checkpoint in a file (ctwatch run --accepted-folder) after it read all leaves and compared their root. The note must
+// have a signature by each of the log's keys.
 func AcceptedBy(path, origin string, keys []note.Verifier) (size uint64, root [32]byte, err error) {
 	signed, err := readAccepted(path)
 	if err != nil {
@@ -56,7 +57,8 @@ func readAccepted(path string) ([]byte, error) {
 	return text, nil
 }
 
-// unread says why a tree isn't cosigned that the log's monitor hasn't accepted: it may not have read so far, or it accepted another one, which is told.
+// unread returns the reason why a tree that the log's monitor has not accepted is not cosigned. The monitor has not
+// read so far, or it has accepted another tree, which is logged.
 func (s *Server) unread(log *Log, next wagtenib.WitnessedTree) (came answer, isUnread bool) {
 	if log.Accepted == nil {
 		return came, false

@@ -13,16 +13,19 @@ import (
 	"golang.org/x/mod/sumdb/note"
 )
 
-// TestAccepted checks that a witness beside a monitor cosigns the head that the monitor accepted last, and no other one: no head that the monitor has not read
-// yet, no older head, and no fork of it, which the witness logs. It refuses everything else by the same names as without a monitor.
+// TestAccepted checks that a witness beside a monitor cosigns the head that the monitor accepted last, and no other
+// one: no head that the monitor has not read yet, no older head, and no fork of it, which the witness logs. It refuses
+// everything else by the same names as without a monitor.
 func TestAccepted(t *testing.T) {
 	by, folder := headKey(t, origin), t.TempDir()
 	one, other := grown(t, "a", "b", "c", "d", "e"), grown(t, "a", "b", "c", "x", "y")
 	state := filepath.Join(folder, "monitor")
 	var told []string
-	s, err := New(Options{Name: "w.example", Key: newKey(t), Tell: func(event string, words ...any) { told = append(told, event) }})
+	s, err := New(Options{Name: "w.example", Key: newKey(t),
+		Tell: func(event string, words ...any) { told = append(told, event) }})
 	must(t, err)
-	log := Log{Origin: origin, Keys: []note.Verifier{by.key}, State: stateIn(t, folder), Accepted: func() (uint64, [32]byte, error) { return AcceptedBy(state, origin, []note.Verifier{by.key}) }}
+	log := Log{Origin: origin, Keys: []note.Verifier{by.key}, State: stateIn(t, folder),
+		Accepted: func() (uint64, [32]byte, error) { return AcceptedBy(state, origin, []note.Verifier{by.key}) }}
 	must(t, log.Create(limited(t)))
 	s.SetLogs([]Log{log})
 	accept := func(size int64, of *leaves) {
@@ -65,7 +68,8 @@ func TestAccepted(t *testing.T) {
 	asks("the accepted, with its proof", request(3, one.proof(t, 3, 5), signed(one, 5)), 200, "— w.example ", "")
 	w := httptest.NewRecorder()
 	s.Operator().ServeHTTP(w, httptest.NewRequest("GET", "/metrics", nil))
-	if line := `ctwitness_refusals_total{origin="` + origin + `",refused="unread"} 6` + "\n"; !strings.Contains(w.Body.String(), line) {
+	if line := `ctwitness_refusals_total{origin="` + origin + `",refused="unread"} 6` +
+		"\n"; !strings.Contains(w.Body.String(), line) {
 		t.Errorf("no %s", line)
 	}
 }

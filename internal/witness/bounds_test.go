@@ -30,7 +30,8 @@ func (b bounded) Read(ctx context.Context) (string, error) {
 	return b.Register.Read(ctx)
 }
 
-// TestRequestHasAnEnd: whoever asks, a request has its time, so that a register that doesn't answer holds no room for ever.
+// TestRequestHasAnEnd: whoever asks, a request has its time, so that a register that doesn't answer holds no room for
+// ever.
 func TestRequestHasAnEnd(t *testing.T) {
 	by, one := headKey(t, origin), grown(t, "a", "b", "c")
 	state := bounded{&held{}, make(chan time.Duration, 4)}
@@ -45,7 +46,7 @@ func TestRequestHasAnEnd(t *testing.T) {
 	}
 }
 
-// TestFromOneEntry: behind a tree of one entry, too, what lets a tree through has to lead to it.
+// TestFromOneEntry: a proof must also lead from a tree of one entry to the next tree.
 func TestFromOneEntry(t *testing.T) {
 	one, other := grown(t, "a", "b", "c"), grown(t, "x", "b", "c")
 	last := wagtenib.WitnessedTree{Root: one.root(t, 1), TreeSize: 1}
@@ -63,7 +64,8 @@ func TestFromOneEntry(t *testing.T) {
 	}
 }
 
-// TestStatesInOneText: a state is one text, and a name is one word without a plus sign, also where the key's bytes are that name's.
+// TestStatesInOneText: a state is one text, and a name is one word without a plus sign, also where the key's bytes are
+// that name's.
 func TestStatesInOneText(t *testing.T) {
 	last, err := readMessage(Message(7, checkpoint(origin, 5, tlog.Hash{9})), origin)
 	must(t, err)
@@ -73,7 +75,8 @@ func TestStatesInOneText(t *testing.T) {
 		if read, err := readState(text, origin); err != nil || !reflect.DeepEqual(read, of) {
 			t.Errorf("%q: %v, %v", text, read, err)
 		}
-		for _, wrong := range []string{text + text, text + "{}", text + "x", text + "\n", text[:len(text)-1], "x" + text, strings.Replace(text, "\n", "\r\n", 1), strings.Replace(text, origin, "other.example", 1)} {
+		for _, wrong := range []string{text + text, text + "{}", text + "x", text + "\n", text[:len(text)-1], "x" +
+			text, strings.Replace(text, "\n", "\r\n", 1), strings.Replace(text, origin, "other.example", 1)} {
 			if _, err := readState(wrong, origin); !errors.Is(err, ErrState) {
 				t.Errorf("%q: %v", wrong, err)
 			}

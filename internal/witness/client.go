@@ -22,7 +22,8 @@ type Client struct {
 // Verifier returns the key of the witness's cosignatures.
 func (c Client) Verifier() note.Verifier { return OfCosigner(c.Name, c.Key) }
 
-// AddCheckpoint posts the body of an add-checkpoint request, and returns the status and the beginning of the answer's body. It waits as long as the context lasts.
+// AddCheckpoint posts the body of an add-checkpoint request, and returns the status and the beginning of the answer's
+// body. It waits as long as the context lasts.
 func (c Client) AddCheckpoint(ctx context.Context, body []byte) (status int, answer string, err error) {
 	q, err := http.NewRequestWithContext(ctx, http.MethodPost, c.URL+"/add-checkpoint", bytes.NewReader(body))
 	if err != nil {

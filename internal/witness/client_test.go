@@ -15,7 +15,8 @@ import (
 	"golang.org/x/mod/sumdb/note"
 )
 
-// TestClientAsksOnce has a client ask a witness over HTTP for a size that it did not see, and for the right one, and a witness that does not answer.
+// TestClientAsksOnce has a client ask a witness over HTTP for a size that it did not see, and for the right one, and a
+// witness that does not answer.
 func TestClientAsksOnce(t *testing.T) {
 	by, key, log := headKey(t, origin), newKey(t), grown(t, "a", "b", "c")
 	over := httptest.NewServer(witnessOf(t, t.TempDir(), key, by))
@@ -23,14 +24,16 @@ func TestClientAsksOnce(t *testing.T) {
 	c := Client{One{URL: over.URL, Name: "w.example", Key: key.Public().(ed25519.PublicKey)}, over.Client()}
 	text := checkpoint(origin, 3, log.root(t, 3))
 	signed := by.sign(text)
-	if status, answer, err := c.AddCheckpoint(limited(t), request(2, nil, signed)); status != http.StatusConflict || answer != "0\n" || err != nil {
+	if status, answer, err := c.AddCheckpoint(limited(t), request(2, nil, signed)); status != http.StatusConflict ||
+		answer != "0\n" || err != nil {
 		t.Errorf("from another size: %d %q, %v", status, answer, err)
 	}
 	status, answer, err := c.AddCheckpoint(limited(t), request(0, nil, signed))
 	if err != nil || status != http.StatusOK {
 		t.Fatalf("the first: %d %q, %v", status, answer, err)
 	}
-	if opened, err := note.Open([]byte(text+"\n"+answer), note.VerifierList(c.Verifier())); err != nil || len(opened.Sigs) != 1 {
+	if opened, err := note.Open([]byte(text+"\n"+answer), note.VerifierList(c.Verifier())); err != nil ||
+		len(opened.Sigs) != 1 {
 		t.Errorf("%q is no cosignature of the client's witness: %v", answer, err)
 	}
 	ended, cancel := context.WithCancel(limited(t))
@@ -40,7 +43,8 @@ func TestClientAsksOnce(t *testing.T) {
 	}
 }
 
-// TestClientReadsWholeAnswers: an answer that breaks off is an error, and not the part that came. Of a long answer only the beginning is read.
+// TestClientReadsWholeAnswers: a response that breaks off is an error. Of a long response the client reads only the
+// beginning.
 func TestClientReadsWholeAnswers(t *testing.T) {
 	var length int
 	var text string
@@ -79,7 +83,8 @@ func TestTimestamps(t *testing.T) {
 	}
 	own := strings.Split(strings.TrimSuffix(string(signed), "\n"), "\n")
 	for _, line := range []string{
-		"", "— ", "— w.example", "— w.example AAAA", line[4:], line + "A", strings.Replace(line, " ", "", 2), own[len(own)-1],
+		"", "— ", "— w.example", "— w.example AAAA", line[4:], line + "A", strings.Replace(line, " ", "", 2),
+		own[len(own)-1],
 	} {
 		if name, at, ok := TimestampOf(line); ok {
 			t.Errorf("%q: %s at %v", line, name, at)

@@ -32,9 +32,11 @@ var refusals = map[wagtenib.Code]refusal{
 	wagtenib.ErrRootMismatch:  {"inconsistent", http.StatusUnprocessableEntity},
 }
 
-// faults has the names of the faults of a consistency proof, which follow "inconsistent" in an answer (docs/WITNESS.md).
+// faults has the names of the faults of a consistency proof, which follow "inconsistent" in an answer
+// (docs/WITNESS.md).
 var faults = map[wagtenib.Code]string{
-	wagtenib.ErrEmptyPath: "empty-path", wagtenib.ErrPathTooLong: "path-too-long", wagtenib.ErrPathTooShort: "path-too-short",
+	wagtenib.ErrEmptyPath: "empty-path", wagtenib.ErrPathTooLong: "path-too-long",
+	wagtenib.ErrPathTooShort:  "path-too-short",
 	wagtenib.ErrFirstMismatch: "first-mismatch", wagtenib.ErrRootMismatch: "root-mismatch",
 }
 
@@ -49,8 +51,9 @@ func proved(last state, r Request, now uint64) (message []byte, err error) {
 	return wagtenib.WitnessCosign(last.message, r.Text, r.Old, r.Proof, now)
 }
 
-// next returns the state after a request, or the refusal as an error that is a wagtenib.Code. The message of a decision is believed only if it is that of this
-// timestamp and of the checkpoint, and x/mod's tlog finds, too, that the proof leads to its tree. Otherwise the error is ErrDecision.
+// next returns the state after a request, or the refusal as an error that is a wagtenib.Code. The message of a decision
+// is believed only if it is that of this timestamp and of the checkpoint, and x/mod's tlog finds, too, that the proof
+// leads to its tree. Otherwise the error is ErrDecision.
 func (s *Server) next(last state, r Request, now uint64) (next state, err error) {
 	message, err := s.decides(last, r, now)
 	if err != nil {
@@ -69,14 +72,15 @@ func (s *Server) next(last state, r Request, now uint64) (next state, err error)
 	if err := leads(last.tree, r, size, root); err != nil {
 		return wrong(err.Error())
 	}
-	return state{origin: last.origin, message: message, tree: wagtenib.WitnessedTree{TreeSize: size, Time: now, Root: root}}, nil
+	return state{origin: last.origin, message: message, tree: wagtenib.WitnessedTree{TreeSize: size, Time: now,
+		Root: root}}, nil
 }
 
 // leads returns an error if a request does not lead from the last tree to its checkpoint's.
 func leads(last wagtenib.WitnessedTree, r Request, size uint64, root [32]byte) error {
 	switch {
 	case r.Old != last.TreeSize || size < last.TreeSize:
-		return errors.New("the request isn't from the last tree")
+		return errors.New("the request's old size is not that of the last tree")
 	case size == last.TreeSize && last.Root != root:
 		return errors.New("a fork")
 	case size == last.TreeSize || last.TreeSize == 0:

@@ -27,8 +27,8 @@ import (
 
 var errTried = errors.New("tried")
 
-// TestFaultyRegister: whatever a register does in place of a call, nothing is signed whose state isn't kept; what is lost is decided anew, and what is unknown
-// is settled by swapping again.
+// TestFaultyRegister: if a call of the register fails, nothing is signed unless its state is stored. After a lost swap
+// the request is decided again. A swap of unknown outcome is repeated.
 func TestFaultyRegister(t *testing.T) {
 	by, one := headKey(t, origin), grown(t, "a", "b", "c")
 	body := request(0, nil, by.sign(checkpoint(origin, 3, one.root(t, 3))))
@@ -65,7 +65,8 @@ func TestFaultyRegister(t *testing.T) {
 			return nil
 		}
 		w := posted(t, s, body)
-		if w.Code != test.status || !strings.HasPrefix(w.Body.String(), test.text) || strings.Join(told, " ") != test.tells || calls != test.calls {
+		if w.Code != test.status || !strings.HasPrefix(w.Body.String(), test.text) ||
+			strings.Join(told, " ") != test.tells || calls != test.calls {
 			t.Errorf("%s: %d %q behind %d calls, and %q is told", name, w.Code, w.Body, calls, told)
 		}
 		if (state.text == before) != (test.status != 200) {
@@ -75,11 +76,13 @@ func TestFaultyRegister(t *testing.T) {
 			t.Errorf("%s: no %s", name, line)
 		}
 	}
-	// What a start finds.
+	// The states that a start finds.
 	s := witnessOver(t, &held{}, newKey(t), by)
 	for _, test := range []struct{ err, kind error }{{stores.ErrAbsent, ErrState}, {errTried, errTried}} {
-		of := Log{Origin: origin, Keys: []note.Verifier{by.key}, State: &held{does: func(string) error { return test.err }}}
-		if err := s.Check(limited(t), of); !errors.Is(err, test.kind) || errors.Is(test.kind, errTried) && errors.Is(err, ErrState) {
+		of := Log{Origin: origin, Keys: []note.Verifier{by.key},
+			State: &held{does: func(string) error { return test.err }}}
+		if err := s.Check(limited(t), of); !errors.Is(err, test.kind) || errors.Is(test.kind, errTried) &&
+			errors.Is(err, ErrState) {
 			t.Errorf("%v: %v", test.err, err)
 		}
 		if err := of.Create(limited(t)); !errors.Is(err, test.err) {
@@ -95,7 +98,8 @@ func figures(s *Server) string {
 	return w.Body.String()
 }
 
-// TestKept: what is kept is the tree, the origin and the moment; no two swaps have one text, also of one tree in one second. The figures say so.
+// TestKept: the stored state has the tree, the origin and the timestamp. No two swaps have the same text, even for one
+// tree in one second. The metrics count them.
 func TestKept(t *testing.T) {
 	by, one, state := headKey(t, origin), grown(t, "a", "b", "c"), &held{}
 	s := witnessOver(t, state, newKey(t), by)
@@ -111,11 +115,13 @@ func TestKept(t *testing.T) {
 		}
 		texts[state.text] = true
 		kept, err := readState(state.text, origin)
-		if err != nil || kept.tree != (wagtenib.WitnessedTree{TreeSize: 3, Time: 1234567, Root: one.root(t, 3)}) || string(kept.message) != string(Message(1234567, checkpoint(origin, 3, one.root(t, 3)))) {
+		if err != nil || kept.tree != (wagtenib.WitnessedTree{TreeSize: 3, Time: 1234567, Root: one.root(t, 3)}) ||
+			string(kept.message) != string(Message(1234567, checkpoint(origin, 3, one.root(t, 3)))) {
 			t.Errorf("%s: %v", state.text, err)
 		}
 	}
-	for _, line := range []string{`ctwitness_entries{origin="` + origin + `"} 3`, `ctwitness_last_cosignature_seconds{origin="` + origin + `"} 1.234567e+06`,
+	for _, line := range []string{`ctwitness_entries{origin="` + origin + `"} 3`,
+		`ctwitness_last_cosignature_seconds{origin="` + origin + `"} 1.234567e+06`,
 		`ctwitness_cosignatures_total{origin="` + origin + `"} 3`, `ctwitness_requests_total{status="200"} 3`} {
 		if !strings.Contains(figures(s), line+"\n") {
 			t.Errorf("no %s", line)
@@ -123,24 +129,28 @@ func TestKept(t *testing.T) {
 	}
 	// Another process knows it from its start on, and forgets it with the log.
 	other := witnessOver(t, state, newKey(t), by)
-	for _, line := range []string{`ctwitness_entries{origin="` + origin + `"} 3`, `ctwitness_last_cosignature_seconds{origin="` + origin + `"} 1.234567e+06`} {
+	for _, line := range []string{`ctwitness_entries{origin="` + origin + `"} 3`,
+		`ctwitness_last_cosignature_seconds{origin="` + origin + `"} 1.234567e+06`} {
 		if !strings.Contains(figures(other), line+"\n") {
 			t.Errorf("at a start no %s", line)
 		}
 	}
 	other.SetLogs(nil)
-	if text := figures(other); strings.Contains(text, "ctwitness_entries{") || strings.Contains(text, "ctwitness_last_cosignature_seconds{") {
+	if text := figures(other); strings.Contains(text, "ctwitness_entries{") ||
+		strings.Contains(text, "ctwitness_last_cosignature_seconds{") {
 		t.Error("a log that isn't witnessed any more has figures")
 	}
 }
 
-// TestAnswers: no answer is kept by caches or taken for a page, each request leaves its room, and a body that breaks off is none.
+// TestAnswers: no answer is kept by caches or taken for a page, each request leaves its room, and a body that breaks
+// off is none.
 func TestAnswers(t *testing.T) {
 	s := witnessOver(t, &held{}, newKey(t), plainKey(t, origin))
 	for _, body := range []io.Reader{strings.NewReader("x"), iotest.ErrReader(errTried)} {
 		w := httptest.NewRecorder()
 		s.ServeHTTP(w, httptest.NewRequest("POST", "/add-checkpoint", body))
-		if w.Code != 400 || w.Header().Get("Cache-Control") != "no-store" || w.Header().Get("X-Content-Type-Options") != "nosniff" || w.Header().Get("Retry-After") != "" {
+		if w.Code != 400 || w.Header().Get("Cache-Control") != "no-store" ||
+			w.Header().Get("X-Content-Type-Options") != "nosniff" || w.Header().Get("Retry-After") != "" {
 			t.Errorf("%d %q %s", w.Code, w.Header(), w.Body)
 		}
 		if len(s.room) != 0 {
@@ -166,14 +176,17 @@ func TestAnswers(t *testing.T) {
 		t.Errorf("its clock says %d", at)
 	}
 	// Exactly as many bytes and hashes as may be are read.
-	if _, err := ParseRequest([]byte("old 0\n\n" + strings.Repeat("x", MaxBody-7))); !errors.Is(err, ErrRequest) || strings.Contains(err.Error(), "more than") {
+	if _, err := ParseRequest([]byte("old 0\n\n" + strings.Repeat("x", MaxBody-7))); !errors.Is(err, ErrRequest) ||
+		strings.Contains(err.Error(), "more than") {
 		t.Errorf("the longest body: %v", err)
 	}
-	if _, err := ParseRequest([]byte("old 0\n\n" + strings.Repeat("x", MaxBody-6))); !errors.Is(err, ErrRequest) || !strings.Contains(err.Error(), "more than") {
+	if _, err := ParseRequest([]byte("old 0\n\n" + strings.Repeat("x", MaxBody-6))); !errors.Is(err, ErrRequest) ||
+		!strings.Contains(err.Error(), "more than") {
 		t.Errorf("a byte more: %v", err)
 	}
 	signed := plainKey(t, origin).sign(checkpoint(origin, 9, [32]byte{}))
-	if r, err := ParseRequest(request(3, make([][32]byte, MaxProof), signed)); err != nil || len(r.Proof) != MaxProof || r.Old != 3 || r.Origin() != origin {
+	if r, err := ParseRequest(request(3, make([][32]byte, MaxProof), signed)); err != nil || len(r.Proof) != MaxProof ||
+		r.Old != 3 || r.Origin() != origin {
 		t.Errorf("the longest proof: %v", err)
 	}
 	if _, err := ParseRequest(request(3, make([][32]byte, MaxProof+1), signed)); !errors.Is(err, ErrRequest) {
@@ -183,7 +196,8 @@ func TestAnswers(t *testing.T) {
 
 // TestTexts: numbers, hashes and checkpoints are taken in their one text.
 func TestTexts(t *testing.T) {
-	for _, wrong := range []string{"", "+5", "-1", " 5", "5 ", "05", "00", "5\n", "0x5", "1e3", "9223372036854775808", "18446744073709551616"} {
+	for _, wrong := range []string{"", "+5", "-1", " 5", "5 ", "05", "00", "5\n", "0x5", "1e3", "9223372036854775808",
+		"18446744073709551616"} {
 		if n, err := number(wrong); !errors.Is(err, ErrRequest) {
 			t.Errorf("%q is %d", wrong, n)
 		}
@@ -197,7 +211,8 @@ func TestTexts(t *testing.T) {
 	if h, err := hash(right); err != nil || h != [32]byte{} {
 		t.Error(err)
 	}
-	for _, wrong := range []string{"", right[:43], right[:42] + "B=", right + "\n", strings.TrimRight(right, "="), base64.StdEncoding.EncodeToString(make([]byte, 31)),
+	for _, wrong := range []string{"", right[:43], right[:42] + "B=", right + "\n", strings.TrimRight(right, "="),
+		base64.StdEncoding.EncodeToString(make([]byte, 31)),
 		base64.StdEncoding.EncodeToString(make([]byte, 33)), "-" + right[1:]} {
 		if _, err := hash(wrong); !errors.Is(err, ErrRequest) {
 			t.Errorf("%q is a hash", wrong)
@@ -206,14 +221,16 @@ func TestTexts(t *testing.T) {
 	if size, _, err := TreeOf("o\n5\n" + right + "\n"); err != nil || size != 5 {
 		t.Error(err)
 	}
-	for _, wrong := range []string{"", "\n5\n" + right + "\n", "o\n5\n" + right, "o\n5\n" + right + "\nmore\n", "o\n05\n" + right + "\n", "o\n5\n\n", "o\n5\n" + right + "\n\n", "o\n\n" + right + "\n"} {
+	for _, wrong := range []string{"", "\n5\n" + right + "\n", "o\n5\n" + right, "o\n5\n" + right + "\nmore\n",
+		"o\n05\n" + right + "\n", "o\n5\n\n", "o\n5\n" + right + "\n\n", "o\n\n" + right + "\n"} {
 		if _, _, err := TreeOf(wrong); !errors.Is(err, ErrRequest) {
 			t.Errorf("%q is a checkpoint", wrong)
 		}
 	}
 }
 
-// TestOtherKeys: keys of another kind, or under another's name, are none, and no signature of any length is one of nothing.
+// TestOtherKeys: keys of another kind, or under another's name, are none, and no signature of any length is one of
+// nothing.
 func TestOtherKeys(t *testing.T) {
 	inPEM := func(kind string, der []byte, err error) string {
 		must(t, err)
@@ -251,10 +268,12 @@ func TestOtherKeys(t *testing.T) {
 	written := func(name string, kind byte) string {
 		return fmt.Sprintf("%s+%08x+%s", name, id, base64.StdEncoding.EncodeToString(append([]byte{kind}, public...)))
 	}
-	if name, read, err := ReadVerifierKey(written("w.example", algCosignature)); err != nil || name != "w.example" || !read.Equal(public) {
+	if name, read, err := ReadVerifierKey(written("w.example", algCosignature)); err != nil || name != "w.example" ||
+		!read.Equal(public) {
 		t.Error(err)
 	}
-	for what, wrong := range map[string]string{"of type 1": written("w.example", 1), "of another name": written("v.example", algCosignature), "with a space": VerifierKey("w example", public)} {
+	for what, wrong := range map[string]string{"of type 1": written("w.example", 1),
+		"of another name": written("v.example", algCosignature), "with a space": VerifierKey("w example", public)} {
 		if _, _, err := ReadVerifierKey(wrong); !errors.Is(err, ErrKey) {
 			t.Errorf("a verifier key %s: %v", what, err)
 		}
@@ -263,7 +282,8 @@ func TestOtherKeys(t *testing.T) {
 	der, err = publicOf(&wide.PublicKey)
 	must(t, err)
 	for length := 0; length < 80; length++ {
-		for _, of := range []note.Verifier{OfCosigner("w.example", public), OfRFC6962(origin, der), headKey(t, origin).key} {
+		for _, of := range []note.Verifier{OfCosigner("w.example", public), OfRFC6962(origin, der),
+			headKey(t, origin).key} {
 			if of.Verify(text, make([]byte, length)) {
 				t.Errorf("%d bytes of 0 are a signature", length)
 			}
@@ -273,12 +293,14 @@ func TestOtherKeys(t *testing.T) {
 	signed := ed25519.Sign(key, Message(7, string(text)))
 	blob := append(binary.BigEndian.AppendUint64(nil, 7), signed...)
 	of := OfCosigner("w.example", public)
-	if !of.Verify(text, blob) || of.Verify(text, append(binary.BigEndian.AppendUint64(nil, 8), signed...)) || of.Verify(text[:len(text)-1], blob) || of.Verify(text, append(blob, 0)) {
+	if !of.Verify(text, blob) || of.Verify(text, append(binary.BigEndian.AppendUint64(nil, 8), signed...)) ||
+		of.Verify(text[:len(text)-1], blob) || of.Verify(text, append(blob, 0)) {
 		t.Error("a cosignature is taken for another one")
 	}
 }
 
-// TestLeads has the second look at a request, by x/mod's tlog, refuse what does not lead from the last tree to the checkpoint's.
+// TestLeads has the second look at a request, by x/mod's tlog, refuse what does not lead from the last tree to the
+// checkpoint's.
 func TestLeads(t *testing.T) {
 	one := grown(t, "a", "b", "c", "d", "e")
 	of := func(n int64) wagtenib.WitnessedTree {

@@ -9,8 +9,8 @@ import (
 	"github.com/prometheus/client_golang/prometheus/promhttp"
 )
 
-// metrics are what Prometheus reads of a witness. Labels have the origins of the settings, statuses and the names of refusals, and nothing
-// that a client says.
+// metrics are what Prometheus reads of a witness. Labels have the origins of the settings, statuses and the names of
+// refusals, and nothing that a client says.
 type metrics struct {
 	registry        *prometheus.Registry
 	requests        *prometheus.CounterVec
@@ -31,11 +31,14 @@ func newMetrics() *metrics {
 		registry: prometheus.NewRegistry(),
 		requests: counter("ctwitness_requests_total", "Requests that were answered.", "status"),
 		given:    counter("ctwitness_cosignatures_total", "Cosignatures that were given.", "origin"),
-		refusals: counter("ctwitness_refusals_total", "Checkpoints that were refused, by the names of docs/WITNESS.md.", "origin", "refused"),
-		size:     gauge("ctwitness_entries", "Entries of the tree that was cosigned last."),
-		last:     gauge("ctwitness_last_cosignature_seconds", "When the last cosignature was given, in seconds since 1970."),
-		lost:     prometheus.NewCounter(prometheus.CounterOpts{Name: "ctwitness_lost_swaps_total", Help: "Requests that were decided anew, since the log's state moved."}),
-		reloads:  counter("ctwitness_reloads_total", "Readings of the settings' logs anew.", "outcome"),
+		refusals: counter("ctwitness_refusals_total", "Checkpoints that were refused, by the names of docs/WITNESS.md.",
+			"origin", "refused"),
+		size: gauge("ctwitness_entries", "Entries of the tree that was cosigned last."),
+		last: gauge("ctwitness_last_cosignature_seconds",
+			"When the last cosignature was given, in seconds since 1970."),
+		lost: prometheus.NewCounter(prometheus.CounterOpts{Name: "ctwitness_lost_swaps_total",
+			Help: "Requests that were decided again after another one had changed the log's state."}),
+		reloads: counter("ctwitness_reloads_total", "Reloads of the settings' logs.", "outcome"),
 	}
 	m.registry.MustRegister(m.requests, m.given, m.refusals, m.size, m.last, m.lost, m.reloads,
 		collectors.NewGoCollector(), collectors.NewProcessCollector(collectors.ProcessCollectorOpts{}))
@@ -57,7 +60,7 @@ func (m *metrics) forget(origin string) {
 	m.last.DeleteLabelValues(origin)
 }
 
-// Reloaded counts a reading of the settings' logs anew.
+// Reloaded counts a reload of the settings' logs.
 func (s *Server) Reloaded(err error) {
 	outcome := "done"
 	if err != nil {
@@ -69,7 +72,8 @@ func (s *Server) Reloaded(err error) {
 // Operator answers an operator: /metrics and /healthz.
 func (s *Server) Operator() http.Handler {
 	mux := http.NewServeMux()
-	mux.Handle("/metrics", promhttp.HandlerFor(s.metrics.registry, promhttp.HandlerOpts{MaxRequestsInFlight: 4, Timeout: 10 * time.Second}))
+	mux.Handle("/metrics", promhttp.HandlerFor(s.metrics.registry,
+		promhttp.HandlerOpts{MaxRequestsInFlight: 4, Timeout: 10 * time.Second}))
 	mux.HandleFunc("/healthz", func(w http.ResponseWriter, _ *http.Request) { _, _ = w.Write([]byte("ok\n")) })
 	return mux
 }

@@ -1,5 +1,5 @@
-// Package witness has both sides of C2SP tlog-witness: a witness over HTTP, whose decisions are proved code (docs/WITNESS.md), and what a log asks
-// several of them.
+// Package witness has both sides of C2SP tlog-witness: a witness over HTTP, whose decisions are proved code
+// (docs/WITNESS.md), and what a log asks several of them.
 package witness
 
 import (
@@ -34,7 +34,7 @@ const (
 	algRFC6962     = 5
 )
 
-// What is refused of texts. Each is found by errors.Is.
+// The kinds of errors in notes. Use errors.Is.
 var (
 	// ErrRequest: a text isn't a request's, or a note's.
 	ErrRequest = errors.New("witness: not a request")
@@ -42,7 +42,8 @@ var (
 	ErrKey = errors.New("witness: no such key")
 )
 
-// Request is what add-checkpoint is asked: the size that the proof is from, the proof, and the signed note, whose text is Text.
+// Request is what add-checkpoint is asked: the size that the proof is from, the proof, and the signed note, whose text
+// is Text.
 type Request struct {
 	Old   uint64
 	Proof [][32]byte
@@ -150,8 +151,9 @@ func (v verifier) Name() string                       { return v.name }
 func (v verifier) KeyHash() uint32                    { return v.id }
 func (v verifier) Verify(text, signature []byte) bool { return v.verify(text, signature) }
 
-// OfRFC6962 is the key of a log of RFC 6962 (type 5; a SubjectPublicKeyInfo of P-256 in DER): the signature is over the tree head at the moment
-// that its line says. Origin and extension lines aren't signed, so the one is compared, and of the others there may be none.
+// OfRFC6962 is the key of a log of RFC 6962 (type 5; a SubjectPublicKeyInfo of P-256 in DER): the signature is over the
+// tree head at the moment that its line says. Origin and extension lines aren't signed, so the one is compared, and of
+// the others there may be none.
 func OfRFC6962(origin string, der []byte) note.Verifier {
 	logID := sha256.Sum256(der)
 	return verifier{origin, idOf(origin, algRFC6962, logID[:]), func(text, signature []byte) bool {
@@ -164,8 +166,8 @@ func OfRFC6962(origin string, der []byte) note.Verifier {
 	}}
 }
 
-// LogKey reads a log's public key: a verifier key of a signed note (type 1, Ed25519), or a SubjectPublicKeyInfo in PEM, of Ed25519 (type 1) or
-// P-256 (type 5).
+// LogKey reads a log's public key: a verifier key of a signed note (type 1, Ed25519), or a SubjectPublicKeyInfo in PEM,
+// of Ed25519 (type 1) or P-256 (type 5).
 func LogKey(origin, text string) (note.Verifier, error) {
 	block, _ := pem.Decode([]byte(text))
 	if block == nil {
@@ -194,7 +196,8 @@ func LogKey(origin, text string) (note.Verifier, error) {
 	return nil, fmt.Errorf("%w: it is neither of Ed25519 nor of P-256", ErrKey)
 }
 
-// Message is what a cosignature is over (C2SP tlog-cosignature, "cosignature/v1"): the moment in seconds, and the checkpoint's text.
+// Message is what a cosignature is over (C2SP tlog-cosignature, "cosignature/v1"): the moment in seconds, and the
+// checkpoint's text.
 func Message(seconds uint64, text string) []byte {
 	return []byte("cosignature/v1\ntime " + strconv.FormatUint(seconds, 10) + "\n" + text)
 }
@@ -202,7 +205,8 @@ func Message(seconds uint64, text string) []byte {
 // OfCosigner is a witness's key (type 4): the signature's line says the moment, and the signature is over Message.
 func OfCosigner(name string, key ed25519.PublicKey) note.Verifier {
 	return verifier{name, idOf(name, algCosignature, key), func(text, signature []byte) bool {
-		return len(signature) == 8+ed25519.SignatureSize && ed25519.Verify(key, Message(binary.BigEndian.Uint64(signature[:8]), string(text)), signature[8:])
+		return len(signature) == 8+ed25519.SignatureSize && ed25519.Verify(key,
+			Message(binary.BigEndian.Uint64(signature[:8]), string(text)), signature[8:])
 	}}
 }
 
@@ -223,9 +227,11 @@ func TimestampOf(line string) (name string, at time.Time, ok bool) {
 	return name, time.Unix(int64(binary.BigEndian.Uint64(blob[4:12])), 0), true
 }
 
-// VerifierKey writes a witness's key: its name, its key's four bytes in hexadecimal, and base64 of the type and the key.
+// VerifierKey writes a witness's key: its name, its key's four bytes in hexadecimal, and base64 of the type and the
+// key.
 func VerifierKey(name string, key ed25519.PublicKey) string {
-	return fmt.Sprintf("%s+%08x+%s", name, idOf(name, algCosignature, key), base64.StdEncoding.EncodeToString(append([]byte{algCosignature}, key...)))
+	return fmt.Sprintf("%s+%08x+%s", name, idOf(name, algCosignature, key),
+		base64.StdEncoding.EncodeToString(append([]byte{algCosignature}, key...)))
 }
 
 // ReadVerifierKey reads one.
@@ -236,7 +242,8 @@ func ReadVerifierKey(text string) (name string, key ed25519.PublicKey, err error
 	if err != nil || len(raw) != 1+ed25519.PublicKeySize || raw[0] != algCosignature || !isName(name) {
 		return "", nil, fmt.Errorf("%w: no verifier key of a witness", ErrKey)
 	}
-	if given, err := hex.DecodeString(id); err != nil || len(given) != 4 || binary.BigEndian.Uint32(given) != idOf(name, algCosignature, raw[1:]) {
+	if given, err := hex.DecodeString(id); err != nil || len(given) != 4 ||
+		binary.BigEndian.Uint32(given) != idOf(name, algCosignature, raw[1:]) {
 		return "", nil, fmt.Errorf("%w: a verifier key of another name or key", ErrKey)
 	}
 	return name, raw[1:], nil
@@ -244,7 +251,8 @@ func ReadVerifierKey(text string) (name string, key ed25519.PublicKey, err error
 
 // isName says whether a text can be a key's name in a note.
 func isName(name string) bool {
-	return name != "" && !strings.ContainsAny(name, "+") && len(strings.Fields(name)) == 1 && strings.TrimSpace(name) == name
+	return name != "" && !strings.ContainsAny(name, "+") && len(strings.Fields(name)) == 1 &&
+		strings.TrimSpace(name) == name
 }
 
 // ReadKey reads a witness's private key out of PEM: Ed25519, as openssl genpkey writes it.
@@ -259,7 +267,7 @@ func ReadKey(text []byte) (ed25519.PrivateKey, error) {
 	}
 	key, ok := parsed.(ed25519.PrivateKey)
 	if !ok {
-		return nil, fmt.Errorf("%w: it isn't one of Ed25519", ErrKey)
+		return nil, fmt.Errorf("%w: it is not an Ed25519 key", ErrKey)
 	}
 	return key, nil
 }

@@ -6,10 +6,12 @@ import (
 	"wagtenib/internal/trial"
 )
 
-// TestPageSaysBounds: the bounds that docs/SERVICE.md says of a witness, and of a log with witnesses, are those that are here.
+// TestPageSaysBounds: the bounds that docs/SERVICE.md says of a witness, and of a log with witnesses, are those that
+// are here.
 func TestPageSaysBounds(t *testing.T) {
 	trial.Says(t, trial.Page(t, "../../docs/SERVICE.md"), map[string]bool{
-		"A request, `POST /add-checkpoint`, has at most 64 KiB and 63 hashes":         MaxBody == 64<<10 && MaxProof == 63,
+		"A request, `POST /add-checkpoint`, has at most 64 KiB and 63 hashes": MaxBody == 64<<10 &&
+			MaxProof == 63,
 		"| 503 `clock` | the clock is more than a minute behind the last timestamp |": maxLag == 60,
 	})
 }

@@ -28,13 +28,15 @@ func ReadOne(text string) (one One, err error) {
 	return one, err
 }
 
-// CheckDistinct returns ErrQuorum if two witnesses have the same name, key or URL. A witness that counts twice is no quorum.
+// CheckDistinct returns ErrQuorum if two witnesses have the same name, key or URL. A witness that counts twice is no
+// quorum.
 func CheckDistinct(all []One) error {
 	seen := map[string]bool{}
 	for _, one := range all {
 		for _, own := range []string{one.Name, string(one.Key), one.URL} {
 			if seen[own] {
-				return fmt.Errorf("%w: two witnesses have one name, key or URL: %s (name each witness once)", ErrQuorum, one.Name)
+				return fmt.Errorf("%w: two witnesses have one name, key or URL: %s (name each witness once)",
+					ErrQuorum, one.Name)
 			}
 			seen[own] = true
 		}
@@ -42,18 +44,20 @@ func CheckDistinct(all []One) error {
 	return nil
 }
 
-// Quorums are numbers of witnesses: Publish must cosign a head before it is published, Start must cosign again the head with which a node starts, and at most
-// Faults are faulty.
+// Quorums are numbers of witnesses: Publish must cosign a head before it is published, Start must cosign again the head
+// with which a node starts, and at most Faults are faulty.
 type Quorums struct{ Publish, Start, Faults int }
 
-// IsSafe reports whether any two heads that quorums of so many witnesses cosigned are of one list of entries (docs/WITNESS.md: is_safe).
+// IsSafe reports whether any two heads that quorums of so many witnesses cosigned are of one list of entries
+// (docs/WITNESS.md: is_safe).
 func (q Quorums) IsSafe(witnesses int) bool { return witnesses+q.Faults < q.Start+q.Publish }
 
 // Check returns ErrQuorum unless so many witnesses can have these quorums, and the quorums are safe.
 func (q Quorums) Check(witnesses int) error {
 	n := witnesses
 	if q.Publish < 1 || q.Start < 1 || q.Faults < 0 || q.Publish > n || q.Start > n || !q.IsSafe(n) {
-		return fmt.Errorf("%w: of %d witnesses, %d publish, %d start and %d may be faulty (%d + %d must be below %d + %d)",
+		return fmt.Errorf("%w: of %d witnesses, %d publish, %d start and %d may be faulty (%d + %d must be below "+
+			"%d + %d)",
 			ErrQuorum, n, q.Publish, q.Start, q.Faults, n, q.Faults, q.Start, q.Publish)
 	}
 	return nil

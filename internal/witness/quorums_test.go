@@ -24,8 +24,8 @@ func subsets(n int) (all []uint) {
 	return all
 }
 
-// TestIsSafe: quorums are safe exactly where each two of their sets have one witness more in common than may be faulty, for all small numbers.
-// (laws::quorums and laws::bound of ct_witness are of the same.)
+// TestIsSafe: quorums are safe exactly where each two of their sets have one witness more in common than may be faulty,
+// for all small numbers. (laws::quorums and laws::bound of ct_witness are of the same.)
 func TestIsSafe(t *testing.T) {
 	for n := 1; n <= 6; n++ {
 		for start := 1; start <= n; start++ {
@@ -39,8 +39,10 @@ func TestIsSafe(t *testing.T) {
 					}
 				}
 				for faults := 0; faults <= n+1; faults++ {
-					if safe := (Quorums{Publish: publish, Start: start, Faults: faults}).IsSafe(n); safe != (least > faults) {
-						t.Errorf("%d witnesses, %d start, %d publish, %d faulty: %t, and two sets have %d in common", n, start, publish, faults, safe, least)
+					if safe := (Quorums{Publish: publish, Start: start, Faults: faults}).IsSafe(
+						n); safe != (least > faults) {
+						t.Errorf("%d witnesses, %d start, %d publish, %d faulty: %t, and two sets have %d in common", n,
+							start, publish, faults, safe, least)
 					}
 				}
 			}
@@ -48,7 +50,7 @@ func TestIsSafe(t *testing.T) {
 	}
 }
 
-// held is a register in memory. Each call asks `does` first, which may move what stands, or fail in its place.
+// held is a register in memory. Each call first calls `does`, which may change the text, or fail instead of the call.
 type held struct {
 	stores.Register
 	mu   sync.Mutex
@@ -100,7 +102,7 @@ func (h *held) Swap(_ context.Context, old, next string) error {
 
 func (h *held) Close() error { return nil }
 
-// stands has a witness stand at a head of a log.
+// stands sets a witness's state to a head of a log.
 func (h *held) stands(t testing.TB, of *leaves, size int64) {
 	last, err := readMessage(Message(1, checkpoint(origin, size, of.root(t, size))), origin)
 	must(t, err)
@@ -117,7 +119,8 @@ type shown struct {
 	of *leaves
 }
 
-// parties are three witnesses with their states, and a log that had five entries and was rolled back to three: its head then, and one of a fork.
+// parties are three witnesses with their states, and a log that had five entries and was rolled back to three: its head
+// then, and one of a fork.
 type parties struct {
 	all    []*Server
 	states []*held
@@ -127,9 +130,10 @@ type parties struct {
 	old, fork shown
 }
 
-// TestNoQuorumStartsAnOldLog: of three witnesses some cosigned a head of 5 entries, and some are then restored as they were at 3, or lie. A log that was rolled
-// back to 3 entries as a whole does not start, whichever witnesses answer, nor does one that forked after those 3. If one witness more is faulty than may be, it
-// can start.
+// TestNoQuorumStartsAnOldLog: three witnesses have cosigned a head of 5 entries, and some of them are then rolled back
+// to 3 entries, or lie. A log that was rolled back to 3 entries as a whole does not start, whichever witnesses answer.
+// A log that forked after these 3 entries does not start either. If one witness more is faulty than allowed, it can
+// start.
 func TestNoQuorumStartsAnOldLog(t *testing.T) {
 	by := headKey(t, origin)
 	p := &parties{one: grown(t, "a", "b", "c", "d", "e")}
@@ -146,17 +150,20 @@ func TestNoQuorumStartsAnOldLog(t *testing.T) {
 			most := publish + start - 4
 			for faults := 0; faults <= most; faults++ {
 				if began := p.starts(t, Quorums{publish, start, faults}); began > 0 {
-					t.Errorf("%d publish, %d start, %d faulty: an old log started %d times", publish, start, faults, began)
+					t.Errorf("%d publish, %d start, %d faulty: an old log started %d times", publish,
+						start, faults, began)
 				}
 			}
 			if most >= -1 && p.starts(t, Quorums{publish, start, most + 1}) == 0 {
-				t.Errorf("%d publish, %d start, %d faulty: the bound is not exact: no old log started", publish, start, most+1)
+				t.Errorf("%d publish, %d start, %d faulty: the bound is not exact: no old log started",
+					publish, start, most+1)
 			}
 		}
 	}
 }
 
-// starts counts how often an old log starts, over all sets of witnesses that cosigned the newest head, are faulty, and answer.
+// starts counts how often an old log starts, over all sets of witnesses that cosigned the newest head, are faulty, and
+// answer.
 func (p *parties) starts(t *testing.T, q Quorums) (began int) {
 	for _, cosigned := range subsets(3) {
 		for _, faulty := range subsets(3) {
@@ -171,15 +178,16 @@ func (p *parties) starts(t *testing.T, q Quorums) (began int) {
 	return began
 }
 
-// startsAgain has a witness know its stored state only, as one that was restored and started again. A witness that runs would refuse the older state.
+// startsAgain has a witness know its stored state only, as one that was restored and started again. A witness that runs
+// would refuse the older state.
 func (s *Server) startsAgain() {
 	s.mu.Lock()
 	defer s.mu.Unlock()
 	s.seen = map[string]state{}
 }
 
-// begins counts how often an old log starts, over all sets of witnesses that may answer. Those that know better have the newest head, and the others the old one.
-// As in the node, enough must cosign, and none may say that it saw more.
+// begins counts how often an old log starts, over all sets of witnesses that may answer. Those that know better have
+// the newest head, and the others the old one. As in the node, enough must cosign, and none may say that it saw more.
 func (p *parties) begins(t *testing.T, q Quorums, know uint) (began int) {
 	for _, answering := range subsets(3) {
 		for size, old := range map[int64]shown{3: p.old, 6: p.fork} {
@@ -199,7 +207,8 @@ func (p *parties) begins(t *testing.T, q Quorums, know uint) (began int) {
 	return began
 }
 
-// cosigns reports whether a witness cosigns a head. It is asked from no entries, and then from the size that it answers.
+// cosigns reports whether a witness cosigns a head. It is asked from no entries, and then from the size that it
+// answers.
 func cosigns(t *testing.T, s *Server, of shown, size int64) bool {
 	signed := of.by.sign(checkpoint(origin, size, of.of.root(t, size)))
 	w := posted(t, s, request(0, nil, signed))
@@ -214,7 +223,8 @@ func cosigns(t *testing.T, s *Server, of shown, size int64) bool {
 	return w.Code == http.StatusOK
 }
 
-// TestQuorums: quorums are refused if no honest witness is in all of them, and two witnesses are refused if they are one.
+// TestQuorums: quorums are refused if no honest witness is in all of them, and two witnesses are refused if they are
+// one.
 func TestQuorums(t *testing.T) {
 	var ones []One
 	for i := 0; i < 4; i++ {
@@ -224,9 +234,12 @@ func TestQuorums(t *testing.T) {
 		n, publish, start, faults int
 		right                     bool
 	}{
-		{1, 1, 1, 0, true}, {2, 2, 1, 0, true}, {2, 1, 1, 0, false}, {3, 2, 2, 0, true}, {3, 2, 2, 1, false}, {3, 3, 2, 1, true},
-		{3, 2, 3, 1, true}, {3, 1, 2, 0, false}, {3, 3, 3, 2, true}, {3, 3, 3, 3, false}, {4, 3, 2, 0, true}, {4, 2, 2, 0, false},
-		{3, 4, 2, 0, false}, {3, 2, 4, 0, false}, {3, 0, 4, 0, false}, {3, 4, 0, 0, false}, {3, 3, 3, -1, false}, {0, 1, 1, 0, false},
+		{1, 1, 1, 0, true}, {2, 2, 1, 0, true}, {2, 1, 1, 0, false}, {3, 2, 2, 0, true}, {3, 2, 2, 1, false},
+		{3, 3, 2, 1, true},
+		{3, 2, 3, 1, true}, {3, 1, 2, 0, false}, {3, 3, 3, 2, true}, {3, 3, 3, 3, false}, {4, 3, 2, 0, true},
+		{4, 2, 2, 0, false},
+		{3, 4, 2, 0, false}, {3, 2, 4, 0, false}, {3, 0, 4, 0, false}, {3, 4, 0, 0, false}, {3, 3, 3, -1, false},
+		{0, 1, 1, 0, false},
 	} {
 		err := Quorums{test.publish, test.start, test.faults}.Check(test.n)
 		if test.right != (err == nil) || err != nil && !errors.Is(err, ErrQuorum) {
@@ -237,16 +250,19 @@ func TestQuorums(t *testing.T) {
 		t.Errorf("different witnesses are refused: %v", err)
 	}
 	other := newKey(t).Public().(ed25519.PublicKey)
-	for _, twice := range []One{{ones[0].URL, "x", other}, {"http://x", ones[0].Name, other}, {"http://x", "x", ones[0].Key}} {
+	for _, twice := range []One{{ones[0].URL, "x", other}, {"http://x", ones[0].Name, other},
+		{"http://x", "x", ones[0].Key}} {
 		if err := CheckDistinct([]One{ones[0], twice}); !errors.Is(err, ErrQuorum) {
 			t.Errorf("%+v: %v", twice, err)
 		}
 	}
 	key := VerifierKey("w.example", ones[0].Key)
-	if one, err := ReadOne("https://w.example/a/," + key); err != nil || one.URL != "https://w.example/a" || one.Name != "w.example" || !one.Key.Equal(ones[0].Key) {
+	if one, err := ReadOne("https://w.example/a/," + key); err != nil || one.URL != "https://w.example/a" ||
+		one.Name != "w.example" || !one.Key.Equal(ones[0].Key) {
 		t.Errorf("%+v, %v", one, err)
 	}
-	for _, wrong := range []string{"", key, "https://w.example", "https://w.example,", "w.example," + key, "https://w.example,x"} {
+	for _, wrong := range []string{"", key, "https://w.example", "https://w.example,", "w.example," + key,
+		"https://w.example,x"} {
 		if _, err := ReadOne(wrong); !errors.Is(err, ErrKey) {
 			t.Errorf("%q: %v", wrong, err)
 		}

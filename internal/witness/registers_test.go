@@ -27,11 +27,15 @@ import (
 	"wagtenib/internal/trial"
 )
 
-// grounds are where a witness's states are kept: an address for a folder and a name that no other test has. Engines are those that
-// tests/engines.sh started; where it didn't, they are empty.
+// grounds are the kinds of registers that keep a witness's states. Each returns an address for a folder and a name that
+// no other test uses. The engines are those that tests/engines.sh started. Their addresses are empty if it did not run.
 func grounds() map[string]func(folder, name string) string {
-	all := map[string]func(folder, name string) string{"file": func(folder, _ string) string { return "file:" + folder }}
-	for kind, members := range map[string]string{"etcd": os.Getenv("STORES_ETCD"), "three members of etcd": os.Getenv("STORES_MEMBERS")} {
+	all := map[string]func(folder, name string) string{"file": func(folder,
+		_ string) string {
+		return "file:" + folder
+	}}
+	for kind, members := range map[string]string{"etcd": os.Getenv("STORES_ETCD"),
+		"three members of etcd": os.Getenv("STORES_MEMBERS")} {
 		if members := members; members != "" {
 			all[kind] = func(_, name string) string { return "etcd://" + members + "/" + name }
 		}
@@ -43,7 +47,8 @@ func grounds() map[string]func(folder, name string) string {
 	}
 	if len(words) > 0 {
 		all["postgres"] = func(_, name string) string {
-			return fmt.Sprintf("postgres://%s@%s:%s/%s?sslmode=%s&log=%s", words["user"], words["host"], words["port"], words["dbname"], words["sslmode"], name)
+			return fmt.Sprintf("postgres://%s@%s:%s/%s?sslmode=%s&log=%s", words["user"], words["host"], words["port"],
+				words["dbname"], words["sslmode"], name)
 		}
 	}
 	return all
@@ -67,7 +72,8 @@ func registerAt(t testing.TB, address string) stores.Register {
 	return r
 }
 
-// forks are two heads of one size that no list has both, as requests of a witness that cosigned nothing, and once they are its last.
+// forks are two heads of one size that no list has both, as requests of a witness that cosigned nothing, and once they
+// are its last.
 func forks(t testing.TB, by signing) (first, again [2][]byte) {
 	for i, of := range []*leaves{grown(t, "a", "b", "c", "d", "e"), grown(t, "a", "b", "c", "x", "y")} {
 		signed := by.sign(checkpoint(origin, 5, of.root(t, 5)))
@@ -98,14 +104,16 @@ func (c *counted) one(t testing.TB, round int) {
 	}
 }
 
-// TestRace: of two heads that fork, asked at once of two witnesses with one key over one register, one is cosigned and the other never.
+// TestRace: of two heads that fork, asked at once of two witnesses with one key over one register, one is cosigned and
+// the other never.
 func TestRace(t *testing.T) {
 	onEach(t, func(t *testing.T, anew func() string) {
 		by, key := headKey(t, origin), newKey(t)
 		first, again := forks(t, by)
 		for round := 0; round < 10; round++ {
 			at := anew()
-			witnesses := []*Server{witnessOver(t, registerAt(t, at), key, by), witnessOver(t, registerAt(t, at), key, by)}
+			witnesses := []*Server{witnessOver(t, registerAt(t, at), key, by),
+				witnessOver(t, registerAt(t, at), key, by)}
 			var all sync.WaitGroup
 			var cosigned counted
 			ask := func(s *Server, head int, body []byte) {
@@ -135,8 +143,8 @@ func TestRace(t *testing.T) {
 // killedAt is where a process of the tests ends itself, as TestKills has it.
 const killedAt = "WITNESS_TEST_KILLED_AT"
 
-// TestKills has a witness killed (-9) between its decision, the swap and the signature. Behind that a fork of what it kept is never cosigned, and
-// what it hadn't kept binds it to nothing.
+// TestKills has a witness killed (-9) between its decision, the swap and the signature. Behind that a fork of what it
+// kept is never cosigned, and what it hadn't kept binds it to nothing.
 func TestKills(t *testing.T) {
 	by, one, other := plainKey(t, origin), grown(t, "a", "b", "c"), grown(t, "x", "y", "z")
 	body := func(of *leaves) []byte { return request(0, nil, by.sign(checkpoint(origin, 3, of.root(t, 3)))) }
@@ -151,16 +159,19 @@ func TestKills(t *testing.T) {
 			must(t, os.WriteFile(filepath.Join(folder, "body"), body(one), 0o600))
 			must(t, os.WriteFile(filepath.Join(folder, "key"), []byte(by.text), 0o600))
 			child := exec.Command(os.Args[0], "-test.run", "^TestKills$")
-			child.Env = append(os.Environ(), killedAt+"="+phase, "WITNESS_TEST_FOLDER="+folder, "WITNESS_TEST_STATE="+at)
+			child.Env = append(os.Environ(), killedAt+"="+phase, "WITNESS_TEST_FOLDER="+folder,
+				"WITNESS_TEST_STATE="+at)
 			out, err := child.CombinedOutput()
 			var ended *exec.ExitError
-			if !errors.As(err, &ended) || ended.Sys().(syscall.WaitStatus).Signal() != syscall.SIGKILL || strings.Contains(string(out), "— ") {
+			if !errors.As(err, &ended) || ended.Sys().(syscall.WaitStatus).Signal() != syscall.SIGKILL ||
+				strings.Contains(string(out), "— ") {
 				t.Fatalf("%s: %v %s", phase, err, out)
 			}
 			if w := posted(t, s, body(other)); w.Code != fork {
 				t.Errorf("%s: a fork behind it: %d %s", phase, w.Code, w.Body)
 			}
-			if w := posted(t, s, request(3, nil, by.sign(checkpoint(origin, 3, one.root(t, 3))))); fork == 409 && w.Code != 200 {
+			if w := posted(t, s, request(3, nil, by.sign(checkpoint(origin, 3, one.root(t, 3))))); fork == 409 &&
+				w.Code != 200 {
 				t.Errorf("%s: the head itself behind it: %d %s", phase, w.Code, w.Body)
 			}
 		}
@@ -235,8 +246,9 @@ func serve(t *testing.T, state string) {
 	must(t, http.Serve(listener, s))
 }
 
-// TestKilledAnywhere has two processes of one witness answer over one register, asked at once for two heads that fork, while one of them is killed (-9) at
-// a moment of chance and another takes its place: in each round one of the heads is cosigned, and the other never.
+// TestKilledAnywhere has two processes of one witness answer over one register. They are asked at once for two heads
+// that fork, while one of them is killed (-9) at a random time and replaced. In each round one of the heads is
+// cosigned, and the other never is.
 func TestKilledAnywhere(t *testing.T) {
 	if state := os.Getenv(servesAt); state != "" {
 		serve(t, state)
@@ -245,7 +257,8 @@ func TestKilledAnywhere(t *testing.T) {
 	by, folder := plainKey(t, origin), t.TempDir()
 	der, err := x509.MarshalPKCS8PrivateKey(newKey(t))
 	must(t, err)
-	must(t, os.WriteFile(filepath.Join(folder, "key.pem"), pem.EncodeToMemory(&pem.Block{Type: "PRIVATE KEY", Bytes: der}), 0o600))
+	must(t, os.WriteFile(filepath.Join(folder, "key.pem"), pem.EncodeToMemory(&pem.Block{Type: "PRIVATE KEY",
+		Bytes: der}), 0o600))
 	must(t, os.WriteFile(filepath.Join(folder, "key"), []byte(by.text), 0o600))
 	first, again := forks(t, by)
 	onEach(t, func(t *testing.T, anew func() string) {
@@ -264,7 +277,8 @@ func killedSomewhere(t *testing.T, round int, folder, state string, first, again
 			return 0
 		}
 		defer answer.Body.Close()
-		if text, err := io.ReadAll(answer.Body); answer.StatusCode == 200 && err == nil && strings.HasPrefix(string(text), "— ") {
+		if text, err := io.ReadAll(answer.Body); answer.StatusCode == 200 && err == nil &&
+			strings.HasPrefix(string(text), "— ") {
 			cosigned.add(head)
 		}
 		return answer.StatusCode
@@ -282,7 +296,7 @@ func killedSomewhere(t *testing.T, round int, folder, state string, first, again
 	all.Wait()
 	processes[0] = serves(t, folder, state)
 	for ctx := limited(t); ; {
-		// (behind a kill nothing may have been kept yet)
+		// After a kill there may be no stored state yet.
 		came := []int{ask(processes[0], 0, first[0]), ask(processes[1], 1, first[1])}
 		for _, of := range processes {
 			for head := range again {
@@ -299,8 +313,8 @@ func killedSomewhere(t *testing.T, round int, folder, state string, first, again
 	cosigned.one(t, round)
 }
 
-// TestEngineDies kills (-9) an engine, and starts it again, while a witness is asked for a log's heads and for forks of them. All that it cosigned is of
-// one list, and the log goes on.
+// TestEngineDies kills (-9) an engine, and starts it again, while a witness is asked for a log's heads and for forks of
+// them. All that it cosigned is of one list, and the log goes on.
 func TestEngineDies(t *testing.T) {
 	again := strings.Fields(os.Getenv("STORES_AGAIN"))
 	for kind, process := range map[string]string{"etcd": "etcd", "postgres": "postgres"} {
@@ -309,7 +323,8 @@ func TestEngineDies(t *testing.T) {
 			continue
 		}
 		t.Run(kind, func(t *testing.T) {
-			engineDies(t, address("", "witness-"+hex.EncodeToString(newKey(t)[:8])), append(again[1:len(again):len(again)], process), again[0])
+			engineDies(t, address("", "witness-"+hex.EncodeToString(newKey(t)[:8])),
+				append(again[1:len(again):len(again)], process), again[0])
 		})
 	}
 }
@@ -353,7 +368,8 @@ func engineDies(t *testing.T, at string, words []string, command string) {
 		switch {
 		case w.Code == 200 || w.Code == 409 && w.Body.String() == fmt.Sprintf("%d\n", size):
 			// (it is kept, also where the answer to that was lost)
-			if f := posted(t, s, request(last, proof(other), by.sign(checkpoint(origin, size, other.root(t, size))))); f.Code != 409 && f.Code != 503 {
+			if f := posted(t, s, request(last, proof(other),
+				by.sign(checkpoint(origin, size, other.root(t, size))))); f.Code != 409 && f.Code != 503 {
 				t.Errorf("a fork of %d entries: %d %s", size, f.Code, f.Body)
 			}
 			last, texts = size, append(texts, fmt.Sprint(size))

@@ -17,27 +17,29 @@ import (
 )
 
 const (
-	// maxTries is how often a request is decided where others move the state, and how often a swap of unknown outcome is made.
+	// maxTries is how often a request is decided where others move the state, and how often a swap of unknown outcome
+	// is made.
 	maxTries = 5
 	// maxAtOnce is how many requests are taken at once, and answersWithin how long one may take.
 	maxAtOnce     = 64
 	answersWithin = 20 * time.Second
-	// maxLag is how many seconds the clock may be behind the last cosignature's moment, which the next one then has.
+	// maxLag is the number of seconds that the clock may be behind the last cosignature's time. The next cosignature
+	// then has that time.
 	maxLag = 60
 )
 
-// What a witness fails by. Each is found by errors.Is.
+// The kinds of errors of a witness. Use errors.Is.
 var (
 	// ErrState: a log's state is missing, or isn't one of this log.
 	ErrState = errors.New("witness: no state of the log")
 	// ErrDecision is the error of a decision that is not one of the request.
 	ErrDecision = errors.New("witness: not a decision of the request")
-	// ErrClock: the clock is behind the last cosignature.
+	// ErrClock: the clock is earlier than the last cosignature.
 	ErrClock = errors.New("witness: the clock went back")
 )
 
-// Log is one that is witnessed: by which keys it signs its notes, and where its state is kept. Where Accepted isn't nil, no tree is cosigned but the
-// one that it gives then: the one that a monitor accepted last.
+// Log is a log to cosign. It has the keys of its notes and the register of its state. If Accepted is not nil, the
+// witness cosigns only the tree that it returns, which a monitor accepted last.
 type Log struct {
 	Origin   string
 	Keys     []note.Verifier
@@ -61,12 +63,12 @@ func (l Log) Create(ctx context.Context) error {
 type Options struct {
 	Name string
 	Key  ed25519.PrivateKey
-	// Tell is told what an operator has to look at; nil tells nobody.
+	// Tell logs something that an operator must look at. A nil Tell logs nothing.
 	Tell func(event string, words ...any)
 }
 
-// Server is a witness. Its decisions are those of proved code, which keeps nothing: the last message goes in with each request, and the next one comes out. It is
-// kept, by a swap from the state that was read, before it is signed.
+// Server is a witness. Its decisions are those of proved code, which keeps nothing: the last message goes in with each
+// request, and the next one comes out. It is kept, by a swap from the state that was read, before it is signed.
 type Server struct {
 	of      Options
 	public  ed25519.PublicKey
@@ -78,7 +80,8 @@ type Server struct {
 
 	mu   sync.Mutex
 	logs map[string]*Log
-	// seen has, by a log's origin, the newest state that this process read or kept: the register must not go behind it while the process runs.
+	// seen has the newest state of each origin that this process read or stored. The register must not be older while
+	// the process runs.
 	seen map[string]state
 }
 
@@ -91,7 +94,8 @@ func New(of Options) (*Server, error) {
 		of.Tell = func(string, ...any) {}
 	}
 	s := &Server{
-		of: of, decides: proved, public: of.Key.Public().(ed25519.PublicKey), room: make(chan struct{}, maxAtOnce), logs: map[string]*Log{}, seen: map[string]state{},
+		of: of, decides: proved, public: of.Key.Public().(ed25519.PublicKey), room: make(chan struct{}, maxAtOnce),
+		logs: map[string]*Log{}, seen: map[string]state{},
 		now: func() uint64 { return uint64(time.Now().Unix()) },
 	}
 	s.metrics = newMetrics()
@@ -151,7 +155,7 @@ const textPlain = "text/plain; charset=utf-8"
 
 func plain(status int, text string) answer { return answer{status, textPlain, text} }
 
-// failed answers what isn't the client's fault, and tells of it.
+// failed answers with an error that is not the client's fault, and logs it.
 func (s *Server) failed(what, origin string, err error) answer {
 	s.of.Tell(what, "origin", origin, "fault", err)
 	return plain(http.StatusServiceUnavailable, what+"\n")
@@ -171,7 +175,7 @@ func (s *Server) add(ctx context.Context, body []byte) answer {
 		return plain(http.StatusForbidden, "no signature of a key of the log\n")
 	}
 	for try := 0; try < maxTries; try++ {
-		// (other requests may have the state moved, but never behind what was seen before it is read)
+		// Other requests may change the state, but it must never become older than what was seen before it is read.
 		before := s.newestSeen(log.Origin)
 		text, err := log.State.Read(ctx)
 		if err != nil {
@@ -186,7 +190,8 @@ func (s *Server) add(ctx context.Context, body []byte) answer {
 	return plain(http.StatusServiceUnavailable, "busy\n")
 }
 
-// decide decides from a state that was read after `before` had been seen, and keeps the next one. It returns again if the register held another one by then.
+// decide decides from a state that was read after `before` had been seen, and keeps the next one. It returns again if
+// the register held another one by then.
 func (s *Server) decide(ctx context.Context, log *Log, text string, before state, r Request) (came answer, again bool) {
 	last, err := readState(text, log.Origin)
 	if err == nil {
@@ -199,7 +204,8 @@ func (s *Server) decide(ctx context.Context, log *Log, text string, before state
 	now := s.now()
 	if now < last.tree.Time {
 		if now+maxLag < last.tree.Time {
-			return s.failed("clock", log.Origin, fmt.Errorf("%w: it is %d, and the last moment is %d", ErrClock, now, last.tree.Time)), false
+			return s.failed("clock", log.Origin, fmt.Errorf("%w: it is at %d, and the last cosignature was at %d",
+				ErrClock, now, last.tree.Time)), false
 		}
 		now = last.tree.Time
 	}
@@ -222,7 +228,7 @@ func (s *Server) decide(ctx context.Context, log *Log, text string, before state
 	return plain(http.StatusOK, cosignatureLine(s.of.Name, s.public, now, ed25519.Sign(s.of.Key, next.message))), false
 }
 
-// swap keeps the next state. Where the outcome is unknown it is tried again, which settles it.
+// swap stores the next state. If the outcome is unknown it repeats the swap, which settles it.
 func swap(ctx context.Context, register stores.Register, old string, next state) error {
 	text, err := next.text()
 	if err != nil {
@@ -247,7 +253,7 @@ func (s *Server) ServeHTTP(w http.ResponseWriter, q *http.Request) {
 		w.Header().Set("Retry-After", "1")
 	}
 	w.WriteHeader(came.status)
-	// Who went before it was answered asks again.
+	// A client that left before its response asks again.
 	_, _ = io.WriteString(w, came.text)
 }
 

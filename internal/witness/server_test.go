@@ -79,7 +79,7 @@ func (l *leaves) proof(t testing.TB, from, to int64) (all [][32]byte) {
 // signing is a log's key: it signs a checkpoint's text.
 type signing struct {
 	key note.Verifier
-	// text is the verifier key, where there is one.
+	// text is the verifier key, if there is one.
 	text string
 	sign func(text string) []byte
 }
@@ -114,7 +114,8 @@ func headKey(t testing.TB, origin string) signing {
 		size, root, err := TreeOf(text)
 		must(t, err)
 		const timestamp = 1_700_000_000_000
-		signed, err := key.SignHead(context.Background(), signer.Head{Size: size, Timestamp: timestamp, Root: root}, nil)
+		signed, err := key.SignHead(context.Background(), signer.Head{Size: size, Timestamp: timestamp,
+			Root: root}, nil)
 		must(t, err)
 		blob := binary.BigEndian.AppendUint64(binary.BigEndian.AppendUint32(nil, of.KeyHash()), timestamp)
 		return []byte(text + "\n— " + origin + " " + base64.StdEncoding.EncodeToString(append(blob, signed...)) + "\n")
@@ -225,7 +226,8 @@ func addsCheckpoints(t *testing.T, by signing) {
 		{"another origin", request(5, nil, by.sign(checkpoint("x"+origin, 5, one.root(t, 5)))), 404, "no such log\n"},
 		{"a damaged signature", request(5, nil, damaged), 403, "no signature"},
 		{"another key's", request(5, nil, plainKey(t, origin).sign(head(one, 5))), 403, "no signature"},
-		{"another root below the signature", request(5, nil, []byte(strings.Replace(string(signed(one, 5)), head(one, 5), head(other, 5), 1))), 403, "no signature"},
+		{"another root below the signature", request(5, nil,
+			[]byte(strings.Replace(string(signed(one, 5)), head(one, 5), head(other, 5), 1))), 403, "no signature"},
 		{"grown once more", request(5, one.proof(t, 5, 7), signed(one, 7)), 200, ""},
 	} {
 		w := posted(t, s, test.body)
@@ -233,7 +235,8 @@ func addsCheckpoints(t *testing.T, by signing) {
 		if test.status == 409 {
 			kind = "text/x.tlog.size"
 		}
-		if w.Code != test.status || !strings.HasPrefix(w.Body.String(), test.text) || w.Header().Get("Content-Type") != kind {
+		if w.Code != test.status || !strings.HasPrefix(w.Body.String(), test.text) ||
+			w.Header().Get("Content-Type") != kind {
 			t.Errorf("%s: %d %s %q", test.name, w.Code, w.Header().Get("Content-Type"), w.Body)
 			continue
 		}
@@ -245,7 +248,8 @@ func addsCheckpoints(t *testing.T, by signing) {
 	}
 }
 
-// TestExtensionLines: below a signature of type 5 they aren't signed (403), and below one of type 1 there is no such checkpoint here (400).
+// TestExtensionLines: below a signature of type 5 they aren't signed (403), and below one of type 1 there is no such
+// checkpoint here (400).
 func TestExtensionLines(t *testing.T) {
 	one := grown(t, "a", "b")
 	text := checkpoint(origin, 2, one.root(t, 2))
@@ -259,18 +263,19 @@ func TestExtensionLines(t *testing.T) {
 		{403, head, []byte(strings.Replace(string(head.sign(text)), "\n\n", "\n\nmore\n\n", 1))},
 		{400, plain, plain.sign(text + "more\n")},
 	} {
-		if w := posted(t, witnessOf(t, t.TempDir(), newKey(t), test.by), request(0, nil, test.signed)); w.Code != test.status {
+		if w := posted(t, witnessOf(t, t.TempDir(), newKey(t), test.by),
+			request(0, nil, test.signed)); w.Code != test.status {
 			t.Errorf("%d, and not %d: %s", w.Code, test.status, w.Body)
 		}
 	}
-	// Nor is the origin signed below type 5: a key is one log's.
+	// The origin is not signed for types below 5, so a key belongs to one log.
 	other := strings.Replace(string(head.sign(text)), origin, "other.example", 1)
 	if _, err := note.Open([]byte(other), note.VerifierList(head.key)); err == nil {
 		t.Error("a head of another log is taken")
 	}
 }
 
-// TestCalls: what isn't add-checkpoint, and what is too long.
+// TestCalls: other calls than add-checkpoint and requests that are too long are refused.
 func TestCalls(t *testing.T) {
 	s := witnessOf(t, t.TempDir(), newKey(t), plainKey(t, origin))
 	for _, test := range []struct {
@@ -330,12 +335,14 @@ func TestOpenssl(t *testing.T) {
 	raw := public[len(public)-32:]
 	named := filepath.Join(folder, "named")
 	must(t, os.WriteFile(named, append([]byte("w.example\n\x04"), raw...), 0o600))
-	if sum := run("dgst", "-sha256", "-binary", named); string(blob[:4]) != string(sum[:4]) || binary.BigEndian.Uint64(blob[4:12]) != 1234567890 || len(blob) != 76 {
+	if sum := run("dgst", "-sha256", "-binary", named); string(blob[:4]) != string(sum[:4]) ||
+		binary.BigEndian.Uint64(blob[4:12]) != 1234567890 || len(blob) != 76 {
 		t.Errorf("a blob %x", blob)
 	}
 	must(t, os.WriteFile(filepath.Join(folder, "signed"), []byte("cosignature/v1\ntime 1234567890\n"+head), 0o600))
 	must(t, os.WriteFile(filepath.Join(folder, "signature"), blob[12:], 0o600))
-	out := run("pkeyutl", "-verify", "-inkey", pem, "-rawin", "-in", filepath.Join(folder, "signed"), "-sigfile", filepath.Join(folder, "signature"))
+	out := run("pkeyutl", "-verify", "-inkey", pem, "-rawin", "-in", filepath.Join(folder, "signed"), "-sigfile",
+		filepath.Join(folder, "signature"))
 	if !strings.Contains(string(out), "Verified Successfully") {
 		t.Errorf("%s", out)
 	}
@@ -356,7 +363,7 @@ func (s swappedState) Swap(ctx context.Context, old, new string) error {
 	return err
 }
 
-// TestStaleReader: who decided by a state that has moved meanwhile signs nothing, also where it decided for the same tree once more.
+// TestStaleReader: a request that was decided with an outdated state signs nothing, even if it has the same tree.
 func TestStaleReader(t *testing.T) {
 	by, key, folder := headKey(t, origin), newKey(t), t.TempDir()
 	one := grown(t, "a", "b", "c", "d", "e")
@@ -379,8 +386,8 @@ func TestStaleReader(t *testing.T) {
 	}
 }
 
-// TestStatePutBack has a log's state be put back below a running witness, as by a restored backup: it must cosign neither a fork from there nor anything else until
-// the newer state is back, and it must say why.
+// TestStatePutBack has a log's state be put back below a running witness, as by a restored backup: it must cosign
+// neither a fork from there nor anything else until the newer state is back, and it must say why.
 func TestStatePutBack(t *testing.T) {
 	by, ctx, state := headKey(t, origin), limited(t), stateIn(t, t.TempDir())
 	one, fork := grown(t, "a", "b", "c", "d", "e"), grown(t, "a", "b", "c", "another", "e")
@@ -415,7 +422,7 @@ func TestStatePutBack(t *testing.T) {
 	if len(told) != 2 || !strings.Contains(told[0], "it was put back") {
 		t.Errorf("it says %q", told)
 	}
-	// Of the newest size it must be the same tree, and the state must not be one of a log that was never cosigned.
+	// At the newest size it must be the same tree, and the state must not be one of a log that was never cosigned.
 	never, err := noState(origin).text()
 	must(t, err)
 	must(t, state.Swap(ctx, older, never))
@@ -439,7 +446,8 @@ func TestStatePutBack(t *testing.T) {
 // lying lets everything through, with the right bytes.
 func lying(_ state, r Request, now uint64) ([]byte, error) { return Message(now, r.Text), nil }
 
-// TestWrongDecisions has wrong code in the place of the proved one: it gets nothing signed that does not follow the last tree, and moves no state.
+// TestWrongDecisions has wrong code in the place of the proved one: it gets nothing signed that does not follow the
+// last tree, and moves no state.
 func TestWrongDecisions(t *testing.T) {
 	by, key, folder := headKey(t, origin), newKey(t), t.TempDir()
 	one, other := grown(t, "a", "b", "c", "d", "e"), grown(t, "a", "b", "x", "y", "z")
@@ -467,15 +475,16 @@ func TestWrongDecisions(t *testing.T) {
 		"another size than the last": {lying, request(2, one.proof(t, 2, 5), signed(one, 5)), "decision"},
 		"an older one":               {lying, request(3, nil, signed(one, 2)), "decision"},
 		"bytes of another time":      {says(Message(1, text), nil), grows, "decision"},
-		"bytes of another text":      {says(Message(timestamp, checkpoint(origin, 5, other.root(t, 5))), nil), grows, "decision"},
-		"a log's head in its bytes":  {says([]byte(text), nil), grows, "decision"},
-		"no bytes":                   {says(nil, nil), grows, "decision"},
-		"an unknown code":            {says(nil, wagtenib.Code(1000)), grows, "decision"},
-		"the code of another call":   {says(nil, wagtenib.ErrLaterLeaf), grows, "decision"},
-		"no memory":                  {says(nil, wagtenib.ErrMemory), grows, "decision"},
-		"a bad state":                {says(nil, wagtenib.ErrState), grows, "state"},
-		"another log's state":        {says(nil, wagtenib.ErrOtherOrigin), grows, "state"},
-		"a time that falls":          {says(nil, wagtenib.ErrTimeFalls), grows, "clock"},
+		"bytes of another text": {says(Message(timestamp, checkpoint(origin, 5, other.root(t, 5))), nil),
+			grows, "decision"},
+		"a log's head in its bytes": {says([]byte(text), nil), grows, "decision"},
+		"no bytes":                  {says(nil, nil), grows, "decision"},
+		"an unknown code":           {says(nil, wagtenib.Code(1000)), grows, "decision"},
+		"the code of another call":  {says(nil, wagtenib.ErrLaterLeaf), grows, "decision"},
+		"no memory":                 {says(nil, wagtenib.ErrMemory), grows, "decision"},
+		"a bad state":               {says(nil, wagtenib.ErrState), grows, "state"},
+		"another log's state":       {says(nil, wagtenib.ErrOtherOrigin), grows, "state"},
+		"a time that falls":         {says(nil, wagtenib.ErrTimeFalls), grows, "clock"},
 	} {
 		s := witnessOf(t, folder, key, by)
 		s.decides = test.decide
@@ -495,7 +504,8 @@ func TestWrongDecisions(t *testing.T) {
 	}
 }
 
-// TestJSONState takes over a register of earlier builds: the log is cosigned from the tree and the time there on, and the next swap writes the new text.
+// TestJSONState takes over a register of earlier builds: the log is cosigned from the tree and the time there on, and
+// the next swap writes the new text.
 func TestJSONState(t *testing.T) {
 	by, one := headKey(t, origin), grown(t, "a", "b", "c", "d", "e")
 	of := func(n int64, root tlog.Hash, time uint64) string {
@@ -527,7 +537,8 @@ func TestJSONState(t *testing.T) {
 		if w.Code != test.status || (register.text == test.text) != (test.status != 200) {
 			t.Errorf("%s: %d %s, and then %q", name, w.Code, w.Body, register.text)
 		}
-		if test.status == 200 && !strings.HasSuffix(register.text, "\n"+string(Message(2000, checkpoint(origin, 5, one.root(t, 5))))) {
+		if test.status == 200 && !strings.HasSuffix(register.text, "\n"+
+			string(Message(2000, checkpoint(origin, 5, one.root(t, 5))))) {
 			t.Errorf("%s: %q", name, register.text)
 		}
 	}
@@ -537,16 +548,18 @@ func TestJSONState(t *testing.T) {
 func TestStates(t *testing.T) {
 	by, one := headKey(t, origin), grown(t, "a")
 	for name, text := range map[string]string{
-		"none":           "",
-		"another log's":  `{"last_root":"47DEQpj8HBSa+/TImW+5JCeuQeRkm5NMpJWZG3hSuFU=","last_size":0,"origin":"other","salt":"","time":0}`,
-		"a short root":   `{"last_root":"47DE","last_size":0,"origin":"` + origin + `","salt":"","time":0}`,
-		"an unknown key": `{"last_root":"47DEQpj8HBSa+/TImW+5JCeuQeRkm5NMpJWZG3hSuFU=","last_size":0,"origin":"` + origin + `","salt":"","time":0,"x":1}`,
+		"none":          "",
+		"another log's": `{"last_root":"47DEQpj8HBSa+/TImW+5JCeuQeRkm5NMpJWZG3hSuFU=","last_size":0,"origin":"other","salt":"","time":0}`,
+		"a short root":  `{"last_root":"47DE","last_size":0,"origin":"` + origin + `","salt":"","time":0}`,
+		"an unknown key": `{"last_root":"47DEQpj8HBSa+/TImW+5JCeuQeRkm5NMpJWZG3hSuFU=","last_size":0,"origin":"` +
+			origin + `","salt":"","time":0,"x":1}`,
 		"no form":        "x",
 		"an empty line":  "\n",
 		"no message":     stateForm + "\nAAECAwQFBgcICQoLDA0ODw==\n",
 		"half a message": stateForm + "\nAAECAwQFBgcICQoLDA0ODw==\ncosignature/v1\ntime 7\n" + origin + "\n0\n",
 		"a plain head":   stateForm + "\nAAECAwQFBgcICQoLDA0ODw==\n" + checkpoint(origin, 0, emptyRoot),
-		"another origin": stateForm + "\nAAECAwQFBgcICQoLDA0ODw==\n" + string(Message(7, checkpoint("other", 0, emptyRoot))),
+		"another origin": stateForm + "\nAAECAwQFBgcICQoLDA0ODw==\n" +
+			string(Message(7, checkpoint("other", 0, emptyRoot))),
 		"never, another": stateForm + "\nAAECAwQFBgcICQoLDA0ODw==\nnone yet\nother\n",
 		"two":            `{} {}`,
 	} {
@@ -561,7 +574,8 @@ func TestStates(t *testing.T) {
 			t.Errorf("%s: %v", name, err)
 		}
 		s.SetLogs([]Log{log})
-		if w := posted(t, s, request(0, nil, by.sign(checkpoint(origin, 1, one.root(t, 1))))); w.Code != 503 || w.Body.String() != "state\n" {
+		if w := posted(t, s, request(0, nil, by.sign(checkpoint(origin, 1, one.root(t, 1))))); w.Code != 503 ||
+			w.Body.String() != "state\n" {
 			t.Errorf("%s: %d %s", name, w.Code, w.Body)
 		}
 		if text != "" {
@@ -572,7 +586,8 @@ func TestStates(t *testing.T) {
 	}
 }
 
-// TestClock: moments don't go back. A clock that is behind a little has the last moment, and one that is far behind cosigns nothing.
+// TestClock: the times of cosignatures never fall. If the clock is behind by a little, a cosignature has the last time.
+// If it is far behind, nothing is cosigned.
 func TestClock(t *testing.T) {
 	by, one := headKey(t, origin), grown(t, "a", "b", "c")
 	s := witnessOf(t, t.TempDir(), newKey(t), by)
@@ -583,7 +598,8 @@ func TestClock(t *testing.T) {
 		body      []byte
 		status    int
 		timestamp uint64
-	}{{1000, body, 200, 1000}, {1000, again, 200, 1000}, {940, again, 200, 1000}, {939, again, 503, 0}, {1001, again, 200, 1001}} {
+	}{{1000, body, 200, 1000}, {1000, again, 200, 1000}, {940, again, 200, 1000}, {939, again, 503, 0},
+		{1001, again, 200, 1001}} {
 		s.now = func() uint64 { return test.now }
 		w := posted(t, s, test.body)
 		if w.Code != test.status {
@@ -606,18 +622,21 @@ func TestSeveralLogs(t *testing.T) {
 	must(t, err)
 	logs := []Log{
 		{Origin: "a.example", Keys: []note.Verifier{first.key}, State: stateIn(t, t.TempDir())},
-		{Origin: "b.example", Keys: []note.Verifier{second.key, headKey(t, "b.example").key}, State: stateIn(t, t.TempDir())},
+		{Origin: "b.example", Keys: []note.Verifier{second.key, headKey(t, "b.example").key},
+			State: stateIn(t, t.TempDir())},
 	}
 	for _, log := range logs {
 		must(t, log.Create(limited(t)))
 	}
 	s.SetLogs(logs)
 	one := grown(t, "a", "b", "c")
-	a, b := first.sign(checkpoint("a.example", 3, one.root(t, 3))), second.sign(checkpoint("b.example", 2, one.root(t, 2)))
+	a, b := first.sign(checkpoint("a.example", 3, one.root(t, 3))),
+		second.sign(checkpoint("b.example", 2, one.root(t, 2)))
 	for _, test := range []struct {
 		body   []byte
 		status int
-	}{{request(0, nil, a), 200}, {request(0, nil, b), 200}, {request(3, nil, a), 200}, {request(2, nil, b), 200}, {request(0, nil, b), 409}} {
+	}{{request(0, nil, a), 200}, {request(0, nil, b), 200}, {request(3, nil, a), 200}, {request(2, nil, b), 200},
+		{request(0, nil, b), 409}} {
 		if w := posted(t, s, test.body); w.Code != test.status {
 			t.Errorf("%d, and not %d: %s", w.Code, test.status, w.Body)
 		}
@@ -628,7 +647,8 @@ func TestSeveralLogs(t *testing.T) {
 	}
 	w := httptest.NewRecorder()
 	s.Operator().ServeHTTP(w, httptest.NewRequest("GET", "/metrics", nil))
-	for _, line := range []string{`ctwitness_entries{origin="a.example"} 3`, `ctwitness_cosignatures_total{origin="b.example"} 2`, `ctwitness_requests_total{status="409"} 1`,
+	for _, line := range []string{`ctwitness_entries{origin="a.example"} 3`,
+		`ctwitness_cosignatures_total{origin="b.example"} 2`, `ctwitness_requests_total{status="409"} 1`,
 		`ctwitness_refusals_total{origin="b.example",refused="not-last"} 1`} {
 		if !strings.Contains(w.Body.String(), line+"\n") {
 			t.Errorf("no %s", line)
@@ -649,7 +669,8 @@ func TestKeys(t *testing.T) {
 	other := VerifierKey("v.example", key.Public().(ed25519.PublicKey))
 	_, plain, err := note.GenerateKey(rand.Reader, "w.example")
 	must(t, err)
-	for _, wrong := range []string{"", "w.example", "x" + text, text[:len(text)-4], strings.Replace(other, "v.", "w.", 1), plain, "+" + strings.SplitN(text, "+", 2)[1]} {
+	for _, wrong := range []string{"", "w.example", "x" + text, text[:len(text)-4],
+		strings.Replace(other, "v.", "w.", 1), plain, "+" + strings.SplitN(text, "+", 2)[1]} {
 		if _, _, err := ReadVerifierKey(wrong); !errors.Is(err, ErrKey) {
 			t.Errorf("%q: %v", wrong, err)
 		}

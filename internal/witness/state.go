@@ -24,8 +24,8 @@ const (
 	saltBytes = 16
 )
 
-// state holds what is kept of a log: the message that was cosigned last (docs/WITNESS.md), which is nil before the first cosignature. The tree is that of the
-// message, or the one without leaves.
+// state holds what is kept of a log: the message that was cosigned last (docs/WITNESS.md), which is nil before the
+// first cosignature. The tree is that of the message, or the one without leaves.
 type state struct {
 	origin  string
 	message []byte
@@ -37,8 +37,9 @@ func noState(origin string) state {
 	return state{origin: origin, tree: wagtenib.WitnessedTree{Root: emptyRoot}}
 }
 
-// text returns the text of a register: a line with the version, a line with a random number, and the message. The random number makes the texts of any two swaps
-// differ, so that a swap also fails if the same tree was cosigned in the same second meanwhile.
+// text returns the text of a register: a line with the version, a line with a random number, and the message. The
+// random number makes the texts of any two swaps differ, so that a swap also fails if the same tree was cosigned in the
+// same second meanwhile.
 func (s state) text() (string, error) {
 	salt := make([]byte, saltBytes)
 	if _, err := rand.Read(salt); err != nil {
@@ -51,7 +52,8 @@ func (s state) text() (string, error) {
 	return stateForm + "\n" + base64.StdEncoding.EncodeToString(salt) + "\n" + message, nil
 }
 
-// readState reads the text of a log's register. A text of any other form is refused, and never taken for the state of a log that was never cosigned.
+// readState reads the text of a log's register. A text of any other form is refused, and never taken for the state of a
+// log that was never cosigned.
 func readState(text, origin string) (state, error) {
 	wrong := func(why string) (state, error) {
 		return state{}, fmt.Errorf("%w %s: %s: %.80q", ErrState, origin, why, text)
@@ -67,7 +69,8 @@ func readState(text, origin string) (state, error) {
 	if len(lines) != 3 || lines[0] != stateForm {
 		return wrong("it has another form")
 	}
-	if salt, err := base64.StdEncoding.DecodeString(lines[1]); err != nil || len(salt) != saltBytes || base64.StdEncoding.EncodeToString(salt) != lines[1] {
+	if salt, err := base64.StdEncoding.DecodeString(lines[1]); err != nil || len(salt) != saltBytes ||
+		base64.StdEncoding.EncodeToString(salt) != lines[1] {
 		return wrong("it has no random number")
 	}
 	if lines[2] == noneYet+origin+"\n" {
@@ -92,7 +95,8 @@ func readMessage(message []byte, origin string) (state, error) {
 	return state{origin: origin, message: message, tree: tree}, nil
 }
 
-// readJSON reads the text of a register of earlier builds, and returns the message that was cosigned then. The next swap replaces the text.
+// readJSON reads the text of a register of earlier builds, and returns the message that was cosigned then. The next
+// swap replaces the text.
 func readJSON(text, origin string) (state, error) {
 	var of struct {
 		Root   []byte `json:"last_root"`
@@ -110,7 +114,8 @@ func readJSON(text, origin string) (state, error) {
 	if of.Time == 0 && of.Size == 0 && bytes.Equal(of.Root, emptyRoot[:]) {
 		return noState(origin), nil
 	}
-	return readMessage(Message(of.Time, fmt.Sprintf("%s\n%d\n%s\n", origin, of.Size, base64.StdEncoding.EncodeToString(of.Root))), origin)
+	return readMessage(Message(of.Time, fmt.Sprintf("%s\n%d\n%s\n", origin, of.Size,
+		base64.StdEncoding.EncodeToString(of.Root))), origin)
 }
 
 // strictly reads one JSON value, whose keys are all known.
@@ -126,7 +131,8 @@ func strictly(text []byte, into any) error {
 	return nil
 }
 
-// newestSeen returns the newest state that this process saw of a log. Before the first it is that of a log that was never cosigned.
+// newestSeen returns the newest state that this process saw of a log. Before the first it is that of a log that was
+// never cosigned.
 func (s *Server) newestSeen(origin string) state {
 	s.mu.Lock()
 	defer s.mu.Unlock()
@@ -145,8 +151,8 @@ func (s *Server) see(of state) {
 	}
 }
 
-// isBehind returns an error if a state is older than one that was seen before the state was read, or has another tree of the same size: it was rolled back, and
-// cosigning from it would make a fork.
+// isBehind returns an error if a state is older than one that was seen before the state was read, or has another tree
+// of the same size: it was rolled back, and cosigning from it would make a fork.
 func isBehind(last, before state) error {
 	if before.message == nil {
 		return nil
@@ -158,6 +164,7 @@ func isBehind(last, before state) error {
 	if err == nil {
 		return nil
 	}
-	return fmt.Errorf("%w %s: it was put back while this witness runs: it has %d leaves with the root %x, and had %d with %x (restore the newer state): %w", ErrState, last.origin,
+	return fmt.Errorf("%w %s: it was put back while this witness runs: it has %d leaves with the root %x, and had %d "+
+		"with %x (restore the newer state): %w", ErrState, last.origin,
 		last.tree.TreeSize, last.tree.Root, before.tree.TreeSize, before.tree.Root, err)
 }

@@ -1,4 +1,4 @@
-// Package unsure has a register that doesn't know what became of some of its swaps, for the tests of who stands over one.
+// Package unsure has a register that does not know the outcome of some of its swaps, for tests of its users.
 package unsure
 
 import (
@@ -8,8 +8,8 @@ import (
 	"wagtenib/internal/stores"
 )
 
-// Register doesn't know the outcome of two swaps of each Every, which is at least three: of one that it didn't, and of one that it did. While Fails is an
-// error it does nothing, and answers that.
+// Register doesn't know the outcome of two swaps of each Every, which is at least three: of one that it didn't, and of
+// one that it did. While Fails is an error it does nothing, and answers that.
 type Register struct {
 	stores.Register
 	Every int
@@ -31,7 +31,7 @@ func (r *Register) Swap(ctx context.Context, old, new string) error {
 	}
 	switch r.swaps % r.Every {
 	case 1:
-		return fmt.Errorf("%w: it wasn't done", stores.ErrUnknown)
+		return fmt.Errorf("%w: it was not done", stores.ErrUnknown)
 	case 2:
 		if err := r.Register.Swap(ctx, old, new); err != nil {
 			return err
