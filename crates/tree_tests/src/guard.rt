@@ -6,7 +6,7 @@ use ct_guard::{Guard, laws, pass_receipt};
 use ct_step_receipts::laws::step_receipts;
 use ct_step_receipts::pass_receipts;
 use ct_tree::Sha256Hash;
-use std::alloc::Global;
+use std::alloc::{AllocError, Global};
 
 // Checks a row of a head and the proof.
 fn is_head_answered(alloc: Global, guard: &mut Guard, mut row: Row<'_>) -> bool {
@@ -25,12 +25,24 @@ fn is_receipt_answered(alloc: Global, guard: &Guard, mut row: Row<'_>) -> bool {
     row.ends_in(alloc, &answer)
 }
 
+// The byte strings, as parts of memory that somebody else holds.
+fn slices_of(alloc: Global, leaves: &[Vec<u8>]) -> Result<Vec<&[u8]>, AllocError> {
+    let mut slices = Vec::new(alloc);
+    for leaf in leaves {
+        slices.push(leaf.as_slice())?;
+    }
+    Ok(slices)
+}
+
 // Checks a row of a step: its first index, the subtrees before it, and its leaves.
 fn is_step_answered(alloc: Global, guard: &Guard, mut row: Row<'_>) -> bool {
     let first = row.number();
     let subtrees = row.hashes(alloc);
     let leaves = row.byte_strings(alloc);
-    let answer = pass_receipts(&Sha256Hash, guard, first, &subtrees, &leaves);
+    let Ok(slices) = slices_of(alloc, &leaves) else {
+        return false;
+    };
+    let answer = pass_receipts(&Sha256Hash, guard, first, &subtrees, &slices);
     row.ends_in(alloc, &answer)
 }
 
