@@ -140,3 +140,32 @@ func TestOnceSendsWhileALogIsSlow(t *testing.T) {
 		t.Errorf("status %d, first %q: %s%s", status, first, out, faults)
 	}
 }
+
+// TestOnceSendsWhatWaits: an alert that could not be sent is sent by the next run, in which nothing is found, and says
+// "again".
+func TestOnceSendsWhatWaits(t *testing.T) {
+	authority := testcert.NewAuthority(t)
+	var posted []alert.Alert
+	hook := httptest.NewServer(http.HandlerFunc(func(w http.ResponseWriter, r *http.Request) {
+		var one alert.Alert
+		if err := json.NewDecoder(r.Body).Decode(&one); err != nil {
+			t.Error(err)
+		}
+		if posted = append(posted, one); len(posted) <= 2 {
+			w.WriteHeader(http.StatusInternalServerError)
+		}
+	}))
+	defer hook.Close()
+	log := serveLog(t, "a.example")
+	log.add(authority, authority.Issue("shop.example.org"))
+	words := []string{"run", "--once", "--from-start", "--name", "example.org", "--quiet", "--webhook", hook.URL,
+		"--folder", t.TempDir(), "--log", log.setting(true)}
+	for len(posted) < 2 {
+		if status, out, faults := ctwatch(t, words...); status != statusFault {
+			t.Fatalf("while the webhook fails: status %d: %s%s", status, out, faults)
+		}
+	}
+	if status, out, faults := ctwatch(t, words...); status != 0 || len(posted) != 3 || !posted[2].Again {
+		t.Errorf("status %d, %d were posted: %s%s", status, len(posted), out, faults)
+	}
+}

@@ -207,7 +207,7 @@ def check_page(text, version, write):
 
 
 def by_index(alerts, urls):
-    """Each entry of the first log by its index, with its alert. An issuance must have one alert."""
+    """Each entry by its index, with its alert: all logs have the same entries, and an alert can be sent before the other logs are read. An issuance must have one alert."""
     found, seen = {}, set()
     for alert in alerts:
         certificate = alert["certificate"]
@@ -215,8 +215,9 @@ def by_index(alerts, urls):
             fail(f"ctwatch sends two alerts to the issuance {certificate['tbs_sha256']}")
         seen.add(certificate["tbs_sha256"])
         for sighting in certificate["sightings"]:
-            if sighting["url"] == urls[0].rstrip("/"):
-                found[sighting["index"]] = alert
+            if sighting["url"] not in [url.rstrip("/") for url in urls]:
+                fail(f"ctwatch reports an entry of {sighting['url']}, which is no log of this test")
+            found[sighting["index"]] = alert
     return found
 
 
