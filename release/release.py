@@ -36,7 +36,7 @@ LIBRARY = "lib/x86_64-linux-gnu"
 HOMEPAGE = "https://wagtenib.example/"
 
 # What users and operators read, beside the README.
-PAGES = ("OPERATING", "AUDIT", "GUARD", "GROWTH", "TILES", "LINES", "PROMISES", "WATCH", "WITNESS")
+PAGES = ("OPERATING", "ACCEPTED", "AUDIT", "GUARD", "GROWTH", "TILES", "LINES", "PROMISES", "WATCH", "WITNESS")
 
 # Each package: what it is, what it needs beside libc6, and what it recommends.
 PACKAGES = {

@@ -27,7 +27,7 @@ sys.path += [str(ROOT / "tests" / "bare"), str(ROOT / "checks")]
 
 from bare import Network  # noqa: E402
 from documents import pages  # noqa: E402
-from readme import BLOCK, CHECKPOINT, FOUND, LONG, PAGES, SIGNED, TARGETS, commands, elsewhere, run_by, targets  # noqa: E402
+from readme import ALERT, BLOCK, CHECKPOINT, LONG, PAGES, SIGNED, TARGETS, commands, elsewhere, run_by, targets  # noqa: E402
 
 README = ROOT / "README.md"
 NEW_MOUNTS = 0x00020000
@@ -41,7 +41,7 @@ BEFORE = {"make load": ["(cd crates/house_tests && rt test)"], "make sweep": ["(
 ENDS = {"make cluster": "make cluster-stop"}
 # The status and the form of what others print, by how they begin; else any with status 0.
 DUE = {
-    "curl -s -d @ct-log/chain.json": (0, SIGNED), "curl -s 127.0.0.1:8618/checkpoint": (0, CHECKPOINT), "LOG=tiled+http://127.0.0.1:8618": (8, FOUND),
+    "curl -s -d @ct-log/chain.json": (0, SIGNED), "curl -s 127.0.0.1:8618/checkpoint": (0, CHECKPOINT), "cmd/out/ctwatch run": (8, ALERT),
     "cd release/out && sha256sum": (0, r"(?:\S+: OK\n){5}"), "make install PREFIX": (0, r"(?s:.*)/usr/local/lib/libwagtenib\.so\.(?s:.*)"),
     "make reproduce": (0, r"(?s:.*)the same twice: SHA256SUMS (?s:.*)"), "make release": (0, r"(?s:.*)\nTo tag it, (?s:.*)"),
     "make service-clients": (0, r"(?s:.*)all as they have to be(?s:.*)"),

@@ -1,15 +1,26 @@
 package main
 
 import (
+	"context"
+	"crypto/ecdsa"
+	"crypto/elliptic"
+	"crypto/rand"
 	"crypto/x509"
 	"encoding/json"
 	"encoding/pem"
+	"fmt"
+	"math/big"
+	"net"
+	"net/url"
 	"os"
 	"path/filepath"
 	"strings"
 	"syscall"
 	"testing"
 	"time"
+
+	"github.com/minio/minio-go/v7"
+	"github.com/minio/minio-go/v7/pkg/credentials"
 
 	"wagtenib/internal/trial"
 	"wagtenib/internal/web/standin"
@@ -61,7 +72,48 @@ func (p *place) authorityKey() []byte {
 // TestAuditOfKilledLog: a log that is killed and started again meanwhile passes, and the report has what was seen.
 func TestAuditOfKilledLog(t *testing.T) {
 	t.Parallel()
+	newAudited(t).passesWhileKilled("20s")
+}
+
+// TestAuditOverEngines: the same over PostgreSQL, and S3 if it was started too (tests/engines.sh).
+func TestAuditOverEngines(t *testing.T) {
+	postgres, s3 := os.Getenv("STORES_POSTGRES"), os.Getenv("STORES_S3")
+	if postgres == "" {
+		t.Skip("no such engine was started: tests/engines.sh starts it where postgresql is installed")
+	}
+	t.Parallel()
 	at := newAudited(t)
+	name := fmt.Sprintf("audited-%d", time.Now().UnixNano())
+	fields := map[string]string{}
+	for _, field := range strings.Fields(postgres) {
+		key, value, _ := strings.Cut(field, "=")
+		fields[key] = value
+	}
+	address := fmt.Sprintf("postgres://%s@%s:%s/%s?sslmode=%s&log=%s", fields["user"], fields["host"], fields["port"],
+		fields["dbname"], fields["sslmode"], name)
+	at.words = append(at.words, "--lock", address, "--index", address)
+	if s3 != "" {
+		at.words = append(at.words, "--store", bucket(t, s3, name))
+	}
+	at.passesWhileKilled("20s")
+}
+
+// bucket makes a bucket, and returns its address in the settings of a log.
+func bucket(t *testing.T, engine, name string) string {
+	t.Helper()
+	at, err := url.Parse(engine)
+	trial.Must(t, err)
+	secret, _ := at.User.Password()
+	client, err := minio.New(at.Host, &minio.Options{Creds: credentials.NewStaticV4(at.User.Username(), secret, "")})
+	trial.Must(t, err)
+	trial.Must(t, client.MakeBucket(context.Background(), name, minio.MakeBucketOptions{}))
+	return fmt.Sprintf("s3://%s@%s/%s?tls=no", at.User, at.Host, name)
+}
+
+// passesWhileKilled sees that a log passes an audit while it is killed and started again.
+func (at audited) passesWhileKilled(long string) {
+	t := at.t
+	t.Helper()
 	p := started(t, "", append(at.words, "--create")...)
 	type ended struct {
 		status        int
@@ -69,7 +121,7 @@ func TestAuditOfKilledLog(t *testing.T) {
 	}
 	done := make(chan ended, 1)
 	go func() {
-		status, answers, told := does(append(at.audit, "--for", "20s")...)
+		status, answers, told := does(append(at.audit, "--for", long)...)
 		done <- ended{status, answers, told}
 	}()
 	kills, size := 0, sizeOf(p)
@@ -92,9 +144,17 @@ func TestAuditOfKilledLog(t *testing.T) {
 	if came.status != 0 || kills == 0 {
 		t.Fatalf("status %d after %d kills: %s%s", came.status, kills, came.told, came.answers)
 	}
+	t.Logf("%d kills, %d entries", kills, sizeOf(p))
+	at.judgeReport(came.answers)
+}
+
+// judgeReport sees that the report of a log that passed is what was printed, and has each check.
+func (at audited) judgeReport(answers string) {
+	t := at.t
+	t.Helper()
 	text, err := os.ReadFile(at.path("report"))
 	trial.Must(t, err)
-	if string(text) != came.answers || !strings.HasPrefix(came.answers, "log.example/2027h1: passed\n") {
+	if string(text) != answers || !strings.HasPrefix(answers, "log.example/2027h1: passed\n") {
 		t.Errorf("the report %q isn't what was printed", text)
 	}
 	content, err := os.ReadFile(at.path("report.json"))
@@ -116,7 +176,6 @@ func TestAuditOfKilledLog(t *testing.T) {
 			t.Errorf("%s: %s, tried %d times", check.Name, check.Verdict, check.Tried)
 		}
 	}
-	t.Logf("%d kills, %d entries", kills, sizeOf(p))
 }
 
 // sizeOf returns the size of the log's newest tree, or 0 if it doesn't answer.
@@ -236,5 +295,34 @@ func TestAuditFolder(t *testing.T) {
 		"--max-latency", trial.Longest.String()}
 	if status, answers, told := does(words...); status != 0 || sizeOf(p) != 2 {
 		t.Errorf("status %d, %d entries: %s%s", status, sizeOf(p), told, answers)
+	}
+}
+
+// TestAuditOverTLS: the probe asks a log whose TLS certificate is of the CA that it is given, and no other one.
+func TestAuditOverTLS(t *testing.T) {
+	t.Parallel()
+	at := newAudited(t)
+	host, _, err := net.SplitHostPort(strings.TrimPrefix(at.audit[1], "http://"))
+	trial.Must(t, err)
+	key, err := ecdsa.GenerateKey(elliptic.P256(), rand.Reader)
+	trial.Must(t, err)
+	template := &x509.Certificate{SerialNumber: big.NewInt(1), NotAfter: time.Now().AddDate(1, 0, 0),
+		IPAddresses: []net.IP{net.ParseIP(host)}}
+	der, err := x509.CreateCertificate(rand.Reader, template, template, &key.PublicKey, key)
+	trial.Must(t, err)
+	private, err := x509.MarshalPKCS8PrivateKey(key)
+	trial.Must(t, err)
+	at.write("tls.pem", pem.EncodeToMemory(&pem.Block{Type: "CERTIFICATE", Bytes: der}))
+	at.write("tls.key", pem.EncodeToMemory(&pem.Block{Type: "PRIVATE KEY", Bytes: private}))
+	started(t, "", append(at.words, "--create", "--tls-certificate", at.path("tls.pem"), "--tls-key",
+		at.path("tls.key"))...)
+	words := append(at.audit, "--for", "1s")
+	words[1] = strings.Replace(words[1], "http:", "https:", 1)
+	if status, answers, told := does(append(words, "--ca-file", at.path("tls.pem"))...); status != 0 {
+		t.Errorf("status %d: %s%s", status, told, answers)
+	}
+	if status, answers, told := does(words...); status != 1 || !strings.Contains(told, "checkpoint-signature") ||
+		!strings.Contains(answers, "certificate signed by unknown authority") {
+		t.Errorf("without the CA: status %d: %s%s", status, told, answers)
 	}
 }

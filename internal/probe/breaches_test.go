@@ -124,6 +124,16 @@ var breaches = map[string]struct {
 			return refuses
 		}
 	}},
+	"a redirect of submissions": {[]string{probe.CheckSubmission}, func(p *probed) {
+		p.planted.before = func(s *server, w http.ResponseWriter, r *http.Request) bool {
+			redirects := r.URL.Path == "/ct/v1/add-chain" && s.count[r.URL.Path] == 3
+			if redirects {
+				w.Header().Set("Location", "https://other.example/2027h1/ct/v1/add-chain")
+				w.WriteHeader(http.StatusTemporaryRedirect)
+			}
+			return redirects
+		}
+	}},
 	"5xx above the allowed share": {[]string{probe.CheckAvailability}, func(p *probed) {
 		p.planted.before = func(s *server, w http.ResponseWriter, r *http.Request) bool {
 			fails := r.URL.Path == "/ct/v1/get-sth" && s.count["/ct/v1/get-sth"]%20 == 10

@@ -67,6 +67,7 @@ type times struct {
 	requests, failed int
 	took             []time.Duration
 	failures         map[string]int
+	lastFailure      string
 }
 
 // meter makes the requests of a probe. It counts and times the answers, and looks at their headers.
@@ -107,6 +108,10 @@ func (m *meter) RoundTrip(request *http.Request) (*http.Response, error) {
 		failure = fmt.Sprintf("status %d", response.StatusCode)
 	}
 	m.count(kind, failure, took)
+	if failure != "" {
+		m.calls[kind].lastFailure = fmt.Sprintf("%s: %s", m.clock.Now().UTC().Format(time.RFC3339),
+			cmp.Or(textOf(err), failure))
+	}
 	if err != nil {
 		return nil, err
 	}
@@ -114,6 +119,14 @@ func (m *meter) RoundTrip(request *http.Request) (*http.Response, error) {
 		m.look(kind, request.URL.Path, isPartial, response.Header)
 	}
 	return response, nil
+}
+
+// textOf returns the text of an error, or "" if there is none.
+func textOf(err error) string {
+	if err == nil {
+		return ""
+	}
+	return err.Error()
 }
 
 func (m *meter) count(kind, failure string, took time.Duration) {
@@ -207,7 +220,8 @@ func (m *meter) judge(bounds Bounds) (calls []Call) {
 		}
 		milliseconds := func(part float64) float64 { return float64(at(part).Microseconds()) / 1000 }
 		calls = append(calls, Call{Name: name, Requests: of.requests, Failed: of.failed, Median: milliseconds(0.5),
-			P95: milliseconds(0.95), P99: milliseconds(0.99), Longest: milliseconds(1), Failures: of.failures})
+			P95: milliseconds(0.95), P99: milliseconds(0.99), Longest: milliseconds(1), Failures: of.failures,
+			LastFailure: of.lastFailure})
 		// (one request may always fail: of few requests, one is more than the share)
 		allowed := max(1, int((1-bounds.Availability)*float64(of.requests)))
 		if share := 100 * float64(of.requests-of.failed) / float64(of.requests); of.failed > allowed {

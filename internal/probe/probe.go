@@ -165,7 +165,9 @@ func (r *run) connect(ctx context.Context) (err error) {
 	client.Transport = r.meter
 	client.Limits.Attempts = 1
 	client.Limits.Request = cmp.Or(client.Limits.Request, requestTime)
-	r.submits = &http.Client{Transport: r.meter, Timeout: client.Limits.Request}
+	// (an answer of another place is not the log's)
+	stay := func(*http.Request, []*http.Request) error { return http.ErrUseLastResponse }
+	r.submits = &http.Client{Transport: r.meter, Timeout: client.Limits.Request, CheckRedirect: stay}
 	if r.reads, err = logclient.New(r.options.MonitoringURL, client); err != nil {
 		return err
 	}

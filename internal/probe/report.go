@@ -131,7 +131,8 @@ type Call struct {
 	P99      float64 `json:"p99_ms"`
 	Longest  float64 `json:"longest_ms"`
 	// Failures counts the failures by what came instead of an answer.
-	Failures map[string]int `json:"failures,omitempty"`
+	Failures    map[string]int `json:"failures,omitempty"`
+	LastFailure string         `json:"last_failure,omitempty"` // when, and why
 }
 
 // Report is what a probe of a log comes to.
@@ -212,6 +213,9 @@ func (r Report) Text() string {
 		slices.Sort(reasons)
 		for _, reason := range reasons {
 			fmt.Fprintf(&to, "  %d times %s", call.Failures[reason], reason)
+		}
+		if call.LastFailure != "" {
+			fmt.Fprintf(&to, "; the last one at %s", call.LastFailure)
 		}
 		fmt.Fprintln(&to)
 	}
