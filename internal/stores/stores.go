@@ -75,7 +75,7 @@ type Objects interface {
 	// may come to stand, so that callers who need more give two contents two names. At any other error the object is there or
 	// it isn't, and the call may be made again.
 	Put(ctx context.Context, name string, content []byte) error
-	// Get gives the content; ErrAbsent where there is none. Where it has more than most bytes, nothing of it is read: TooLong.
+	// Get returns the content, or ErrAbsent if there is none. If it has more than most bytes, it returns TooLong and nothing of it.
 	Get(ctx context.Context, name string, most int64) ([]byte, error)
 	// List gives the first names that begin with the prefix (the parts of a name with a slash behind them, or none) and come
 	// after a name (or a beginning of one, or none), in the order of their bytes, at most so many and at most MostListed.
