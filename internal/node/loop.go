@@ -31,6 +31,8 @@ type last struct {
 	// published is the line of the newest state that this node knows to be published, and stepping the command to step from it.
 	published string
 	stepping  *decider.Command
+	// checkpoint is a head that the object checkpoint had, or nil.
+	checkpoint *Head
 	// unneeded are names of staged batches that may be deleted once the decider says so.
 	unneeded []string
 	// decided says that this round had a step decided by the lock, won or lost. A round that writes nothing does not show that a store takes writes.
