@@ -8,13 +8,16 @@ import (
 	"wagtenib/internal/stores"
 )
 
-// putCheckpoint makes a head the object checkpoint, from which readers follow the log without a node, unless that is as new or newer.
+// putCheckpoint makes a head the object checkpoint, from which readers follow the log without a node, unless that is
+// as new or newer.
 //
-// The checkpoint never goes back, whichever nodes put it, and whenever they are killed: each swap replaces a head by a later one, and replaces exactly
-// the content that was compared. If a swap of an older head is carried out late, the content is another one by then. It would have to be the compared
-// one again, and no content comes again, since each is of a later head than the one before it.
+// The checkpoint never goes back, whichever nodes put it, and whenever they are killed: each swap replaces a head by a
+// later one, and replaces exactly the content that was compared. If a swap of an older head is carried out late, the
+// content is another one by then. It would have to be the compared one again, and no content comes again, since each
+// is of a later head than the one before it.
 //
-// All of the head's tree is in the store by then: it is called only after the tiles and the head itself were put, or were found.
+// All of the head's tree is in the store by then: it is called only after the tiles and the head itself were put, or
+// were found.
 func (l *Loop) putCheckpoint(ctx context.Context, head Head) error {
 	if l.config.Stores.Current == nil {
 		return nil
@@ -55,7 +58,8 @@ func (l *Loop) readCheckpoint(ctx context.Context) (*Head, error) {
 	}
 	head, err := l.parseNote(content)
 	if err != nil {
-		return nil, fmt.Errorf("%w: %s: %w (look where it comes from, and delete it: the log puts it again)", ErrDamaged, checkpointName, err)
+		return nil, fmt.Errorf("%w: %s: %w (look where it comes from, and delete it: the log puts it again)",
+			ErrDamaged, checkpointName, err)
 	}
 	return &head, nil
 }

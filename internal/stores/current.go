@@ -15,16 +15,18 @@ import (
 // MaxCurrent is the maximum number of bytes of an object that Swap replaces.
 const MaxCurrent = 64 << 10
 
-// Current keeps objects that are replaced, under names as Objects has them: a log's checkpoint, and its entry for a log list. Get of Objects reads
-// them. No other call of Objects may be made for such a name.
+// Current keeps objects that are replaced, under names as Objects has them: a log's checkpoint, and its entry for a
+// log list. Get of Objects reads them. No other call of Objects may be made for such a name.
 //
-// The engine has to promise that swaps of one name are as if done one after the other, each of them when it is done: also one whose caller gave up or
-// was killed. So whoever only replaces a content by a later one can never bring an earlier one back. A late swap finds another content than the one
-// that it is to replace, since no content comes again, and changes nothing.
+// The engine has to promise that swaps of one name are as if done one after the other, each of them when it is done:
+// also one whose caller gave up or was killed. So whoever only replaces a content by a later one can never bring an
+// earlier one back. A late swap finds another content than the one that it is to replace, since no content comes
+// again, and changes nothing.
 type Current interface {
-	// Swap replaces the content old by new. A nil old is that of a name without an object. If new is there already, it returns nil. If another content
-	// is there, or none, it returns ErrLost: the swap was not done, or it was done and another one followed. After any other error the swap may have
-	// been done, or may yet be, but only as long as old is there.
+	// Swap replaces the content old by new. A nil old is that of a name without an object. If new is there already, it
+	// returns nil. If another content is there, or none, it returns ErrLost: the swap was not done, or it was done and
+	// another one followed. After any other error the swap may have been done, or may yet be, but only as long as old
+	// is there.
 	Swap(ctx context.Context, name string, old, new []byte) error
 }
 
@@ -54,8 +56,9 @@ func SetCurrent(ctx context.Context, objects Objects, current Current, name stri
 // swapLock is the file that a swap of a folder has locked. No name of an object begins with a point.
 const swapLock = temporary + "/.swap"
 
-// Swap is Current's. The lock (flock) ends with its process, so a process that was killed can neither keep it nor rename a file later. A process that
-// is paused keeps it, so that nobody else swaps meanwhile. The rename is atomic, so a reader sees either content as a whole.
+// Swap is Current's. The lock (flock) ends with its process, so a process that was killed can neither keep it nor
+// rename a file later. A process that is paused keeps it, so that nobody else swaps meanwhile. The rename is atomic,
+// so a reader sees either content as a whole.
 func (f *folder) Swap(ctx context.Context, name string, old, new []byte) error {
 	if err := checkCurrent(name, old, new); err != nil {
 		return err

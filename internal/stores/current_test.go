@@ -87,8 +87,8 @@ func TestSwapReplacesWhatWasCompared(t *testing.T) {
 	}
 }
 
-// TestSwapsAtOnce has eight writers raise one number, each by its own view of the store, while answers are lost and requests refused. A reader sees
-// it rise only, and no swap that was acknowledged is missing.
+// TestSwapsAtOnce has eight writers raise one number, each by its own view of the store, while answers are lost and
+// requests refused. A reader sees it rise only, and no swap that was acknowledged is missing.
 func TestSwapsAtOnce(t *testing.T) {
 	const writers, each = 8, 12
 	for name, place := range publicPlaces(t) {
@@ -139,7 +139,8 @@ func TestSwapsAtOnce(t *testing.T) {
 				content, err := objects.Get(ctx, "checkpoint", MaxCurrent)
 				must(t, err)
 				now := numberOf(content)
-				// A swap whose answer was lost may be done, and replaced before it is looked for: its writer makes one more.
+				// A swap whose answer was lost may be done, and replaced before it is looked for: its writer makes one
+				// more.
 				isMore := place.bucket != nil && now > writers*each
 				if now < seen || isOver && now != writers*each && !isMore {
 					t.Fatalf("%d is read after %d (the writers have ended: %t)", now, seen, isOver)
@@ -159,7 +160,8 @@ func numberOf(content []byte) int {
 	return max(n, 0)
 }
 
-// TestLateSwapChangesNothing: a put of an older checkpoint that reaches the bucket after a later one was put is refused there.
+// TestLateSwapChangesNothing: a put of an older checkpoint that reaches the bucket after a later one was put is
+// refused there.
 func TestLateSwapChangesNothing(t *testing.T) {
 	bucket := testbucket.New(true)
 	address := addressOfS3(serve(t, bucket), "")
@@ -193,13 +195,14 @@ func TestLateSwapChangesNothing(t *testing.T) {
 	}
 }
 
-// TestPublicBucketRefusesEnginesWithoutConditions: an engine that ignores If-Match, or an address that says that there are no conditional puts, could let
-// a checkpoint go back.
+// TestPublicBucketRefusesEnginesWithoutConditions: an engine that ignores If-Match, or an address that says that there
+// are no conditional puts, could let a checkpoint go back.
 func TestPublicBucketRefusesEnginesWithoutConditions(t *testing.T) {
 	bucket := testbucket.New(true)
 	at := serve(t, bucket)
 	bucket.Matching = false
-	if _, _, err := OpenPublic(limited(t), addressOfS3(at, "")); !errors.Is(err, ErrUnsafe) || !strings.Contains(fmt.Sprint(err), "If-Match") {
+	_, _, err := OpenPublic(limited(t), addressOfS3(at, ""))
+	if !errors.Is(err, ErrUnsafe) || !strings.Contains(fmt.Sprint(err), "If-Match") {
 		t.Errorf("an engine that ignores If-Match: %v", err)
 	}
 	if _, _, err := OpenPublic(limited(t), addressOfS3(at, "&conditional=no")); !errors.Is(err, ErrUnsafe) {
@@ -207,8 +210,9 @@ func TestPublicBucketRefusesEnginesWithoutConditions(t *testing.T) {
 	}
 }
 
-// TestDataTilesAreStoredInGzip: a public bucket has data tiles in gzip, with the headers that a CDN serves, and Get returns the tile. One that was put
-// before, without compression, is read as it is. A bucket that is not public compresses nothing, and reads what is compressed.
+// TestDataTilesAreStoredInGzip: a public bucket has data tiles in gzip, with the headers that a CDN serves, and Get
+// returns the tile. One that was put before, without compression, is read as it is. A bucket that is not public
+// compresses nothing, and reads what is compressed.
 func TestDataTilesAreStoredInGzip(t *testing.T) {
 	bucket := testbucket.New(true)
 	address := addressOfS3(serve(t, bucket), "")
@@ -217,11 +221,12 @@ func TestDataTilesAreStoredInGzip(t *testing.T) {
 	plain, err := ObjectsAt(limited(t), address)
 	must(t, err)
 	content := bytes.Repeat([]byte("an entry of a data tile. "), 4000)
+	const keptForEver = "public, max-age=31536000, immutable"
 	for name, want := range map[string]testbucket.Object{
-		"tile/data/000":     {Encoding: "gzip", Type: "application/octet-stream", Cache: "public, max-age=31536000, immutable"},
+		"tile/data/000":     {Encoding: "gzip", Type: "application/octet-stream", Cache: keptForEver},
 		"tile/data/001.p/5": {Encoding: "gzip", Type: "application/octet-stream", Cache: "public, max-age=60"},
-		"tile/0/000":        {Type: "application/octet-stream", Cache: "public, max-age=31536000, immutable"},
-		"issuer/00":         {Type: "application/pkix-cert", Cache: "public, max-age=31536000, immutable"},
+		"tile/0/000":        {Type: "application/octet-stream", Cache: keptForEver},
+		"issuer/00":         {Type: "application/pkix-cert", Cache: keptForEver},
 	} {
 		must(t, public.Put(limited(t), name, content))
 		// Another node, or the same one after a restart, puts it again. Each compares contents.
@@ -250,7 +255,8 @@ func TestDataTilesAreStoredInGzip(t *testing.T) {
 				t.Errorf("%s is kept as it is stored: %t", name, is)
 			}
 			var long TooLong
-			if _, err := store.Get(limited(t), name, int64(len(content))-1); !errors.As(err, &long) || long.Length != int64(len(content)) {
+			_, err := store.Get(limited(t), name, int64(len(content))-1)
+			if !errors.As(err, &long) || long.Length != int64(len(content)) {
 				t.Errorf("%s: more than may be: %v", name, err)
 			}
 		}
@@ -278,7 +284,8 @@ func TestDamagedGzipIsNoContent(t *testing.T) {
 	changed := bytes.Clone(whole.Content)
 	changed[len(changed)/2] ^= 1
 	for what, damaged := range map[string][]byte{
-		"nothing": {}, "three bytes": whole.Content[:3], "cut": whole.Content[:len(whole.Content)-9], "changed": changed, "no gzip": content,
+		"nothing": {}, "three bytes": whole.Content[:3], "cut": whole.Content[:len(whole.Content)-9],
+		"changed": changed, "no gzip": content,
 		"more behind it": append(bytes.Clone(whole.Content), whole.Content...),
 	} {
 		bucket.Set(name, testbucket.Object{Content: damaged, Encoding: "gzip"})
@@ -288,7 +295,8 @@ func TestDamagedGzipIsNoContent(t *testing.T) {
 	}
 }
 
-// TestSwapWaitsForItsContext: a process that is paused keeps a folder's lock, and the others give up with their contexts.
+// TestSwapWaitsForItsContext: a process that is paused keeps a folder's lock, and the others give up with their
+// contexts.
 func TestSwapWaitsForItsContext(t *testing.T) {
 	root := t.TempDir()
 	_, current, err := OpenPublic(limited(t), "folder:"+root)

@@ -27,7 +27,8 @@ const inGzip = "gzip"
 // isDataTile reports whether a name is a data tile's (C2SP static-ct-api, "Log Entries").
 func isDataTile(name string) bool { return strings.HasPrefix(name, "tile/data/") }
 
-// headersOf returns the type of an object's content, and how long caches may keep it. Both are empty if readers do not read it.
+// headersOf returns the type of an object's content, and how long caches may keep it. Both are empty if readers do not
+// read it.
 func headersOf(name string) (contentType, cacheControl string) {
 	switch {
 	case strings.HasPrefix(name, "tile/") && strings.Contains(name, ".p/"):
@@ -69,7 +70,8 @@ type Packed struct {
 // packedKey marks the context of a Get that also keeps the object as it is stored.
 type packedKey struct{}
 
-// WithPacked returns a context by which Get keeps an object as it is stored, if that is in gzip, so that it can be sent so.
+// WithPacked returns a context by which Get keeps an object as it is stored, if that is in gzip, so that it can be
+// sent so.
 func WithPacked(ctx context.Context) (context.Context, *Packed) {
 	packed := &Packed{}
 	return context.WithValue(ctx, packedKey{}, packed), packed
@@ -106,7 +108,8 @@ func unpack(ctx context.Context, name string, packed []byte, most int64) ([]byte
 	return content, nil
 }
 
-// OpenPublic opens the objects at an address, as ObjectsAt does, of a log that is read from the folder or bucket itself.
+// OpenPublic opens the objects at an address, as ObjectsAt does, of a log that is read from the folder or bucket
+// itself.
 func OpenPublic(ctx context.Context, address string) (Objects, Current, error) {
 	if kind, _, _ := strings.Cut(address, ":"); kind == "s3" {
 		at, err := parseS3(address)
@@ -114,7 +117,8 @@ func OpenPublic(ctx context.Context, address string) (Objects, Current, error) {
 			return nil, nil, err
 		}
 		if !at.Conditional {
-			return nil, nil, fmt.Errorf("%w: without conditional puts a checkpoint could go back (leave conditional=no out, or public-store)", ErrUnsafe)
+			return nil, nil, fmt.Errorf("%w: without conditional puts a checkpoint could go back "+
+				"(leave conditional=no out, or public-store)", ErrUnsafe)
 		}
 		b, err := openS3(ctx, at, true)
 		if err != nil {
@@ -132,14 +136,15 @@ func OpenPublic(ctx context.Context, address string) (Objects, Current, error) {
 // matching marks the context of a put that may only be done over the object with this ETag.
 type matching struct{}
 
-// standing is a content that Swap put or read, and its ETag.
+// standing holds a content that Swap put or read, and its ETag.
 type standing struct {
 	name, tag string
 	content   []byte
 }
 
-// Swap is Current's: one put over the ETag of the old content (If-Match). The engine compares the ETag when it does the put, so a put that was delayed
-// on its way changes nothing if another one was done before it. An ETag comes again only with its content.
+// Swap is Current's: one put over the ETag of the old content (If-Match). The engine compares the ETag when it does
+// the put, so a put that was delayed on its way changes nothing if another one was done before it. An ETag comes again
+// only with its content.
 func (b *bucket) Swap(ctx context.Context, name string, old, new []byte) error {
 	if err := checkCurrent(name, old, new); err != nil {
 		return err
@@ -202,7 +207,8 @@ func (b *bucket) tryMatch(ctx context.Context) error {
 	}
 	err := b.putText(context.WithValue(ctx, matching{}, `"0123456789abcdef0123456789abcdef"`), name, "second")
 	if err == nil {
-		return fmt.Errorf("%w: a put with If-Match of another ETag is not refused, so a checkpoint could go back (leave public-store out, or use an engine with conditional puts)", ErrUnsafe)
+		return fmt.Errorf("%w: a put with If-Match of another ETag is not refused, so a checkpoint could go back "+
+			"(leave public-store out, or use an engine with conditional puts)", ErrUnsafe)
 	}
 	if !isRefused(err) {
 		return fmt.Errorf("stores: S3: conditional put: %w", err)

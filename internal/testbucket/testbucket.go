@@ -1,5 +1,5 @@
-// Package testbucket is a bucket in memory for tests, which speaks as much of S3 as the stores want. So the client is tried on machines without an
-// engine, and against what an engine seldom does.
+// Package testbucket is a bucket in memory for tests, which speaks as much of S3 as the stores need. So the client is
+// tried on machines without an engine, and against what an engine seldom does.
 package testbucket
 
 import (
@@ -37,9 +37,11 @@ type Bucket struct {
 	objects map[string]Object
 	// Conditional says that the bucket obeys If-None-Match, and Matching that it obeys If-Match.
 	Conditional, Matching bool
-	// Losing reports whether the answer of the request with this number is lost, and Refusing whether the request is refused.
+	// Losing reports whether the answer of the request with this number is lost, and Refusing whether the request is
+	// refused.
 	Losing, Refusing func(number int) bool
-	// Before is called before each request with its number, and After after it was done and before it is answered. Both may be nil.
+	// Before is called before each request with its number, and After after it was done and before it is answered.
+	// Both may be nil.
 	Before, After func(number int, r *http.Request)
 	requests      int
 }
@@ -131,8 +133,10 @@ func (b *Bucket) answer(w http.ResponseWriter, r *http.Request, body []byte) {
 	case !there:
 		fault(w, http.StatusNotFound, "NoSuchKey")
 	default:
-		for header, value := range map[string]string{"Last-Modified": "Thu, 01 Jan 2026 00:00:00 GMT", "ETag": of.ETag(), "Content-Type": of.Type,
-			"Content-Encoding": of.Encoding, "Cache-Control": of.Cache, "Content-Length": fmt.Sprint(len(of.Content))} {
+		for header, value := range map[string]string{
+			"Last-Modified": "Thu, 01 Jan 2026 00:00:00 GMT", "ETag": of.ETag(), "Content-Type": of.Type,
+			"Content-Encoding": of.Encoding, "Cache-Control": of.Cache, "Content-Length": fmt.Sprint(len(of.Content)),
+		} {
 			if value != "" {
 				w.Header().Set(header, value)
 			}
