@@ -136,7 +136,7 @@ class Release:
 
     def shared(self):
         """What an operator puts into place: Prometheus' settings, the rules of alarms, the dashboard, and what makes an image of a container."""
-        return {path.name: path for path in (ROOT / "release" / name for name in ("prometheus.yml", "ctserve.rules.yml", "ctserve.dashboard.json", "ctserve.nginx.conf", "Containerfile"))}
+        return {path.name: path for path in (ROOT / "release" / name for name in ("prometheus.yml", "ctserve.rules.yml", "ctserve.dashboard.json", "ctserve.nginx.conf", "ctserve.folder.nginx.conf", "Containerfile"))}
 
     def pkg_config(self, prefix):
         return (ROOT / "include" / "wagtenib.pc.in").read_text().replace("@PREFIX@", prefix).replace("@VERSION@", self.version)

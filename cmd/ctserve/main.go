@@ -43,6 +43,8 @@ type opened struct {
 	forward web.Forwarder
 	secured *secured
 	key     []byte
+	// putEntry puts the log's entry for a log list into the store. It is nil unless the log is read from there.
+	putEntry func(ctx context.Context, entry []byte) error
 	// calls has counted what the stores were asked.
 	calls *stores.Calls
 	// close closes what the log uses.
@@ -133,6 +135,9 @@ func serveLog(s *settings, lines *web.Lines, signals <-chan os.Signal, open open
 	if err != nil {
 		return err
 	}
+	if err := putEntry(s, of, about.Entry); err != nil {
+		return err
+	}
 	front := web.New(of.log, of.proofs, checker, web.Options{Limits: s.limits, Proxies: s.proxies, Lines: lines, LogRequests: s.logRequests, ReadOnly: s.readOnly, About: about, Stores: of.calls, Forward: of.forward})
 
 	servers := []*served{{of: "clients", address: s.listen, over: over, handler: front}}
@@ -181,6 +186,16 @@ func serveLog(s *settings, lines *web.Lines, signals <-chan os.Signal, open open
 		lines.Info("ending", "signal", ending)
 	}
 	return ended(s, of.log, servers, err)
+}
+
+// putEntry puts the log's entry for a log list into the store, if the log is read from there.
+func putEntry(s *settings, of *opened, entry []byte) error {
+	if of.putEntry == nil || entry == nil {
+		return nil
+	}
+	ctx, cancel := context.WithTimeout(context.Background(), s.node.openWithin)
+	defer cancel()
+	return of.putEntry(ctx, entry)
 }
 
 // awaitHead waits for the first head of a log, for as long as a reading may take.

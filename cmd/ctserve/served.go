@@ -35,11 +35,14 @@ func openStores(ctx context.Context, n node) (s *shared, err error) {
 			s.close()
 		}
 	}()
-	objects, err := stores.ObjectsAt(ctx, n.store)
+	objects, current, err := openObjects(ctx, n)
 	if err != nil {
 		return s, err
 	}
 	s.Objects, s.closers = s.calls.Objects(objects), append(s.closers, objects.Close)
+	if current != nil {
+		s.Current = s.calls.Current(current)
+	}
 	lock, err := stores.RegisterAt(ctx, n.register)
 	if err != nil {
 		return s, err
@@ -51,6 +54,15 @@ func openStores(ctx context.Context, n node) (s *shared, err error) {
 	}
 	s.Index, s.closers = s.calls.Places(index), append(s.closers, index.Close)
 	return s, nil
+}
+
+// openObjects opens the objects, and what replaces objects if the log is read from the store itself.
+func openObjects(ctx context.Context, n node) (stores.Objects, stores.Current, error) {
+	if n.isPublic {
+		return stores.OpenPublic(ctx, n.store)
+	}
+	objects, err := stores.ObjectsAt(ctx, n.store)
+	return objects, nil, err
 }
 
 // openNode opens a log, and begins to serve it.
@@ -90,6 +102,11 @@ func openNode(ctx context.Context, n node) (of *opened, err error) {
 	config := n.config(s.Stores)
 	config.Signer = asked
 	of = &opened{cutter: chains.NewCutter(), key: asked.Key(), calls: s.calls}
+	if s.Current != nil {
+		of.putEntry = func(ctx context.Context, entry []byte) error {
+			return stores.SetCurrent(ctx, s.Objects, s.Current, "log.v3.json", entry)
+		}
+	}
 	if of.secured, err = n.peers.secure(); err != nil {
 		return nil, err
 	}

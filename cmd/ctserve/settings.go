@@ -54,7 +54,7 @@ type node struct {
 	readEvery, readAllWithin         time.Duration
 	maxQueue, maxBatch, maxProofs    int
 	maxWritten                       int
-	create, makesFolder              bool
+	create, makesFolder, isPublic    bool
 	peers                            peers
 	witnesses                        []witness.One
 	quorums                          witness.Quorums
@@ -159,6 +159,7 @@ func (n *node) storeFlags(flags *flag.FlagSet) {
 	flags.StringVar(&n.register, "lock", "", "`address` of the lock, which has the log's newest state: file:PATH, etcd://HOST:PORT/PREFIX, postgres://HOST/DATABASE?log=NAME")
 	flags.StringVar(&n.places, "index", "", "`address` of the deduplication index: sqlite:PATH, postgres://HOST/DATABASE?log=NAME")
 	flags.StringVar(&n.latestHead, "latest-head", "", "`file` with the latest tree head that this node saw. A log that is older is refused. It must be on this machine, and in no backup of the stores (default FOLDER.latest-head, beside the folder)")
+	flags.BoolVar(&n.isPublic, "public-store", false, "have the log read from the store itself (a bucket or folder behind a web server or CDN): also write checkpoint and log.v3.json there, and compress data tiles in S3. All nodes must have the same value")
 	flags.BoolVar(&n.create, "create", false, "create the log if there is none. Without it, ctserve does not start with an empty lock")
 	flags.DurationVar(&n.openWithin, "open-timeout", 30*time.Second, "time within which the stores must open")
 }

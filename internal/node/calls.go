@@ -21,6 +21,9 @@ func limit(config Config) Stores {
 	if config.Stores.Leaves != nil {
 		all.Leaves = limitedIndex{l, config.Stores.Leaves}
 	}
+	if config.Stores.Current != nil {
+		all.Current = limitedCurrent{l}
+	}
 	return all
 }
 
@@ -59,6 +62,12 @@ func (o limitedObjects) List(ctx context.Context, prefix, after string, max int)
 
 func (o limitedObjects) Delete(ctx context.Context, name string) error {
 	return done(ctx, o.limited, func(ctx context.Context) error { return o.of.Objects.Delete(ctx, name) })
+}
+
+type limitedCurrent struct{ *limited }
+
+func (c limitedCurrent) Swap(ctx context.Context, name string, old, new []byte) error {
+	return done(ctx, c.limited, func(ctx context.Context) error { return c.of.Current.Swap(ctx, name, old, new) })
 }
 
 type limitedLock struct{ *limited }

@@ -32,6 +32,8 @@ type last struct {
 	// from it.
 	published string
 	stepping  *decider.Command
+	// checkpoint is a head that the object checkpoint had, or nil.
+	checkpoint *Head
 	// unneeded are names of staged batches that may be deleted once the decider says so.
 	unneeded []string
 	// decided says that this round had a step decided by the lock, won or lost. A round that writes nothing does not

@@ -19,6 +19,8 @@ const (
 	headsPrefix   = "heads/"
 	stagingPrefix = "staging/"
 	maxNote       = 16 << 10
+	// checkpointName is the name of the newest head for readers without a node (C2SP tlog-tiles, "Checkpoints").
+	checkpointName = "checkpoint"
 
 	nodeWord = "node "
 	saltWord = "salt "

@@ -49,6 +49,11 @@ type Objects interface {
 	Delete(ctx context.Context, name string) error
 }
 
+// Current replaces objects by compare-and-set (stores.Current has what an engine owes).
+type Current interface {
+	Swap(ctx context.Context, name string, old, new []byte) error
+}
+
 // Lock is the compare-and-set cell that decides which state comes next, and says how far the log is published
 // (stores.Register has what an engine owes).
 type Lock interface {
@@ -127,6 +132,8 @@ type Stores struct {
 	Index   Index
 	// Leaves finds the places of leaves by their hashes (RFC 6962, section 2.1). It is nil if nobody asks for them.
 	Leaves Index
+	// Current keeps the checkpoint that readers fetch without a node. It is nil if nobody does.
+	Current Current
 }
 
 // Proved are the proved decisions.

@@ -50,6 +50,8 @@ type Stores struct {
 	Objects stores.Objects
 	Lock    stores.Register
 	Index   stores.Places
+	// Current keeps the checkpoint that readers fetch without a node. It is nil if nobody does.
+	Current stores.Current
 }
 
 // Files are of this machine only, and in no backup of the stores. Their names may be empty.
@@ -207,10 +209,14 @@ func (l *Log) nodeConfig() (node.Config, error) {
 		return node.Config{}, err
 	}
 	help := helpAfter + time.Duration(by%uint64(helpAfter))
+	shared := node.Stores{Objects: c.Stores.Objects, Lock: c.Stores.Lock, Index: &finder{Places: c.Stores.Index},
+		Leaves: c.Stores.Index.Leaves()}
+	if c.Stores.Current != nil {
+		shared.Current = c.Stores.Current
+	}
 	config := node.Config{
 		Origin: c.Origin, Address: c.Address, Create: c.Create, Signer: c.Signer,
-		Stores: node.Stores{Objects: c.Stores.Objects, Lock: c.Stores.Lock, Index: &finder{Places: c.Stores.Index},
-			Leaves: c.Stores.Index.Leaves()},
+		Stores: shared,
 		Proved: node.Proved{Decider: decider.New(), Steps: step.New(c.Origin)},
 		Machine: node.Machine{Clock: c.Machine.Of, Memory: memory{c.Machine.Files.LatestHead, l.running.logID},
 			Parallel: parallel, Random: random, Sources: l.sources, Observer: l.counts},

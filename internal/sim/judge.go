@@ -28,8 +28,8 @@ type judge struct {
 	tree       *compact.Range
 	identities map[[32]byte]int
 	// newest is the newest head that was put, and tiles has what was put of each tile.
-	newest signer.Head
-	tiles  map[string]*puts
+	newest, checkpoint signer.Head
+	tiles              map[string]*puts
 	// standing are all heads that were put, in that order.
 	standing []standing
 	counts   [kinds]int
@@ -49,7 +49,7 @@ func (e *excuses) allows(identity [32]byte) bool {
 // Stats are the numbers of a history.
 type Stats struct {
 	Calls, Switches, Heads, Cosigned, Deleted, Partials, OldHeads, Staged, Reread, Entries, Answers, Repeats,
-	Reads, Starts int
+	Reads, Starts, Checkpoints int
 }
 
 // leaf is an entry of the list.
@@ -123,6 +123,22 @@ func (j *judge) putHead(name, note string) {
 	}
 	j.standing = append(j.standing, standing{head.Size, head.Timestamp, j.w.now})
 	j.stats.Heads++
+}
+
+// putCheckpoint judges a checkpoint that is put: it is a signed head of the list, all of its tree is in the store, and it is later than any before it.
+func (j *judge) putCheckpoint(name string, content []byte) {
+	j.stats.Checkpoints++
+	head, err := readNote(string(content))
+	if name != "checkpoint" || err != nil {
+		j.breaks("a head is signed", "%s: %v", name, err)
+		return
+	}
+	before := j.checkpoint
+	if !j.w.excuses.missing && (head.Size < before.Size || head.Timestamp <= before.Timestamp) {
+		j.breaks("the checkpoint does not go back", "it gets the head of %d entries at %d ms after that of %d at %d ms", head.Size, head.Timestamp, before.Size, before.Timestamp)
+	}
+	j.checkpoint = head
+	j.isLists(head, fmt.Sprintf("the checkpoint of %d entries at %d ms", head.Size, head.Timestamp), "a checkpoint is the list's")
 }
 
 // judgeTime judges a head's timestamp by the true time.

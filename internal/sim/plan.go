@@ -118,16 +118,18 @@ type Plan struct {
 	Witnesses Witnesses
 	// Janitors says that each node has a janitor beside it.
 	Janitors bool
-	Faults   []Fault
-	Clients  []Client
+	// Public says that the nodes also put a checkpoint for readers without a node.
+	Public  bool
+	Faults  []Fault
+	Clients []Client
 	// Answers is how many answers the clients get at least, if the plan says so.
 	Answers int
 }
 
 func (p Plan) String() string {
 	var text strings.Builder
-	fmt.Fprintf(&text, "seed %d, %d nodes, %d witnesses %+v, janitors: %v", p.Seed, p.Machines, p.Witnesses.Count,
-		p.Witnesses.Quorums, p.Janitors)
+	fmt.Fprintf(&text, "seed %d, %d nodes, %d witnesses %+v, janitors: %v, public: %v", p.Seed, p.Machines, p.Witnesses.Count,
+		p.Witnesses.Quorums, p.Janitors, p.Public)
 	for _, f := range p.Faults {
 		fmt.Fprintf(&text, "\n  fault: %v", f)
 	}
@@ -137,10 +139,13 @@ func (p Plan) String() string {
 	return text.String()
 }
 
+// publicEach is how many histories there are for each one with a checkpoint for readers without a node.
+const publicEach = 3
+
 // NewPlan returns the plan of a seed.
 func NewPlan(seed int64) Plan {
 	random := rand.New(rand.NewSource(seed))
-	plan := Plan{Seed: seed, Machines: 1 + random.Intn(3)}
+	plan := Plan{Seed: seed, Machines: 1 + random.Intn(3), Public: seed%publicEach == publicEach-1}
 	if random.Intn(3) == 0 {
 		plan.Witnesses = quorums[random.Intn(len(quorums))]
 	}

@@ -409,6 +409,8 @@ var all = []planted{
 		{"seen.go", "	if l.isAccepted(k) {", "	if true {"},
 		{"pass.go", "	if err := p.descends(ctx, k, p.made.objects); err != nil {", "	if false {"},
 	}},
+	{"an older checkpoint wins", []edit{{"checkpoint.go", "		if stored.Note != nil && !stored.before(head) {", "		if false {"}}},
+	{"the checkpoint is put before the tiles", []edit{{"pass.go", "	if err := errors.Join(p.isFrom(), p.hasObjects()); err != nil {", "	if head, err := p.signedHead(ctx, p.from, p.made.head, p.made.objects); err == nil {\n		if err := p.putCheckpoint(ctx, head); err != nil {\n			return nil, err\n		}\n	}\n	if err := errors.Join(p.isFrom(), p.hasObjects()); err != nil {"}}},
 	{"a restored object is not put", []edit{
 		{"staged.go",
 			"	if err := l.config.Stores.Objects.Put(ctx, name, content); err != nil {",

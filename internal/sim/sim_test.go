@@ -52,8 +52,8 @@ func TestHistories(t *testing.T) {
 		t.Errorf("faults that never happened: %v", missing)
 	}
 	if s := total.Stats; histories >= 300 && (s.Partials == 0 || s.OldHeads == 0 || s.Staged == 0 || s.Reread == 0 ||
-		s.Cosigned == 0) {
-		t.Errorf("janitors or witnesses did nothing of a kind: %+v", s)
+		s.Cosigned == 0 || s.Checkpoints == 0) {
+		t.Errorf("janitors, witnesses or checkpoints did nothing of a kind: %+v", s)
 	}
 }
 

@@ -25,10 +25,12 @@ const (
 
 // memory has all that the simulated stores keep.
 type memory struct {
-	objects   map[string][]byte
-	text      string
-	created   bool
-	published stores.Published
+	objects map[string][]byte
+	// checkpoint is the object that readers without a node follow.
+	checkpoint []byte
+	text       string
+	created    bool
+	published  stores.Published
 	// guard is the text of the guard's state, which is another cell of the lock's engine.
 	guard string
 	// index has the places by identities, and leaves by the hashes of leaves.
@@ -70,6 +72,13 @@ func (s *memory) set(name string, content []byte) {
 		return
 	}
 	s.objects[name] = content
+}
+
+// setCheckpoint replaces the checkpoint.
+func (s *memory) setCheckpoint(content []byte) {
+	before := s.checkpoint
+	s.changes[objectsPart] = append(s.changes[objectsPart], change{s.call, "checkpoint", func() { s.checkpoint = before }})
+	s.checkpoint = content
 }
 
 // setLock gives the lock a text and what is published.
@@ -130,6 +139,9 @@ func (o objects) Put(ctx context.Context, name string, content []byte) error {
 func (o objects) Get(ctx context.Context, name string, max int64) (content []byte, err error) {
 	err = o.m.call(ctx, "objects", "get "+name, false, func() error {
 		stored, ok := o.m.w.stores.objects[name]
+		if name == "checkpoint" {
+			stored, ok = o.m.w.stores.checkpoint, o.m.w.stores.checkpoint != nil
+		}
 		if !ok {
 			return stores.ErrAbsent
 		}
@@ -143,6 +155,25 @@ func (o objects) Get(ctx context.Context, name string, max int64) (content []byt
 		return nil, err
 	}
 	return content, nil
+}
+
+// current is the checkpoint's store as a machine's node sees it.
+type current struct{ m *machine }
+
+func (c current) Swap(ctx context.Context, name string, old, new []byte) error {
+	w := c.m.w
+	old, new = bytes.Clone(old), bytes.Clone(new)
+	return c.m.call(ctx, "objects", fmt.Sprintf("swap %s (%d bytes)", name, len(new)), true, func() error {
+		switch before := w.stores.checkpoint; {
+		case bytes.Equal(before, new):
+			return nil
+		case !bytes.Equal(before, old):
+			return stores.ErrLost
+		}
+		w.judge.putCheckpoint(name, new)
+		w.stores.setCheckpoint(new)
+		return nil
+	})
 }
 
 func (o objects) List(ctx context.Context, prefix, after string, max int) (names []string, err error) {

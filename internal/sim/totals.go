@@ -36,6 +36,7 @@ func (t *Totals) Add(r Result) {
 	s.Repeats += r.Stats.Repeats
 	s.Reads += r.Stats.Reads
 	s.Starts += r.Stats.Starts
+	s.Checkpoints += r.Stats.Checkpoints
 	for kind, times := range r.Counts {
 		t.happened[kind] += times
 		if times > 0 {

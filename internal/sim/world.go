@@ -166,9 +166,13 @@ const maxSkew = 10 * time.Second
 
 // config is the configuration of a machine's node.
 func (m *machine) config() node.Config {
+	shared := node.Stores{Objects: objects{m}, Lock: lock{m}, Index: index{m}, Leaves: leaves{m}}
+	if m.w.plan.Public {
+		shared.Current = current{m}
+	}
 	return node.Config{
 		Origin: Origin, Address: m.name, Create: true,
-		Stores: node.Stores{Objects: objects{m}, Lock: lock{m}, Index: index{m}, Leaves: leaves{m}},
+		Stores: shared,
 		Proved: m.w.proved,
 		Signer: m.signer, Witnesses: m.witnesses(),
 		Machine: node.Machine{Clock: clock{m}, Memory: remembering{m}, Parallel: m.w.parallel,

@@ -24,7 +24,7 @@ const (
 
 // callsThatAre are all, in their order; nothing else is counted.
 var callsThatAre = []Call{
-	{Store: ofObjects, Name: "put"}, {Store: ofObjects, Name: "get"}, {Store: ofObjects, Name: "list"}, {Store: ofObjects, Name: "delete"},
+	{Store: ofObjects, Name: "put"}, {Store: ofObjects, Name: "get"}, {Store: ofObjects, Name: "list"}, {Store: ofObjects, Name: "delete"}, {Store: ofObjects, Name: "swap"},
 	{Store: ofRegister, Name: "create"}, {Store: ofRegister, Name: "read"}, {Store: ofRegister, Name: "swap"}, {Store: ofRegister, Name: "published"}, {Store: ofRegister, Name: "raise"},
 	{Store: ofPlaces, Name: "find"}, {Store: ofPlaces, Name: "add"}, {Store: ofPlaces, Name: "replace"},
 }
@@ -118,6 +118,19 @@ func (o countedObjects) List(ctx context.Context, prefix, after string, most int
 func (o countedObjects) Delete(ctx context.Context, name string) error {
 	began := time.Now()
 	return o.calls.ended(ctx, ofObjects, "delete", began, o.Objects.Delete(ctx, name))
+}
+
+// Current is this one, counted with the objects.
+func (c *Calls) Current(of Current) Current { return countedCurrent{of, c} }
+
+type countedCurrent struct {
+	of    Current
+	calls *Calls
+}
+
+func (o countedCurrent) Swap(ctx context.Context, name string, old, new []byte) error {
+	began := time.Now()
+	return o.calls.ended(ctx, ofObjects, "swap", began, o.of.Swap(ctx, name, old, new))
 }
 
 // Register is this one, counted.

@@ -34,6 +34,10 @@ func (g givenObjects) List(context.Context, string, string, int) ([]string, erro
 func (g givenObjects) Delete(context.Context, string) error { return g.give() }
 func (g givenObjects) Close() error                         { return errors.New("closed") }
 
+type givenCurrent struct{ *given }
+
+func (g givenCurrent) Swap(context.Context, string, []byte, []byte) error { return g.give() }
+
 type givenRegister struct{ *given }
 
 func (g givenRegister) Create(context.Context, string) error       { return g.give() }
@@ -65,7 +69,7 @@ func (givenTime) Time(context.Context) (time.Time, time.Duration, error) {
 }
 
 // asksAll makes each call once, in the order of All, and gives what came of each.
-func asksAll(ctx context.Context, objects Objects, register Register, places Places) (errs []error, values []any) {
+func asksAll(ctx context.Context, objects Objects, current Current, register Register, places Places) (errs []error, values []any) {
 	add := func(err error, more ...any) { errs, values = append(errs, err), append(values, more...) }
 	add(objects.Put(ctx, "name", nil))
 	content, err := objects.Get(ctx, "name", 1)
@@ -73,6 +77,7 @@ func asksAll(ctx context.Context, objects Objects, register Register, places Pla
 	names, err := objects.List(ctx, "", "", 1)
 	add(err, names)
 	add(objects.Delete(ctx, "name"))
+	add(current.Swap(ctx, "name", nil, nil))
 	add(register.Create(ctx, "text"))
 	text, err := register.Read(ctx)
 	add(err, text)
@@ -95,7 +100,7 @@ func TestCallsAreCounted(t *testing.T) {
 	cancel()
 	late, stop := context.WithDeadline(context.Background(), time.Now().Add(-time.Second))
 	defer stop()
-	want := [][2]string{{"objects", "put"}, {"objects", "get"}, {"objects", "list"}, {"objects", "delete"}, {"lock", "create"}, {"lock", "read"}, {"lock", "swap"}, {"lock", "published"},
+	want := [][2]string{{"objects", "put"}, {"objects", "get"}, {"objects", "list"}, {"objects", "delete"}, {"objects", "swap"}, {"lock", "create"}, {"lock", "read"}, {"lock", "swap"}, {"lock", "published"},
 		{"lock", "raise"}, {"index", "find"}, {"index", "add"}, {"index", "replace"}}
 	for what, test := range map[string]struct {
 		ctx    context.Context
@@ -122,7 +127,7 @@ func TestCallsAreCounted(t *testing.T) {
 		objects, register, places := calls.Objects(givenObjects{of}), calls.Register(givenRegister{of}), calls.Places(givenPlaces{of, &givenPlaces{of, nil}})
 		began := time.Now()
 		for i := 0; i < 2; i++ {
-			errs, values := asksAll(test.ctx, objects, register, places)
+			errs, values := asksAll(test.ctx, objects, calls.Current(givenCurrent{of}), register, places)
 			for i, err := range errs {
 				if err != test.err {
 					t.Errorf("%s: %s gives %v", what, want[i], err)

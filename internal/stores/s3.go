@@ -11,6 +11,7 @@ import (
 	"net"
 	"net/http"
 	"net/http/httptrace"
+	"sync/atomic"
 	"syscall"
 	"time"
 
@@ -40,6 +41,10 @@ type bucket struct {
 	core        minio.Core
 	name        string
 	conditional bool
+	// public says that data tiles are put in gzip.
+	public bool
+	// last is the content that Swap put last. It saves a read before the next one.
+	last atomic.Pointer[standing]
 }
 
 // ifAbsent marks the context of a put that may only be done where no object is.
@@ -49,11 +54,7 @@ type ifAbsent struct{}
 type condition struct{ http.RoundTripper }
 
 func (c condition) RoundTrip(request *http.Request) (*http.Response, error) {
-	if request.Method == http.MethodPut && request.Context().Value(ifAbsent{}) != nil {
-		request = request.Clone(request.Context())
-		request.Header.Set("If-None-Match", "*")
-	}
-	response, err := c.RoundTripper.RoundTrip(request)
+	response, err := c.RoundTripper.RoundTrip(conditionOf(request))
 	if said, ok := request.Context().Value(date{}).(*string); ok && err == nil {
 		*said = response.Header.Get("Date")
 	}
@@ -109,6 +110,14 @@ func promptly(dial func(ctx context.Context, network, address string) (net.Conn,
 // OpenS3 opens the objects in a bucket; ErrAbsent where there is no such bucket, ErrUnsafe where conditional puts are said to
 // be there and aren't.
 func OpenS3(ctx context.Context, at S3) (Objects, error) {
+	b, err := openS3(ctx, at, false)
+	if b == nil {
+		return nil, err
+	}
+	return b, err
+}
+
+func openS3(ctx context.Context, at S3, public bool) (*bucket, error) {
 	transport, err := minio.DefaultTransport(at.TLS)
 	if err != nil {
 		return nil, fmt.Errorf("stores: S3: %w", err)
@@ -132,7 +141,7 @@ func OpenS3(ctx context.Context, at S3) (Objects, error) {
 	if !there {
 		return nil, fmt.Errorf("%w: bucket %s", ErrAbsent, at.Bucket)
 	}
-	b := &bucket{minio.Core{Client: client}, at.Bucket, at.Conditional}
+	b := &bucket{core: minio.Core{Client: client}, name: at.Bucket, conditional: at.Conditional, public: public}
 	if at.Conditional {
 		return b, b.tryConditions(ctx)
 	}
@@ -143,7 +152,7 @@ func OpenS3(ctx context.Context, at S3) (Objects, error) {
 func (b *bucket) tryConditions(ctx context.Context) error {
 	const name = "conditional-put/tried"
 	for _, content := range []string{"first", "second"} {
-		err := b.put(context.WithValue(ctx, ifAbsent{}, true), name, []byte(content))
+		err := b.putText(context.WithValue(ctx, ifAbsent{}, true), name, content)
 		if err != nil && !isRefused(err) {
 			return fmt.Errorf("stores: S3: conditional put: %w", err)
 		}
@@ -163,12 +172,15 @@ func isNoObject(err error) bool {
 	return minio.ToErrorResponse(err).Code == "NoSuchKey"
 }
 
-func (b *bucket) put(ctx context.Context, name string, content []byte) error {
+// put puts a content, and returns its ETag.
+func (b *bucket) put(ctx context.Context, name string, content []byte) (tag string, err error) {
+	options, content, err := b.optionsOf(name, content)
+	if err != nil {
+		return "", err
+	}
 	sum := sha256.Sum256(content)
-	// The whole content's hash is signed, and no chunks, which not every engine takes.
-	options := minio.PutObjectOptions{DisableContentSha256: true, DisableMultipart: true}
-	_, err := b.core.PutObject(ctx, b.name, name, bytes.NewReader(content), int64(len(content)), "", hex.EncodeToString(sum[:]), options)
-	return err
+	put, err := b.core.PutObject(ctx, b.name, name, bytes.NewReader(content), int64(len(content)), "", hex.EncodeToString(sum[:]), options)
+	return put.ETag, err
 }
 
 func (b *bucket) Put(ctx context.Context, name string, content []byte) error {
@@ -180,7 +192,7 @@ func (b *bucket) Put(ctx context.Context, name string, content []byte) error {
 	} else if err := b.compare(ctx, name, content); !errors.Is(err, ErrAbsent) {
 		return err
 	}
-	err := b.put(ctx, name, content)
+	_, err := b.put(ctx, name, content)
 	if err != nil && isRefused(err) {
 		return b.compare(ctx, name, content)
 	}
@@ -203,7 +215,7 @@ func (b *bucket) Get(ctx context.Context, name string, most int64) ([]byte, erro
 	if err := checkName(name); err != nil {
 		return nil, err
 	}
-	content, err := b.get(ctx, name, most)
+	content, _, err := b.get(ctx, name, most)
 	if err != nil {
 		return nil, fmt.Errorf("stores: get %s: %w", name, err)
 	}
@@ -213,26 +225,31 @@ func (b *bucket) Get(ctx context.Context, name string, most int64) ([]byte, erro
 // errNoLength: whether all of an answer came isn't known where it doesn't say how much that is.
 var errNoLength = errors.New("the response has no length")
 
-func (b *bucket) get(ctx context.Context, name string, most int64) ([]byte, error) {
-	body, info, _, err := b.core.GetObject(ctx, b.name, name, minio.GetObjectOptions{})
+// get reads a content, which may be stored in gzip, and its ETag.
+func (b *bucket) get(ctx context.Context, name string, most int64) (content []byte, tag string, err error) {
+	body, info, header, err := b.core.GetObject(ctx, b.name, name, minio.GetObjectOptions{})
 	if err != nil {
 		if isNoObject(err) {
-			return nil, ErrAbsent
+			return nil, "", ErrAbsent
 		}
-		return nil, err
+		return nil, "", err
 	}
 	defer body.Close()
-	if info.Size > most {
-		return nil, TooLong{info.Size}
+	isPacked := header.Get("Content-Encoding") == inGzip
+	if info.Size > most && !isPacked || info.Size > MaxObject {
+		return nil, "", TooLong{info.Size}
 	}
 	if info.Size < 0 {
-		return nil, errNoLength
+		return nil, "", errNoLength
 	}
-	content := make([]byte, info.Size)
+	content = make([]byte, info.Size)
 	if _, err := io.ReadFull(body, content); err != nil {
-		return nil, err
+		return nil, "", err
 	}
-	return content, nil
+	if isPacked {
+		content, err = unpack(ctx, name, content, most)
+	}
+	return content, info.ETag, err
 }
 
 func (b *bucket) List(ctx context.Context, prefix, after string, most int) ([]string, error) {

@@ -4,130 +4,32 @@ import (
 	"bufio"
 	"context"
 	"database/sql"
-	"encoding/xml"
 	"errors"
 	"fmt"
 	"io"
 	"net"
 	"net/http"
 	"net/http/httptest"
-	"sort"
 	"strings"
 	"sync"
 	"testing"
 	"time"
 
+	"wagtenib/internal/testbucket"
 	"wagtenib/internal/trial"
 )
 
-// fakeS3 is a bucket in memory that implements the part of the S3 API that the suite needs. It tests the client without
-// an engine, and with rare behaviour of engines.
-type fakeS3 struct {
-	mu      sync.Mutex
-	objects map[string][]byte
-	// conditional: If-None-Match is heeded.
-	conditional bool
-	// losing says of a request, of which so many came before, that its answer is lost; refusing, that it isn't done.
-	losing, refusing func(number int) bool
-	requests         int
-}
-
-const fakeBucket = "bucket"
-
-func fault(w http.ResponseWriter, status int, code string) {
-	w.WriteHeader(status)
-	fmt.Fprintf(w, "<Error><Code>%s</Code></Error>", code)
-}
-
-func (s *fakeS3) ServeHTTP(w http.ResponseWriter, r *http.Request) {
-	s.mu.Lock()
-	defer s.mu.Unlock()
-	s.requests++
-	if s.refusing != nil && s.refusing(s.requests) {
-		fault(w, http.StatusServiceUnavailable, "SlowDown")
-		return
-	}
-	if s.losing != nil && s.losing(s.requests) {
-		s.answer(httptest.NewRecorder(), r)
-		panic(http.ErrAbortHandler)
-	}
-	s.answer(w, r)
-}
-
-func (s *fakeS3) answer(w http.ResponseWriter, r *http.Request) {
-	bucket, name, _ := strings.Cut(strings.TrimPrefix(r.URL.Path, "/"), "/")
-	content, there := s.objects[name]
-	switch {
-	case bucket != fakeBucket:
-		fault(w, http.StatusNotFound, "NoSuchBucket")
-	case name == "":
-		s.list(w, r)
-	case r.Method == http.MethodPut && there && s.conditional && r.Header.Get("If-None-Match") == "*":
-		fault(w, http.StatusPreconditionFailed, "PreconditionFailed")
-	case r.Method == http.MethodPut:
-		body, err := io.ReadAll(r.Body)
-		if err != nil {
-			fault(w, http.StatusBadRequest, "IncompleteBody")
-			return
-		}
-		s.objects[name] = body
-	case r.Method == http.MethodDelete:
-		delete(s.objects, name)
-		w.WriteHeader(http.StatusNoContent)
-	case !there:
-		fault(w, http.StatusNotFound, "NoSuchKey")
-	default:
-		w.Header().Set("Last-Modified", "Thu, 01 Jan 2026 00:00:00 GMT")
-		w.Header().Set("Content-Length", fmt.Sprint(len(content)))
-		w.Write(content)
-	}
-}
-
-// list answers ListObjectsV2 and what asks for a bucket.
-func (s *fakeS3) list(w http.ResponseWriter, r *http.Request) {
-	query := r.URL.Query()
-	after := query.Get("start-after")
-	if token := query.Get("continuation-token"); token > after {
-		after = token
-	}
-	var names []string
-	for name := range s.objects {
-		if strings.HasPrefix(name, query.Get("prefix")) && name > after {
-			names = append(names, name)
-		}
-	}
-	sort.Strings(names)
-	most := 1000
-	fmt.Sscan(query.Get("max-keys"), &most)
-	type key struct{ Key, LastModified string }
-	answer := struct {
-		XMLName               xml.Name `xml:"ListBucketResult"`
-		Contents              []key
-		IsTruncated           bool
-		NextContinuationToken string
-	}{IsTruncated: len(names) > most}
-	if answer.IsTruncated {
-		names = names[:most]
-		answer.NextContinuationToken = names[most-1]
-	}
-	for _, name := range names {
-		answer.Contents = append(answer.Contents, key{name, "2026-01-01T00:00:00Z"})
-	}
-	xml.NewEncoder(w).Encode(answer)
-}
-
-// serve serves the bucket until the test ends, and says where.
-func (s *fakeS3) serve(t *testing.T) S3 {
+// serve serves a bucket until the test ends, and returns where.
+func serve(t *testing.T, of *testbucket.Bucket) S3 {
 	t.Helper()
-	s.objects = map[string][]byte{}
-	server := httptest.NewServer(s)
+	server := httptest.NewServer(of)
 	t.Cleanup(server.Close)
 	at := strings.TrimPrefix(server.URL, "http://")
-	return S3{Endpoint: at, Bucket: fakeBucket, Key: "key", Secret: "secret", Region: "us-east-1", Conditional: s.conditional}
+	return S3{Endpoint: at, Bucket: testbucket.Name, Key: "key", Secret: "secret", Region: "us-east-1", Conditional: of.Conditional}
 }
 
 func TestS3SaysWhatABucketCant(t *testing.T) {
-	at := (&fakeS3{}).serve(t)
+	at := serve(t, testbucket.New(false))
 	at.Conditional = true
 	if _, err := OpenS3(limited(t), at); !errors.Is(err, ErrUnsafe) {
 		t.Errorf("conditional puts that aren't there: %v", err)
@@ -142,11 +44,11 @@ func TestS3SaysWhatABucketCant(t *testing.T) {
 // Still each put is done once, and no object gets another content.
 func TestS3LosesAnswers(t *testing.T) {
 	for _, conditional := range []bool{true, false} {
-		fake := &fakeS3{conditional: conditional}
-		store, err := OpenS3(limited(t), fake.serve(t))
+		fake := testbucket.New(conditional)
+		store, err := OpenS3(limited(t), serve(t, fake))
 		must(t, err)
-		fake.losing = func(number int) bool { return number%3 == 0 }
-		fake.refusing = func(number int) bool { return number%4 == 0 }
+		fake.Losing = func(number int) bool { return number%3 == 0 }
+		fake.Refusing = func(number int) bool { return number%4 == 0 }
 		for i := 1; i <= 5; i++ {
 			must(t, store.Put(limited(t), objectName(i), objectContent(i)))
 			if err := store.Put(limited(t), objectName(i), []byte("another")); !errors.Is(err, ErrOther) {
@@ -167,7 +69,7 @@ func TestS3IsBrokenOff(t *testing.T) {
 		w.Write(make([]byte, 50))
 	}))
 	defer server.Close()
-	at := S3{Endpoint: strings.TrimPrefix(server.URL, "http://"), Bucket: fakeBucket, Key: "key", Secret: "secret", Region: "us-east-1"}
+	at := S3{Endpoint: strings.TrimPrefix(server.URL, "http://"), Bucket: testbucket.Name, Key: "key", Secret: "secret", Region: "us-east-1"}
 	store, err := OpenS3(limited(t), at)
 	must(t, err)
 	if got, err := store.Get(limited(t), "a", manyBytes); !errors.Is(err, io.ErrUnexpectedEOF) {
@@ -183,7 +85,7 @@ func TestS3SaysNoLength(t *testing.T) {
 		w.Write(make([]byte, 50))
 	}))
 	defer server.Close()
-	at := S3{Endpoint: strings.TrimPrefix(server.URL, "http://"), Bucket: fakeBucket, Key: "key", Secret: "secret", Region: "us-east-1"}
+	at := S3{Endpoint: strings.TrimPrefix(server.URL, "http://"), Bucket: testbucket.Name, Key: "key", Secret: "secret", Region: "us-east-1"}
 	store, err := OpenS3(limited(t), at)
 	must(t, err)
 	for _, most := range []int64{10, 50, manyBytes} {
@@ -229,7 +131,7 @@ func TestS3AcknowledgesAtOnce(t *testing.T) {
 			}()
 		}
 	}()
-	store, err := OpenS3(limited(t), S3{Endpoint: listener.Addr().String(), Bucket: fakeBucket, Key: "key", Secret: "secret", Region: "us-east-1"})
+	store, err := OpenS3(limited(t), S3{Endpoint: listener.Addr().String(), Bucket: testbucket.Name, Key: "key", Secret: "secret", Region: "us-east-1"})
 	must(t, err)
 	least := time.Hour
 	for i := 0; i < many; i++ {
@@ -261,7 +163,7 @@ func TestS3SaysTheTime(t *testing.T) {
 		w.WriteHeader(status)
 	}))
 	defer server.Close()
-	store, err := OpenS3(limited(t), S3{Endpoint: strings.TrimPrefix(server.URL, "http://"), Bucket: fakeBucket, Key: "key", Secret: "secret", Region: "us-east-1"})
+	store, err := OpenS3(limited(t), S3{Endpoint: strings.TrimPrefix(server.URL, "http://"), Bucket: testbucket.Name, Key: "key", Secret: "secret", Region: "us-east-1"})
 	must(t, err)
 	date = said
 	for _, status = range []int{http.StatusOK, http.StatusForbidden} {
@@ -400,10 +302,10 @@ func TestPostgresWithoutItsStandby(t *testing.T) {
 var memoryS3 sync.Map
 
 func openFake(ctx context.Context, place string, conditional bool) (Objects, error) {
-	made, _ := memoryS3.LoadOrStore(place, &fakeS3{conditional: conditional, objects: map[string][]byte{}})
-	transport := made.(*fakeS3)
+	made, _ := memoryS3.LoadOrStore(place, testbucket.New(conditional))
+	transport := made.(*testbucket.Bucket)
 	server := httptest.NewServer(transport)
-	store, err := OpenS3(ctx, S3{Endpoint: strings.TrimPrefix(server.URL, "http://"), Bucket: fakeBucket, Key: "key", Secret: "secret",
+	store, err := OpenS3(ctx, S3{Endpoint: strings.TrimPrefix(server.URL, "http://"), Bucket: testbucket.Name, Key: "key", Secret: "secret",
 		Region: "us-east-1", Conditional: conditional})
 	return closing{store, server}, err
 }

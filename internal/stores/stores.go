@@ -71,8 +71,8 @@ type Objects interface {
 	// ErrOther to the other call. Another engine may store either, so a caller that needs more must use two names.
 	// After any other error the object may exist or not, and the call may be repeated.
 	Put(ctx context.Context, name string, content []byte) error
-	// Get returns the content, or ErrAbsent. If the content has more than most bytes, it reads nothing and returns
-	// TooLong.
+	// Get returns the content, or ErrAbsent. If the content has more than most bytes, it returns TooLong, and nothing of
+	// the content.
 	Get(ctx context.Context, name string, most int64) ([]byte, error)
 	// List returns the first names that begin with the prefix and come after a text, in the order of their bytes. There
 	// are at most as many as requested, and at most MaxListed. The prefix is empty or ends with a slash. The text is a

@@ -117,6 +117,11 @@ func (f *Front) tile(w http.ResponseWriter, r *http.Request) error {
 	}
 	ctx, cancel := f.reading(r)
 	defer cancel()
+	isPacked := name.data && !asksForParts(r) && takesGzip(r)
+	var packed *stores.Packed
+	if isPacked {
+		ctx, packed = stores.WithPacked(ctx)
+	}
 	content, err := f.read(ctx, name.String())
 	if err != nil {
 		return err
@@ -132,6 +137,12 @@ func (f *Front) tile(w http.ResponseWriter, r *http.Request) error {
 	if name.data {
 		w.Header().Set("Vary", "Accept-Encoding")
 		w.Header().Set("Accept-Ranges", "bytes")
+	}
+	if isPacked && packed.Name == name.String() {
+		// It is sent as it is stored.
+		w.Header().Set("Content-Encoding", inGzip)
+		write(w, http.StatusOK, "application/octet-stream", packed.Gzip)
+		return nil
 	}
 	if name.data && !asksForParts(r) {
 		f.writePacked(w, r, "application/octet-stream", content)

@@ -1,0 +1,457 @@
+package main
+
+import (
+	"bytes"
+	"compress/gzip"
+	"context"
+	"crypto/ecdsa"
+	"crypto/sha256"
+	"crypto/x509"
+	"encoding/base64"
+	"encoding/binary"
+	"encoding/hex"
+	"fmt"
+	"io"
+	"math/rand"
+	"net/http"
+	"net/http/httptest"
+	"os"
+	"os/exec"
+	"strconv"
+	"strings"
+	"sync"
+	"sync/atomic"
+	"syscall"
+	"testing"
+	"time"
+
+	"golang.org/x/mod/sumdb/tlog"
+
+	"wagtenib/internal/check"
+	"wagtenib/internal/signer"
+	"wagtenib/internal/testbucket"
+	"wagtenib/internal/tile"
+	"wagtenib/internal/trial"
+)
+
+// bucketReader is a monitor that knows a log's bucket and its key, and no node. x/mod's tlog checks what it reads.
+type bucketReader struct {
+	key *ecdsa.PublicKey
+	// get reads an object by its name.
+	get func(name string) ([]byte, error)
+
+	mu        sync.Mutex
+	tree      tlog.Tree
+	timestamp uint64
+	heads     int
+}
+
+// Height is that of tiles (tlog.TileReader).
+func (r *bucketReader) Height() int { return 8 }
+
+// ReadTiles reads tiles of hashes (tlog.TileReader).
+func (r *bucketReader) ReadTiles(tiles []tlog.Tile) (contents [][]byte, err error) {
+	for _, of := range tiles {
+		content, err := r.get("tile/" + strings.TrimPrefix(of.Path(), "tile/8/"))
+		if err != nil {
+			return nil, err
+		}
+		contents = append(contents, content)
+	}
+	return contents, nil
+}
+
+// SaveTiles keeps nothing (tlog.TileReader).
+func (r *bucketReader) SaveTiles([]tlog.Tile, [][]byte) {}
+
+// look reads the checkpoint and all that is new in its tree. It returns the number of entries.
+func (r *bucketReader) look() (size int64, err error) {
+	r.mu.Lock()
+	defer r.mu.Unlock()
+	note, err := r.get("checkpoint")
+	if err != nil {
+		return r.tree.N, err
+	}
+	now, timestamp, err := r.open(string(note))
+	if err != nil {
+		return 0, err
+	}
+	if timestamp == r.timestamp && now == r.tree {
+		return now.N, nil
+	}
+	if now.N < r.tree.N || timestamp <= r.timestamp {
+		return 0, fmt.Errorf("the checkpoint goes back from %d entries at %d ms to %d at %d ms", r.tree.N, r.timestamp,
+			now.N, timestamp)
+	}
+	if err := r.grows(now); err != nil {
+		return 0, fmt.Errorf("%d entries after %d: %w", now.N, r.tree.N, err)
+	}
+	r.tree, r.timestamp, r.heads = now, timestamp, r.heads+1
+	return now.N, nil
+}
+
+// open verifies a checkpoint's signature (C2SP static-ct-api, signatures of type 5, over RFC 6962's TreeHeadSignature).
+func (r *bucketReader) open(note string) (tree tlog.Tree, timestamp uint64, err error) {
+	text, signatures, _ := strings.Cut(note, "\n\n")
+	lines := strings.Split(text, "\n")
+	if len(lines) != 3 || lines[0] != "log.example/test" {
+		return tree, 0, fmt.Errorf("no checkpoint: %q", note)
+	}
+	if tree.N, err = strconv.ParseInt(lines[1], 10, 64); err != nil {
+		return tree, 0, err
+	}
+	root, err := base64.StdEncoding.DecodeString(lines[2])
+	if err != nil || len(root) != 32 {
+		return tree, 0, fmt.Errorf("no root: %q", lines[2])
+	}
+	tree.Hash = tlog.Hash(root)
+	first, _, _ := strings.Cut(signatures, "\n")
+	blob, err := base64.StdEncoding.DecodeString(strings.TrimPrefix(first, "— log.example/test "))
+	if err != nil || len(blob) < 16 {
+		return tree, 0, fmt.Errorf("no signature: %q", first)
+	}
+	timestamp = binary.BigEndian.Uint64(blob[4:])
+	signed := binary.BigEndian.AppendUint64([]byte{0, 1}, timestamp)
+	signed = append(binary.BigEndian.AppendUint64(signed, uint64(tree.N)), root...)
+	if sum := sha256.Sum256(signed); !ecdsa.VerifyASN1(r.key, sum[:], blob[16:]) {
+		return tree, 0, fmt.Errorf("another key's signature: %q", note)
+	}
+	return tree, timestamp, nil
+}
+
+// grows reads what a later tree adds: the new tree begins with the old one, each data tile has the tree's entries, and
+// each issuer is there.
+func (r *bucketReader) grows(now tlog.Tree) error {
+	if now.N == 0 {
+		return nil
+	}
+	hashes := tlog.TileHashReader(now, r)
+	if r.tree.N > 0 {
+		proof, err := tlog.ProveTree(now.N, r.tree.N, hashes)
+		if err == nil {
+			err = tlog.CheckTree(proof, now.N, now.Hash, r.tree.N, r.tree.Hash)
+		}
+		if err != nil {
+			return err
+		}
+	}
+	for first := r.tree.N / 256 * 256; first < now.N; first += 256 {
+		name := tile.Name(tlog.Tile{H: 8, L: -1, N: first / 256, W: int(min(now.N-first, 256))})
+		content, err := r.get(name)
+		if err != nil {
+			return err
+		}
+		leaves, err := tile.ReadData(content)
+		if err != nil || int64(len(leaves)) != min(now.N-first, 256) {
+			return fmt.Errorf("%s: %d entries, %v", name, len(leaves), err)
+		}
+		for i, leaf := range leaves {
+			expected, err := hashes.ReadHashes([]int64{tlog.StoredHashIndex(0, first+int64(i))})
+			if err != nil || tlog.RecordHash(leaf.Input()) != expected[0] {
+				return fmt.Errorf("%s: entry %d is not the tree's: %v", name, i, err)
+			}
+			for chain := leaf.Chain; len(chain) > 0; chain = chain[sha256.Size:] {
+				fingerprint := [sha256.Size]byte(chain)
+				issuer, err := r.get("issuer/" + hex.EncodeToString(fingerprint[:]))
+				if err != nil || sha256.Sum256(issuer) != fingerprint {
+					return fmt.Errorf("an issuer of entry %d: %d bytes, %v", first+int64(i), len(issuer), err)
+				}
+			}
+		}
+	}
+	return nil
+}
+
+// unpacked is an object's content.
+func unpacked(content []byte, encoding string) ([]byte, error) {
+	if encoding != "gzip" {
+		return content, nil
+	}
+	reader, err := gzip.NewReader(bytes.NewReader(content))
+	if err != nil {
+		return nil, err
+	}
+	return io.ReadAll(reader)
+}
+
+// overHTTP reads objects from a plain server, as a CDN's client does.
+func overHTTP(url string) func(name string) ([]byte, error) {
+	return func(name string) ([]byte, error) {
+		answer, err := http.Get(url + "/" + testbucket.Name + "/" + name)
+		if err != nil {
+			return nil, err
+		}
+		defer answer.Body.Close()
+		content, err := io.ReadAll(answer.Body)
+		if err == nil && answer.StatusCode != http.StatusOK {
+			err = fmt.Errorf("%s: %s", name, answer.Status)
+		}
+		return content, err
+	}
+}
+
+// killed is a node that a bucket kills at one of its requests, before or after that is done, and never answers it.
+type killed struct {
+	bucket *testbucket.Bucket
+	left   atomic.Int64
+	after  atomic.Bool
+	kill   atomic.Pointer[func()]
+	put    func()
+}
+
+func (k *killed) ServeHTTP(w http.ResponseWriter, r *http.Request) {
+	isLast := k.left.Add(-1) == 0
+	if isLast && !k.after.Load() {
+		(*k.kill.Load())()
+		panic(http.ErrAbortHandler)
+	}
+	said := httptest.NewRecorder()
+	k.bucket.ServeHTTP(said, r)
+	if r.Method == http.MethodPut && strings.HasSuffix(r.URL.Path, "/checkpoint") {
+		k.put()
+	}
+	if isLast {
+		(*k.kill.Load())()
+		panic(http.ErrAbortHandler)
+	}
+	for name, values := range said.Header() {
+		w.Header()[name] = values
+	}
+	w.WriteHeader(said.Code)
+	// A node that was killed reads no answer.
+	_, _ = w.Write(said.Body.Bytes())
+}
+
+// TestBucketAloneThroughKills has two nodes of one log killed at requests to its bucket, again and again, while
+// clients submit. A reader that knows the bucket only follows the log: no checkpoint goes back, and each tile, entry
+// and issuer is there as soon as a checkpoint needs it. A submission that was answered is under the bucket's
+// checkpoint. CTSERVE_KILLS says how many kills there are.
+func TestBucketAloneThroughKills(t *testing.T) {
+	t.Parallel()
+	kills := int64(12)
+	if text := os.Getenv("CTSERVE_KILLS"); text != "" {
+		var err error
+		kills, err = strconv.ParseInt(text, 10, 64)
+		trial.Must(t, err)
+	}
+	at, bucket := newPlace(t), testbucket.New(true)
+	key := at.publicKey()
+	object := func(name string) ([]byte, error) {
+		of, ok := bucket.Object(name)
+		if !ok {
+			return nil, fmt.Errorf("%s is missing", name)
+		}
+		return unpacked(of.Content, of.Encoding)
+	}
+	judge := &bucketReader{key: key, get: object}
+	plain := httptest.NewServer(bucket)
+	defer plain.Close()
+	monitor := &bucketReader{key: key, get: overHTTP(plain.URL)}
+	put := func() {
+		if _, err := judge.look(); err != nil {
+			t.Errorf("after a put of the checkpoint: %v", err)
+		}
+	}
+	ctx, stop := context.WithCancel(context.Background())
+	var left atomic.Int64
+	left.Store(kills)
+	var nodes sync.WaitGroup
+	var clients []string
+	for i := range 2 {
+		k := &killed{bucket: bucket, put: put}
+		server := httptest.NewServer(k)
+		defer server.Close()
+		listen := trial.Free(t)
+		clients = append(clients, listen)
+		words := append(at.bucketWords(server.URL), "--listen", listen, "--operator-listen", "", "--create",
+			"--public-store", "--latest-head", at.path(fmt.Sprintf("latest-head-%d", i)))
+		nodes.Add(1)
+		go func() {
+			defer nodes.Done()
+			k.runs(ctx, t, words, rand.New(rand.NewSource(int64(i))), &left)
+		}()
+	}
+	answered := int64(0)
+	for late := time.Now().Add(trial.Longest); left.Load() > 0 || answered < 5; {
+		if time.Now().After(late) {
+			t.Errorf("%d kills and %d answers: it takes too long", kills-left.Load(), answered)
+			break
+		}
+		if status, _ := post(clients[rand.Intn(2)], at.submission()); status == http.StatusOK {
+			answered++
+			late = time.Now().Add(trial.Longest)
+		}
+		size, err := monitor.look()
+		if err != nil && monitor.heads > 0 {
+			t.Fatal(err)
+		}
+		if size < answered {
+			t.Errorf("%d submissions were answered, and the bucket's checkpoint has %d entries", answered, size)
+		}
+	}
+	stop()
+	nodes.Wait()
+	if size, err := monitor.look(); err != nil || size < answered || monitor.heads < 5 {
+		t.Errorf("%d entries after %d answers, %d checkpoints: %v", size, answered, monitor.heads, err)
+	}
+	entry, _ := bucket.Object("log.v3.json")
+	submission := []byte(`"submission_url": "https://log.example/test/"`)
+	if !bytes.Contains(entry.Content, submission) || entry.Type != "application/json" {
+		t.Errorf("log.v3.json: %+v", entry)
+	}
+	t.Logf("%d kills, %d answers, %d checkpoints put, %d of them read over HTTP", kills-left.Load(), answered,
+		judge.heads, monitor.heads)
+}
+
+// bucketWords are those of a log whose objects are in a bucket.
+func (p *place) bucketWords(url string) []string {
+	p.t.Helper()
+	store := "s3://key:secret@" + strings.TrimPrefix(url, "http://") + "/" + testbucket.Name + "?tls=no&region=us-east-1"
+	return p.words("--store", store, "--lock", "file:"+p.path("lock"), "--index", "sqlite:"+p.path("index"),
+		"--guard-state", "file:"+p.path("guard"))
+}
+
+// publicKey is the log's.
+func (p *place) publicKey() *ecdsa.PublicKey {
+	p.t.Helper()
+	of, err := signer.OpenKey(p.path("log.pem"))
+	trial.Must(p.t, err)
+	defer of.Close()
+	key, err := x509.ParsePKIXPublicKey(of.Key())
+	trial.Must(p.t, err)
+	return key.(*ecdsa.PublicKey)
+}
+
+// runs starts the node again and again, until the context ends.
+func (k *killed) runs(ctx context.Context, t *testing.T, words []string, random *rand.Rand, left *atomic.Int64) {
+	for ctx.Err() == nil {
+		var lines bytes.Buffer
+		command := exec.CommandContext(ctx, os.Args[0], words...)
+		command.Env, command.Stderr = append(os.Environ(), childKey+"=1"), &lines
+		kill := func() {
+			left.Add(-1)
+			// It may have ended.
+			_ = command.Process.Kill()
+		}
+		k.kill.Store(&kill)
+		k.after.Store(random.Intn(2) == 0)
+		k.left.Store(int64(5 + random.Intn(60)))
+		if err := command.Start(); err != nil {
+			t.Error(err)
+			return
+		}
+		// It is killed, or a test that ends kills it.
+		_ = command.Wait()
+		if code := command.ProcessState.ExitCode(); code == statusSetBack || code == 2 {
+			t.Errorf("a node does not start: %s", &lines)
+			return
+		}
+	}
+}
+
+// asked asks a log for a path with an Accept-Encoding, and returns the body as it came with its Content-Encoding.
+func asked(t *testing.T, url, accepted, ranged string) (body []byte, encoding string) {
+	t.Helper()
+	request, err := http.NewRequest(http.MethodGet, url, nil)
+	trial.Must(t, err)
+	request.Header.Set("Accept-Encoding", accepted)
+	if ranged != "" {
+		request.Header.Set("Range", ranged)
+	}
+	answer, err := http.DefaultTransport.RoundTrip(request)
+	trial.Must(t, err)
+	defer answer.Body.Close()
+	body, err = io.ReadAll(answer.Body)
+	trial.Must(t, err)
+	return body, answer.Header.Get("Content-Encoding")
+}
+
+// TestPublicStoreOfALogThatExists has a log that was made without public-store start with it: the checkpoint is there
+// without a new entry, tiles that were put before are read as they are, and new ones are compressed. ctserve sends a
+// compressed one as it is stored, and others what they accept.
+func TestPublicStoreOfALogThatExists(t *testing.T) {
+	t.Parallel()
+	at, bucket := newPlace(t), testbucket.New(true)
+	server := httptest.NewServer(bucket)
+	defer server.Close()
+	words := at.bucketWords(server.URL)
+	submits := func(p *program) {
+		if status, text := post(p.clients, at.submission()); status != http.StatusOK {
+			t.Fatalf("%d %s", status, text)
+		}
+	}
+	p := started(t, "", append(words, "--create")...)
+	submits(p)
+	_, checkpoint := get(p.clients, "/checkpoint")
+	p.signal(syscall.SIGTERM)
+	p.ends()
+	if _, ok := bucket.Object("checkpoint"); ok {
+		t.Error("there is a checkpoint without public-store")
+	}
+	p = started(t, "", append(words, "--public-store")...)
+	for until := time.Now().Add(trial.Longest); ; time.Sleep(time.Millisecond) {
+		of, ok := bucket.Object("checkpoint")
+		isAsServed := of.Type == "text/plain; charset=utf-8" && of.Cache == "public, max-age=1"
+		if ok && string(of.Content) == checkpoint && isAsServed {
+			break
+		}
+		if time.Now().After(until) {
+			t.Fatalf("the checkpoint is %+v, and not %q", of, checkpoint)
+		}
+	}
+	submits(p)
+	for name, want := range map[string]string{"tile/data/000.p/1": "", "tile/data/000.p/2": "gzip"} {
+		stored, _ := bucket.Object(name)
+		content, err := unpacked(stored.Content, stored.Encoding)
+		trial.Must(t, err)
+		if stored.Encoding != want {
+			t.Errorf("%s is stored in %q", name, stored.Encoding)
+		}
+		url := "http://" + p.clients + "/" + name
+		// ctserve itself compresses nothing that is so short.
+		if body, encoding := asked(t, url, "gzip", ""); encoding != want || !bytes.Equal(body, stored.Content) {
+			t.Errorf("%s with gzip: %d bytes in %q", name, len(body), encoding)
+		}
+		if body, encoding := asked(t, url, "identity", ""); encoding != "" || !bytes.Equal(body, content) {
+			t.Errorf("%s without gzip: %d bytes in %q", name, len(body), encoding)
+		}
+		if body, encoding := asked(t, url, "gzip", "bytes=3-9"); encoding != "" || !bytes.Equal(body, content[3:10]) {
+			t.Errorf("%s, a range: %d bytes in %q", name, len(body), encoding)
+		}
+	}
+}
+
+// TestPublicFolder has a log on a folder be read through a plain file server, while its node is killed after answers,
+// and judged by ctcheck's package in the end.
+func TestPublicFolder(t *testing.T) {
+	t.Parallel()
+	at := newPlace(t)
+	objects := http.FileServer(http.Dir(at.path("log/objects")))
+	files := httptest.NewServer(http.StripPrefix("/"+testbucket.Name+"/", objects))
+	defer files.Close()
+	reader := &bucketReader{key: at.publicKey(), get: overHTTP(files.URL)}
+	words := at.words("--create", "--public-store", "--guard-state", "file:"+at.path("guard"))
+	var answers []check.Answer
+	for range 4 {
+		p := started(t, "", words...)
+		for range 2 {
+			status, text, one := at.submitted(t, p)
+			if status != http.StatusOK {
+				t.Fatalf("%d %s", status, text)
+			}
+			answers = append(answers, one)
+			if size, err := reader.look(); err != nil || size < int64(len(answers)) {
+				t.Fatalf("%d entries after %d answers: %v", size, len(answers), err)
+			}
+		}
+		p.signal(syscall.SIGKILL)
+		p.ends()
+	}
+	of, err := signer.OpenKey(at.path("log.pem"))
+	trial.Must(t, err)
+	defer of.Close()
+	report, err := check.Folder(at.path("log/objects"), of.Key(), answers)
+	if err != nil || report.Leaves < len(answers) {
+		t.Errorf("%+v, %v", report, err)
+	}
+}
