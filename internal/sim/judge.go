@@ -6,7 +6,9 @@ import (
 	"encoding/base64"
 	"encoding/binary"
 	"encoding/hex"
+	"errors"
 	"fmt"
+	"strconv"
 	"strings"
 	"time"
 
@@ -180,7 +182,10 @@ func cells(text string) *cell {
 		return nil
 	}
 	c := &cell{line: lines[0], bundle: digits[32+64 : 32+128], before: digits[32+192:], name: digits[16:32] + salt}
-	if _, err := fmt.Sscanf(digits[:32], "%016x%016x", &c.size, &c.timestamp); err != nil {
+	var failed [2]error
+	c.size, failed[0] = strconv.ParseUint(digits[:16], 16, 64)
+	c.timestamp, failed[1] = strconv.ParseUint(digits[16:32], 16, 64)
+	if errors.Join(failed[:]...) != nil {
 		return nil
 	}
 	return c
@@ -246,7 +251,7 @@ func readNote(note string) (head signer.Head, err error) {
 	if err != nil || len(root) != 32 {
 		return head, fmt.Errorf("no root: %v", err)
 	}
-	if _, err := fmt.Sscanf(lines[1], "%d", &head.Size); err != nil {
+	if head.Size, err = strconv.ParseUint(lines[1], 10, 64); err != nil {
 		return head, err
 	}
 	head.Root = [32]byte(root)
