@@ -24,11 +24,8 @@ import (
 type judge struct {
 	w         *world
 	violation *Violation
-	// leaves are those under the largest head that was put, and roots the root of each size up to theirs.
-	leaves     []leaf
-	roots      [][32]byte
-	tree       *compact.Range
-	identities map[[32]byte]int
+	// knownList is the list under the largest head that was put.
+	knownList
 	// newest is the newest head that was put, and tiles has what was put of each tile.
 	newest signer.Head
 	tiles  map[string]*puts
@@ -50,9 +47,12 @@ func (e *excuses) allows(identity [32]byte) bool {
 
 // Stats are the numbers of a history.
 type Stats struct {
-	Calls, Switches, Heads, Cosigned, Deleted, Partials, OldHeads, Staged, Reread, Entries, Answers, Repeats,
-	Reads, Starts int
+	Calls, Switches, Heads, Cosigned, Entries, Answers, Repeats, Reads, Starts int
+	Tidied
 }
+
+// Tidied counts what the janitors deleted and read again.
+type Tidied struct{ Deleted, Partials, OldHeads, Staged, Reread int }
 
 // leaf is an entry of the list.
 type leaf struct {
@@ -62,12 +62,19 @@ type leaf struct {
 	timestamp          uint64
 }
 
+// knownList is a growing list of leaves, with the root of each size up to theirs.
+type knownList struct {
+	leaves     []leaf
+	roots      [][32]byte
+	tree       *compact.Range
+	identities map[[32]byte]int
+}
+
 func newJudge(w *world) *judge {
 	empty := rfc6962.DefaultHasher.EmptyRoot()
-	return &judge{
-		w: w, identities: map[[32]byte]int{}, tiles: map[string]*puts{}, roots: [][32]byte{[32]byte(empty)},
-		tree: ranges.NewEmptyRange(0),
-	}
+	list := knownList{identities: map[[32]byte]int{}, roots: [][32]byte{[32]byte(empty)},
+		tree: ranges.NewEmptyRange(0)}
+	return &judge{w: w, knownList: list, tiles: map[string]*puts{}}
 }
 
 // breaks keeps the first violation.
