@@ -66,7 +66,8 @@ func openS3At(ctx context.Context, place string, conditional bool) (Objects, err
 	if err != nil {
 		return nil, err
 	}
-	return OpenS3(ctx, S3{Endpoint: at.Host, Bucket: place, Key: at.User.Username(), Secret: secret, Conditional: conditional})
+	return OpenS3(ctx, S3{Endpoint: at.Host, Bucket: place, Key: at.User.Username(), Secret: secret,
+		Conditional: conditional})
 }
 
 var objectStores = []implementation[Objects]{

@@ -27,7 +27,8 @@ const (
 type file struct {
 	disk *disk
 	mu   sync.Mutex
-	// text and raised are what this process knows to be on the disk. (No text comes again, and what is published only rises.)
+	// text and raised are what this process knows to be on the disk. (No text comes again, and what is published only
+	// rises.)
 	text   string
 	raised Published
 }
@@ -145,8 +146,8 @@ func (f *file) knowRaised(published Published) {
 	f.raised = published
 }
 
-// set gives a file another content, which is on the disk before the file gets its name. Errors before that are plain; after it they are
-// ErrUnknown.
+// set gives a file another content, which is on the disk before the file gets its name. Errors before that are plain;
+// after it they are ErrUnknown.
 func (f *file) set(name, content string) error {
 	whole, err := f.disk.write([]byte(content))
 	if err != nil {
@@ -229,7 +230,8 @@ func (f *file) published() (p Published, err error) {
 	}
 	n, err := fmt.Sscanf(head, headForm, &p.Size, &p.Timestamp)
 	if n != 2 || err != nil || fmt.Sprintf(headForm, p.Size, p.Timestamp) != head {
-		return Published{}, fmt.Errorf("stores: register: %s has %.40q instead of the published head", f.path(headFile), head)
+		return Published{}, fmt.Errorf("stores: register: %s has %.40q instead of the published head",
+			f.path(headFile), head)
 	}
 	return p, nil
 }

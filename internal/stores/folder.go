@@ -55,7 +55,8 @@ func (f *folder) Put(ctx context.Context, name string, content []byte) error {
 	for try := 0; errors.Is(err, fs.ErrNotExist) && try < maxMade; try++ {
 		f.disk.forget(filepath.Dir(path))
 		// (one that goes while it is made is said to exist)
-		if err := os.MkdirAll(filepath.Dir(path), 0o755); err != nil && !errors.Is(err, fs.ErrNotExist) && !errors.Is(err, fs.ErrExist) {
+		if err := os.MkdirAll(filepath.Dir(path), 0o755); err != nil && !errors.Is(err, fs.ErrNotExist) &&
+			!errors.Is(err, fs.ErrExist) {
 			return fmt.Errorf("stores: put %s: %w", name, err)
 		}
 		err = os.Link(whole, path)

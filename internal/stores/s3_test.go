@@ -123,7 +123,8 @@ func (s *fakeS3) serve(t *testing.T) S3 {
 	server := httptest.NewServer(s)
 	t.Cleanup(server.Close)
 	at := strings.TrimPrefix(server.URL, "http://")
-	return S3{Endpoint: at, Bucket: fakeBucket, Key: "key", Secret: "secret", Region: "us-east-1", Conditional: s.conditional}
+	return S3{Endpoint: at, Bucket: fakeBucket, Key: "key", Secret: "secret", Region: "us-east-1",
+		Conditional: s.conditional}
 }
 
 func TestS3SaysWhatABucketCant(t *testing.T) {
@@ -152,7 +153,8 @@ func TestS3LosesAnswers(t *testing.T) {
 			if err := store.Put(limited(t), objectName(i), []byte("another")); !errors.Is(err, ErrOther) {
 				t.Errorf("conditional %t: another content: %v", conditional, err)
 			}
-			if got, err := store.Get(limited(t), objectName(i), manyBytes); err != nil || string(got) != string(objectContent(i)) {
+			if got, err := store.Get(limited(t), objectName(i), manyBytes); err != nil ||
+				string(got) != string(objectContent(i)) {
 				t.Errorf("conditional %t: %d bytes, %v", conditional, len(got), err)
 			}
 		}
@@ -167,7 +169,8 @@ func TestS3IsBrokenOff(t *testing.T) {
 		w.Write(make([]byte, 50))
 	}))
 	defer server.Close()
-	at := S3{Endpoint: strings.TrimPrefix(server.URL, "http://"), Bucket: fakeBucket, Key: "key", Secret: "secret", Region: "us-east-1"}
+	at := S3{Endpoint: strings.TrimPrefix(server.URL, "http://"), Bucket: fakeBucket, Key: "key", Secret: "secret",
+		Region: "us-east-1"}
 	store, err := OpenS3(limited(t), at)
 	must(t, err)
 	if got, err := store.Get(limited(t), "a", manyBytes); !errors.Is(err, io.ErrUnexpectedEOF) {
@@ -183,7 +186,8 @@ func TestS3SaysNoLength(t *testing.T) {
 		w.Write(make([]byte, 50))
 	}))
 	defer server.Close()
-	at := S3{Endpoint: strings.TrimPrefix(server.URL, "http://"), Bucket: fakeBucket, Key: "key", Secret: "secret", Region: "us-east-1"}
+	at := S3{Endpoint: strings.TrimPrefix(server.URL, "http://"), Bucket: fakeBucket, Key: "key", Secret: "secret",
+		Region: "us-east-1"}
 	store, err := OpenS3(limited(t), at)
 	must(t, err)
 	for _, most := range []int64{10, 50, manyBytes} {
@@ -193,8 +197,9 @@ func TestS3SaysNoLength(t *testing.T) {
 	}
 }
 
-// TestS3AcknowledgesAtOnce: a gateway that sends an answer's headers, and its body once these are acknowledged, isn't kept waiting for the 40 ms by which
-// Linux puts acknowledgements off. The quickest of many answers over one connection says so, whatever else the machine does.
+// TestS3AcknowledgesAtOnce: a gateway that sends an answer's headers, and its body once these are acknowledged, isn't
+// kept waiting for the 40 ms by which Linux puts acknowledgements off. The quickest of many answers over one connection
+// says so, whatever else the machine does.
 func TestS3AcknowledgesAtOnce(t *testing.T) {
 	const later, many, delay = 100, 120, 40 * time.Millisecond
 	listener, err := net.Listen("tcp", "127.0.0.1:0")
@@ -217,7 +222,8 @@ func TestS3AcknowledgesAtOnce(t *testing.T) {
 					if err != nil {
 						return
 					}
-					for _, part := range []string{"HTTP/1.1 200 OK\r\nLast-Modified: Thu, 01 Jan 2026 00:00:00 GMT\r\nContent-Length: 7\r\n\r\n", "content"} {
+					for _, part := range []string{"HTTP/1.1 200 OK\r\nLast-Modified: Thu, 01 Jan 2026 00:00:00 " +
+						"GMT\r\nContent-Length: 7\r\n\r\n", "content"} {
 						if _, err := io.WriteString(connection, part); err != nil {
 							return
 						}
@@ -229,7 +235,8 @@ func TestS3AcknowledgesAtOnce(t *testing.T) {
 			}()
 		}
 	}()
-	store, err := OpenS3(limited(t), S3{Endpoint: listener.Addr().String(), Bucket: fakeBucket, Key: "key", Secret: "secret", Region: "us-east-1"})
+	store, err := OpenS3(limited(t), S3{Endpoint: listener.Addr().String(), Bucket: fakeBucket, Key: "key",
+		Secret: "secret", Region: "us-east-1"})
 	must(t, err)
 	least := time.Hour
 	for i := 0; i < many; i++ {
@@ -247,8 +254,8 @@ func TestS3AcknowledgesAtOnce(t *testing.T) {
 	}
 }
 
-// TestS3SaysTheTime: a bucket's time is the Date of an answer, also of a refusal; without one there is none. A server on this machine is known as
-// such.
+// TestS3SaysTheTime: a bucket's time is the Date of an answer, also of a refusal; without one there is none. A server
+// on this machine is known as such.
 func TestS3SaysTheTime(t *testing.T) {
 	const said = "Sun, 06 Nov 1994 08:49:37 GMT"
 	var date string
@@ -261,11 +268,13 @@ func TestS3SaysTheTime(t *testing.T) {
 		w.WriteHeader(status)
 	}))
 	defer server.Close()
-	store, err := OpenS3(limited(t), S3{Endpoint: strings.TrimPrefix(server.URL, "http://"), Bucket: fakeBucket, Key: "key", Secret: "secret", Region: "us-east-1"})
+	store, err := OpenS3(limited(t), S3{Endpoint: strings.TrimPrefix(server.URL, "http://"), Bucket: fakeBucket,
+		Key: "key", Secret: "secret", Region: "us-east-1"})
 	must(t, err)
 	date = said
 	for _, status = range []int{http.StatusOK, http.StatusForbidden} {
-		if at, within, err := store.(Timed).Time(limited(t)); !errors.Is(err, ErrSameMachine) || within != time.Second || at.UTC().Format(http.TimeFormat) != said {
+		if at, within, err := store.(Timed).Time(limited(t)); !errors.Is(err, ErrSameMachine) ||
+			within != time.Second || at.UTC().Format(http.TimeFormat) != said {
 			t.Errorf("status %d: %v, %v, %v", status, at, within, err)
 		}
 	}
@@ -300,12 +309,15 @@ func TestPostgresSaysTheTime(t *testing.T) {
 	}
 }
 
-// TestPostgresSessions: whatever the server or the address says, a session of a store's waits for the standby's disk, and no timeout ends that.
+// TestPostgresSessions: whatever the server or the address says, a session of a store's waits for the standby's disk,
+// and no timeout ends that.
 func TestPostgresSessions(t *testing.T) {
 	if why := wants(postgresURL, "postgresql"); why != "" {
 		t.Skip(why)
 	}
-	for said, due := range map[string]string{"": "on", "synchronous_commit=local": "on", "synchronous_commit=remote_write": "on", "synchronous_commit=remote_apply": "remote_apply", "statement_timeout=5000": "on"} {
+	for said, due := range map[string]string{"": "on", "synchronous_commit=local": "on",
+		"synchronous_commit=remote_write": "on", "synchronous_commit=remote_apply": "remote_apply",
+		"statement_timeout=5000": "on"} {
 		register, err := OpenPostgres(limited(t), Postgres{postgresURL + " " + said, "sessions"})
 		must(t, err)
 		defer register.Close()
@@ -314,7 +326,9 @@ func TestPostgresSessions(t *testing.T) {
 		defer places.Close()
 		for _, db := range []*sql.DB{register.(*inPostgres).db, places.(*placesInPostgres).db} {
 			var commit, timeout string
-			must(t, db.QueryRowContext(limited(t), "select current_setting('synchronous_commit'), current_setting('statement_timeout')").Scan(&commit, &timeout))
+			must(t, db.QueryRowContext(limited(t),
+				"select current_setting('synchronous_commit'), current_setting('statement_timeout')").Scan(
+				&commit, &timeout))
 			if commit != due || timeout != "0" {
 				t.Errorf("%q: synchronous_commit is %s, statement_timeout %s", said, commit, timeout)
 			}
@@ -335,8 +349,8 @@ func TestPostgresThatKeepsNothing(t *testing.T) {
 	}
 }
 
-// TestPostgresWithoutItsStandby has PostgreSQL wait for a standby that isn't there: a swap whose caller goes meanwhile is of unknown outcome,
-// nobody reads its text, and it is done once the server waits no more.
+// TestPostgresWithoutItsStandby has PostgreSQL wait for a standby that isn't there: a swap whose caller goes meanwhile
+// is of unknown outcome, nobody reads its text, and it is done once the server waits no more.
 func TestPostgresWithoutItsStandby(t *testing.T) {
 	if why := wants(postgresURL, "postgresql"); why != "" {
 		t.Skip(why)
@@ -375,7 +389,8 @@ func TestPostgresWithoutItsStandby(t *testing.T) {
 		if must(t, all.Err()); !errors.Is(err, ErrUnknown) && !errors.Is(err, context.DeadlineExceeded) {
 			t.Fatal(err)
 		}
-		must(t, server.QueryRowContext(all, "select count(*) > 0 from pg_stat_activity where wait_event = 'SyncRep'").Scan(&waits))
+		must(t, server.QueryRowContext(all,
+			"select count(*) > 0 from pg_stat_activity where wait_event = 'SyncRep'").Scan(&waits))
 	}
 	for i := 0; i < 3; i++ {
 		if text, err := register.Read(limited(t)); err != nil || text != fmt.Sprint(stands) {
@@ -403,7 +418,8 @@ func openFake(ctx context.Context, place string, conditional bool) (Objects, err
 	made, _ := memoryS3.LoadOrStore(place, &fakeS3{conditional: conditional, objects: map[string][]byte{}})
 	transport := made.(*fakeS3)
 	server := httptest.NewServer(transport)
-	store, err := OpenS3(ctx, S3{Endpoint: strings.TrimPrefix(server.URL, "http://"), Bucket: fakeBucket, Key: "key", Secret: "secret",
+	store, err := OpenS3(ctx, S3{Endpoint: strings.TrimPrefix(server.URL, "http://"), Bucket: fakeBucket, Key: "key",
+		Secret: "secret",
 		Region: "us-east-1", Conditional: conditional})
 	return closing{store, server}, err
 }

@@ -14,8 +14,8 @@ func (f *Front) healthz(w http.ResponseWriter, r *http.Request) error {
 	return nil
 }
 
-// readyz says whether submissions would be taken now: the log doesn't end, nothing keeps it from going on, its queue has room,
-// and its head is read within two seconds. An old tile that is damaged keeps it from nothing.
+// readyz says whether submissions would be taken now: the log doesn't end, nothing keeps it from going on, its queue
+// has room, and its head is read within two seconds. An old tile that is damaged keeps it from nothing.
 func (f *Front) readyz(w http.ResponseWriter, r *http.Request) error {
 	if err := f.unready(r.Context()); err != nil {
 		return err
@@ -84,7 +84,8 @@ func (f *Front) Tell(ctx context.Context, every time.Duration) {
 		if figures.Mended != mended {
 			f.options.Lines.Warn("made-again", "objects", figures.Mended-mended, "last", figures.LastMended)
 		}
-		fault, damage, tiles, issuers, mended = figures.Fault, figures.Damage, figures.Damaged, figures.DamagedIssuers, figures.Mended
+		fault, damage, tiles, issuers, mended = figures.Fault, figures.Damage, figures.Damaged,
+			figures.DamagedIssuers, figures.Mended
 		faults = figures.Faults
 		select {
 		case <-timer.C:

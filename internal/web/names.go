@@ -7,8 +7,8 @@ import (
 	"wagtenib/internal/tile"
 )
 
-// tileName is a tile's name, read (C2SP tlog-tiles and static-ct-api): its level, or the data tiles', its index, and its width,
-// which is 256 of a full one.
+// tileName is a tile's name, read (C2SP tlog-tiles and static-ct-api): its level, or the data tiles', its index, and
+// its width, which is 256 of a full one.
 type tileName struct {
 	data  bool
 	level uint64

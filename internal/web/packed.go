@@ -10,7 +10,8 @@ import (
 )
 
 const (
-	// leastPacked and maxPacked are how many bytes of an answer are compressed: fewer aren't worth it, and more take a processor for long.
+	// leastPacked and maxPacked are how many bytes of an answer are compressed: fewer aren't worth it, and more take a
+	// processor for long.
 	leastPacked, maxPacked = 1 << 10, 8 << 20
 	inGzip                 = "gzip"
 )
