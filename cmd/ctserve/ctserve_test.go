@@ -140,7 +140,7 @@ func runs(words []string) (status int, told string) {
 	}
 }
 
-// until gives the next line of one of these events.
+// until returns the next line of one of these events.
 func (p *program) until(events ...string) map[string]any {
 	p.t.Helper()
 	for late := time.After(trial.Longest); ; {
@@ -177,7 +177,7 @@ func (p *program) shows(line string) {
 	}
 }
 
-// ends gives the status by which it ends.
+// ends returns the status by which it ends.
 func (p *program) ends() int {
 	p.t.Helper()
 	go func() {

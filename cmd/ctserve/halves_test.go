@@ -188,7 +188,7 @@ func TestHalfHeadersAtNginx(t *testing.T) {
 	}
 }
 
-// isOpen says whether the other end hasn't closed a connection on which nothing is answered.
+// isOpen reports whether the other end hasn't closed a connection on which nothing is answered.
 func isOpen(connection net.Conn) bool {
 	connection.SetReadDeadline(time.Now().Add(time.Millisecond))
 	_, err := connection.Read(make([]byte, 1))

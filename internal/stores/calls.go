@@ -71,7 +71,7 @@ func (c *Calls) ended(ctx context.Context, store, name string, began time.Time, 
 	return err
 }
 
-// isFailure says whether an error is a store's that doesn't do what it is there for, and not one of its answers, nor
+// isFailure reports whether an error is a store's that doesn't do what it is there for, and not one of its answers, nor
 // the end of who asked it.
 func isFailure(ctx context.Context, err error) bool {
 	if err == nil || ctx.Err() == context.Canceled {

@@ -131,7 +131,7 @@ func (d *disk) keep(folder string) error {
 	return nil
 }
 
-// isSynced says whether the folder's own name is known to be on the disk, and so those of all folders above it.
+// isSynced reports whether the folder's own name is known to be on the disk, and so those of all folders above it.
 func (d *disk) isSynced(folder string) bool {
 	d.mu.Lock()
 	defer d.mu.Unlock()

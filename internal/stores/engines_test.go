@@ -195,7 +195,7 @@ func took(t *testing.T, what string, many int, since time.Time) {
 	t.Logf("%s: %d, %.2f ms each", what, many, float64(time.Since(since).Microseconds())/1000/float64(many))
 }
 
-// number gives the number at the end of a text that ends with " NUMBER".
+// number returns the number at the end of a text that ends with " NUMBER".
 func number(text string) (n int) {
 	fmt.Sscan(text[strings.LastIndexByte(text, ' ')+1:], &n)
 	return n

@@ -72,7 +72,7 @@ func (f *file) locked(ctx context.Context, do func() error) error {
 	return do()
 }
 
-// raw gives a file's content, which may not be on the disk yet.
+// raw returns a file's content, which may not be on the disk yet.
 func (f *file) raw(name string) (string, error) {
 	content, err := os.ReadFile(f.path(name))
 	if errors.Is(err, fs.ErrNotExist) {
@@ -93,7 +93,7 @@ func (f *file) keep() error {
 	return nil
 }
 
-// readText gives the text, which is on the disk.
+// readText returns the text, which is on the disk.
 func (f *file) readText() (string, error) {
 	text, err := f.raw(textFile)
 	if err == nil {
@@ -146,7 +146,7 @@ func (f *file) knowRaised(published Published) {
 	f.raised = published
 }
 
-// set gives a file another content, which is on the disk before the file gets its name. Errors before that are plain;
+// set returns a file another content, which is on the disk before the file gets its name. Errors before that are plain;
 // after it they are ErrUnknown.
 func (f *file) set(name, content string) error {
 	whole, err := f.disk.write([]byte(content))
@@ -239,7 +239,7 @@ func (f *file) published() (p Published, err error) {
 // headForm is how headFile has a size and a moment.
 const headForm = "%d %d"
 
-// created gives what is published of a register that was created; it need not be on the disk.
+// created returns what is published of a register that was created; it need not be on the disk.
 func (f *file) created() (Published, error) {
 	if _, err := f.raw(textFile); err != nil {
 		return Published{}, err

@@ -94,7 +94,7 @@ func (f *folder) Get(ctx context.Context, name string, most int64) ([]byte, erro
 	return content, nil
 }
 
-// isNoFile says whether an error means that there is no file of this name: nothing, or a folder.
+// isNoFile reports whether an error means that there is no file of this name: nothing, or a folder.
 func isNoFile(err error) bool {
 	return errors.Is(err, fs.ErrNotExist) || errors.Is(err, syscall.ENOTDIR) || errors.Is(err, syscall.EISDIR)
 }

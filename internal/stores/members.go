@@ -43,7 +43,7 @@ func newMembers(client *clientv3.Client) *members {
 	return &members{Client: client, all: client.Endpoints(), leftOutFor: leftOutFor}
 }
 
-// isDenied says whether an error is etcd's word that a write wasn't done, and won't be at another member.
+// isDenied reports whether an error is etcd's word that a write wasn't done, and won't be at another member.
 func isDenied(err error) bool {
 	var said rpctypes.EtcdError
 	return errors.As(err, &said) && (said == rpctypes.ErrNoSpace || said == rpctypes.ErrRequestTooLarge ||

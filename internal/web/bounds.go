@@ -64,7 +64,7 @@ func (h *held) change(bytes int64) error {
 	return nil
 }
 
-// giveAll gives back all that it took.
+// giveAll returns back all that it took.
 func (h *held) giveAll() { _ = h.change(-h.bytes) }
 
 // Submitter is who has a bound of its own: all addresses of a prefix together have so many connections, or requests
@@ -113,7 +113,7 @@ func (c *counts) giveSome(address netip.Addr, some int) {
 	}
 }
 
-// groupOf gives what an address counts with, and the bound of that.
+// groupOf returns what an address counts with, and the bound of that.
 func (c *counts) groupOf(address netip.Addr) (group netip.Prefix, most int) {
 	if of, is := submitterOf(address, c.submitters); is {
 		return of.Prefix, of.Most
@@ -131,7 +131,7 @@ func groupOf(address netip.Addr) netip.Prefix {
 	return netip.PrefixFrom(address.WithZone(""), bits).Masked()
 }
 
-// submitterOf gives whose an address is: of those whose prefixes have it the one with the smallest.
+// submitterOf returns whose an address is: of those whose prefixes have it the one with the smallest.
 func submitterOf(address netip.Addr, among []Submitter) (found Submitter, is bool) {
 	for _, of := range among {
 		if of.Prefix.Contains(address) && (!is || of.Prefix.Bits() > found.Prefix.Bits()) {

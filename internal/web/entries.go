@@ -76,7 +76,7 @@ func badParameter(detail string) error {
 	return refusal{status: http.StatusBadRequest, name: "bad-parameter", detail: detail}
 }
 
-// textOf gives the one value that a query has of a name.
+// textOf returns the one value that a query has of a name.
 func textOf(query url.Values, name string) (string, error) {
 	switch len(query[name]) {
 	case 0:
@@ -197,7 +197,7 @@ type issuers struct {
 	bytes int
 }
 
-// issuerOf gives an issuer by its fingerprint, and only bytes that have it.
+// issuerOf returns an issuer by its fingerprint, and only bytes that have it.
 func (f *Front) issuerOf(ctx context.Context, fingerprint [32]byte) ([]byte, error) {
 	f.issuers.mutex.Lock()
 	certificate := f.issuers.kept[fingerprint]

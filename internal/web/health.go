@@ -14,7 +14,7 @@ func (f *Front) healthz(w http.ResponseWriter, r *http.Request) error {
 	return nil
 }
 
-// readyz says whether submissions would be taken now: the log doesn't end, nothing keeps it from going on, its queue
+// readyz reports whether submissions would be taken now: the log doesn't end, nothing keeps it from going on, its queue
 // has room, and its head is read within two seconds. An old tile that is damaged keeps it from nothing.
 func (f *Front) readyz(w http.ResponseWriter, r *http.Request) error {
 	if err := f.unready(r.Context()); err != nil {
@@ -25,7 +25,7 @@ func (f *Front) readyz(w http.ResponseWriter, r *http.Request) error {
 	return nil
 }
 
-// unready gives what /readyz refuses by, or nil.
+// unready returns what /readyz refuses by, or nil.
 func (f *Front) unready(ctx context.Context) error {
 	unready := func(name string, why error) error {
 		return refusal{status: http.StatusServiceUnavailable, name: name, after: 1, why: why}

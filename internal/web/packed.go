@@ -25,7 +25,7 @@ var packers = sync.Pool{New: func() any {
 	return packer
 }}
 
-// takesGzip says whether a client takes an answer in gzip (RFC 9110, section 12.5.3).
+// takesGzip reports whether a client takes an answer in gzip (RFC 9110, section 12.5.3).
 func takesGzip(r *http.Request) bool {
 	for _, value := range r.Header.Values("Accept-Encoding") {
 		for _, one := range strings.Split(value, ",") {

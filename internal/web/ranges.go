@@ -8,8 +8,8 @@ import (
 	"time"
 )
 
-// asksForParts says whether a request asks for parts of a content by their bytes. Other units are as if none were asked
-// for (RFC 9110, section 14.2).
+// asksForParts reports whether a request asks for parts of a content by their bytes. Other units are as if none were
+// asked for (RFC 9110, section 14.2).
 func asksForParts(r *http.Request) bool {
 	asked := r.Header.Values("Range")
 	return r.Method == http.MethodGet && len(asked) == 1 && strings.HasPrefix(asked[0], "bytes=")

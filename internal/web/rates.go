@@ -42,7 +42,7 @@ func newRates(aSecond int) *rates {
 	return &rates{apart: time.Second / time.Duration(aSecond), at: map[netip.Prefix]*list.Element{}}
 }
 
-// take says whether a request is within the rate, and takes it out of its bucket where it is.
+// take reports whether a request is within the rate, and takes it out of its bucket where it is.
 func (r *rates) take(group netip.Prefix, now time.Time) bool {
 	if r == nil {
 		return true
@@ -88,7 +88,7 @@ func (r *rates) bucketOf(group netip.Prefix, now time.Time) *bucket {
 var tooOften = refusal{status: http.StatusTooManyRequests, name: "too-often",
 	detail: "of one address so many are taken a second", after: 1}
 
-// isInRate says whether a client asks within its rate what a call costs. Submitters have none.
+// isInRate reports whether a client asks within its rate what a call costs. Submitters have none.
 func (f *Front) isInRate(c call, client netip.Addr) bool {
 	if _, is := submitterOf(client, f.limits.Submitters); is {
 		return true

@@ -100,7 +100,7 @@ func answersOn(t testing.TB, connection net.Conn) (statuses []int) {
 	}
 }
 
-// closed says whether the other side closed without a word, and doesn't only say nothing.
+// closed reports whether the other side closed without a word, and doesn't only say nothing.
 func closed(t testing.TB, what string, from io.Reader) {
 	t.Helper()
 	n, err := from.Read(make([]byte, 1))

@@ -136,7 +136,7 @@ func (f *fixture) fill(count int) (certificates [][]byte) {
 	return certificates
 }
 
-// refused says whether an answer is a refusal of this status and name, which no cache keeps.
+// refused reports whether an answer is a refusal of this status and name, which no cache keeps.
 func refused(t testing.TB, what string, w *httptest.ResponseRecorder, status int, name string) {
 	t.Helper()
 	var told struct {
@@ -152,7 +152,7 @@ func refused(t testing.TB, what string, w *httptest.ResponseRecorder, status int
 	}
 }
 
-// verifies says whether a DigitallySigned is the log's over some bytes.
+// verifies reports whether a DigitallySigned is the log's over some bytes.
 func (f *fixture) verifies(signed, signature []byte) bool {
 	digest := sha256.Sum256(signed)
 	return len(signature) > 4 && bytes.HasPrefix(signature, []byte{4, 3, 0}) && int(signature[3]) == len(signature)-4 &&
