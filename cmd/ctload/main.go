@@ -33,19 +33,29 @@ import (
 	"wagtenib/internal/web/standin"
 )
 
+// load submits certificates to the nodes of a log.
 type load struct {
+	settings
+	client  *http.Client
+	answers *json.Encoder
+	// pace has a token for each submission if a rate is set.
+	pace <-chan time.Time
+	// made are submissions that were made before any was sent.
+	made chan submission
+	results
+}
+
+// settings are what is submitted, to which nodes, and how often.
+type settings struct {
 	nodes     []string
 	authority *standin.Authority
 	ends      time.Time
 	most      int
 	repeats   int
-	client    *http.Client
-	answers   *json.Encoder
-	// pace has a token for each submission if a rate is set.
-	pace <-chan time.Time
-	// made are submissions that were made before any was sent.
-	made chan submission
+}
 
+// results are the answers so far.
+type results struct {
 	mu    sync.Mutex
 	took  []time.Duration
 	again map[string]int
@@ -108,27 +118,17 @@ func run() error {
 			return err
 		}
 	}
-	authority, err := standin.NewAuthority(fmt.Sprintf("An authority of %d", os.Getpid()))
+	authority, err := newRoot(*roots, *reload)
 	if err != nil {
 		return err
-	}
-	if err := add(*roots, authority.PEM()); err != nil {
-		return err
-	}
-	if *reload != "" {
-		command := exec.Command("sh", "-c", *reload)
-		command.Stdout, command.Stderr = os.Stderr, os.Stderr
-		if err := command.Run(); err != nil {
-			return fmt.Errorf("%s: %w", *reload, err)
-		}
 	}
 	file, err := os.OpenFile(*answers, os.O_CREATE|os.O_APPEND|os.O_WRONLY, 0o644)
 	if err != nil {
 		return err
 	}
 	defer file.Close()
-	l := &load{nodes: strings.Split(*nodes, ","), authority: authority, ends: ends, most: *most, repeats: *repeats,
-		answers: json.NewEncoder(file), again: map[string]int{},
+	l := &load{settings: settings{strings.Split(*nodes, ","), authority, ends, *most, *repeats},
+		answers: json.NewEncoder(file), results: results{again: map[string]int{}},
 		client: &http.Client{Timeout: answersWithin, Transport: &http.Transport{MaxIdleConnsPerHost: *clients}}}
 	ctx, stop := signal.NotifyContext(context.Background(), syscall.SIGTERM, syscall.SIGINT)
 	defer stop()
@@ -147,6 +147,25 @@ func run() error {
 		ctx = timed
 	}
 	return l.all(ctx, *clients, *tell)
+}
+
+// newRoot makes a CA, adds its root to a file, and runs the command that makes the nodes reload their roots.
+func newRoot(roots, reload string) (*standin.Authority, error) {
+	authority, err := standin.NewAuthority(fmt.Sprintf("An authority of %d", os.Getpid()))
+	if err != nil {
+		return nil, err
+	}
+	if err := add(roots, authority.PEM()); err != nil {
+		return nil, err
+	}
+	if reload != "" {
+		command := exec.Command("sh", "-c", reload)
+		command.Stdout, command.Stderr = os.Stderr, os.Stderr
+		if err := command.Run(); err != nil {
+			return nil, fmt.Errorf("%s: %w", reload, err)
+		}
+	}
+	return authority, nil
 }
 
 // add appends to a file.

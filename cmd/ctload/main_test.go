@@ -63,8 +63,9 @@ func loadOf(t testing.TB, nodes ...*node) (*load, *bytes.Buffer) {
 	authority, err := standin.NewAuthority("An authority of tests")
 	must(t, err)
 	var answers bytes.Buffer
-	l := &load{authority: authority, ends: time.Now().AddDate(0, 6, 0), answers: json.NewEncoder(&answers),
-		again: map[string]int{}, client: &http.Client{Timeout: answersWithin}}
+	l := &load{settings: settings{authority: authority, ends: time.Now().AddDate(0, 6, 0)},
+		answers: json.NewEncoder(&answers), results: results{again: map[string]int{}},
+		client: &http.Client{Timeout: answersWithin}}
 	for _, n := range nodes {
 		l.nodes = append(l.nodes, n.URL)
 	}

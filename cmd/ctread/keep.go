@@ -73,7 +73,7 @@ func (r *reader) keepEntries(ctx context.Context, tile tlog.Tile, content []byte
 	return r.keep(ctx, nameOf(tile), content)
 }
 
-// beginsAsKept says whether a data tile begins with what is kept of it: no hash has its precertificates and
+// beginsAsKept reports whether a data tile begins with what is kept of it: no hash has its precertificates and
 // fingerprints.
 func (r *reader) beginsAsKept(ctx context.Context, tile tlog.Tile, content []byte) error {
 	before := tile

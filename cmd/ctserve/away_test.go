@@ -65,7 +65,8 @@ func TestReadsGoOn(t *testing.T) {
 			if strings.Contains(what, "disk") {
 				disk = at.mount(t)
 				// SQLite has files open for writing, so the file system could not be made read-only.
-				more = append(more, "--index", "sqlite:"+at.path("places"), "--guard-state", "file:"+at.path("log/guard"), "--latest-head", at.path("log/latest-head"))
+				more = append(more, "--index", "sqlite:"+at.path("places"), "--guard-state", "file:"+
+					at.path("log/guard"), "--latest-head", at.path("log/latest-head"))
 			}
 			words := at.realWords(more...)
 			p := started(t, "", append(words, "--create")...)
@@ -81,7 +82,8 @@ func TestReadsGoOn(t *testing.T) {
 			}
 			back := takes(t, disk)
 			for i := 0; i < 3; i++ {
-				if status, text, _ := at.submitted(t, p); status != 503 || !strings.Contains(text, `"store"`) && !strings.Contains(text, `"late"`) {
+				if status, text, _ := at.submitted(t, p); status != 503 || !strings.Contains(text, `"store"`) &&
+					!strings.Contains(text, `"late"`) {
 					t.Errorf("a submission: %d %s", status, text)
 				}
 				readsAll(t, p, what, answers)
@@ -104,8 +106,9 @@ func TestReadsGoOn(t *testing.T) {
 	}
 }
 
-// TestObjectsAway: while a log's folder of objects is away, as a disk that isn't mounted, no start makes another one in its place, into which the node that
-// runs would go on; the one that runs refuses submissions, and takes them again once it is back.
+// TestObjectsAway: while a log's folder of objects is away, as a disk that isn't mounted, no start makes another one in
+// its place, into which the node that runs would go on; the one that runs refuses submissions, and takes them again
+// once it is back.
 func TestObjectsAway(t *testing.T) {
 	t.Parallel()
 	at := newPlace(t)
@@ -154,7 +157,8 @@ func TestObjectsAway(t *testing.T) {
 	if err == nil || !strings.Contains(told, "the folder of the objects") {
 		t.Errorf("a start without the objects' folder: %v: %s", err, told)
 	}
-	if status, told, faults := does(append([]string{"index"}, words...)...); status != 1 || !strings.Contains(faults, "the folder of the objects") {
+	if status, told, faults := does(append([]string{"index"}, words...)...); status != 1 ||
+		!strings.Contains(faults, "the folder of the objects") {
 		t.Errorf("places: %d, %q, %q", status, told, faults)
 	}
 	if isThere(objects) {

@@ -11,14 +11,17 @@ import (
 	"time"
 )
 
-// TestEachBound: each time and each bound that is a setting is refused by what it has to be where it is one below its least, and taken where it is that.
+// TestEachBound: each time and each bound that is a setting is refused by what it has to be where it is one below its
+// least, and taken where it is that.
 func TestEachBound(t *testing.T) {
 	with := func(name string, value any) (*settings, error) {
-		return parse([]string{"--roots", "r", "--origin", "o.example", "--signing-key", "k", fmt.Sprintf("--%s=%v", name, value)}, io.Discard)
+		return parse([]string{"--roots", "r", "--origin", "o.example", "--signing-key", "k",
+			fmt.Sprintf("--%s=%v", name, value)}, io.Discard)
 	}
 	for name, least := range map[string]int64{
-		"max-connections": 1, "max-connections-per-address": 1, "max-checks": 1, "max-queued-bytes": 1 << 20, "max-response-bytes": 64 << 20,
-		"max-queue": 1, "max-batch": 1, "max-write-rate": 1, "max-proofs": 1,
+		"max-connections": 1, "max-connections-per-address": 1, "max-checks": 1, "max-queued-bytes": 1 << 20,
+		"max-response-bytes": 64 << 20,
+		"max-queue":          1, "max-batch": 1, "max-write-rate": 1, "max-proofs": 1,
 	} {
 		if _, err := with(name, least); err != nil {
 			t.Errorf("%s %d: %v", name, least, err)
@@ -27,7 +30,8 @@ func TestEachBound(t *testing.T) {
 			t.Errorf("%s %d: %v", name, least-1, err)
 		}
 	}
-	for _, name := range []string{"shutdown-timeout", "header-timeout", "request-timeout", "submission-timeout", "response-timeout", "idle-timeout", "interval", "refresh-interval", "open-timeout",
+	for _, name := range []string{"shutdown-timeout", "header-timeout", "request-timeout", "submission-timeout",
+		"response-timeout", "idle-timeout", "interval", "refresh-interval", "open-timeout",
 		"delete-heads-after", "delete-tiles-after", "scrub-interval", "scrub-period", "max-clock-skew"} {
 		if _, err := with(name, time.Nanosecond); err != nil {
 			t.Errorf("%s: %v", name, err)
@@ -43,16 +47,19 @@ func TestEachBound(t *testing.T) {
 		"read-rate-per-address":       func(s *settings) int { return s.limits.ReadRate },
 	} {
 		for _, aSecond := range []int{0, 1, 500} {
-			if s, err := with(name, aSecond); err != nil || rate(s) != aSecond || s.limits.SubmissionRate+s.limits.ReadRate != aSecond {
+			if s, err := with(name, aSecond); err != nil || rate(s) != aSecond || s.limits.SubmissionRate+
+				s.limits.ReadRate != aSecond {
 				t.Errorf("%s %d: %v", name, aSecond, err)
 			}
 		}
-		if _, err := with(name, -1); err == nil || !strings.Contains(err.Error(), "a rate must be 0 (no bound) or above") {
+		if _, err := with(name, -1); err == nil || !strings.Contains(err.Error(),
+			"a rate must be 0 (no bound) or above") {
 			t.Errorf("%s -1: %v", name, err)
 		}
 	}
 	for all, ofOne := range map[int]int{1: 1, 3: 1, 4: 1, 8: 2, 64: 16, 67: 16} {
-		if s, err := with("max-proofs", all); err != nil || s.limits.ProofsByAddress != ofOne || s.node.maxProofs != all {
+		if s, err := with("max-proofs", all); err != nil || s.limits.ProofsByAddress != ofOne ||
+			s.node.maxProofs != all {
 			t.Errorf("of %d proofs an address has another share than %d: %v", all, ofOne, err)
 		}
 	}
@@ -65,14 +72,15 @@ func TestWhatCantBeOpened(t *testing.T) {
 	at := newPlace(t)
 	at.write("file", []byte("no folder"))
 	for what, words := range map[string][]string{
-		"mkdir " + at.path("file"):                {"--folder", at.path("file/log"), "--latest-head", at.path("latest-head"), "--guard-state", "file:" + at.path("guard")},
-		"mkdir " + at.path("file/below"):          {"--latest-head", at.path("file/below/latest-head")},
-		at.path("file/objects"):                   {"--store", "folder:" + at.path("file/objects")},
-		at.path("file/register"):                  {"--lock", "file:" + at.path("file/register")},
+		"mkdir " + at.path("file"): {"--folder", at.path("file/log"), "--latest-head",
+			at.path("latest-head"), "--guard-state", "file:" + at.path("guard")},
+		"mkdir " + at.path("file/below"):         {"--latest-head", at.path("file/below/latest-head")},
+		at.path("file/objects"):                  {"--store", "folder:" + at.path("file/objects")},
+		at.path("file/register"):                 {"--lock", "file:" + at.path("file/register")},
 		"the index in " + at.path("file/places"): {"--index", "sqlite:" + at.path("file/places")},
-		"open " + at.path("none.pem"):             {"--signing-key", at.path("none.pem")},
-		"objects are at folder:PATH":              {"--store", "nowhere:x"},
-		"a register is at file:PATH":              {"--lock", "nowhere:x"},
+		"open " + at.path("none.pem"):            {"--signing-key", at.path("none.pem")},
+		"objects are at folder:PATH":             {"--store", "nowhere:x"},
+		"a register is at file:PATH":             {"--lock", "nowhere:x"},
 		"an index is at sqlite:PATH":             {"--index", "nowhere:x"},
 	} {
 		whole := at.realWords("--signing-key", at.path("log.pem"))

@@ -5,8 +5,9 @@ import (
 	"runtime/debug"
 )
 
-// Between two collections of garbage a process allocates up to collectsAt percent of what it holds: that is little, and a collection costs by it. From
-// maxHeld bytes on, all together, it collects more often: ctserve and its signer have 2 GB of their unit.
+// Between two collections of garbage a process allocates up to collectsAt percent of what it holds: that is little, and
+// a collection costs by it. From maxHeld bytes on, all together, it collects more often: ctserve and its signer have 2
+// GB of their unit.
 const (
 	collectsAt = 400
 	maxHeld    = 768 << 20

@@ -20,7 +20,8 @@ func TestCollector(t *testing.T) {
 		t.Setenv("GOGC", c.percent)
 		t.Setenv("GOMEMLIMIT", c.held)
 		settleCollector()
-		if percent, held := debug.SetGCPercent(100), debug.SetMemoryLimit(math.MaxInt64); int64(percent) != c.wantPercent || held != c.wantHeld {
+		if percent, held := debug.SetGCPercent(100), debug.SetMemoryLimit(math.MaxInt64); int64(
+			percent) != c.wantPercent || held != c.wantHeld {
 			t.Errorf("%q, %q: %d percent, %d bytes", c.percent, c.held, percent, held)
 		}
 	}

@@ -40,7 +40,8 @@ func settingsFile(t *testing.T, lines ...string) (folder, file string) {
 	if status, _, told := does("key", filepath.Join(folder, "log.key")); status != 0 {
 		t.Fatalf("no key: %s", told)
 	}
-	text := []string{"origin log.example/2027h1", "signing-key " + folder + "/log.key", "roots " + folder + "/roots.pem", "folder " + folder + "/log",
+	text := []string{"origin log.example/2027h1", "signing-key " + folder + "/log.key", "roots " + folder +
+		"/roots.pem", "folder " + folder + "/log",
 		"not-after-start 2027-01-01", "not-after-limit 2027-07-01"}
 	file = filepath.Join(folder, "settings")
 	if err := os.WriteFile(file, []byte(strings.Join(append(text, lines...), "\n")), 0o600); err != nil {
@@ -65,7 +66,8 @@ func TestKey(t *testing.T) {
 		t.Fatal(err)
 	}
 	id := sha256.Sum256(public)
-	for _, due := range []string{"log id      " + base64.StdEncoding.EncodeToString(id[:]) + "\n", "public key  " + base64.StdEncoding.EncodeToString(public) + "\n",
+	for _, due := range []string{"log id      " + base64.StdEncoding.EncodeToString(id[:]) + "\n", "public key  " +
+		base64.StdEncoding.EncodeToString(public) + "\n",
 		string(pem.EncodeToMemory(&pem.Block{Type: "PUBLIC KEY", Bytes: public}))} {
 		if !strings.Contains(said, due) {
 			t.Errorf("%q isn't in %q", due, said)
@@ -98,7 +100,8 @@ func TestKey(t *testing.T) {
 // TestListEntry compares an entry with what openssl says of the key.
 func TestListEntry(t *testing.T) {
 	folder, file := settingsFile(t)
-	status, said, told := does("list-entry", "--config", file, "--operator", "An operator", "--email", "a@log.example,b@log.example")
+	status, said, told := does("list-entry", "--config", file, "--operator", "An operator", "--email",
+		"a@log.example,b@log.example")
 	if status != 0 {
 		t.Fatalf("status %d: %s", status, told)
 	}
@@ -107,11 +110,15 @@ func TestListEntry(t *testing.T) {
 		t.Fatal(err)
 	}
 	id := sha256.Sum256(public)
-	due := map[string]any{"operators": []any{map[string]any{"name": "An operator", "email": []any{"a@log.example", "b@log.example"}, "logs": []any{}, "tiled_logs": []any{map[string]any{
-		"description": "log.example/2027h1", "log_id": base64.StdEncoding.EncodeToString(id[:]), "key": base64.StdEncoding.EncodeToString(public),
-		"submission_url": "https://log.example/2027h1/", "monitoring_url": "https://log.example/2027h1/", "mmd": 60.0,
-		"temporal_interval": map[string]any{"start_inclusive": "2027-01-01T00:00:00Z", "end_exclusive": "2027-07-01T00:00:00Z"},
-	}}}}}
+	due := map[string]any{"operators": []any{map[string]any{"name": "An operator",
+		"email": []any{"a@log.example", "b@log.example"}, "logs": []any{}, "tiled_logs": []any{map[string]any{
+			"description": "log.example/2027h1", "log_id": base64.StdEncoding.EncodeToString(id[:]),
+			"key":            base64.StdEncoding.EncodeToString(public),
+			"submission_url": "https://log.example/2027h1/",
+			"monitoring_url": "https://log.example/2027h1/", "mmd": 60.0,
+			"temporal_interval": map[string]any{"start_inclusive": "2027-01-01T00:00:00Z",
+				"end_exclusive": "2027-07-01T00:00:00Z"},
+		}}}}}
 	var found any
 	if err := json.Unmarshal([]byte(said), &found); err != nil || fmt.Sprint(found) != fmt.Sprint(due) {
 		t.Errorf("%v: %s", err, said)
@@ -123,26 +130,32 @@ func TestListEntry(t *testing.T) {
 	about, err := aboutOf(s, public)
 	one := due["operators"].([]any)[0].(map[string]any)["tiled_logs"].([]any)[0].(map[string]any)
 	one["version"], one["notice"] = "unreleased (commit unknown)", "a \"notice\""
-	if json.Unmarshal(about.Entry, &found) != nil || err != nil || fmt.Sprint(found) != fmt.Sprint(one) || string(about.Key) != string(public) {
+	if json.Unmarshal(about.Entry, &found) != nil || err != nil || fmt.Sprint(found) != fmt.Sprint(one) ||
+		string(about.Key) != string(public) {
 		t.Errorf("the log says of itself: %v, %s", err, about.Entry)
 	}
 	if about, err := aboutOf(s, nil); err != nil || about.Key != nil || about.Entry != nil {
 		t.Errorf("a log without a key says of itself: %v, %v", about, err)
 	}
-	if err := os.WriteFile(folder+"/public.pem", pem.EncodeToMemory(&pem.Block{Type: "PUBLIC KEY", Bytes: public}), 0o600); err != nil {
+	if err := os.WriteFile(folder+"/public.pem", pem.EncodeToMemory(&pem.Block{Type: "PUBLIC KEY", Bytes: public}),
+		0o600); err != nil {
 		t.Fatal(err)
 	}
 	more := []string{"--operator", "o", "--email", "e"}
-	if status, other, told := does(append([]string{"list-entry", "--config", file, "--key", folder + "/public.pem"}, more...)...); status != 0 ||
-		!strings.Contains(other, base64.StdEncoding.EncodeToString(id[:])) || !strings.Contains(other, `"https://log.example/2027h1/"`) {
+	if status, other, told := does(append([]string{"list-entry", "--config", file, "--key", folder + "/public.pem"},
+		more...)...); status != 0 ||
+		!strings.Contains(other, base64.StdEncoding.EncodeToString(id[:])) ||
+		!strings.Contains(other, `"https://log.example/2027h1/"`) {
 		t.Errorf("by the public key: status %d, %s%s", status, other, told)
 	}
-	for _, words := range [][]string{{"--config", file}, {"--config", file, "--operator", "o", "--email", "e", "more"}} {
+	for _, words := range [][]string{{"--config", file}, {"--config", file, "--operator", "o", "--email",
+		"e", "more"}} {
 		if status, _, _ := does(append([]string{"list-entry"}, words...)...); status != 2 {
 			t.Errorf("%q: status %d", words, status)
 		}
 	}
-	if status, _, _ := does("list-entry", "--config", file, "--operator", "o", "--email", "e", "--key", folder+"/roots.pem"); status != 1 {
+	if status, _, _ := does("list-entry", "--config", file, "--operator", "o", "--email", "e", "--key", folder+
+		"/roots.pem"); status != 1 {
 		t.Errorf("a certificate for a key: status %d", status)
 	}
 }
@@ -192,7 +205,8 @@ func TestCheck(t *testing.T) {
 		if err := os.Remove(filepath.Join(folder, name)); err != nil {
 			t.Fatal(err)
 		}
-		if status, said, told := does("check", file); status != 1 || strings.Count(said, "WRONG") != 1 || !strings.Contains(told, "1 settings") {
+		if status, said, told := does("check", file); status != 1 || strings.Count(said, "WRONG") != 1 ||
+			!strings.Contains(told, "1 settings") {
 			t.Errorf("without %s: status %d, %s%s", name, status, said, told)
 		}
 	}
@@ -216,7 +230,8 @@ func TestClock(t *testing.T) {
 	now := time.Now().UTC()
 	today := now.Format("2006-01-02")
 	status, said, told := does("clock", file, today)
-	if status != 0 || told != "" || !strings.HasPrefix(said, "log.example/2027h1: on "+today+" the log continues. This machine's clock says "+now.Format("2006-01")) {
+	if status != 0 || told != "" || !strings.HasPrefix(said, "log.example/2027h1: on "+today+
+		" the log continues. This machine's clock says "+now.Format("2006-01")) {
 		t.Fatalf("status %d: %s%s", status, said, told)
 	}
 	s, err := parse([]string{"--config", file}, io.Discard)
@@ -232,20 +247,24 @@ func TestClock(t *testing.T) {
 		status int
 		due    string
 	}{
-		{[]string{file, now.AddDate(1, 0, 0).Format("2006-01-02")}, 1, "this machine's clock says " + now.Format("2006-01")},
-		{[]string{file, now.AddDate(0, 0, -3).Format("2006-01-02")}, 1, "this machine's clock says " + now.Format("2006-01")},
+		{[]string{file, now.AddDate(1, 0, 0).Format("2006-01-02")}, 1, "this machine's clock says " +
+			now.Format("2006-01")},
+		{[]string{file, now.AddDate(0, 0, -3).Format("2006-01-02")}, 1, "this machine's clock says " +
+			now.Format("2006-01")},
 		{[]string{file, "today"}, 1, "is no day"},
 		{[]string{file}, 2, "--help"},
 		{[]string{folder + "/absent", today}, 2, "absent"},
 	} {
-		if status, said, told := does(append([]string{"clock"}, c.words...)...); status != c.status || said != "" || !strings.Contains(told, c.due) {
+		if status, said, told := does(append([]string{"clock"}, c.words...)...); status != c.status || said != "" ||
+			!strings.Contains(told, c.due) {
 			t.Errorf("%q: status %d, %s%s", c.words, status, said, told)
 		}
 	}
 	if after, err := os.ReadFile(s.node.namedDay); err != nil || !bytes.Equal(after, named) {
 		t.Errorf("%v: %q", err, after)
 	}
-	if s, err := parse([]string{"--config", file, "--latest-head", folder + "/kept"}, io.Discard); err != nil || s.node.namedDay != folder+"/kept.day" {
+	if s, err := parse([]string{"--config", file, "--latest-head", folder + "/kept"}, io.Discard); err != nil ||
+		s.node.namedDay != folder+"/kept.day" {
 		t.Errorf("%v: %s", err, s.node.namedDay)
 	}
 }
@@ -256,7 +275,8 @@ func TestCommandLine(t *testing.T) {
 		words  []string
 		status int
 		out    string
-	}{{[]string{"--version"}, 0, "ctserve unreleased (commit unknown)\n"}, {[]string{"key"}, 2, ""}, {[]string{"check", "--help"}, 0, ""}} {
+	}{{[]string{"--version"}, 0, "ctserve unreleased (commit unknown)\n"}, {[]string{"key"}, 2, ""},
+		{[]string{"check", "--help"}, 0, ""}} {
 		command := exec.Command(os.Args[0], c.words...)
 		command.Env = append(os.Environ(), childKey+"=1")
 		var out bytes.Buffer

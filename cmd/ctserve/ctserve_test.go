@@ -89,7 +89,8 @@ func isLate(told string) bool { return strings.Contains(told, "no reply from the
 // begun starts one, and gives the line by which it serves or ends.
 func begun(t *testing.T, every string, words ...string) (p *program, line map[string]any) {
 	t.Helper()
-	p = &program{t: t, command: exec.Command(os.Args[0], words...), lines: make(chan map[string]any), done: make(chan error, 1)}
+	p = &program{t: t, command: exec.Command(os.Args[0], words...), lines: make(chan map[string]any),
+		done: make(chan error, 1)}
 	p.command.Env = append(os.Environ(), childKey+"=1", everyKey+"="+every)
 	errors, err := p.command.StderrPipe()
 	if err != nil {
@@ -139,7 +140,7 @@ func runs(words []string) (status int, told string) {
 	}
 }
 
-// until gives the next line of one of these events.
+// until returns the next line of one of these events.
 func (p *program) until(events ...string) map[string]any {
 	p.t.Helper()
 	for late := time.After(trial.Longest); ; {
@@ -176,7 +177,7 @@ func (p *program) shows(line string) {
 	}
 }
 
-// ends gives the status by which it ends.
+// ends returns the status by which it ends.
 func (p *program) ends() int {
 	p.t.Helper()
 	go func() {
@@ -237,7 +238,8 @@ func (p *place) write(name string, content []byte) {
 
 // patient returns arguments with long time limits, for tests of something other than these limits.
 func patient() (words []string) {
-	for _, name := range []string{"open-timeout", "shutdown-timeout", "submission-timeout", "header-timeout", "request-timeout", "response-timeout", "idle-timeout"} {
+	for _, name := range []string{"open-timeout", "shutdown-timeout", "submission-timeout", "header-timeout",
+		"request-timeout", "response-timeout", "idle-timeout"} {
 		words = append(words, "--"+name, trial.Longest.String())
 	}
 	// (so no head without entries is made meanwhile)
@@ -246,7 +248,8 @@ func patient() (words []string) {
 
 // words are those that start a log here, at ports of its own.
 func (p *place) words(more ...string) []string {
-	return append(append(patient(), "--listen", "127.0.0.1:0", "--operator-listen", "127.0.0.1:0", "--origin", "log.example/test", "--roots", p.path("roots.pem"),
+	return append(append(patient(), "--listen", "127.0.0.1:0", "--operator-listen", "127.0.0.1:0", "--origin",
+		"log.example/test", "--roots", p.path("roots.pem"),
 		"--signing-key", p.path("log.pem"), "--folder", p.path("log")), more...)
 }
 
@@ -293,7 +296,8 @@ func whole(answer *http.Response, err error) (int, string) {
 	return answer.StatusCode, string(text)
 }
 
-// At SIGTERM who waits is answered, idle connections and half requests don't hold it up, and it ends by itself with status 0.
+// At SIGTERM who waits is answered, idle connections and half requests don't hold it up, and it ends by itself with
+// status 0.
 func TestEndBySIGTERM(t *testing.T) {
 	at := newPlace(t)
 	p := started(t, "1h", at.words()...)
@@ -392,7 +396,8 @@ func TestReloadBySIGHUP(t *testing.T) {
 	if err != nil {
 		t.Fatal(err)
 	}
-	if status, text := post(p.clients, standin.Submission(der)); status != 400 || !strings.Contains(text, "unknown-root") {
+	if status, text := post(p.clients, standin.Submission(der)); status != 400 ||
+		!strings.Contains(text, "unknown-root") {
 		t.Errorf("before: %d %s", status, text)
 	}
 	at.write("roots.pem", append(at.authority.PEM(), other.PEM()...))
@@ -411,7 +416,8 @@ func TestReloadBySIGHUP(t *testing.T) {
 	if status, text := post(p.clients, standin.Submission(der)); status != 200 {
 		t.Errorf("with a file of no roots: %d %s", status, text)
 	}
-	if _, text := get(p.operator, "/metrics"); !strings.Contains(text, `ctserve_reloads_total{of="roots",outcome="failed"} 1`+"\n") {
+	if _, text := get(p.operator, "/metrics"); !strings.Contains(text,
+		`ctserve_reloads_total{of="roots",outcome="failed"} 1`+"\n") {
 		t.Error("the reload that failed isn't counted")
 	}
 	p.signal(syscall.SIGINT)
@@ -420,7 +426,8 @@ func TestReloadBySIGHUP(t *testing.T) {
 	}
 }
 
-// TestReloadThatHangs has the roots' file be one that gives nothing, as on a disk of a network that is gone: the node serves on, and a signal ends it.
+// TestReloadThatHangs has the roots' file be one that gives nothing, as on a disk of a network that is gone: the node
+// serves on, and a signal ends it.
 func TestReloadThatHangs(t *testing.T) {
 	at := newPlace(t)
 	p := started(t, "20ms", at.words()...)
@@ -447,7 +454,8 @@ func TestReloadThatHangs(t *testing.T) {
 	}
 }
 
-// TestReaderOfLinesGoes has whoever reads standard error go away: the log must go on without its lines, and end in order.
+// TestReaderOfLinesGoes has whoever reads standard error go away: the log must go on without its lines, and end in
+// order.
 func TestReaderOfLinesGoes(t *testing.T) {
 	at := newPlace(t)
 	read, write, err := os.Pipe()
@@ -492,7 +500,8 @@ func TestRootsThatArentRead(t *testing.T) {
 	at := newPlace(t)
 	strange := pem.EncodeToMemory(&pem.Block{Type: "CERTIFICATE", Bytes: []byte("of a curve that nobody reads")})
 	leftOut := func(line map[string]any) bool {
-		return line["event"] == "root-left-out" && line["level"] == "warn" && strings.Contains(fmt.Sprint(line["root"]), at.path("roots.pem")+", certificate 2 ")
+		return line["event"] == "root-left-out" && line["level"] == "warn" &&
+			strings.Contains(fmt.Sprint(line["root"]), at.path("roots.pem")+", certificate 2 ")
 	}
 	at.write("roots.pem", append(at.authority.PEM(), strange...))
 	p := started(t, "20ms", at.words()...)
@@ -525,12 +534,14 @@ func TestServesTLSAndAWindow(t *testing.T) {
 	}
 	at.write("tls.pem", certificate)
 	at.write("tls.key", key)
-	p := started(t, "20ms", at.words("--tls-certificate", at.path("tls.pem"), "--tls-key", at.path("tls.key"), "--not-after-limit", "2027-01-01")...)
+	p := started(t, "20ms", at.words("--tls-certificate", at.path("tls.pem"), "--tls-key", at.path("tls.key"),
+		"--not-after-limit", "2027-01-01")...)
 	roots := x509.NewCertPool()
 	roots.AddCert(at.authority.Root)
 	config := &tls.Config{RootCAs: roots, ServerName: "host-3.example"}
 	client := &http.Client{Transport: &http.Transport{TLSClientConfig: config}}
-	answer, err := client.Post("https://"+p.clients+"/ct/v1/add-chain", "application/json", bytes.NewReader(at.submission()))
+	answer, err := client.Post("https://"+p.clients+"/ct/v1/add-chain", "application/json",
+		bytes.NewReader(at.submission()))
 	if err != nil {
 		t.Fatal(err)
 	}
@@ -600,21 +611,28 @@ func TestSettings(t *testing.T) {
 		{file(needed + "listen :99999"), "a port is 0 to 65535"},
 		{file(needed + "listen 127.0.0.1:8619"), "two listeners have the address 127.0.0.1:8619"},
 	} {
-		if _, err := parse(test.words, io.Discard); !errors.Is(err, errUsage) || !strings.Contains(err.Error(), test.why) {
+		if _, err := parse(test.words, io.Discard); !errors.Is(err, errUsage) ||
+			!strings.Contains(err.Error(), test.why) {
 			t.Errorf("%q: %v, and not %s", test.words, err, test.why)
 		}
 	}
-	s, err := parse(append(file(needed+"# a comment\n  idle-timeout   5s # behind\ntrusted-proxies 127.0.0.1, 10.1.2.3/8\nnot-after-start 2027-01-01\ncreate true\n"+
+	s, err := parse(append(file(needed+
+		"# a comment\n  idle-timeout   5s # behind\ntrusted-proxies 127.0.0.1, 10.1.2.3/8\nnot-after-start "+
+		"2027-01-01\ncreate true\n"+
 		"max-clock-skew 3s\nrequire-synchronized-clock true"), "--origin", "z"), io.Discard)
 	if err != nil {
 		t.Fatal(err)
 	}
-	if s.node.origin != "z" || s.node.maxSkew != 3*time.Second || !s.node.synchronized || s.limits.Idle != 5*time.Second || fmt.Sprint(s.proxies) != "[127.0.0.1/32 10.0.0.0/8]" || !s.node.create ||
+	if s.node.origin != "z" || s.node.maxSkew != 3*time.Second || !s.node.synchronized ||
+		s.limits.Idle != 5*time.Second || fmt.Sprint(s.proxies) != "[127.0.0.1/32 10.0.0.0/8]" || !s.node.create ||
 		s.rules.Window.From.Year() != 2027 ||
-		s.node.guardState != "file:ct-log.guard" || s.node.latestHead != "ct-log.latest-head" || s.node.namedDay != "ct-log.day" || !s.node.isGuarded() || s.node.store != "folder:ct-log/objects" || s.node.register != "file:ct-log/register" || s.node.places != "sqlite:ct-log/places" {
+		s.node.guardState != "file:ct-log.guard" || s.node.latestHead != "ct-log.latest-head" ||
+		s.node.namedDay != "ct-log.day" || !s.node.isGuarded() || s.node.store != "folder:ct-log/objects" ||
+		s.node.register != "file:ct-log/register" || s.node.places != "sqlite:ct-log/places" {
 		t.Errorf("%+v", s)
 	}
-	if s, err := parse(file(needed+"submitters 203.0.113.9/24=512, 2001:db8::7=9"), io.Discard); err != nil || fmt.Sprint(s.limits.Submitters) != "[{203.0.113.0/24 512} {2001:db8::7/128 9}]" {
+	if s, err := parse(file(needed+"submitters 203.0.113.9/24=512, 2001:db8::7=9"), io.Discard); err != nil ||
+		fmt.Sprint(s.limits.Submitters) != "[{203.0.113.0/24 512} {2001:db8::7/128 9}]" {
 		t.Errorf("submitters: %v, %+v", err, s)
 	}
 	for _, origin := range []string{"log.example", "log.example/2027h1", "xn--lg-fka.example/a/b", "localhost:8618"} {
@@ -625,7 +643,8 @@ func TestSettings(t *testing.T) {
 	for text, want := range map[string]chains.Rules{
 		"":                 {ServerAuthentication: true},
 		"any-purpose true": {},
-		"refuse-expired true\nrefuse-not-yet-valid true": {ServerAuthentication: true, RefuseExpired: true, RefuseNotYetValid: true},
+		"refuse-expired true\nrefuse-not-yet-valid true": {ServerAuthentication: true, RefuseExpired: true,
+			RefuseNotYetValid: true},
 	} {
 		if s, err := parse(file(needed+text), io.Discard); err != nil || s.rules != want {
 			t.Errorf("%s: %v, %+v", text, err, s)
@@ -636,7 +655,8 @@ func TestSettings(t *testing.T) {
 			t.Errorf("%s: %v, %+v", text, err, s)
 		}
 	}
-	for text, rests := range map[string]bool{"": false, "store folder:x": false, "store s3://a.example/b": true, "lock etcd://127.0.0.1:2379/log": true, "index etcd://127.0.0.1:2379/log": true} {
+	for text, rests := range map[string]bool{"": false, "store folder:x": false, "store s3://a.example/b": true,
+		"lock etcd://127.0.0.1:2379/log": true, "index etcd://127.0.0.1:2379/log": true} {
 		if s, err := parse(file(needed+text), io.Discard); err != nil || s.node.isAway() != rests {
 			t.Errorf("%s: %v", text, err)
 		}
@@ -644,7 +664,10 @@ func TestSettings(t *testing.T) {
 	for _, test := range []struct {
 		words  []string
 		status int
-	}{{[]string{"--help"}, 0}, {[]string{"signer", "--help"}, 0}, {[]string{"signer"}, 2}, {[]string{"signer", "--signing-key", at.path("log.pem"), "word"}, 2}, {[]string{"--nothing"}, 2}, {at.words("--roots", at.path("none")), 1}, {at.words("--listen", "127.0.0.1:x"), 2}, {at.words("--tls-certificate", "none", "--tls-key", "none"), 1}} {
+	}{{[]string{"--help"}, 0}, {[]string{"signer", "--help"}, 0}, {[]string{"signer"}, 2},
+		{[]string{"signer", "--signing-key", at.path("log.pem"), "word"}, 2}, {[]string{"--nothing"}, 2},
+		{at.words("--roots", at.path("none")), 1}, {at.words("--listen", "127.0.0.1:x"), 2},
+		{at.words("--tls-certificate", "none", "--tls-key", "none"), 1}} {
 		open := func(context.Context, node) (*opened, error) {
 			of, err := standin.New(0)
 			return &opened{log: of, close: func() {}}, err
@@ -658,7 +681,8 @@ func TestSettings(t *testing.T) {
 // realWords are those of a log on a folder.
 func (p *place) realWords(more ...string) []string {
 	p.t.Helper()
-	return append(append(patient(), "--listen", "127.0.0.1:0", "--operator-listen", "127.0.0.1:0", "--origin", "log.example/test", "--roots", p.path("roots.pem"),
+	return append(append(patient(), "--listen", "127.0.0.1:0", "--operator-listen", "127.0.0.1:0", "--origin",
+		"log.example/test", "--roots", p.path("roots.pem"),
 		"--folder", p.path("log"), "--interval", "50ms"), more...)
 }
 
@@ -678,7 +702,8 @@ func TestRealLog(t *testing.T) {
 		began := time.Now()
 		p = started(t, "", append(words, "--create")...)
 		// (a first head is waited for as long as a reading may take, and no longer)
-		isLate := p.serving["level"] == "warn" && p.serving["fault"] != nil && time.Since(began) >= web.DefaultLimits().Reading
+		isLate := p.serving["level"] == "warn" && p.serving["fault"] != nil &&
+			time.Since(began) >= web.DefaultLimits().Reading
 		if !isLate || time.Now().After(until) {
 			break
 		}
@@ -688,7 +713,8 @@ func TestRealLog(t *testing.T) {
 	if p.serving["level"] != "info" || p.serving["entries"] != 0.0 {
 		t.Errorf("it serves before a head is published: %v", p.serving)
 	}
-	if at, err := time.Parse(time.RFC3339, fmt.Sprint(p.serving["head_of"])); err != nil || time.Since(at) < -time.Second || time.Since(at) > 10*time.Minute {
+	if at, err := time.Parse(time.RFC3339, fmt.Sprint(p.serving["head_of"])); err != nil ||
+		time.Since(at) < -time.Second || time.Since(at) > 10*time.Minute {
 		t.Errorf("who makes a log isn't told its first moment: %v", p.serving)
 	}
 	first := at.submission()
@@ -733,12 +759,15 @@ func TestRealLog(t *testing.T) {
 		t.Errorf("/checkpoint: %q", checkpoint)
 	}
 	// Calls to its stores are counted, for each kind.
-	for _, call := range []string{`call="get",store="objects"`, `call="read",store="lock"`, `call="find",store="index"`} {
-		if asked, failed := figure(t, p, "ctserve_store_seconds_count{"+call+"}"), figure(t, p, "ctserve_store_failures_total{"+call+"}"); asked < 1 || failed != 0 {
+	for _, call := range []string{`call="get",store="objects"`, `call="read",store="lock"`,
+		`call="find",store="index"`} {
+		if asked, failed := figure(t, p, "ctserve_store_seconds_count{"+call+"}"),
+			figure(t, p, "ctserve_store_failures_total{"+call+"}"); asked < 1 || failed != 0 {
 			t.Errorf("{%s}: %v calls, of which %v failed", call, asked, failed)
 		}
 	}
-	if behind, since := figure(t, p, "ctserve_unpublished_entries"), figure(t, p, "ctserve_round_age_seconds"); behind != 0 || since < 0 || since > 3600 {
+	if behind, since := figure(t, p, "ctserve_unpublished_entries"),
+		figure(t, p, "ctserve_round_age_seconds"); behind != 0 || since < 0 || since > 3600 {
 		t.Errorf("%v entries aren't published, and for %v s no round went well", behind, since)
 	}
 	var head struct {
@@ -753,7 +782,8 @@ func TestRealLog(t *testing.T) {
 			LeafInput []byte `json:"leaf_input"`
 		} `json:"entries"`
 	}
-	if _, text := read(p.clients, "/ct/v1/get-entries?start=0&end=100"); json.Unmarshal([]byte(text), &listed) != nil || len(listed.Entries) != 21 {
+	if _, text := read(p.clients, "/ct/v1/get-entries?start=0&end=100"); json.Unmarshal([]byte(text), &listed) != nil ||
+		len(listed.Entries) != 21 {
 		t.Fatalf("get-entries: %s", text)
 	}
 	var hashes [][32]byte
@@ -763,7 +793,8 @@ func TestRealLog(t *testing.T) {
 	if root := standin.MerkleTreeHash(hashes); !bytes.Equal(root[:], head.Root) {
 		t.Error("the entries haven't the head's root")
 	}
-	if _, tile := read(p.clients, "/tile/0/000.p/21"); len(tile) != 21*32 || !strings.HasPrefix(tile, string(hashes[0][:])) {
+	if _, tile := read(p.clients, "/tile/0/000.p/21"); len(tile) != 21*32 ||
+		!strings.HasPrefix(tile, string(hashes[0][:])) {
 		t.Errorf("the tile has %d bytes", len(tile))
 	}
 	p.signal(syscall.SIGTERM)
@@ -805,19 +836,22 @@ func TestKeyInAToken(t *testing.T) {
 		if err := json.Unmarshal([]byte(text), &read); err != nil || status != 200 {
 			t.Fatalf("start %d: %d %s", i, status, text)
 		}
-		answers = append(answers, check.Answer{Certificate: der, LogID: read.ID, Timestamp: read.Timestamp, Extensions: read.Extensions, Signature: read.Signature})
+		answers = append(answers, check.Answer{Certificate: der, LogID: read.ID, Timestamp: read.Timestamp,
+			Extensions: read.Extensions, Signature: read.Signature})
 		p.signal(syscall.SIGTERM)
 		if status := p.ends(); status != 0 {
 			t.Fatalf("it ended with status %d", status)
 		}
 	}
-	if report, err := check.Folder(filepath.Join(at.path("log"), "objects"), block.Bytes, answers); err != nil || report.Leaves != 2 {
+	if report, err := check.Folder(filepath.Join(at.path("log"), "objects"), block.Bytes, answers); err != nil ||
+		report.Leaves != 2 {
 		t.Errorf("%+v, %v", report, err)
 	}
 }
 
-// The plainest backup of a log, a copy of its folder while it is stopped, is put back: the start is refused by a status of its own, for the
-// guard's state and the latest head lie beside the folder. One that has its guard's state in the folder goes on with it there.
+// The plainest backup of a log, a copy of its folder while it is stopped, is put back: the start is refused by a status
+// of its own, for the guard's state and the latest head lie beside the folder. One that has its guard's state in the
+// folder goes on with it there.
 func TestFolderPutBack(t *testing.T) {
 	t.Parallel()
 	at := newPlace(t)
@@ -895,7 +929,8 @@ func TestPlacesAnew(t *testing.T) {
 	if status, told := runs(words); status != statusSetBack {
 		t.Errorf("status %d: %s", status, told)
 	}
-	if status, told, faults := does(append([]string{"index"}, words...)...); status != 0 || told != "0 entries are left\n" {
+	if status, told, faults := does(append([]string{"index"}, words...)...); status != 0 ||
+		told != "0 entries are left\n" {
 		t.Errorf("%d, %q, %q", status, told, faults)
 	}
 	p = started(t, "", words...)
@@ -904,7 +939,8 @@ func TestPlacesAnew(t *testing.T) {
 		Extensions []byte `json:"extensions"`
 	}
 	status, text := post(p.clients, body)
-	if status != 200 || json.Unmarshal([]byte(text), &again) != nil || json.Unmarshal([]byte(answer), &first) != nil || fmt.Sprint(first) != fmt.Sprint(again) {
+	if status != 200 || json.Unmarshal([]byte(text), &again) != nil || json.Unmarshal([]byte(answer), &first) != nil ||
+		fmt.Sprint(first) != fmt.Sprint(again) {
 		t.Errorf("%d %s, and first %s", status, text, answer)
 	}
 }
@@ -919,8 +955,10 @@ func TestGuardStateAway(t *testing.T) {
 		t.Fatal(err)
 	}
 	defer listener.Close()
-	words := at.realWords("--signing-key", at.path("log.pem"), "--guard-state", "etcd://"+listener.Addr().String()+"/guard", "--create")
-	// (a signer that says it too late for a busy machine is given more time: of 30 s it has 24 for the state, and 6 are left on both sides)
+	words := at.realWords("--signing-key", at.path("log.pem"), "--guard-state", "etcd://"+listener.Addr().String()+
+		"/guard", "--create")
+	// (a signer that says it too late for a busy machine is given more time: of 30 s it has 24 for the state, and 6 are
+	// left on both sides)
 	within := 10 * time.Second
 	for until := time.Now().Add(trial.Longest); ; within = 30 * time.Second {
 		var told strings.Builder
@@ -928,7 +966,8 @@ func TestGuardStateAway(t *testing.T) {
 		if status == 1 && strings.Contains(told.String(), "the guard's state (guard-state, of etcd) cannot be read") {
 			return
 		}
-		late := isLate(told.String()) || strings.Contains(told.String(), "no reply from the signer: context deadline exceeded")
+		late := isLate(told.String()) || strings.Contains(told.String(),
+			"no reply from the signer: context deadline exceeded")
 		if status != 1 || !late || time.Now().After(until) {
 			t.Fatalf("status %d: %s", status, told.String())
 		}
@@ -942,9 +981,11 @@ func TestSignerIsCreatedOnce(t *testing.T) {
 	at.realWords()
 	ctx, cancel := context.WithTimeout(context.Background(), trial.Longest)
 	defer cancel()
-	asked, err := askSigner(ctx, node{signingKey: at.path("log.pem"), guardState: "file:" + at.path("guard"), create: true})
+	asked, err := askSigner(ctx, node{signingKey: at.path("log.pem"), guardState: "file:" +
+		at.path("guard"), create: true})
 	for err != nil && isLate(err.Error()) && ctx.Err() == nil {
-		asked, err = askSigner(ctx, node{signingKey: at.path("log.pem"), guardState: "file:" + at.path("guard"), create: true})
+		asked, err = askSigner(ctx, node{signingKey: at.path("log.pem"), guardState: "file:" +
+			at.path("guard"), create: true})
 	}
 	if err != nil {
 		t.Fatal(err)
@@ -999,7 +1040,8 @@ func TestDamageIsTold(t *testing.T) {
 	if status, text := post(p.clients, body); status != 503 || !strings.Contains(text, `"store"`) {
 		t.Errorf("%d %s", status, text)
 	}
-	if line := p.until("damage"); line["level"] != "error" || !strings.Contains(fmt.Sprint(line["detail"]), tile+" is missing") {
+	if line := p.until("damage"); line["level"] != "error" ||
+		!strings.Contains(fmt.Sprint(line["detail"]), tile+" is missing") {
 		t.Errorf("it says %v", line)
 	}
 	if status, text := read(p.clients, "/readyz"); status != 200 {
@@ -1018,7 +1060,8 @@ func TestDamageIsTold(t *testing.T) {
 	}
 }
 
-// A signer at a socket: it is killed and started again below a log, one of another key isn't taken, and two nodes share it.
+// A signer at a socket: it is killed and started again below a log, one of another key isn't taken, and two nodes share
+// it.
 func TestSignerAtASocket(t *testing.T) {
 	t.Parallel()
 	at := newPlace(t)
@@ -1027,7 +1070,8 @@ func TestSignerAtASocket(t *testing.T) {
 	listening := func(key string) (kills func()) {
 		t.Helper()
 		for until := time.Now().Add(trial.Longest); ; {
-			command, said, ended := exec.Command(os.Args[0], "signer", "--signing-key", key, "--guard-state", "file:"+at.path("guard"), "--create", "--listen", socket), &strings.Builder{}, make(chan struct{})
+			command, said, ended := exec.Command(os.Args[0], "signer", "--signing-key", key, "--guard-state", "file:"+
+				at.path("guard"), "--create", "--listen", socket), &strings.Builder{}, make(chan struct{})
 			command.Env, command.Stderr = append(os.Environ(), childKey+"=1"), said
 			if err := command.Start(); err != nil {
 				t.Fatal(err)
@@ -1122,7 +1166,8 @@ func TestSignerAtASocket(t *testing.T) {
 		t.Fatal(err)
 	}
 	// (what was refused without a signer, with another's, and until it was found again, may have come in all the same)
-	if report, err := check.Folder(at.path("log/objects"), opened.Key(), nil); err != nil || report.Leaves < 23 || report.Leaves > 25+refused || report.Repeats != 0 {
+	if report, err := check.Folder(at.path("log/objects"), opened.Key(), nil); err != nil || report.Leaves < 23 ||
+		report.Leaves > 25+refused || report.Repeats != 0 {
 		t.Errorf("%+v, %v", report, err)
 	}
 }

@@ -54,7 +54,8 @@ func TestFullDisk(t *testing.T) {
 	t.Parallel()
 	at := newPlace(t)
 	disk := at.mount(t)
-	words := at.realWords("--signing-key", at.path("log.pem"), "--guard-state", "file:"+at.path("log/guard"), "--latest-head", at.path("log/latest-head"))
+	words := at.realWords("--signing-key", at.path("log.pem"), "--guard-state", "file:"+at.path("log/guard"),
+		"--latest-head", at.path("log/latest-head"))
 	p := started(t, "", append(words, "--create")...)
 	var answers []check.Answer
 	submit := func() (int, string) {
@@ -80,7 +81,8 @@ func TestFullDisk(t *testing.T) {
 	for i := 0; i < 5; i++ {
 		again()
 	}
-	const failures, puts = `ctserve_store_failures_total{call="put",store="objects"}`, `ctserve_store_seconds_count{call="put",store="objects"}`
+	const failures, puts = `ctserve_store_failures_total{call="put",store="objects"}`,
+		`ctserve_store_seconds_count{call="put",store="objects"}`
 	if failed, all := figure(t, p, failures), figure(t, p, puts); failed != 0 || all < 5 {
 		t.Errorf("%v of %v puts are said to have failed, with room", failed, all)
 	}
@@ -104,7 +106,8 @@ func TestFullDisk(t *testing.T) {
 				break
 			}
 			if status != 200 && !refused || time.Now().After(until) {
-				t.Fatalf("with %d bytes, and %v puts that failed before: %d %s; /readyz: %s; /metrics: %s", but, before, status, text, ready, metrics)
+				t.Fatalf("with %d bytes, and %v puts that failed before: %d %s; /readyz: %s; /metrics: %s", but, before,
+					status, text, ready, metrics)
 			}
 		}
 		readsAll(t, p, fmt.Sprintf("with %d bytes", but), answers)
@@ -186,21 +189,27 @@ func (at place) submitted(t *testing.T, p *program) (status int, text string, on
 	if err := json.Unmarshal([]byte(text), &read); err != nil {
 		t.Fatal(err)
 	}
-	return status, text, check.Answer{Certificate: der, LogID: read.ID, Timestamp: read.Timestamp, Extensions: read.Extensions, Signature: read.Signature}
+	return status, text, check.Answer{Certificate: der, LogID: read.ID, Timestamp: read.Timestamp,
+		Extensions: read.Extensions, Signature: read.Signature}
 }
 
-// readsAll sees that all that readers ask is answered, by a head that has what was answered, and that the process lives.
+// readsAll sees that all that readers ask is answered, by a head that has what was answered, and that the process
+// lives.
 func readsAll(t *testing.T, p *program, when string, answers []check.Answer) {
 	t.Helper()
 	var head struct {
 		Size uint64 `json:"tree_size"`
 	}
-	if _, text := read(p.clients, "/ct/v1/get-sth"); json.Unmarshal([]byte(text), &head) != nil || head.Size < uint64(len(answers)) {
+	if _, text := read(p.clients, "/ct/v1/get-sth"); json.Unmarshal([]byte(text), &head) != nil ||
+		head.Size < uint64(len(answers)) {
 		t.Errorf("%s: get-sth: %s", when, text)
 	}
 	hash := standin.LeafHash(leafOf(answers[2]))
-	proof := fmt.Sprintf("/ct/v1/get-proof-by-hash?tree_size=%d&hash=%s", head.Size, url.QueryEscape(base64.StdEncoding.EncodeToString(hash[:])))
-	for _, path := range []string{"/checkpoint", fmt.Sprintf("/tile/0/000.p/%d", head.Size), fmt.Sprintf("/tile/data/000.p/%d", head.Size), "/ct/v1/get-entries?start=0&end=4", fmt.Sprint("/ct/v1/get-sth-consistency?first=3&second=", head.Size), proof, "/healthz"} {
+	proof := fmt.Sprintf("/ct/v1/get-proof-by-hash?tree_size=%d&hash=%s", head.Size,
+		url.QueryEscape(base64.StdEncoding.EncodeToString(hash[:])))
+	for _, path := range []string{"/checkpoint", fmt.Sprintf("/tile/0/000.p/%d", head.Size),
+		fmt.Sprintf("/tile/data/000.p/%d", head.Size), "/ct/v1/get-entries?start=0&end=4",
+		fmt.Sprint("/ct/v1/get-sth-consistency?first=3&second=", head.Size), proof, "/healthz"} {
 		if status, text := read(p.clients, path); status != 200 {
 			t.Errorf("%s: %s: %d %s", when, path, status, text)
 		}

@@ -48,7 +48,8 @@ func asOnPage(t *testing.T, often int) string {
 func TestMoreConnectionsOfNginx(t *testing.T) {
 	for _, often := range []int{1, 2} {
 		changed := asOnPage(t, often)
-		for _, line := range []string{"worker_processes auto;", "worker_connections 8192;", "worker_rlimit_nofile 16384;"} {
+		for _, line := range []string{"worker_processes auto;", "worker_connections 8192;",
+			"worker_rlimit_nofile 16384;"} {
 			if strings.Count(changed, line) != 1 {
 				t.Errorf("%d times: it hasn't %q once: %s", often, line, changed)
 			}
@@ -76,7 +77,8 @@ func half(t *testing.T, address, request string) net.Conn {
 func from(t *testing.T, own, address, path string) (int, string) {
 	t.Helper()
 	dialer := net.Dialer{LocalAddr: &net.TCPAddr{IP: net.ParseIP(own)}}
-	client := http.Client{Transport: &http.Transport{DialContext: dialer.DialContext, DisableKeepAlives: true}, Timeout: trial.Longest}
+	client := http.Client{Transport: &http.Transport{DialContext: dialer.DialContext, DisableKeepAlives: true},
+		Timeout: trial.Longest}
 	return whole(client.Get("http://" + address + path))
 }
 
@@ -149,8 +151,10 @@ func TestHalfHeadersAtNginx(t *testing.T) {
 	at := newPlace(t)
 	p := started(t, "20ms", at.words("--trusted-proxies", "127.0.0.1")...)
 	address, folder := trial.Free(t), t.TempDir()
-	nginxHaving(t, siteInClear(t, address, p.clients, filepath.Join(folder, "cache"), 64), address, fmt.Sprintf("worker_rlimit_nofile %d; events { worker_connections %d; }", files, connections))
-	// (a machine that is slow enough has the first ones closed before others were answered, or sees late that they are, which says nothing)
+	nginxHaving(t, siteInClear(t, address, p.clients, filepath.Join(folder, "cache"), 64), address,
+		fmt.Sprintf("worker_rlimit_nofile %d; events { worker_connections %d; }", files, connections))
+	// (a machine that is slow enough has the first ones closed before others were answered, or sees late that they are,
+	// which says nothing)
 	for try := 0; ; try++ {
 		halves, opened := []net.Conn{}, time.Now()
 		for i := 0; i < 800; i++ {
@@ -178,12 +182,13 @@ func TestHalfHeadersAtNginx(t *testing.T) {
 			return
 		}
 		if try == 9 {
-			t.Fatalf("once others were answered %d of %d half requests stood; they were closed within %v", stand, len(halves), took)
+			t.Fatalf("once others were answered %d of %d half requests stood; they were closed within %v", stand,
+				len(halves), took)
 		}
 	}
 }
 
-// isOpen says whether the other end hasn't closed a connection on which nothing is answered.
+// isOpen reports whether the other end hasn't closed a connection on which nothing is answered.
 func isOpen(connection net.Conn) bool {
 	connection.SetReadDeadline(time.Now().Add(time.Millisecond))
 	_, err := connection.Read(make([]byte, 1))

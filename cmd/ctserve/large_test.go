@@ -47,8 +47,9 @@ func memoryOf(t *testing.T, process int) int64 {
 	return most << 10
 }
 
-// TestLargeTileByMany: of many who ask for a tile of the largest entries at once, and read next to nothing of it, again and again, few are answered. The
-// program stays within the memory that its unit has, and another address is answered all the while.
+// TestLargeTileByMany: of many who ask for a tile of the largest entries at once, and read next to nothing of it, again
+// and again, few are answered. The program stays within the memory that its unit has, and another address is answered
+// all the while.
 func TestLargeTileByMany(t *testing.T) {
 	t.Parallel()
 	unit, err := os.ReadFile("../../release/ctserve@.service")
@@ -105,7 +106,8 @@ func TestLargeTileByMany(t *testing.T) {
 	if most := memoryOf(t, p.command.Process.Pid); most >= gigabytes<<30 {
 		t.Errorf("it had %d bytes in memory, and the unit lets it have %d GiB; answered: %v", most, gigabytes, told)
 	}
-	if told["200"] == 0 || told["429"]+told["503"] == 0 || told["200"]+told["429"]+told["503"] != addresses*each*rounds {
+	if told["200"] == 0 || told["429"]+told["503"] == 0 ||
+		told["200"]+told["429"]+told["503"] != addresses*each*rounds {
 		t.Errorf("answered: %v", told)
 	}
 	p.signal(syscall.SIGTERM)
@@ -136,7 +138,8 @@ func statusAlone(address, own, path string) (string, net.Conn) {
 		}
 		return err
 	}
-	connection, err := (&net.Dialer{LocalAddr: &net.TCPAddr{IP: net.ParseIP(own)}, Control: takesLittle}).Dial("tcp", address)
+	connection, err := (&net.Dialer{LocalAddr: &net.TCPAddr{IP: net.ParseIP(own)}, Control: takesLittle}).Dial(
+		"tcp", address)
 	if err != nil {
 		return err.Error(), nil
 	}

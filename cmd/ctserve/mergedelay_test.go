@@ -10,7 +10,8 @@ import (
 	"wagtenib/internal/trial"
 )
 
-// TestMergeDelay: the age at which a head is made again follows from the merge delay, and one that breaks the merge delay is refused.
+// TestMergeDelay: the age at which a head is made again follows from the merge delay, and one that breaks the merge
+// delay is refused.
 func TestMergeDelay(t *testing.T) {
 	for words, want := range map[string]struct {
 		delay, refresh time.Duration
@@ -26,7 +27,8 @@ func TestMergeDelay(t *testing.T) {
 		"--max-merge-delay=-1m":   {refusal: "a duration must be above 0"},
 		"--max-merge-delay=1s --refresh-interval=1ms": {delay: time.Second, refresh: time.Millisecond},
 	} {
-		s, err := parse(append([]string{"--roots", "r", "--origin", "o.example", "--signing-key", "k"}, strings.Fields(words)...), io.Discard)
+		s, err := parse(append([]string{"--roots", "r", "--origin", "o.example", "--signing-key", "k"},
+			strings.Fields(words)...), io.Discard)
 		if want.refusal != "" {
 			if err == nil || !strings.Contains(err.Error(), want.refusal) {
 				t.Errorf("%q: %v", words, err)
@@ -39,17 +41,21 @@ func TestMergeDelay(t *testing.T) {
 	}
 }
 
-// TestListedMergeDelay: the entry for a log list, what the log says of itself, and check have the merge delay of the settings.
+// TestListedMergeDelay: the entry for a log list, what the log says of itself, and check have the merge delay of the
+// settings.
 func TestListedMergeDelay(t *testing.T) {
 	_, file := settingsFile(t, "max-merge-delay 2m")
-	if status, said, told := does("list-entry", "--config", file, "--operator", "o", "--email", "e"); status != 0 || !strings.Contains(said, `"mmd": 120,`) {
+	if status, said, told := does("list-entry", "--config", file, "--operator", "o", "--email", "e"); status != 0 ||
+		!strings.Contains(said, `"mmd": 120,`) {
 		t.Errorf("list-entry: status %d, %s%s", status, said, told)
 	}
-	if status, said, told := does("check", file); status != 0 || !strings.Contains(said, "2m0s, so a head is made at least each 1m0s\n") {
+	if status, said, told := does("check", file); status != 0 ||
+		!strings.Contains(said, "2m0s, so a head is made at least each 1m0s\n") {
 		t.Errorf("check: status %d, %s%s", status, said, told)
 	}
 	_, file = settingsFile(t, "max-merge-delay 30s", "refresh-interval 1h")
-	if status, _, told := does("check", file); status != 2 || !strings.Contains(told, "is not below --max-merge-delay 30s") {
+	if status, _, told := does("check", file); status != 2 ||
+		!strings.Contains(told, "is not below --max-merge-delay 30s") {
 		t.Errorf("check of heads that are made too seldom: status %d, %s", status, told)
 	}
 }
@@ -63,7 +69,8 @@ func TestIdleLogMakesHeads(t *testing.T) {
 	var entry struct {
 		MMD int `json:"mmd"`
 	}
-	if status, text := read(p.clients, "/log.v3.json"); status != 200 || json.Unmarshal([]byte(text), &entry) != nil || entry.MMD != 2 {
+	if status, text := read(p.clients, "/log.v3.json"); status != 200 || json.Unmarshal([]byte(text), &entry) != nil ||
+		entry.MMD != 2 {
 		t.Errorf("/log.v3.json: %d %s", status, text)
 	}
 	first := timestampOf(t, p)

@@ -32,7 +32,8 @@ func nginxFound(t *testing.T) string {
 	return nginx
 }
 
-// exampleSite is the example configuration that operators copy, with each of these texts replaced. A text that it does not have fails the test.
+// exampleSite is the example configuration that operators copy, with each of these texts replaced. A text that it does
+// not have fails the test.
 func exampleSite(t *testing.T, replacements ...string) string {
 	t.Helper()
 	text, err := os.ReadFile("../../release/ctserve.nginx.conf")
@@ -47,8 +48,8 @@ func exampleSite(t *testing.T, replacements ...string) string {
 	return site
 }
 
-// siteInClear is the example without TLS: nginx listens at one address, ctserve at another, tiles are kept in a folder, and one address may have so many
-// requests at once.
+// siteInClear is the example without TLS: nginx listens at one address, ctserve at another, tiles are kept in a folder,
+// and one address may have so many requests at once.
 func siteInClear(t *testing.T, address, clients, cache string, atOnce int) string {
 	t.Helper()
 	return exampleSite(t,
@@ -75,7 +76,8 @@ func nginxHaving(t *testing.T, site, address, main string) {
 		paths += fmt.Sprintf("%s_temp_path %s/%s;\n", kind, folder, kind)
 	}
 	// (as Debian's own does, nginx writes down who asks where a site doesn't say otherwise)
-	whole := fmt.Sprintf("daemon off; pid %s/pid; error_log stderr; %s\nhttp { access_log %s/access.log;\n%s%s}\n", folder, main, folder, paths, site)
+	whole := fmt.Sprintf("daemon off; pid %s/pid; error_log stderr; %s\nhttp { access_log %s/access.log;\n%s%s}\n",
+		folder, main, folder, paths, site)
 	conf := filepath.Join(folder, "nginx.conf")
 	if err := os.WriteFile(conf, []byte(whole), 0o600); err != nil {
 		t.Fatal(err)
@@ -113,7 +115,8 @@ func nginxHaving(t *testing.T, site, address, main string) {
 	}
 }
 
-// nginxBefore starts nginx in front of a log, without TLS, by the example, and returns nginx's address. One address may have so many requests at once.
+// nginxBefore starts nginx in front of a log, without TLS, by the example, and returns nginx's address. One address may
+// have so many requests at once.
 func nginxBefore(t *testing.T, clients string, atOnce int) string {
 	t.Helper()
 	nginxFound(t)
@@ -138,7 +141,8 @@ func TestFolderOfTiles(t *testing.T) {
 	}
 }
 
-// TestExampleHasTheDefaults: the numbers of the example are those of ctserve's defaults, and nginx closes an idle connection well before ctserve does.
+// TestExampleHasTheDefaults: the numbers of the example are those of ctserve's defaults, and nginx closes an idle
+// connection well before ctserve does.
 func TestExampleHasTheDefaults(t *testing.T) {
 	site, limits := exampleSite(t), web.DefaultLimits()
 	defaults, err := parse([]string{"--roots", "a", "--origin", "b", "--signing-key", "c"}, io.Discard)
@@ -156,7 +160,8 @@ func TestExampleHasTheDefaults(t *testing.T) {
 	if found == nil {
 		t.Fatal("the example has no keepalive_timeout")
 	}
-	if leaves, err := time.ParseDuration(found[1]); err != nil || leaves > limits.Idle-time.Second || leaves < limits.Idle/2 {
+	if leaves, err := time.ParseDuration(found[1]); err != nil || leaves > limits.Idle-time.Second ||
+		leaves < limits.Idle/2 {
 		t.Errorf("nginx closes an idle connection after %s, %v, and ctserve after %v", found[1], err, limits.Idle)
 	}
 }
@@ -170,10 +175,13 @@ func TestExampleOverTLS(t *testing.T) {
 	trial.Must(t, err)
 	at.write("log.example.pem", certificate)
 	at.write("log.example.key", key)
-	nginxWith(t, exampleSite(t, "/etc/ssl/log.example.org.", at.path("log.example."), "log.example.org", "log.example", "listen 443 ", "listen "+address+" ",
+	nginxWith(t, exampleSite(t, "/etc/ssl/log.example.org.", at.path("log.example."), "log.example.org", "log.example",
+		"listen 443 ", "listen "+address+" ",
 		"127.0.0.1:8618", p.clients, "/var/lib/nginx/ctserve", filepath.Join(t.TempDir(), "cache")), address)
-	client := &http.Client{Transport: &http.Transport{TLSClientConfig: &tls.Config{InsecureSkipVerify: true}, ForceAttemptHTTP2: true}}
-	for path, status := range map[string]int{"/ct/v1/get-sth": 200, "/ct/v1/get-roots": 200, "/checkpoint": 200, "/tile/data/009": 404, "/nothing": 404} {
+	client := &http.Client{Transport: &http.Transport{TLSClientConfig: &tls.Config{InsecureSkipVerify: true},
+		ForceAttemptHTTP2: true}}
+	for path, status := range map[string]int{"/ct/v1/get-sth": 200, "/ct/v1/get-roots": 200, "/checkpoint": 200,
+		"/tile/data/009": 404, "/nothing": 404} {
 		request, err := http.NewRequest("GET", "https://"+address+path, nil)
 		trial.Must(t, err)
 		request.Host = "log.example"
@@ -186,17 +194,19 @@ func TestExampleOverTLS(t *testing.T) {
 	}
 }
 
-// Behind nginx: submissions and reading go through, tiles are kept by nginx and refusals aren't, and a client is counted by its
-// own address.
+// Behind nginx: submissions and reading go through, tiles are kept by nginx and refusals aren't, and a client is
+// counted by its own address.
 func TestBehindNginx(t *testing.T) {
 	at := newPlace(t)
-	p := started(t, "20ms", at.words("--trusted-proxies", "127.0.0.1", "--max-connections-per-address", "1", "--log-requests")...)
+	p := started(t, "20ms", at.words("--trusted-proxies", "127.0.0.1", "--max-connections-per-address", "1",
+		"--log-requests")...)
 	address := nginxBefore(t, p.clients, 64)
 	if status, text := post(address, at.submission()); status != 200 {
 		t.Fatalf("%d %s", status, text)
 	}
 	// A body in chunks comes as one with a length.
-	request, _ := http.NewRequest("POST", "http://"+address+"/ct/v1/add-chain", io.MultiReader(bytes.NewReader(at.submission())))
+	request, _ := http.NewRequest("POST", "http://"+address+"/ct/v1/add-chain",
+		io.MultiReader(bytes.NewReader(at.submission())))
 	if answer, err := http.DefaultClient.Do(request); err != nil || answer.StatusCode != 200 {
 		t.Errorf("in chunks: %v, %v", answer, err)
 	} else {
@@ -205,7 +215,8 @@ func TestBehindNginx(t *testing.T) {
 	if status, text := post(address, make([]byte, 2<<20)); status != 413 {
 		t.Errorf("a large body: %d %s", status, text)
 	}
-	if status, text := post(address, []byte(`{"chain":["AAAA"]}`)); status != 400 || !strings.Contains(text, "no-certificate") {
+	if status, text := post(address, []byte(`{"chain":["AAAA"]}`)); status != 400 ||
+		!strings.Contains(text, "no-certificate") {
 		t.Errorf("a bad chain: %d %s", status, text)
 	}
 	tiles := func() int {
@@ -236,7 +247,8 @@ func TestBehindNginx(t *testing.T) {
 			t.Fatal(err)
 		}
 		answer.Body.Close()
-		if packed := answer.Header.Get("Content-Encoding") == "gzip"; answer.StatusCode != 200 || packed != strings.Contains(takes, "gzip") {
+		if packed := answer.Header.Get("Content-Encoding") == "gzip"; answer.StatusCode != 200 ||
+			packed != strings.Contains(takes, "gzip") {
 			t.Errorf("to who takes %q: %d %v", takes, answer.StatusCode, answer.Header)
 		}
 	}
@@ -252,7 +264,8 @@ func TestBehindNginx(t *testing.T) {
 	if count := tiles(); count != 1 {
 		t.Errorf("the log was asked for the tile %d times", count)
 	}
-	if _, text := get(p.operator, "/metrics"); !strings.Contains(text, `ctserve_requests_total{call="tile",status="404"} 3`+"\n") {
+	if _, text := get(p.operator, "/metrics"); !strings.Contains(text,
+		`ctserve_requests_total{call="tile",status="404"} 3`+"\n") {
 		t.Error("a tile that isn't there is kept as one")
 	}
 	// An address that a client claims is ignored: nginx says 127.0.0.1.
@@ -280,7 +293,8 @@ func TestBehindNginx(t *testing.T) {
 func TestBentTileBehindNginx(t *testing.T) {
 	t.Parallel()
 	at := newPlace(t)
-	words := at.realWords("--signing-key", at.path("log.pem"), "--trusted-proxies", "127.0.0.1", "--scrub-interval", "1h", "--interval", "500ms", "--max-connections-per-address", "500")
+	words := at.realWords("--signing-key", at.path("log.pem"), "--trusted-proxies", "127.0.0.1", "--scrub-interval",
+		"1h", "--interval", "500ms", "--max-connections-per-address", "500")
 	p := started(t, "", append(words, "--create")...)
 	address := nginxBefore(t, p.clients, 64)
 	const atOnce = 257
@@ -291,7 +305,8 @@ func TestBentTileBehindNginx(t *testing.T) {
 	for _, body := range bodies {
 		go func(body []byte) {
 			status, text := 503, ""
-			for until := time.Now().Add(trial.Longest); status == 503 && time.Now().Before(until); time.Sleep(100 * time.Millisecond) {
+			for until := time.Now().Add(trial.Longest); status == 503 &&
+				time.Now().Before(until); time.Sleep(100 * time.Millisecond) {
 				status, text = post(p.clients, body)
 			}
 			if status != 200 {

@@ -47,7 +47,8 @@ func TestPagesNameSettings(t *testing.T) {
 		}
 	}
 	// These have a hyphen and are not settings.
-	others := map[string]bool{"list-entry": true, "made-again": true, "root-left-out": true, "read-only": true, "too-often": true, "statement_timeout": true, "pre-vote": true, "auto-compaction-mode=periodic": true}
+	others := map[string]bool{"list-entry": true, "made-again": true, "root-left-out": true, "read-only": true,
+		"too-often": true, "statement_timeout": true, "pre-vote": true, "auto-compaction-mode=periodic": true}
 	for _, refusal := range chains.Refusals {
 		others[string(refusal)] = true
 	}
@@ -67,7 +68,9 @@ func TestPagesNameSettings(t *testing.T) {
 	}
 	for _, said := range []struct{ name, onPage, standard string }{
 		{"operator-listen", "`operator-listen` (127.0.0.1:8619;", `default "127.0.0.1:8619"`},
-		{"max-connections-per-address", "64 connections at once, or 64 requests at once through nginx (`max-connections-per-address`)", "default 64)"},
+		{"max-connections-per-address",
+			"64 connections at once, or 64 requests at once through nginx (`max-connections-per-address`)",
+			"default 64)"},
 		{"max-clock-skew", "`max-clock-skew` (10 s)", "default 10s)"},
 		{"shutdown-timeout", "`shutdown-timeout` (30 s)", "default 30s)"},
 		{"guard", "`guard` is on by default", "default true)"},
@@ -143,14 +146,16 @@ func TestUnit(t *testing.T) {
 		t.Errorf("systemd kills it behind %v, %v, and an end takes up to %v", seconds, err, s.endWithin)
 	}
 	var files, memory int
-	if _, err := fmt.Sscanf(unit["LimitNOFILE"]+" "+unit["MemoryMax"], "%d %dG", &files, &memory); err != nil || files < 2*s.limits.Connections {
+	if _, err := fmt.Sscanf(unit["LimitNOFILE"]+" "+unit["MemoryMax"], "%d %dG", &files, &memory); err != nil ||
+		files < 2*s.limits.Connections {
 		t.Errorf("%d files, %v, for %d connections", files, err, s.limits.Connections)
 	}
 	// (beside what a log of any size holds)
 	if wanted := s.limits.AnswerBytes + s.limits.WaitingBytes; int64(memory)<<30 < 2*wanted {
 		t.Errorf("%d GiB of memory, and answers and submissions alone have %d bytes", memory, wanted)
 	}
-	if wanted := fmt.Sprint(2, statusSetBack); unit["RestartPreventExitStatus"] != wanted || unit["Restart"] != "always" {
+	if wanted := fmt.Sprint(2, statusSetBack); unit["RestartPreventExitStatus"] != wanted ||
+		unit["Restart"] != "always" {
 		t.Errorf("it is started anew behind all but %q, and not %q", unit["RestartPreventExitStatus"], wanted)
 	}
 	for _, name := range []string{"After", "Wants"} {
@@ -159,7 +164,8 @@ func TestUnit(t *testing.T) {
 		}
 	}
 	trial.Says(t, trial.Page(t, "../../docs/OPERATING.md"), map[string]bool{
-		"ends with status 3, which the unit doesn't start again":    statusSetBack == 3,
-		"A setting with an unknown name ends a start with status 2": run([]string{"--no-such-word"}, &bytes.Buffer{}, openNode) == 2,
+		"ends with status 3, which the unit doesn't start again": statusSetBack == 3,
+		"A setting with an unknown name ends a start with status 2": run([]string{"--no-such-word"}, &bytes.Buffer{},
+			openNode) == 2,
 	})
 }

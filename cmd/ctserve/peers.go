@@ -27,7 +27,8 @@ func (p *peers) flags(flags *flag.FlagSet) {
 	flags.StringVar(&p.address, "nodes-address", "",
 		"`URL` at which the other nodes reach this one, for example https://node1.example:8620")
 	flags.StringVar(&p.certificate, "nodes-certificate", "",
-		"`file` with this node's TLS certificate chain in PEM, for its host in nodes-address, for a server and a client. "+
+		"`file` with this node's TLS certificate chain in PEM, for its host in nodes-address, for a server and a "+
+			"client. "+
 			"It is read again at SIGHUP")
 	flags.StringVar(&p.key, "nodes-key", "", "`file` with the key of nodes-certificate in PEM")
 	flags.StringVar(&p.authority, "nodes-ca", "",

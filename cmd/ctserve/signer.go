@@ -16,15 +16,15 @@ import (
 )
 
 const (
-	// guardStateKey is where the environment has the address of the guard's state: it may have a password, which other users would see
-	// among a process's words.
+	// guardStateKey is where the environment has the address of the guard's state: it may have a password, which other
+	// users would see among a process's words.
 	guardStateKey = "CTSERVE_GUARD_STATE"
 	// signsWithin is the time within which a signer must answer a request.
 	signsWithin = 30 * time.Second
 )
 
-// askSigner starts the log's signer, which is a process of its own, or connects to the one at a socket. A signer that is started again does not create the
-// guard's state, because the log may have grown since.
+// askSigner starts the log's signer, which is a process of its own, or connects to the one at a socket. A signer that
+// is started again does not create the guard's state, because the log may have grown since.
 func askSigner(ctx context.Context, n node) (*signer.Client, error) {
 	open := func(ctx context.Context) (*signer.Peer, error) { return signer.Dial(ctx, n.signerAt) }
 	if n.signerAt == "" {
@@ -47,16 +47,24 @@ func askSigner(ctx context.Context, n node) (*signer.Client, error) {
 	return signer.NewClient(ctx, open, signsWithin)
 }
 
-// runSigner answers the lines of a node until they end, or those of all nodes that connect to a socket. It returns the exit status: 0 at the end of the lines, 1 after a
-// fault, 2 if the command line is refused.
+// runSigner answers the lines of a node until they end, or those of all nodes that connect to a socket. It returns the
+// exit status: 0 at the end of the lines, 1 after a fault, 2 if the command line is refused.
 func runSigner(given []string, from io.Reader, answers, to io.Writer) int {
-	flags := commandFlags("signer", "ctserve signer has a log's key, and signs what the guard approves. Nodes of ctserve ask it over two pipes or a socket.", to)
-	key := flags.String("signing-key", "", "`file` with the log's P-256 key in PEM, which only its owner may have the permission to read, or a PKCS#11 URI: pkcs11:token=LABEL;object=LABEL?module-path=PATH&pin-source=file:PATH")
-	guard := flags.Bool("guard", true, "have the guard, which is proved code, approve what is signed. Without it, the signer signs everything that it is asked to sign")
-	state := flags.String("guard-state", os.Getenv(guardStateKey), "`address` of the guard's state: file:PATH, etcd://HOST:PORT/PREFIX, postgres://HOST/DATABASE?log=NAME")
+	flags := commandFlags("signer",
+		"ctserve signer has a log's key, and signs what the guard approves. Nodes of ctserve ask it over two pipes "+
+			"or a socket.", to)
+	key := flags.String("signing-key", "",
+		"`file` with the log's P-256 key in PEM, which only its owner may have the permission to read, or a PKCS#11 "+
+			"URI: pkcs11:token=LABEL;object=LABEL?module-path=PATH&pin-source=file:PATH")
+	guard := flags.Bool("guard", true,
+		"have the guard, which is proved code, approve what is signed. Without it, the signer signs everything that "+
+			"it is asked to sign")
+	state := flags.String("guard-state", os.Getenv(guardStateKey),
+		"`address` of the guard's state: file:PATH, etcd://HOST:PORT/PREFIX, postgres://HOST/DATABASE?log=NAME")
 	create := flags.Bool("create", false, "create the guard's state if there is none")
 	openWithin := flags.Duration("open-timeout", signsWithin, "time within which the guard's state must open")
-	listen := flags.String("listen", "", "`path` of a socket for nodes of this user or group. Without it, requests come over standard input")
+	listen := flags.String("listen", "",
+		"`path` of a socket for nodes of this user or group. Without it, requests come over standard input")
 	err := flags.Parse(given)
 	if errors.Is(err, flag.ErrHelp) {
 		return 0
@@ -72,7 +80,8 @@ func runSigner(given []string, from io.Reader, answers, to io.Writer) int {
 	return 0
 }
 
-func serveSigner(keyAt string, guard bool, stateAt string, create bool, openWithin time.Duration, listen string, from io.Reader, answers io.Writer) error {
+func serveSigner(keyAt string, guard bool, stateAt string, create bool, openWithin time.Duration, listen string,
+	from io.Reader, answers io.Writer) error {
 	ctx := context.Background()
 	key, err := signer.OpenKey(keyAt)
 	if err != nil {

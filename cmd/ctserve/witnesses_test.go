@@ -38,7 +38,8 @@ func (p *place) aWitness(name string, with ...func(log *witness.Log)) (one strin
 	p.t.Cleanup(func() { state.Close() })
 	of, err := signer.OpenKey(p.path("log.pem"))
 	must(err)
-	log := witness.Log{Origin: "log.example/test", Keys: []note.Verifier{witness.OfRFC6962("log.example/test", of.Key())}, State: state}
+	log := witness.Log{Origin: "log.example/test", Keys: []note.Verifier{witness.OfRFC6962("log.example/test",
+		of.Key())}, State: state}
 	must(log.Create(context.Background()))
 	for _, more := range with {
 		more(&log)
@@ -65,8 +66,8 @@ func (p *place) comesIn(at *program) {
 	}
 }
 
-// TestWitnessedLog: the log's checkpoint has cosignatures, its figures tell of its witnesses, and where all that it has is put back together the
-// start is refused.
+// TestWitnessedLog: the log's checkpoint has cosignatures, its figures tell of its witnesses, and where all that it has
+// is put back together the start is refused.
 func TestWitnessedLog(t *testing.T) {
 	t.Parallel()
 	at := newPlace(t)
@@ -78,7 +79,8 @@ func TestWitnessedLog(t *testing.T) {
 	submitted := func() { t.Helper(); at.comesIn(p) }
 	submitted()
 	_, checkpoint := read(p.clients, "/checkpoint")
-	if opened, err := note.Open([]byte(checkpoint), note.VerifierList(firstKey, secondKey)); err != nil || len(opened.Sigs) != 2 || len(opened.UnverifiedSigs) != 1 {
+	if opened, err := note.Open([]byte(checkpoint), note.VerifierList(firstKey, secondKey)); err != nil ||
+		len(opened.Sigs) != 2 || len(opened.UnverifiedSigs) != 1 {
 		t.Errorf("%q: %v", checkpoint, err)
 	}
 	p.signal(syscall.SIGTERM)
@@ -94,7 +96,8 @@ func TestWitnessedLog(t *testing.T) {
 	p = started(t, "", words...)
 	submitted()
 	_, figures := get(p.operator, "/metrics")
-	for _, line := range []string{`ctserve_witness_lag{witness="v.example"} 0`, `ctserve_witness_ahead{witness="w.example"} 0`, `ctserve_witness_cosignatures_total{witness="w.example"} `} {
+	for _, line := range []string{`ctserve_witness_lag{witness="v.example"} 0`,
+		`ctserve_witness_ahead{witness="w.example"} 0`, `ctserve_witness_cosignatures_total{witness="w.example"} `} {
 		if !strings.Contains(figures, line) {
 			t.Errorf("/metrics lacks %s", line)
 		}
@@ -127,8 +130,8 @@ func TestWitnessedLog(t *testing.T) {
 	}
 }
 
-// TestWatchedWitness runs ctwatch over a log whose head a quorum of witnesses cosigned. ctwatch reads the entries, and has a third witness cosign the head. This
-// witness cosigns only what ctwatch accepted.
+// TestWatchedWitness runs ctwatch over a log whose head a quorum of witnesses cosigned. ctwatch reads the entries, and
+// has a third witness cosign the head. This witness cosigns only what ctwatch accepted.
 func TestWatchedWitness(t *testing.T) {
 	t.Parallel()
 	at := newPlace(t)
@@ -138,14 +141,16 @@ func TestWatchedWitness(t *testing.T) {
 	third, thirdKey := at.aWitness("x.example", func(log *witness.Log) {
 		log.Accepted = func() (uint64, [32]byte, error) { return witness.AcceptedBy(file, log.Origin, log.Keys) }
 	})
-	p := started(t, "", append(at.realWords("--signing-key", at.path("log.pem")), "--witnesses", first+" "+second, "--create")...)
+	p := started(t, "", append(at.realWords("--signing-key", at.path("log.pem")), "--witnesses", first+" "+second,
+		"--create")...)
 	ctwatch := at.path("ctwatch")
 	if told, err := exec.Command("go", "build", "-o", ctwatch, "wagtenib/cmd/ctwatch").CombinedOutput(); err != nil {
 		t.Fatalf("go build: %v: %s", err, told)
 	}
 	key, err := signer.OpenKey(at.path("log.pem"))
 	trial.Must(t, err)
-	of := []string{"--folder", at.path("store"), "--log", "tiled+http://" + p.clients + " " + base64.StdEncoding.EncodeToString(key.Key()) + " log.example/test"}
+	of := []string{"--folder", at.path("store"), "--log", "tiled+http://" + p.clients + " " +
+		base64.StdEncoding.EncodeToString(key.Key()) + " log.example/test"}
 	_, one, _ := strings.Cut(first, ",")
 	_, two, _ := strings.Cut(second, ",")
 	_, three, _ := strings.Cut(third, ",")
@@ -158,25 +163,29 @@ func TestWatchedWitness(t *testing.T) {
 	watches := func(keys string) (status int, told string) {
 		t.Helper()
 		at.write("witnesses", []byte(keys))
-		return runs("run", "--once", "--quiet", "--listen=", "--from-start", "--name", "a.example", "--unread", "none", "--accepted-folder", at.path("accepted"),
+		return runs("run", "--once", "--quiet", "--listen=", "--from-start", "--name", "a.example", "--unread", "none",
+			"--accepted-folder", at.path("accepted"),
 			"--witnesses", at.path("witnesses"), "--quorum", "2")
 	}
 	for entries := 1; entries < 4; entries++ {
 		at.comesIn(p)
 		if entries > 1 {
-			if status, told := runs("cosign", third, "--into", at.path("cosigned")); status != 0 || !strings.Contains(told, fmt.Sprintf("%d leaves", entries-1)) {
+			if status, told := runs("cosign", third, "--into", at.path("cosigned")); status != 0 ||
+				!strings.Contains(told, fmt.Sprintf("%d leaves", entries-1)) {
 				t.Fatalf("before the entries are read: status %d: %s", status, told)
 			}
 		}
 		if status, told := watches(one + "\n" + two + "\n"); status != 0 {
 			t.Fatalf("with %d entries: status %d: %s", entries, status, told)
 		}
-		if status, told := runs("cosign", third, "--into", at.path("cosigned")); status != 0 || !strings.Contains(told, fmt.Sprintf("%d leaves are cosigned by x.example", entries)) {
+		if status, told := runs("cosign", third, "--into", at.path("cosigned")); status != 0 ||
+			!strings.Contains(told, fmt.Sprintf("%d leaves are cosigned by x.example", entries)) {
 			t.Fatalf("with %d entries: status %d: %s", entries, status, told)
 		}
 		kept, err := os.ReadFile(at.path("cosigned"))
 		trial.Must(t, err)
-		if opened, err := note.Open(kept, note.VerifierList(thirdKey)); err != nil || len(opened.Sigs) != 1 || len(opened.UnverifiedSigs) != 3 {
+		if opened, err := note.Open(kept, note.VerifierList(thirdKey)); err != nil || len(opened.Sigs) != 1 ||
+			len(opened.UnverifiedSigs) != 3 {
 			t.Errorf("%q: %v", kept, err)
 		}
 	}
@@ -210,12 +219,14 @@ func TestWitnessesSettings(t *testing.T) {
 		{[]string{"--start-quorum", "2"}, "need --witnesses"},
 		{[]string{"--faulty-witnesses", "1"}, "need --witnesses"},
 		{[]string{"--witnesses", three, "--publish-quorum", "1"}, "must be below 2 + 1"},
-		{[]string{"--witnesses", three, "--publish-quorum", "2", "--start-quorum", "2", "--faulty-witnesses", "1"}, "3 + 1 must be below 2 + 2"},
+		{[]string{"--witnesses", three, "--publish-quorum", "2", "--start-quorum", "2", "--faulty-witnesses", "1"},
+			"3 + 1 must be below 2 + 2"},
 		{[]string{"--witnesses", three, "--publish-quorum", "4"}, "impossible quorums"},
 		{[]string{"--witnesses", three, "--faulty-witnesses", "3"}, "impossible quorums"},
 		{[]string{"--witnesses", three, "--faulty-witnesses", "-1"}, "impossible quorums"},
 	} {
-		if _, err := parse(at.words(test.words...), io.Discard); !errors.Is(err, errUsage) || !strings.Contains(err.Error(), test.why) {
+		if _, err := parse(at.words(test.words...), io.Discard); !errors.Is(err, errUsage) ||
+			!strings.Contains(err.Error(), test.why) {
 			t.Errorf("%q: %v", test.words, err)
 		}
 	}
@@ -225,7 +236,8 @@ func TestWitnessesSettings(t *testing.T) {
 	}{
 		{[]string{"--witnesses", three}, witness.Quorums{Publish: 2, Start: 2}},
 		{[]string{"--witnesses", three, "--faulty-witnesses", "1"}, witness.Quorums{Publish: 3, Start: 3, Faults: 1}},
-		{[]string{"--witnesses", three, "--publish-quorum", "3", "--faulty-witnesses", "1", "--start-quorum", "2"}, witness.Quorums{Publish: 3, Start: 2, Faults: 1}},
+		{[]string{"--witnesses", three, "--publish-quorum", "3", "--faulty-witnesses", "1", "--start-quorum", "2"},
+			witness.Quorums{Publish: 3, Start: 2, Faults: 1}},
 		{[]string{"--witnesses", ones[0]}, witness.Quorums{Publish: 1, Start: 1}},
 	} {
 		s, err := parse(at.words(test.words...), io.Discard)

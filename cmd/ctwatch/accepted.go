@@ -13,7 +13,7 @@ import (
 )
 
 // acceptedFolder is a Keeper that also puts the head of each tiled log that was accepted last into a folder, as the log
-// signed it. A witness reads it there (ctwitness-serve --accepted-by).
+// signed it. A witness reads it there (ctwitness --accepted-by).
 type acceptedFolder struct {
 	watch.Keeper
 	folder string

@@ -105,7 +105,7 @@ func (s *settings) define(flags *flag.FlagSet) {
 		"read each log up to its newest head once, send what was found, and end: for cron")
 	flags.StringVar(&s.logs.mirror, "keep", "", "`folder` in which a copy of each tiled log is kept that can be served")
 	flags.StringVar(&s.logs.accepted, "accepted-folder", "",
-		"`folder` that gets the head of each tiled log that was accepted last, for a witness (ctwitness-serve --accepted-by)")
+		"`folder` that gets the head of each tiled log that was accepted last, for a witness (ctwitness --accepted-by)")
 	s.logs.policy.define(flags)
 	s.outputs.define(flags)
 	flags.Func("expect-key", "SHA-256 `hash` of a public key (SubjectPublicKeyInfo) whose certificates cause no "+

@@ -22,7 +22,7 @@ import (
 	"wagtenib/internal/web"
 )
 
-// listening gives a connection each time that it is asked, or fails.
+// listening returns a connection each time that it is asked, or fails.
 type listening struct {
 	net.Listener
 	asked, closed atomic.Int32

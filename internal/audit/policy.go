@@ -35,7 +35,7 @@ func NewPolicy(keys []byte, quorum int) (*Policy, error) {
 		}
 		name, key, err := witness.ReadVerifierKey(line)
 		if err != nil {
-			return nil, fmt.Errorf("%w: line %d is no verifier key (write NAME+ID+KEY, as ctwitness-serve --verifier-key "+
+			return nil, fmt.Errorf("%w: line %d is no verifier key (write NAME+ID+KEY, as ctwitness --verifier-key "+
 				"prints it): %v", ErrPolicy, number+1, err)
 		}
 		if seen[name] || seen[string(key)] {

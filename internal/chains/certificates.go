@@ -45,7 +45,7 @@ func identifierOf(oid asn1.ObjectIdentifier) []byte {
 	return content
 }
 
-// certificateOf gives of an issuer's certificate what is read of the first one of a chain.
+// certificateOf returns of an issuer's certificate what is read of the first one of a chain.
 func certificateOf(issuer *x509.Certificate) *certificate {
 	c := &certificate{
 		raw: issuer.Raw, tbs: issuer.RawTBSCertificate, issuer: issuer.RawIssuer, notBefore: issuer.NotBefore,
@@ -58,7 +58,7 @@ func certificateOf(issuer *x509.Certificate) *certificate {
 	return c
 }
 
-// value gives the value of the first extension with this identifier, and whether there is one.
+// value returns the value of the first extension with this identifier, and whether there is one.
 func (c *certificate) value(oid asn1.ObjectIdentifier) ([]byte, bool) {
 	identifier := identifierOf(oid)
 	for _, extension := range c.extensions {

@@ -249,7 +249,7 @@ func parse(chain [][]byte) (*certificate, []*x509.Certificate, error) {
 	return first, issuers, nil
 }
 
-// rootOf gives the root that issued the last certificate of a chain; nil where it is a root itself.
+// rootOf returns the root that issued the last certificate of a chain; nil where it is a root itself.
 func (c *Checker) rootOf(last *certificate) (*x509.Certificate, error) {
 	roots := c.roots.Load()
 	if roots.has(last.raw) {
@@ -266,7 +266,7 @@ func (c *Checker) rootOf(last *certificate) (*x509.Certificate, error) {
 	return nil, why
 }
 
-// issued says whether a certificate is signed by an issuer who may.
+// issued reports whether a certificate is signed by an issuer who may.
 func (c *Checker) issued(certificate *certificate, issuer *x509.Certificate) error {
 	// Certificates of version 1 have no extension that would say so; only a root may be one, as a chain's other issuers
 	// are taken from who submits them.

@@ -171,7 +171,7 @@ func TestChainsAreRefused(t *testing.T) {
 	}
 }
 
-// rootsNamed gives the roots of a refusal: of openssl's certificates, or the last of its own chain.
+// rootsNamed returns the roots of a refusal: of openssl's certificates, or the last of its own chain.
 func rootsNamed(t testing.TB, a *authorities, test refused) *Roots {
 	if test.roots != "large" {
 		return a.roots(t, test.roots)
@@ -219,7 +219,7 @@ func signedBy(t testing.TB, template, parent *x509.Certificate, public any, key 
 	return der
 }
 
-// ofALargeKey gives an authority whose RSA key is too large, and a certificate in its name.
+// ofALargeKey returns an authority whose RSA key is too large, and a certificate in its name.
 func ofALargeKey(t testing.TB) (large, of []byte) {
 	modulus := new(big.Int).Lsh(big.NewInt(1), MaxKeyBits)
 	modulus.SetBit(modulus, 0, 1)
@@ -228,7 +228,7 @@ func ofALargeKey(t testing.TB) (large, of []byte) {
 	return large, signedBy(t, authority("of large"), parent, &key.PublicKey, key)
 }
 
-// sameName gives a chain that ends in a certificate with a root's name and another key.
+// sameName returns a chain that ends in a certificate with a root's name and another key.
 func sameName(t testing.TB, root []byte) [][]byte {
 	parsed, err := x509.ParseCertificate(root)
 	if err != nil {
@@ -241,7 +241,7 @@ func sameName(t testing.TB, root []byte) [][]byte {
 	return [][]byte{signedBy(t, authority("below"), template, &key.PublicKey, key), forged}
 }
 
-// ofVersion1 gives a chain in which an authority that is no root has a certificate of version 1.
+// ofVersion1 returns a chain in which an authority that is no root has a certificate of version 1.
 func ofVersion1(t testing.TB, a *authorities) [][]byte {
 	if _, err := a.openssl("x509", "-req", "-in", "leaf.csr", "-CA", "root.pem", "-CAkey", "root.key", "-set_serial",
 		"5", "-out", "version-1.pem"); err != nil {

@@ -24,7 +24,7 @@ func (byASN1) WithoutPoison(tbs []byte) ([]byte, error) {
 	return made, err
 }
 
-// listOf gives the fields of a TBSCertificate before its extensions, and these.
+// listOf returns the fields of a TBSCertificate before its extensions, and these.
 func listOf(tbs []byte) (fields, extensions []asn1.RawValue, err error) {
 	fields, err = inside(tbs)
 	if err != nil || len(fields) == 0 {

@@ -41,7 +41,7 @@ func values(der []byte) (found []asn1.RawValue, err error) {
 	return found, err
 }
 
-// inside gives the values in the one value that these bytes are.
+// inside returns the values in the one value that these bytes are.
 func inside(der []byte) ([]asn1.RawValue, error) {
 	var value asn1.RawValue
 	rest, err := asn1.Unmarshal(der, &value)

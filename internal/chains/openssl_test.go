@@ -279,7 +279,7 @@ func TestMain(m *testing.M) {
 	os.Exit(status)
 }
 
-// pem gives a certificate's file.
+// pem returns a certificate's file.
 func (a *authorities) pem(t testing.TB, name string) []byte {
 	t.Helper()
 	text, err := os.ReadFile(a.path(name + ".pem"))
@@ -289,7 +289,7 @@ func (a *authorities) pem(t testing.TB, name string) []byte {
 	return text
 }
 
-// chain gives certificates in DER.
+// chain returns certificates in DER.
 func (a *authorities) chain(t testing.TB, names ...string) (chain [][]byte) {
 	t.Helper()
 	for _, name := range names {
@@ -303,7 +303,7 @@ func (a *authorities) chain(t testing.TB, names ...string) (chain [][]byte) {
 	return chain
 }
 
-// roots gives roots of these certificates.
+// roots returns roots of these certificates.
 func (a *authorities) roots(t testing.TB, names ...string) *Roots {
 	t.Helper()
 	var text []byte

@@ -34,7 +34,7 @@ func hasPoison(certificate *certificate) bool {
 	return has
 }
 
-// signsPrecertificates says whether a certificate is a precertificate signing certificate.
+// signsPrecertificates reports whether a certificate is a precertificate signing certificate.
 func signsPrecertificates(certificate *x509.Certificate) bool {
 	for _, purpose := range certificate.UnknownExtKeyUsage {
 		if purpose.Equal(oidSignPrecertificate) {
@@ -50,7 +50,7 @@ type finalIssuer struct {
 	name, authorityKey []byte
 }
 
-// finalIssuerBehind gives what a precertificate signing certificate says of who issued it.
+// finalIssuerBehind returns what a precertificate signing certificate says of who issued it.
 func finalIssuerBehind(signing *x509.Certificate) *finalIssuer {
 	value, _ := certificateOf(signing).value(oidAuthorityKey)
 	return &finalIssuer{signing.RawIssuer, value}
@@ -149,7 +149,7 @@ func fieldsOf(fields cryptobyte.String) (before, behind []byte, extensions crypt
 	return before, behind, extensions, nil
 }
 
-// extensionsOf gives the extensions with the authority key identifier of the final issuer, one after the other.
+// extensionsOf returns the extensions with the authority key identifier of the final issuer, one after the other.
 func extensionsOf(extensions cryptobyte.String, final *finalIssuer) ([]byte, error) {
 	var issued []byte
 	for !extensions.Empty() {
@@ -173,7 +173,7 @@ func extensionsOf(extensions cryptobyte.String, final *finalIssuer) ([]byte, err
 	return issued, nil
 }
 
-// withValue gives an extension with another value; whether it is critical stays as it is.
+// withValue returns an extension with another value; whether it is critical stays as it is.
 func withValue(extension cryptobyte.String, value []byte) ([]byte, error) {
 	if value == nil {
 		return nil, fmt.Errorf("%w: the precertificate has one", NoAuthorityKey)

@@ -56,7 +56,7 @@ var Refusals = []Refusal{
 	NoAuthorityKey,
 }
 
-// RefusalOf gives the refusal that an error wraps, or none.
+// RefusalOf returns the refusal that an error wraps, or none.
 func RefusalOf(err error) Refusal {
 	var refusal Refusal
 	errors.As(err, &refusal)

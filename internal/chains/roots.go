@@ -325,7 +325,7 @@ func (r *Roots) add(certificate *x509.Certificate) {
 	r.bySubject[subject] = append(r.bySubject[subject], certificate)
 }
 
-// has says whether a certificate in DER is a root.
+// has reports whether a certificate in DER is a root.
 func (r *Roots) has(der []byte) bool { return r.byHash[sha256.Sum256(der)] }
 
 // withSubject are the roots with this name, in DER.

@@ -14,7 +14,7 @@ import (
 	"wagtenib/internal/trial"
 )
 
-// puts gives what writes files of a folder, and says where.
+// puts returns what writes files of a folder, and says where.
 func puts(t *testing.T, folder string) func(name string, text []byte) string {
 	return func(name string, text []byte) string {
 		t.Helper()

@@ -165,7 +165,7 @@ func (p *published) tiles(t testing.TB, size int) {
 	}
 }
 
-// hasHead says whether a partial tile is of one of the heads' trees.
+// hasHead reports whether a partial tile is of one of the heads' trees.
 func (p *published) hasHead(name string) bool {
 	for head := range p.objects {
 		var size, timestamp int

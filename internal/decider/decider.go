@@ -45,7 +45,7 @@ type Held struct {
 	Text string
 	// Bundle is the name of the staged batch of the text's step.
 	Bundle string
-	// Moment is the head's timestamp in milliseconds, and Size the number of entries.
+	// Timestamp is the head's timestamp in milliseconds, and Size the number of entries.
 	Timestamp uint64
 	Size      uint64
 }

@@ -156,12 +156,12 @@ func TestSettledHeadIsOldEnough(t *testing.T) {
 // TestNamesOfHeads reads the names that it writes, and no others.
 func TestNamesOfHeads(t *testing.T) {
 	name := headName(signer.Head{Size: 12, Timestamp: 1800000000123})
-	if timestamp, ok := momentOf(name); name != "heads/00000000000000000012-00000001800000000123" || !ok ||
+	if timestamp, ok := timestampOf(name); name != "heads/00000000000000000012-00000001800000000123" || !ok ||
 		timestamp != 1800000000123 {
 		t.Errorf("%s is read as %d, %v", name, timestamp, ok)
 	}
 	for _, wrong := range []string{"heads/", "heads/12-13", name + "0", name[:len(name)-1], "tile/0/000"} {
-		if _, ok := momentOf(wrong); ok {
+		if _, ok := timestampOf(wrong); ok {
 			t.Errorf("%s is read as the name of a head", wrong)
 		}
 	}

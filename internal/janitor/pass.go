@@ -5,6 +5,8 @@ import (
 	"errors"
 	"fmt"
 	"regexp"
+	"strconv"
+	"strings"
 	"time"
 
 	"golang.org/x/mod/sumdb/tlog"
@@ -191,7 +193,7 @@ func (j *Janitor) deleteHeads(ctx context.Context, _ Newest) error {
 	old, crowded := headName(j.heads.head), headName(j.thin.head)
 	kept, left := uint64(0), maxDeleted
 	for _, name := range names {
-		timestamp, ok := momentOf(name)
+		timestamp, ok := timestampOf(name)
 		isThin := name < crowded && kept > 0 && timestamp < kept+uint64(j.config.Keep.Apart.Milliseconds())
 		if !ok || name >= old && !isThin {
 			kept = timestamp
@@ -215,11 +217,15 @@ func headName(head signer.Head) string {
 	return fmt.Sprintf("%s%020d-%020d", headsPrefix, head.Size, head.Timestamp)
 }
 
-// momentOf reads the timestamp in a head's name, and reports false for any other name.
-func momentOf(name string) (timestamp uint64, ok bool) {
-	var size uint64
-	_, err := fmt.Sscanf(name, headsPrefix+"%020d-%020d", &size, &timestamp)
-	return timestamp, err == nil && headName(signer.Head{Size: size, Timestamp: timestamp}) == name
+// timestampOf reads the timestamp in a head's name, and reports false for any other name.
+func timestampOf(name string) (timestamp uint64, ok bool) {
+	digits, ok := strings.CutPrefix(name, headsPrefix)
+	if !ok || len(digits) != 41 || digits[20] != '-' {
+		return 0, false
+	}
+	_, wrong := strconv.ParseUint(digits[:20], 10, 64)
+	timestamp, err := strconv.ParseUint(digits[21:], 10, 64)
+	return timestamp, wrong == nil && err == nil
 }
 
 // batchName matches the names of staged batches. The janitor leaves an object with any other name: no node put it.

@@ -62,7 +62,10 @@ var unused = stores.Identity(sha256.Sum256([]byte("an identity of no submission"
 // indexWorks looks a state's newest entry up in the index, and adds it again, which changes nothing. It returns an
 // error if the index does not answer.
 func (l *Loop) indexWorks(ctx context.Context, k *state) error {
-	newest := l.newestLeaf(ctx, k)
+	newest, err := l.newestLeaf(ctx, k)
+	if err != nil {
+		return err
+	}
 	if newest == nil {
 		if _, err := l.config.Stores.Index.Find(ctx, []stores.Identity{unused}); err != nil {
 			return fmt.Errorf("node: the index: %w", err)
@@ -81,17 +84,20 @@ func (l *Loop) indexWorks(ctx context.Context, k *state) error {
 	return addAll(ctx, l.config.Stores.Leaves, []stores.Placed{{Identity: leaf, Place: place}})
 }
 
-// newestLeaf returns a state's newest entry, or nil if there is none, or if it cannot be read or is not the tree's:
-// then the step says so, and a damaged edge is made again.
-func (l *Loop) newestLeaf(ctx context.Context, k *state) *tile.Leaf {
+// newestLeaf returns a state's newest entry, or nil if there is none, or if it is missing or damaged: then the step
+// says so, and a damaged edge is made again. Any other error may pass, so it must not count as a missing entry.
+func (l *Loop) newestLeaf(ctx context.Context, k *state) (*tile.Leaf, error) {
 	if k.Size == 0 {
-		return nil
+		return nil, nil
 	}
 	leaf, err := tile.LeafAt(ctx, k.Size-1, k.head(), l.reading(nil))
-	if err != nil {
-		return nil
+	if errors.Is(err, ErrDamaged) || errors.Is(err, stores.ErrAbsent) {
+		return nil, nil
 	}
-	return leaf
+	if err != nil {
+		return nil, fmt.Errorf("node: the newest entry: %w", err)
+	}
+	return leaf, nil
 }
 
 // wrongOf returns those places of which the index has another one that is not the entry's. They were added, so the

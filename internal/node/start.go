@@ -291,11 +291,11 @@ func (l *Loop) isOurs(ctx context.Context) bool {
 }
 
 // knowsNewest returns ErrIndex if the index lacks the newest entry of a published state: its node added all places
-// before it published the head. If the entry cannot be read, the step says so.
+// before it published the head. If the entry is missing or damaged, the step says so.
 func (l *Loop) knowsNewest(ctx context.Context, k *state) error {
-	newest := l.newestLeaf(ctx, k)
+	newest, err := l.newestLeaf(ctx, k)
 	if newest == nil {
-		return nil
+		return err
 	}
 	id := identity(newest.Type, newest.IssuerKeyHash, newest.Certificate)
 	return l.knows(ctx, id, stores.Identity(newest.Hash()), k.Size-1)

@@ -39,7 +39,7 @@ func idOf(ctx context.Context, in stores.Places) (id stores.Place, ok bool, err 
 	return id, ok, nil
 }
 
-// newID gives an index that has none an id, and reads it, since another node may have been first.
+// newID returns an index that has none an id, and reads it, since another node may have been first.
 func newID(ctx context.Context, in stores.Places) (id stores.Place, err error) {
 	var chance [16]byte
 	if _, err := rand.Read(chance[:]); err != nil {
@@ -108,7 +108,7 @@ func (l *Log) hasItsIndex(ctx context.Context) error {
 	return nil
 }
 
-// takeID gives an index the id that the store has, if any.
+// takeID returns an index the id that the store has, if any.
 func takeID(ctx context.Context, of Stores) error {
 	names, err := storedIDs(ctx, of.Objects)
 	if err != nil || len(names) == 0 {

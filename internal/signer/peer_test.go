@@ -103,7 +103,7 @@ func TestNoProgram(t *testing.T) {
 	wants(t, err, ErrGone)
 }
 
-// alive says whether a process runs.
+// alive reports whether a process runs.
 func alive(pid int) bool { return syscall.Kill(pid, 0) == nil }
 
 // TestCloseKills: Close ends a process and its children, even if they ignore signals.

@@ -3,16 +3,14 @@ package sim
 import (
 	"bytes"
 	"context"
-	"crypto"
 	"crypto/ecdsa"
 	"crypto/elliptic"
-	"crypto/sha256"
+	"crypto/sha512"
 	"crypto/x509"
 	"encoding/binary"
 	"errors"
 	"fmt"
 	"math/big"
-	"sync"
 	"time"
 
 	"golang.org/x/mod/sumdb/note"
@@ -22,46 +20,38 @@ import (
 	"wagtenib/internal/witness"
 )
 
-// key is the log's in all histories, and keyDER its SubjectPublicKeyInfo.
-var key, keyDER = newKey()
+// keyDER is the SubjectPublicKeyInfo of the log's key in all histories. logKey signs in its place.
+var (
+	keyDER = newKey()
+	logKey = standIn(keyDER)
+)
 
-func newKey() (*ecdsa.PrivateKey, []byte) {
+func newKey() []byte {
 	curve := elliptic.P256()
-	k := &ecdsa.PrivateKey{D: big.NewInt(0x5157a7e)}
-	k.Curve = curve
-	k.X, k.Y = curve.ScalarBaseMult(k.D.Bytes())
-	der, err := x509.MarshalPKIXPublicKey(&k.PublicKey)
+	x, y := curve.ScalarBaseMult(big.NewInt(0x5157a7e).Bytes())
+	der, err := x509.MarshalPKIXPublicKey(&ecdsa.PublicKey{Curve: curve, X: x, Y: y})
 	if err != nil {
 		panic(err)
 	}
-	return k, der
+	return der
 }
 
-// signatures are those of the log's key.
-var signatures made
+// standIn signs in place of a private key: its signatures are hashes, which cost a hundredth of a real signature. No
+// fault of a history makes such a hash, so a signature that is one was made by the signer.
+type standIn []byte
 
-// made has the signatures that a key made in this process, by what was signed. The key signs the same each time, and
-// nobody else has it, so a signature is the key's if it is one of these.
-type made struct{ all sync.Map }
-
-// sign returns the key's signature of a message.
-func (m *made) sign(message []byte, sign func() []byte) []byte {
-	digest := sha256.Sum256(message)
-	if signed, ok := m.all.Load(digest); ok {
-		return signed.([]byte)
-	}
-	signed := sign()
-	m.all.Store(digest, signed)
-	return signed
+// sign returns the signature of a message. It has 64 bytes, and is the same each time.
+func (s standIn) sign(message []byte) []byte {
+	hash := sha512.New()
+	hash.Write(s)
+	hash.Write(message)
+	return hash.Sum(nil)
 }
 
-// isSigned reports whether a signature is the key's over a message.
-func (m *made) isSigned(message, signed []byte) bool {
-	known, ok := m.all.Load(sha256.Sum256(message))
-	return ok && bytes.Equal(known.([]byte), signed)
-}
+// isSigned reports whether a signature is this key's over a message.
+func (s standIn) isSigned(message, signed []byte) bool { return bytes.Equal(s.sign(message), signed) }
 
-// verifier verifies a key's signatures of notes by those that it made, which takes no arithmetic.
+// verifier verifies the signatures of notes that a stand-in made.
 type verifier struct {
 	note.Verifier
 	isSigned func(text, signature []byte) bool
@@ -84,18 +74,12 @@ func (g *guarded) Verifier() note.Verifier { return ownVerifier }
 
 // sign returns the DigitallySigned of a message (RFC 5246, section 4.7).
 func sign(message []byte) []byte {
-	return signatures.sign(message, func() []byte {
-		digest := sha256.Sum256(message)
-		signature, err := key.Sign(nil, digest[:], crypto.SHA256)
-		if err != nil {
-			panic(err)
-		}
-		return append(binary.BigEndian.AppendUint16([]byte{4, 3}, uint16(len(signature))), signature...)
-	})
+	signature := logKey.sign(message)
+	return append(binary.BigEndian.AppendUint16([]byte{4, 3}, uint16(len(signature))), signature...)
 }
 
 // isSigned reports whether a DigitallySigned is the key's over a message.
-func isSigned(message, signed []byte) bool { return signatures.isSigned(message, signed) }
+func isSigned(message, signed []byte) bool { return bytes.Equal(sign(message), signed) }
 
 // headMessage is what is signed of a tree head (RFC 6962, section 3.5).
 func headMessage(head signer.Head) []byte {

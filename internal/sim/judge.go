@@ -6,7 +6,9 @@ import (
 	"encoding/base64"
 	"encoding/binary"
 	"encoding/hex"
+	"errors"
 	"fmt"
+	"strconv"
 	"strings"
 	"time"
 
@@ -22,11 +24,8 @@ import (
 type judge struct {
 	w         *world
 	violation *Violation
-	// leaves are those under the largest head that was put, and roots the root of each size up to theirs.
-	leaves     []leaf
-	roots      [][32]byte
-	tree       *compact.Range
-	identities map[[32]byte]int
+	// knownList is the list under the largest head that was put.
+	knownList
 	// newest is the newest head that was put, and tiles has what was put of each tile.
 	newest, checkpoint signer.Head
 	tiles              map[string]*puts
@@ -48,9 +47,12 @@ func (e *excuses) allows(identity [32]byte) bool {
 
 // Stats are the numbers of a history.
 type Stats struct {
-	Calls, Switches, Heads, Cosigned, Deleted, Partials, OldHeads, Staged, Reread, Entries, Answers, Repeats,
-	Reads, Starts, Checkpoints int
+	Calls, Switches, Heads, Cosigned, Entries, Answers, Repeats, Reads, Starts, Checkpoints int
+	Tidied
 }
+
+// Tidied counts what the janitors deleted and read again.
+type Tidied struct{ Deleted, Partials, OldHeads, Staged, Reread int }
 
 // leaf is an entry of the list.
 type leaf struct {
@@ -60,12 +62,19 @@ type leaf struct {
 	timestamp          uint64
 }
 
+// knownList is a growing list of leaves, with the root of each size up to theirs.
+type knownList struct {
+	leaves     []leaf
+	roots      [][32]byte
+	tree       *compact.Range
+	identities map[[32]byte]int
+}
+
 func newJudge(w *world) *judge {
 	empty := rfc6962.DefaultHasher.EmptyRoot()
-	return &judge{
-		w: w, identities: map[[32]byte]int{}, tiles: map[string]*puts{}, roots: [][32]byte{[32]byte(empty)},
-		tree: ranges.NewEmptyRange(0),
-	}
+	list := knownList{identities: map[[32]byte]int{}, roots: [][32]byte{[32]byte(empty)},
+		tree: ranges.NewEmptyRange(0)}
+	return &judge{w: w, knownList: list, tiles: map[string]*puts{}}
 }
 
 // breaks keeps the first violation.
@@ -196,7 +205,10 @@ func cells(text string) *cell {
 		return nil
 	}
 	c := &cell{line: lines[0], bundle: digits[32+64 : 32+128], before: digits[32+192:], name: digits[16:32] + salt}
-	if _, err := fmt.Sscanf(digits[:32], "%016x%016x", &c.size, &c.timestamp); err != nil {
+	var failed [2]error
+	c.size, failed[0] = strconv.ParseUint(digits[:16], 16, 64)
+	c.timestamp, failed[1] = strconv.ParseUint(digits[16:32], 16, 64)
+	if errors.Join(failed[:]...) != nil {
 		return nil
 	}
 	return c
@@ -262,7 +274,7 @@ func readNote(note string) (head signer.Head, err error) {
 	if err != nil || len(root) != 32 {
 		return head, fmt.Errorf("no root: %v", err)
 	}
-	if _, err := fmt.Sscanf(lines[1], "%d", &head.Size); err != nil {
+	if head.Size, err = strconv.ParseUint(lines[1], 10, 64); err != nil {
 		return head, err
 	}
 	head.Root = [32]byte(root)

@@ -2,8 +2,11 @@ package sim_test
 
 import (
 	"os"
+	"runtime"
 	"strconv"
 	"strings"
+	"sync"
+	"sync/atomic"
 	"testing"
 	"time"
 
@@ -30,29 +33,42 @@ func count(t *testing.T, normal int) int {
 	return n
 }
 
-// TestHistories runs the histories of many seeds, and explains the first that breaks a rule. It prints how often each
-// kind of fault happened.
+// TestHistories runs the histories of many seeds, on all processors, and explains one that breaks a rule. It prints how
+// often each kind of fault happened.
 func TestHistories(t *testing.T) {
 	began := time.Now()
 	histories := count(t, 300)
+	var next atomic.Int64
+	var all sync.WaitGroup
+	var mu sync.Mutex
 	var total sim.Totals
-	for seed := range histories {
-		plan := sim.NewPlan(int64(seed))
-		result := sim.Run(plan, proved, false)
-		if result.Violation != nil {
-			if os.Getenv("SIM_BRIEF") != "" {
-				t.Fatalf("broken by seed %d: %v", seed, result.Violation)
+	for range runtime.GOMAXPROCS(0) {
+		all.Add(1)
+		go func() {
+			defer all.Done()
+			for seed := next.Add(1) - 1; seed < int64(histories) && !t.Failed(); seed = next.Add(1) - 1 {
+				plan := sim.NewPlan(seed)
+				result := sim.Run(plan, proved, false)
+				if result.Violation != nil {
+					text := ""
+					if os.Getenv("SIM_BRIEF") == "" {
+						text = sim.Explain(plan, proved)
+					}
+					t.Errorf("broken by seed %d: %v\n%s", seed, result.Violation, text)
+				}
+				mu.Lock()
+				total.Add(result)
+				mu.Unlock()
 			}
-			t.Fatalf("broken by seed %d: %v\n%s", seed, result.Violation, sim.Explain(plan, proved))
-		}
-		total.Add(result)
+		}()
 	}
+	all.Wait()
 	t.Logf("%d histories, %.1f a second\n%v", histories, float64(histories)/time.Since(began).Seconds(), &total)
 	if missing := total.Missing(); histories >= 300 && len(missing) > 0 {
 		t.Errorf("faults that never happened: %v", missing)
 	}
-	if s := total.Stats; histories >= 300 && (s.Partials == 0 || s.OldHeads == 0 || s.Staged == 0 || s.Reread == 0 ||
-		s.Cosigned == 0 || s.Checkpoints == 0) {
+	if s := total.Stats; histories >= 300 &&
+		(s.Partials == 0 || s.OldHeads == 0 || s.Staged == 0 || s.Reread == 0 || s.Cosigned == 0 || s.Checkpoints == 0) {
 		t.Errorf("janitors, witnesses or checkpoints did nothing of a kind: %+v", s)
 	}
 }

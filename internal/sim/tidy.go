@@ -166,8 +166,8 @@ func (j *judge) garbage() string {
 // isOld reports whether a head must be gone by now: another one stood for twice as long as heads stay, and some passes.
 func (j *judge) isOld(name string) bool {
 	for _, later := range j.standing {
-		if name < fmt.Sprintf("heads/%020d-%020d", later.size, later.timestamp) &&
-			later.at <= j.w.now-2*keep.Heads-10*keep.Every {
+		if later.at <= j.w.now-2*keep.Heads-10*keep.Every &&
+			name < fmt.Sprintf("heads/%020d-%020d", later.size, later.timestamp) {
 			return true
 		}
 	}

@@ -2,8 +2,8 @@ package sim
 
 import (
 	"bytes"
-	"fmt"
 	"slices"
+	"strconv"
 	"strings"
 
 	"github.com/transparency-dev/merkle/compact"
@@ -53,9 +53,10 @@ func (p *puts) leavesAt(which int) ([]leaf, error) {
 // if the store lost or bent something, the last one that was put; or all, the last one first, if the tile of another
 // tree may have got the name.
 func (j *judge) tile(prefix string, n, width uint64, name string) (of *puts, may []int, ok bool) {
-	tile := fmt.Sprintf("%s%03d", prefix, n)
+	digits := strconv.FormatUint(n, 10)
+	tile := prefix + "000"[:max(0, 3-len(digits))] + digits
 	if width < 256 {
-		tile += fmt.Sprintf(".p/%d", width)
+		tile += ".p/" + strconv.FormatUint(width, 10)
 	}
 	of, put := j.tiles[tile]
 	stored, isThere := j.w.stores.objects[tile]

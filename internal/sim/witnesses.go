@@ -37,22 +37,23 @@ type observer struct {
 	says, which int
 }
 
-// cosigner is the key of a witness, with what it signed. It is the same in all histories.
+// cosigner is a witness's key, and the stand-in that signs in its place. It is the same in all histories.
 type cosigner struct {
 	name     string
-	key      ed25519.PrivateKey
+	key      ed25519.PublicKey
 	verifier note.Verifier
-	made     *made
+	standIn
 }
 
 var cosigners = func() (all []cosigner) {
 	for i := range 3 {
 		seed := sha256.Sum256([]byte{byte(i)})
-		c := cosigner{name: fmt.Sprintf("witness%d", i+1), key: ed25519.NewKeyFromSeed(seed[:]), made: &made{}}
-		real := witness.OfCosigner(c.name, c.key.Public().(ed25519.PublicKey))
+		key := ed25519.NewKeyFromSeed(seed[:]).Public().(ed25519.PublicKey)
+		c := cosigner{name: fmt.Sprintf("witness%d", i+1), key: key, standIn: standIn(key)}
+		real := witness.OfCosigner(c.name, key)
 		c.verifier = verifier{real, func(text, signature []byte) bool {
 			return len(signature) == 8+ed25519.SignatureSize &&
-				c.made.isSigned(witness.Message(binary.BigEndian.Uint64(signature), string(text)), signature[8:])
+				c.isSigned(witness.Message(binary.BigEndian.Uint64(signature), string(text)), signature[8:])
 		}}
 		all = append(all, c)
 	}
@@ -169,11 +170,6 @@ func (o *observer) line(message []byte, seconds uint64) string {
 	return "— " + o.name + " " + base64.StdEncoding.EncodeToString(blob) + "\n"
 }
 
-// sign returns the key's signature, which is kept so that the judge knows it.
-func (o *observer) sign(message []byte) []byte {
-	return o.made.sign(message, func() []byte { return ed25519.Sign(o.key, message) })
-}
-
 // rollBack rolls a witness back, and reports whether it had cosigned more.
 func (o *observer) rollBack(by int) bool {
 	if len(o.messages) == 0 {
@@ -231,7 +227,7 @@ func (o *observer) isLine(text, line string) bool {
 	if err != nil || len(blob) != 4+8+ed25519.SignatureSize {
 		return false
 	}
-	id := sha256.Sum256(append([]byte(o.name+"\n\x04"), o.key.Public().(ed25519.PublicKey)...))
+	id := sha256.Sum256(append([]byte(o.name+"\n\x04"), o.key...))
 	message := fmt.Sprintf("cosignature/v1\ntime %d\n%s", binary.BigEndian.Uint64(blob[4:12]), text)
-	return bytes.Equal(blob[:4], id[:4]) && o.made.isSigned([]byte(message), blob[12:])
+	return bytes.Equal(blob[:4], id[:4]) && o.isSigned([]byte(message), blob[12:])
 }

@@ -30,10 +30,15 @@ type world struct {
 	machines []*machine
 	// observers are the log's witnesses.
 	observers []*observer
-	judge     *judge
-	excuses   excuses
-	history   history
 	proved    node.Proved
+	observed
+}
+
+// observed is what the simulation knows of a history so far.
+type observed struct {
+	judge   *judge
+	excuses excuses
+	history history
 	// bentAt is when an object was bent or lost last.
 	bentAt time.Duration
 	// stopped is why the log stopped in the end.
@@ -104,7 +109,7 @@ var (
 // newWorld returns the world of a plan.
 func newWorld(plan Plan, proved node.Proved, logs bool) *world {
 	w := &world{plan: plan, proved: proved, events: events{faults: slices.Clone(plan.Faults)}, stores: newMemory(),
-		history: history{isKept: logs}}
+		observed: observed{history: history{isKept: logs}}}
 	w.random = rand.New(rand.NewSource(plan.Seed ^ 0x5deece66d))
 	w.judge, w.excuses.again = newJudge(w), map[[32]byte]bool{}
 	w.newObservers()

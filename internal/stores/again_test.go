@@ -22,8 +22,8 @@ var processes = map[string][]string{
 
 const engineKills = 2
 
-// whileEnginesDie writes without a pause while an engine is killed and started again, each write within a second, and gives how
-// many were acknowledged. A write that fails is made again.
+// whileEnginesDie writes without a pause while an engine is killed and started again, each write within a second, and
+// gives how many were acknowledged. A write that fails is made again.
 func whileEnginesDie(t *testing.T, engine string, write writer) (acknowledged int) {
 	t.Helper()
 	ended, failed := make(chan struct{}), make(chan error, 1)
@@ -92,7 +92,8 @@ func TestObjectsOutliveTheirEngine(t *testing.T) {
 			return store.Put(ctx, objectName(i), objectContent(i))
 		})
 		for i := 1; i <= last; i++ {
-			if got, err := store.Get(ctx, objectName(i), manyBytes); err != nil || string(got) != string(objectContent(i)) {
+			if got, err := store.Get(ctx, objectName(i), manyBytes); err != nil ||
+				string(got) != string(objectContent(i)) {
 				t.Fatalf("of %d writes that were acknowledged, number %d has %d bytes, %v", last, i, len(got), err)
 			}
 		}
@@ -126,7 +127,8 @@ func TestRegisterOutlivesItsEngine(t *testing.T) {
 		if err != nil || number(text) < last || !strings.HasPrefix(text, "try ") {
 			t.Errorf("%q stands, %v, and %d was acknowledged", text, err, last)
 		}
-		if published, err := register.Published(ctx); err != nil || published.Size < uint64(last) || published.Timestamp != 2*published.Size {
+		if published, err := register.Published(ctx); err != nil || published.Size < uint64(last) ||
+			published.Timestamp != 2*published.Size {
 			t.Errorf("%v is published, %v, and %d was acknowledged", published, err, last)
 		}
 	})

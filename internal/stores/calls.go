@@ -11,7 +11,8 @@ import (
 type Call struct {
 	// Store is objects, register or places, and Name the method's, in small letters.
 	Store, Name string
-	// Count is how often it was asked, Failed how often it gave none of the answers that the interface has, and Took how long all of them took.
+	// Count is how often it was asked, Failed how often it gave none of the answers that the interface has, and Took
+	// how long all of them took.
 	Count, Failed uint64
 	Took          time.Duration
 }
@@ -24,8 +25,10 @@ const (
 
 // callsThatAre are all, in their order; nothing else is counted.
 var callsThatAre = []Call{
-	{Store: ofObjects, Name: "put"}, {Store: ofObjects, Name: "get"}, {Store: ofObjects, Name: "list"}, {Store: ofObjects, Name: "delete"}, {Store: ofObjects, Name: "swap"},
-	{Store: ofRegister, Name: "create"}, {Store: ofRegister, Name: "read"}, {Store: ofRegister, Name: "swap"}, {Store: ofRegister, Name: "published"}, {Store: ofRegister, Name: "raise"},
+	{Store: ofObjects, Name: "put"}, {Store: ofObjects, Name: "get"}, {Store: ofObjects, Name: "list"},
+	{Store: ofObjects, Name: "delete"}, {Store: ofObjects, Name: "swap"},
+	{Store: ofRegister, Name: "create"}, {Store: ofRegister, Name: "read"}, {Store: ofRegister, Name: "swap"},
+	{Store: ofRegister, Name: "published"}, {Store: ofRegister, Name: "raise"},
 	{Store: ofPlaces, Name: "find"}, {Store: ofPlaces, Name: "add"}, {Store: ofPlaces, Name: "replace"},
 }
 
@@ -68,7 +71,8 @@ func (c *Calls) ended(ctx context.Context, store, name string, began time.Time, 
 	return err
 }
 
-// isFailure says whether an error is a store's that doesn't do what it is there for, and not one of its answers, nor the end of who asked it.
+// isFailure reports whether an error is a store's that doesn't do what it is there for, and not one of its answers, nor
+// the end of who asked it.
 func isFailure(ctx context.Context, err error) bool {
 	if err == nil || ctx.Err() == context.Canceled {
 		return false

@@ -100,7 +100,8 @@ func TestCallsAreCounted(t *testing.T) {
 	cancel()
 	late, stop := context.WithDeadline(context.Background(), time.Now().Add(-time.Second))
 	defer stop()
-	want := [][2]string{{"objects", "put"}, {"objects", "get"}, {"objects", "list"}, {"objects", "delete"}, {"objects", "swap"}, {"lock", "create"}, {"lock", "read"}, {"lock", "swap"}, {"lock", "published"},
+	want := [][2]string{{"objects", "put"}, {"objects", "get"}, {"objects", "list"}, {"objects", "delete"}, {"objects", "swap"},
+		{"lock", "create"}, {"lock", "read"}, {"lock", "swap"}, {"lock", "published"},
 		{"lock", "raise"}, {"index", "find"}, {"index", "add"}, {"index", "replace"}}
 	for what, test := range map[string]struct {
 		ctx    context.Context
@@ -124,7 +125,8 @@ func TestCallsAreCounted(t *testing.T) {
 		"a number too large":             {context.Background(), ErrNumber, 0},
 	} {
 		calls, of := &Calls{}, &given{err: test.err, takes: time.Millisecond}
-		objects, register, places := calls.Objects(givenObjects{of}), calls.Register(givenRegister{of}), calls.Places(givenPlaces{of, &givenPlaces{of, nil}})
+		objects, register, places := calls.Objects(givenObjects{of}), calls.Register(givenRegister{of}),
+			calls.Places(givenPlaces{of, &givenPlaces{of, nil}})
 		began := time.Now()
 		for i := 0; i < 2; i++ {
 			errs, values := asksAll(test.ctx, objects, calls.Current(givenCurrent{of}), register, places)
@@ -133,7 +135,8 @@ func TestCallsAreCounted(t *testing.T) {
 					t.Errorf("%s: %s gives %v", what, want[i], err)
 				}
 			}
-			if given := []any{[]byte("content"), []string{"a", "b"}, "text", Published{7, 8}, map[Identity]Place{{1}: {2, 3}}}; !reflect.DeepEqual(values, given) {
+			if given := []any{[]byte("content"), []string{"a", "b"}, "text", Published{7, 8},
+				map[Identity]Place{{1}: {2, 3}}}; !reflect.DeepEqual(values, given) {
 				t.Errorf("%s: they give %v", what, values)
 			}
 		}
@@ -143,7 +146,8 @@ func TestCallsAreCounted(t *testing.T) {
 			t.Fatalf("%s: %+v", what, counted)
 		}
 		for i, call := range counted {
-			if [2]string{call.Store, call.Name} != want[i] || call.Count != 2 || call.Failed != 2*test.failed || call.Took < 2*of.takes {
+			if [2]string{call.Store, call.Name} != want[i] || call.Count != 2 || call.Failed != 2*test.failed ||
+				call.Took < 2*of.takes {
 				t.Errorf("%s: %+v, and not 2 of %s with %d failures", what, call, want[i], 2*test.failed)
 			}
 			all -= call.Took
@@ -154,8 +158,8 @@ func TestCallsAreCounted(t *testing.T) {
 	}
 }
 
-// TestCountedStores: a store that is counted is closed, says what time it is as it does itself, and says nothing that it doesn't; leaves' places count
-// as the others do.
+// TestCountedStores: a store that is counted is closed, says what time it is as it does itself, and says nothing that
+// it doesn't; leaves' places count as the others do.
 func TestCountedStores(t *testing.T) {
 	calls, of := &Calls{}, &given{}
 	leaves := &givenPlaces{of, nil}
@@ -223,7 +227,8 @@ func TestCountedStores(t *testing.T) {
 	}
 }
 
-// TestFailuresOfAFolder: a folder that is a file by now fails by each call, and each counts; a name that isn't there doesn't.
+// TestFailuresOfAFolder: a folder that is a file by now fails by each call, and each counts; a name that isn't there
+// doesn't.
 func TestFailuresOfAFolder(t *testing.T) {
 	calls, folder := &Calls{}, filepath.Join(t.TempDir(), "objects")
 	opened, err := OpenFolder(folder)
@@ -241,7 +246,8 @@ func TestFailuresOfAFolder(t *testing.T) {
 			t.Fatal("it is put")
 		}
 	}
-	if put, get := calls.All()[0], calls.All()[1]; put.Count != 4 || put.Failed != 3 || get.Count != 1 || get.Failed != 0 {
+	if put, get := calls.All()[0], calls.All()[1]; put.Count != 4 || put.Failed != 3 || get.Count != 1 ||
+		get.Failed != 0 {
 		t.Errorf("%+v, %+v", put, get)
 	}
 }

@@ -8,7 +8,8 @@ import (
 	"strings"
 )
 
-// Copy writes the objects whose names don't begin with one of these prefixes as files below a folder, and says how many there were.
+// Copy writes the objects whose names don't begin with one of these prefixes as files below a folder, and says how many
+// there were.
 func Copy(ctx context.Context, from Objects, folder string, but ...string) (count int, err error) {
 	for after := ""; ; {
 		names, err := from.List(ctx, "", after, MaxListed)

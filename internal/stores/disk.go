@@ -23,8 +23,8 @@ const maxSynced = 4096
 // fsync is File.Sync; the tests look at what is synced when.
 var fsync = (*os.File).Sync
 
-// disk writes files below a folder so that what is acknowledged stays when power fails: a file is written under a name of its
-// own, then to the disk, then gets its name, and then the folders with that name go to the disk.
+// disk writes files below a folder so that what is acknowledged stays when power fails: a file is written under a name
+// of its own, then to the disk, then gets its name, and then the folders with that name go to the disk.
 type disk struct {
 	root   string
 	mu     sync.Mutex
@@ -50,7 +50,8 @@ func openDisk(root string) (*disk, error) {
 	return d, syncFolder(root)
 }
 
-// MakeFolder makes a folder and those above it where they aren't there, and writes the names of those that it made to the disk.
+// MakeFolder makes a folder and those above it where they aren't there, and writes the names of those that it made to
+// the disk.
 func MakeFolder(path string) error {
 	err := os.Mkdir(path, 0o755)
 	if errors.Is(err, fs.ErrNotExist) {
@@ -130,7 +131,7 @@ func (d *disk) keep(folder string) error {
 	return nil
 }
 
-// isSynced says whether the folder's own name is known to be on the disk, and so those of all folders above it.
+// isSynced reports whether the folder's own name is known to be on the disk, and so those of all folders above it.
 func (d *disk) isSynced(folder string) bool {
 	d.mu.Lock()
 	defer d.mu.Unlock()

@@ -10,7 +10,8 @@ import (
 	"testing"
 )
 
-// TestEmptyFoldersGo: a folder of objects goes with the last of them, and comes back with the next; the first folder of a name stays.
+// TestEmptyFoldersGo: a folder of objects goes with the last of them, and comes back with the next; the first folder of
+// a name stays.
 func TestEmptyFoldersGo(t *testing.T) {
 	root, ctx := t.TempDir(), limited(t)
 	objects, err := OpenFolder(root)
@@ -34,7 +35,8 @@ func TestEmptyFoldersGo(t *testing.T) {
 			name   string
 			folder string
 			stays  bool
-		}{{"tile/0/000.p/1", "tile/0/000.p", true}, {"tile/0/000.p/2", "tile/0/000.p", false}, {"tile/0/000", "tile/0", false}, {"heads/1", "heads", true}} {
+		}{{"tile/0/000.p/1", "tile/0/000.p", true}, {"tile/0/000.p/2", "tile/0/000.p", false},
+			{"tile/0/000", "tile/0", false}, {"heads/1", "heads", true}} {
 			if err := objects.Delete(ctx, step.name); err != nil {
 				t.Fatal(err)
 			}
@@ -65,7 +67,8 @@ func TestPutsBesideDeletes(t *testing.T) {
 		go func(i int) {
 			defer all.Done()
 			for round := 0; round < 50; round++ {
-				going, staying := fmt.Sprintf("tile/0/%03d.p/going-%d", round, i), fmt.Sprintf("tile/0/%03d.p/%d", round, i)
+				going, staying := fmt.Sprintf("tile/0/%03d.p/going-%d", round, i),
+					fmt.Sprintf("tile/0/%03d.p/%d", round, i)
 				err := objects.Put(ctx, going, []byte(going))
 				if err == nil {
 					err = objects.Delete(ctx, going)

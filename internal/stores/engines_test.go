@@ -66,7 +66,8 @@ func openS3At(ctx context.Context, place string, conditional bool) (Objects, err
 	if err != nil {
 		return nil, err
 	}
-	return OpenS3(ctx, S3{Endpoint: at.Host, Bucket: place, Key: at.User.Username(), Secret: secret, Conditional: conditional})
+	return OpenS3(ctx, S3{Endpoint: at.Host, Bucket: place, Key: at.User.Username(), Secret: secret,
+		Conditional: conditional})
 }
 
 var objectStores = []implementation[Objects]{
@@ -194,7 +195,7 @@ func took(t *testing.T, what string, many int, since time.Time) {
 	t.Logf("%s: %d, %.2f ms each", what, many, float64(time.Since(since).Microseconds())/1000/float64(many))
 }
 
-// number gives the number at the end of a text that ends with " NUMBER".
+// number returns the number at the end of a text that ends with " NUMBER".
 func number(text string) (n int) {
 	fmt.Sscan(text[strings.LastIndexByte(text, ' ')+1:], &n)
 	return n

@@ -69,10 +69,11 @@ func eachBeside(ctx context.Context, n int, each func(ctx context.Context, from,
 
 // inEtcd keeps the register in two keys: the text, and the size and the timestamp of the published head.
 //
-// It asks of the cluster: transactions and reads are linearizable (reads are, unless they are said to be serializable, which
-// none here is), and what a majority acknowledged stays: members keep their data folders, and fsync is left on
-// (--unsafe-no-fsync isn't given). A restore from a backup sets the register back, and isn't to be done to a log. Old revisions, which nobody
-// reads, are compacted (--auto-compaction-retention): each swap and each place leaves one, and they fill the cluster's quota.
+// It asks of the cluster: transactions and reads are linearizable (reads are, unless they are said to be serializable,
+// which none here is), and what a majority acknowledged stays: members keep their data folders, and fsync is left on
+// (--unsafe-no-fsync isn't given). A restore from a backup sets the register back, and isn't to be done to a log. Old
+// revisions, which nobody reads, are compacted (--auto-compaction-retention): each swap and each place leaves one, and
+// they fill the cluster's quota.
 type inEtcd struct {
 	client     *members
 	text, head string
@@ -117,7 +118,9 @@ func (e *inEtcd) Create(ctx context.Context, text string) error {
 }
 
 func (e *inEtcd) get(ctx context.Context, key string) (string, error) {
-	answer, err := atMembers(ctx, e.client, func(ctx context.Context) (*clientv3.GetResponse, error) { return e.client.Get(ctx, key) })
+	answer, err := atMembers(ctx, e.client, func(ctx context.Context) (*clientv3.GetResponse, error) {
+		return e.client.Get(ctx, key)
+	})
 	if err != nil {
 		return "", fmt.Errorf("stores: etcd: read: %w", err)
 	}
@@ -135,7 +138,8 @@ func (e *inEtcd) Swap(ctx context.Context, old, new string) error {
 	}
 	// That no key is there is false of each comparison with a value.
 	answer, err := e.client.commit(ctx, func(swap clientv3.Txn) clientv3.Txn {
-		return swap.If(clientv3.Compare(clientv3.Value(e.text), "=", old)).Then(clientv3.OpPut(e.text, new)).Else(clientv3.OpGet(e.text))
+		return swap.If(clientv3.Compare(clientv3.Value(e.text), "=", old)).Then(clientv3.OpPut(e.text, new)).Else(
+			clientv3.OpGet(e.text))
 	})
 	if err != nil {
 		return sent("swap", err)
@@ -179,7 +183,8 @@ func (e *inEtcd) Raise(ctx context.Context, published Published) error {
 	head := headInOrder(published)
 	answer, err := e.client.commit(ctx, func(txn clientv3.Txn) clientv3.Txn {
 		// (of a key that isn't there each comparison of values is false)
-		raise := clientv3.OpTxn([]clientv3.Cmp{clientv3.Compare(clientv3.Value(e.head), "<", head)}, []clientv3.Op{clientv3.OpPut(e.head, head)}, nil)
+		raise := clientv3.OpTxn([]clientv3.Cmp{clientv3.Compare(clientv3.Value(e.head), "<", head)},
+			[]clientv3.Op{clientv3.OpPut(e.head, head)}, nil)
 		return txn.If(isAbsent(e.head)).Else(raise)
 	})
 	if err != nil {

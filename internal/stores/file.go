@@ -27,7 +27,8 @@ const (
 type file struct {
 	disk *disk
 	mu   sync.Mutex
-	// text and raised are what this process knows to be on the disk. (No text comes again, and what is published only rises.)
+	// text and raised are what this process knows to be on the disk. (No text comes again, and what is published only
+	// rises.)
 	text   string
 	raised Published
 }
@@ -71,7 +72,7 @@ func (f *file) locked(ctx context.Context, do func() error) error {
 	return do()
 }
 
-// raw gives a file's content, which may not be on the disk yet.
+// raw returns a file's content, which may not be on the disk yet.
 func (f *file) raw(name string) (string, error) {
 	content, err := os.ReadFile(f.path(name))
 	if errors.Is(err, fs.ErrNotExist) {
@@ -92,7 +93,7 @@ func (f *file) keep() error {
 	return nil
 }
 
-// readText gives the text, which is on the disk.
+// readText returns the text, which is on the disk.
 func (f *file) readText() (string, error) {
 	text, err := f.raw(textFile)
 	if err == nil {
@@ -145,8 +146,8 @@ func (f *file) knowRaised(published Published) {
 	f.raised = published
 }
 
-// set gives a file another content, which is on the disk before the file gets its name. Errors before that are plain; after it they are
-// ErrUnknown.
+// set returns a file another content, which is on the disk before the file gets its name. Errors before that are plain;
+// after it they are ErrUnknown.
 func (f *file) set(name, content string) error {
 	whole, err := f.disk.write([]byte(content))
 	if err != nil {
@@ -229,7 +230,8 @@ func (f *file) published() (p Published, err error) {
 	}
 	n, err := fmt.Sscanf(head, headForm, &p.Size, &p.Timestamp)
 	if n != 2 || err != nil || fmt.Sprintf(headForm, p.Size, p.Timestamp) != head {
-		return Published{}, fmt.Errorf("stores: register: %s has %.40q instead of the published head", f.path(headFile), head)
+		return Published{}, fmt.Errorf("stores: register: %s has %.40q instead of the published head",
+			f.path(headFile), head)
 	}
 	return p, nil
 }
@@ -237,7 +239,7 @@ func (f *file) published() (p Published, err error) {
 // headForm is how headFile has a size and a moment.
 const headForm = "%d %d"
 
-// created gives what is published of a register that was created; it need not be on the disk.
+// created returns what is published of a register that was created; it need not be on the disk.
 func (f *file) created() (Published, error) {
 	if _, err := f.raw(textFile); err != nil {
 		return Published{}, err

@@ -55,7 +55,8 @@ func (f *folder) Put(ctx context.Context, name string, content []byte) error {
 	for try := 0; errors.Is(err, fs.ErrNotExist) && try < maxMade; try++ {
 		f.disk.forget(filepath.Dir(path))
 		// (one that goes while it is made is said to exist)
-		if err := os.MkdirAll(filepath.Dir(path), 0o755); err != nil && !errors.Is(err, fs.ErrNotExist) && !errors.Is(err, fs.ErrExist) {
+		if err := os.MkdirAll(filepath.Dir(path), 0o755); err != nil && !errors.Is(err, fs.ErrNotExist) &&
+			!errors.Is(err, fs.ErrExist) {
 			return fmt.Errorf("stores: put %s: %w", name, err)
 		}
 		err = os.Link(whole, path)
@@ -93,7 +94,7 @@ func (f *folder) Get(ctx context.Context, name string, most int64) ([]byte, erro
 	return content, nil
 }
 
-// isNoFile says whether an error means that there is no file of this name: nothing, or a folder.
+// isNoFile reports whether an error means that there is no file of this name: nothing, or a folder.
 func isNoFile(err error) bool {
 	return errors.Is(err, fs.ErrNotExist) || errors.Is(err, syscall.ENOTDIR) || errors.Is(err, syscall.EISDIR)
 }

@@ -52,7 +52,8 @@ func keepFile(path string, content []byte, mode fs.FileMode) error {
 // halfKept is part of the names of temporary files that KeepFile and ShowFile have not renamed yet.
 const halfKept = ".writing-"
 
-// KeptFile reads what KeepFile or ShowFile wrote; ErrAbsent where there is no such file. It takes away what killed writers left beside it.
+// KeptFile reads what KeepFile or ShowFile wrote; ErrAbsent where there is no such file. It takes away what killed
+// writers left beside it.
 func KeptFile(path string) ([]byte, error) {
 	left, err := filepath.Glob(path + halfKept + "*")
 	for _, half := range left {

@@ -15,8 +15,8 @@ import (
 	"wagtenib/internal/trial"
 )
 
-// writer is a child process's work on a store: it makes write number i, and returns once that is acknowledged. Numbers that
-// were written before may be written again.
+// writer is a child process's work on a store: it makes write number i, and returns once that is acknowledged. Numbers
+// that were written before may be written again.
 type writer func(ctx context.Context, i int) error
 
 // killed is the environment variable with the task of a writer process: KIND IMPLEMENTATION PLACE FIRST.
@@ -34,7 +34,8 @@ func TestMain(m *testing.M) {
 func write(words []string) error {
 	ctx, cancel := context.WithTimeout(context.Background(), trial.Longest)
 	defer cancel()
-	make := map[string]func(context.Context, string, string) (writer, error){"objects": objectWriter, "register": registerWriter, "places": placeWriter}
+	make := map[string]func(context.Context, string, string) (writer, error){"objects": objectWriter,
+		"register": registerWriter, "places": placeWriter}
 	do, err := make[words[0]](ctx, words[1], words[2])
 	if err != nil {
 		return err
@@ -157,7 +158,8 @@ func TestRegisterOutlivesKills(t *testing.T) {
 				t.Fatalf("%q stands, %v, and %d was acknowledged", text, err, last)
 			}
 			published, err := register.Published(ctx)
-			if n := published.Size; err != nil || n != uint64(last) && n != uint64(last)+1 || published.Timestamp != 2*n {
+			if n := published.Size; err != nil || n != uint64(last) && n != uint64(last)+1 ||
+				published.Timestamp != 2*n {
 				t.Fatalf("%v is published, %v, and %d was acknowledged", published, err, last)
 			}
 		}

@@ -16,8 +16,8 @@ type outcome[T any] struct {
 	err   error
 }
 
-// within makes a call of lib/pq, which doesn't end with its context where the server is silent; this does. The call itself ends
-// with its connection, within waits.
+// within makes a call of lib/pq, which doesn't end with its context where the server is silent; this does. The call
+// itself ends with its connection, within waits.
 func within[T any](ctx context.Context, call func() (T, error)) (T, error) {
 	done := make(chan outcome[T], 1)
 	go func() {

@@ -34,7 +34,8 @@ func (n *noted) Write(from []byte) (int, error) {
 	return len(from), nil
 }
 
-// TestImpatientConnections: each read and each write of a connection to PostgreSQL has its own end, and none is made without one.
+// TestImpatientConnections: each read and each write of a connection to PostgreSQL has its own end, and none is made
+// without one.
 func TestImpatientConnections(t *testing.T) {
 	refused := errors.New("no deadline")
 	for name, call := range map[string]func(io.ReadWriter) (int, error){
@@ -75,7 +76,8 @@ func TestImpatientConnections(t *testing.T) {
 	}
 }
 
-// TestCallsOfPostgresEnd: a call that doesn't end by itself ends with its context, and one that does gives what it gave.
+// TestCallsOfPostgresEnd: a call that doesn't end by itself ends with its context, and one that does gives what it
+// gave.
 func TestCallsOfPostgresEnd(t *testing.T) {
 	broken := errors.New("broken")
 	if value, err := within(limited(t), func() (int, error) { return 7, broken }); value != 7 || err != broken {
@@ -85,7 +87,8 @@ func TestCallsOfPostgresEnd(t *testing.T) {
 	let := make(chan struct{})
 	defer close(let)
 	cancel()
-	if value, err := within(ctx, func() (int, error) { <-let; return 7, nil }); value != 0 || !errors.Is(err, context.Canceled) {
+	if value, err := within(ctx, func() (int, error) { <-let; return 7, nil }); value != 0 ||
+		!errors.Is(err, context.Canceled) {
 		t.Errorf("%d, %v", value, err)
 	}
 }

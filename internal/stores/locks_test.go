@@ -11,7 +11,8 @@ import (
 	"wagtenib/internal/trial"
 )
 
-// failingLocks is a library in C whose fcntl fails to unlock while a file is there: a file system of a network does, whose server is gone for a second.
+// failingLocks is a library in C whose fcntl fails to unlock while a file is there: a file system of a network does,
+// whose server is gone for a second.
 const failingLocks = `
 #define _GNU_SOURCE
 #include <dlfcn.h>
@@ -47,7 +48,8 @@ const (
 	failKey   = "LOCKS_FAIL"
 )
 
-// TestLocksThatFailForAWhile has the file system's locks fail for a while, and then work again: the dedup index must work again, too, without a new process.
+// TestLocksThatFailForAWhile has the file system's locks fail for a while, and then work again: the dedup index must
+// work again, too, without a new process.
 func TestLocksThatFailForAWhile(t *testing.T) {
 	if os.Getenv(lockedKey) != "" {
 		beLocked(t)
@@ -60,11 +62,13 @@ func TestLocksThatFailForAWhile(t *testing.T) {
 	folder := t.TempDir()
 	source, library := filepath.Join(folder, "locks.c"), filepath.Join(folder, "locks.so")
 	trial.Must(t, os.WriteFile(source, []byte(failingLocks), 0o600))
-	if said, err := exec.Command(compiler, "-shared", "-fPIC", "-o", library, source, "-ldl").CombinedOutput(); err != nil {
+	if said, err := exec.Command(compiler, "-shared", "-fPIC", "-o", library, source,
+		"-ldl").CombinedOutput(); err != nil {
 		t.Fatalf("%v: %s", err, said)
 	}
 	child := exec.Command(os.Args[0], "-test.run=^TestLocksThatFailForAWhile$", "-test.v", "-test.timeout=10m")
-	child.Env = append(os.Environ(), "LD_PRELOAD="+library, lockedKey+"="+filepath.Join(folder, "places.db"), failKey+"="+filepath.Join(folder, "fails"))
+	child.Env = append(os.Environ(), "LD_PRELOAD="+library, lockedKey+"="+filepath.Join(folder, "places.db"), failKey+
+		"="+filepath.Join(folder, "fails"))
 	said, err := child.CombinedOutput()
 	if err != nil || !strings.Contains(string(said), "a lock failed") {
 		t.Errorf("%v: %s", err, said)

@@ -9,8 +9,8 @@ import (
 // ErrSameMachine: a store is on this machine, so that what it says of the time this machine's own clock says.
 var ErrSameMachine = errors.New("stores: the clock is this machine's")
 
-// isElsewhere says whether a store that answers from one address, as it or who asks sees it, is on another machine than who asks from the
-// other one. No address is one of this machine's sockets.
+// isElsewhere reports whether a store that answers from one address, as it or who asks sees it, is on another machine
+// than who asks from the other one. No address is one of this machine's sockets.
 func isElsewhere(store, here string) bool {
 	at, err := netip.ParseAddr(store)
 	if err != nil || store == here {
@@ -32,7 +32,7 @@ func isElsewhere(store, here string) bool {
 	return true
 }
 
-// IsElsewhere says whether who answers over a connection is on another machine.
+// IsElsewhere reports whether who answers over a connection is on another machine.
 func IsElsewhere(over net.Conn) bool {
 	return isElsewhere(hostOf(over.RemoteAddr()), hostOf(over.LocalAddr()))
 }

@@ -5,10 +5,12 @@ import (
 	"testing"
 )
 
-// TestElsewhere: a store is on another machine where neither its address is one of this machine's, nor who asks has the same.
+// TestElsewhere: a store is on another machine where neither its address is one of this machine's, nor who asks has the
+// same.
 func TestElsewhere(t *testing.T) {
 	for store, here := range map[string]string{
-		"": "", "203.0.113.1": "203.0.113.1", "127.0.0.1": "127.0.0.1", "127.0.0.9": "192.0.2.1", "::1": "::1", "::ffff:127.0.0.1": "192.0.2.1", "0.0.0.0": "192.0.2.1", "no address": "192.0.2.1",
+		"": "", "203.0.113.1": "203.0.113.1", "127.0.0.1": "127.0.0.1", "127.0.0.9": "192.0.2.1", "::1": "::1",
+		"::ffff:127.0.0.1": "192.0.2.1", "0.0.0.0": "192.0.2.1", "no address": "192.0.2.1",
 	} {
 		if isElsewhere(store, here) {
 			t.Errorf("%q, asked from %q, is on another machine", store, here)
@@ -23,12 +25,14 @@ func TestElsewhere(t *testing.T) {
 			t.Errorf("%s is this machine's", address)
 		}
 	}
-	for store, here := range map[string]string{"203.0.113.1": "203.0.113.2", "2001:db8::1": "2001:db8::2", "::ffff:203.0.113.1": "203.0.113.2", "203.0.113.9": ""} {
+	for store, here := range map[string]string{"203.0.113.1": "203.0.113.2", "2001:db8::1": "2001:db8::2",
+		"::ffff:203.0.113.1": "203.0.113.2", "203.0.113.9": ""} {
 		if !isElsewhere(store, here) {
 			t.Errorf("%q, asked from %q, is on this machine", store, here)
 		}
 	}
-	for end, host := range map[net.Addr]string{&net.TCPAddr{IP: net.IPv4(203, 0, 113, 1), Port: 1}: "203.0.113.1", &net.UnixAddr{Name: "socket"}: ""} {
+	for end, host := range map[net.Addr]string{&net.TCPAddr{IP: net.IPv4(203, 0, 113, 1), Port: 1}: "203.0.113.1",
+		&net.UnixAddr{Name: "socket"}: ""} {
 		if got := hostOf(end); got != host {
 			t.Errorf("%v is at %q", end, got)
 		}

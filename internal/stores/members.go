@@ -10,15 +10,17 @@ import (
 	"go.etcd.io/etcd/client/v3"
 )
 
-// A member of etcd that its peers can't reach takes calls, and answers none of them while that lasts: a call has maxCall there, and is then made
-// at the next member. The last of maxCalls has all that the caller's context leaves, for a cluster that is slow and whole.
+// A member of etcd that its peers can't reach takes calls, and answers none of them while that lasts: a call has
+// maxCall there, and is then made at the next member. The last of maxCalls has all that the caller's context leaves,
+// for a cluster that is slow and whole.
 const (
 	maxCall  = 1500 * time.Millisecond
 	maxCalls = 5
 )
 
 const (
-	// maxStatus is how long a member has to say whether it knows a leader, and looksAfter how far two such looks are apart at least.
+	// maxStatus is how long a member has to say whether it knows a leader, and looksAfter how far two such looks are
+	// apart at least.
 	maxStatus  = 750 * time.Millisecond
 	looksAfter = time.Second
 	// leftOutFor is how long a member that knew no leader isn't asked, at least.
@@ -41,10 +43,11 @@ func newMembers(client *clientv3.Client) *members {
 	return &members{Client: client, all: client.Endpoints(), leftOutFor: leftOutFor}
 }
 
-// isDenied says whether an error is etcd's word that a write wasn't done, and won't be at another member.
+// isDenied reports whether an error is etcd's word that a write wasn't done, and won't be at another member.
 func isDenied(err error) bool {
 	var said rpctypes.EtcdError
-	return errors.As(err, &said) && (said == rpctypes.ErrNoSpace || said == rpctypes.ErrRequestTooLarge || said == rpctypes.ErrTooManyOps)
+	return errors.As(err, &said) && (said == rpctypes.ErrNoSpace || said == rpctypes.ErrRequestTooLarge ||
+		said == rpctypes.ErrTooManyOps)
 }
 
 // atMembers makes a call that may be made more than once, until it is answered.
@@ -72,7 +75,9 @@ func atMembers[T any](ctx context.Context, m *members, call func(context.Context
 
 // commit makes a transaction that may be made more than once.
 func (m *members) commit(ctx context.Context, made func(clientv3.Txn) clientv3.Txn) (*clientv3.TxnResponse, error) {
-	return atMembers(ctx, m, func(ctx context.Context) (*clientv3.TxnResponse, error) { return made(m.Txn(ctx)).Commit() })
+	return atMembers(ctx, m, func(ctx context.Context) (*clientv3.TxnResponse, error) {
+		return made(m.Txn(ctx)).Commit()
+	})
 }
 
 // leaveOut looks for members to leave out after a failed call.

@@ -79,7 +79,8 @@ func TestPartedMember(t *testing.T) {
 	defer opened.Close()
 	register := opened.(*inEtcd)
 	register.client.leftOutFor = time.Hour
-	// (connections to both are made in a while of the client's own, and a whole member that says late that it knows a leader has none left out yet)
+	// (connections to both are made in a while of the client's own, and a whole member that says late that it knows a
+	// leader has none left out yet)
 	for parted.calls.Load() == 0 || len(register.client.Endpoints()) != 1 {
 		if text, err := register.Read(limited(t)); err != nil || text != "text" {
 			t.Fatalf("read: %q, %v", text, err)
@@ -136,7 +137,8 @@ func TestDeniedByMember(t *testing.T) {
 	must(t, err)
 	defer opened.Close()
 	lost := errors.New("the connection is lost")
-	for _, gives := range [][]error{{rpctypes.ErrNoSpace}, {lost, rpctypes.ErrNoSpace}, {lost, lost, rpctypes.ErrTooManyOps}} {
+	for _, gives := range [][]error{{rpctypes.ErrNoSpace}, {lost, rpctypes.ErrNoSpace},
+		{lost, lost, rpctypes.ErrTooManyOps}} {
 		calls := 0
 		_, err = atMembers(limited(t), opened.(*inEtcd).client, func(context.Context) (int, error) {
 			calls++

@@ -11,7 +11,7 @@ const (
 	maxParts = 16
 )
 
-// checkName says whether a name is of the form that Objects states.
+// checkName reports whether a name is of the form that Objects states.
 func checkName(name string) error {
 	if len(name) > maxName {
 		return fmt.Errorf("%w: of %d bytes", ErrName, len(name))

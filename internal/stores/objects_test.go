@@ -22,11 +22,13 @@ func TestObjectsHaveOneContent(t *testing.T) {
 		if _, err := store.Get(ctx, "tile/0/000", manyBytes); !errors.Is(err, ErrAbsent) {
 			t.Fatalf("Get before Put: %v", err)
 		}
-		contents := map[string][]byte{"tile/0/000": {}, "tile/0/000.p/1": {0}, "staging/x": bytes.Repeat([]byte("0123456789abcdef"), manyBytes/16)}
+		contents := map[string][]byte{"tile/0/000": {}, "tile/0/000.p/1": {0},
+			"staging/x": bytes.Repeat([]byte("0123456789abcdef"), manyBytes/16)}
 		for name, content := range contents {
 			must(t, store.Put(ctx, name, content))
 			must(t, store.Put(ctx, name, content))
-			for _, other := range [][]byte{append([]byte{1}, content...), append(content[:len(content):len(content)], 1), {9, 9, 9}} {
+			for _, other := range [][]byte{append([]byte{1}, content...),
+				append(content[:len(content):len(content)], 1), {9, 9, 9}} {
 				if err := store.Put(ctx, name, other); !errors.Is(err, ErrOther) {
 					t.Errorf("Put of %d other bytes over %d: %v", len(other), len(content), err)
 				}
@@ -64,8 +66,10 @@ func TestObjectsHaveOneContent(t *testing.T) {
 
 // wrongNames are refused by every call.
 var wrongNames = []string{
-	"", "/", ".", "..", "/a", "a/", "a//b", "../a", "a/../b", "a/..", "a/./b", ".a", "a/.b", ".writing/file-1", "a\x00b", "a\nb", "a b",
-	"a\\b", "a:b", "a%2fb", "a*", "~", "ä", "a\xff", strings.Repeat("a", maxName+1), strings.Repeat("a/", maxParts) + "a",
+	"", "/", ".", "..", "/a", "a/", "a//b", "../a", "a/../b", "a/..", "a/./b", ".a", "a/.b", ".writing/file-1",
+	"a\x00b", "a\nb", "a b",
+	"a\\b", "a:b", "a%2fb", "a*", "~", "ä", "a\xff", strings.Repeat("a", maxName+1),
+	strings.Repeat("a/", maxParts) + "a",
 }
 
 func TestObjectsRefuseWrongNames(t *testing.T) {
@@ -106,7 +110,8 @@ func TestObjectsAreListedInOrder(t *testing.T) {
 	eachOf(t, objectStores, func(t *testing.T, at tried[Objects]) {
 		store, ctx := at.opened(t), limited(t)
 		// If other bytes than a slash are in names, the order of names differs from that of folders.
-		names := []string{"h/a-b", "h/a.b", "h/a/c", "h/a/c-d/e", "h/a/d/e", "h/a0", "h/ab/c", "h/A", "h/_", "h/0", "h/00", "h/z/z/z/z", "i/a", "g"}
+		names := []string{"h/a-b", "h/a.b", "h/a/c", "h/a/c-d/e", "h/a/d/e", "h/a0", "h/ab/c", "h/A", "h/_", "h/0",
+			"h/00", "h/z/z/z/z", "i/a", "g"}
 		sort.Strings(names)
 		for _, name := range names {
 			must(t, store.Put(ctx, name, []byte(name)))

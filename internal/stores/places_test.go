@@ -131,8 +131,8 @@ func TestPlacesHaveBounds(t *testing.T) {
 	})
 }
 
-// TestPlacesOfManyAtOnce has 16 add the same identities at other places, in other orders: each keeps one that was said, and
-// the same for all readers from the first on.
+// TestPlacesOfManyAtOnce has 16 add the same identities at other places, in other orders: each keeps one that was said,
+// and the same for all readers from the first on.
 func TestPlacesOfManyAtOnce(t *testing.T) {
 	eachOf(t, placeStores, func(t *testing.T, at tried[Places]) {
 		stores, ctx := []Places{at.opened(t), at.opened(t)}, limited(t)
@@ -189,7 +189,8 @@ func TestLeavesAreApart(t *testing.T) {
 		must(t, leaves.Add(limited(t), []Placed{other, placed(3)}))
 		asked := []Identity{identity(1), identity(2), identity(3)}
 		finds(t, store, asked, map[Identity]Place{identity(1): placed(1).Place, identity(2): placed(2).Place})
-		finds(t, at.opened(t).Leaves(), asked, map[Identity]Place{identity(2): other.Place, identity(3): placed(3).Place})
+		finds(t, at.opened(t).Leaves(), asked, map[Identity]Place{identity(2): other.Place,
+			identity(3): placed(3).Place})
 	})
 }
 
@@ -307,7 +308,8 @@ func TestSQLiteTurnEndsWithItsContext(t *testing.T) {
 	must(t, store.Add(ctx, []Placed{placed(1)}))
 }
 
-// TestSQLiteSyncs: each commit goes to the disk, in the mode in which it has to be asked for (PRAGMA synchronous is 2, FULL).
+// TestSQLiteSyncs: each commit goes to the disk, in the mode in which it has to be asked for (PRAGMA synchronous is 2,
+// FULL).
 func TestSQLiteSyncs(t *testing.T) {
 	places, err := OpenSQLite(limited(t), filepath.Join(t.TempDir(), "places"))
 	must(t, err)

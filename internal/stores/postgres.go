@@ -50,8 +50,8 @@ func (at Postgres) open(ctx context.Context) (*sql.DB, error) {
 const sessions = `set lock_timeout = '10s'; set statement_timeout = 0;
 select set_config('synchronous_commit', 'on', false) where current_setting('synchronous_commit') <> 'remote_apply'`
 
-// brief opens sessions that don't wait for long for a row that another one has locked. Whose commit waits for a standby has it locked, and
-// the server forgets no session that waits for him.
+// brief opens sessions that don't wait for long for a row that another one has locked. Whose commit waits for a standby
+// has it locked, and the server forgets no session that waits for him.
 type brief struct{ driver.Connector }
 
 func (b brief) Connect(ctx context.Context) (driver.Conn, error) {
@@ -75,7 +75,8 @@ func prepare(ctx context.Context, db *sql.DB) error {
 	for _, setting := range []string{"fsync", "full_page_writes", "synchronous_commit"} {
 		var value string
 		// (what a session would have that sets nothing itself)
-		if err := db.QueryRowContext(ctx, "select reset_val from pg_settings where name = $1", setting).Scan(&value); err != nil {
+		if err := db.QueryRowContext(ctx, "select reset_val from pg_settings where name = $1",
+			setting).Scan(&value); err != nil {
 			return fmt.Errorf("stores: PostgreSQL: %w", err)
 		}
 		if value == "off" {
@@ -113,7 +114,8 @@ func timeOf(ctx context.Context, db *sql.DB) (time.Time, time.Duration, error) {
 		server, here string
 	}
 	one, err := within(ctx, func() (one told, err error) {
-		err = db.QueryRowContext(ctx, "select clock_timestamp(), coalesce(host(inet_server_addr()), ''), coalesce(host(inet_client_addr()), '')").Scan(&one.at, &one.server, &one.here)
+		err = db.QueryRowContext(ctx, "select clock_timestamp(), coalesce(host(inet_server_addr()), ''), "+
+			"coalesce(host(inet_client_addr()), '')").Scan(&one.at, &one.server, &one.here)
 		return one, err
 	})
 	if err != nil {
@@ -138,15 +140,17 @@ func (p *placesInPostgres) Time(ctx context.Context) (time.Time, time.Duration, 
 // written wraps the error of a write: unless the server says that it refused it, it may have been done.
 func written(what string, err error) error {
 	var said *pq.Error
-	if errors.As(err, &said) && (said.Code.Class() == "22" || said.Code.Class() == "23" || said.Code.Class() == "40" || said.Code.Class() == "53") {
+	if errors.As(err, &said) && (said.Code.Class() == "22" || said.Code.Class() == "23" || said.Code.Class() == "40" ||
+		said.Code.Class() == "53") {
 		return fmt.Errorf("stores: PostgreSQL: %s: %w", what, err)
 	}
 	return fmt.Errorf("%w: PostgreSQL: %s: %v", ErrUnknown, what, err)
 }
 
-// uncancelled makes a write, and says how many rows it changed. It goes over one connection: the pool itself would make a write
-// again on another where the first broke, and would so tell a swap that was done that it lost. The end of the context ends the call, and
-// doesn't cancel the write: the server would end its commit's wait for a standby by that, show it, and acknowledge it.
+// uncancelled makes a write, and says how many rows it changed. It goes over one connection: the pool itself would make
+// a write again on another where the first broke, and would so tell a swap that was done that it lost. The end of the
+// context ends the call, and doesn't cancel the write: the server would end its commit's wait for a standby by that,
+// show it, and acknowledge it.
 func uncancelled(ctx context.Context, db *sql.DB, statement string, values ...any) (int64, error) {
 	return within(ctx, func() (int64, error) {
 		connection, err := db.Conn(ctx)
@@ -175,7 +179,9 @@ func (p *inPostgres) Create(ctx context.Context, text string) error {
 	if err := checkText(text); err != nil {
 		return err
 	}
-	done, err := p.changed(ctx, "create", "insert into ct_register (log, text, published, moment) values ($1, $2, 0, 0) on conflict do nothing", p.log, []byte(text))
+	done, err := p.changed(ctx, "create",
+		"insert into ct_register (log, text, published, moment) values ($1, $2, 0, 0) on conflict do nothing",
+		p.log, []byte(text))
 	if err == nil && !done {
 		return ErrExists
 	}
@@ -213,7 +219,8 @@ func (p *inPostgres) Swap(ctx context.Context, old, new string) error {
 	if err := checkText(old, new); err != nil {
 		return err
 	}
-	done, err := p.changed(ctx, "swap", "update ct_register set text = $3 where log = $1 and text = $2", p.log, []byte(old), []byte(new))
+	done, err := p.changed(ctx, "swap", "update ct_register set text = $3 where log = $1 and text = $2", p.log,
+		[]byte(old), []byte(new))
 	if err != nil || done {
 		return err
 	}
@@ -319,13 +326,15 @@ func (p *placesInPostgres) add(ctx context.Context, placed []Placed, what, onCon
 	if err != nil || len(placed) == 0 {
 		return err
 	}
-	identities, indexes, timestamps := make(pq.ByteaArray, len(placed)), make(pq.Int64Array, len(placed)), make(pq.Int64Array, len(placed))
+	identities, indexes, timestamps := make(pq.ByteaArray, len(placed)), make(pq.Int64Array, len(placed)),
+		make(pq.Int64Array, len(placed))
 	for i := range placed {
 		identities[i] = placed[i].Identity[:]
 		indexes[i], timestamps[i] = int64(placed[i].Place.Index), int64(placed[i].Place.Timestamp)
 	}
 	// In the order of identities, so that of two such calls neither waits for the other.
-	add := "insert into " + p.table + ` select $1, i, n, t from unnest($2::bytea[], $3::bigint[], $4::bigint[]) as u(i, n, t) order by i on conflict (log, identity) do ` + onConflict
+	add := "insert into " + p.table +
+		` select $1, i, n, t from unnest($2::bytea[], $3::bigint[], $4::bigint[]) as u(i, n, t) order by i on conflict (log, identity) do ` + onConflict
 	if _, err = uncancelled(ctx, p.db, add, p.log, identities, indexes, timestamps); err != nil {
 		return fmt.Errorf("stores: PostgreSQL: %s: %w", what, err)
 	}

@@ -44,7 +44,8 @@ func TestRegisterIsCreatedOnce(t *testing.T) {
 		register, ctx := at.opened(t), limited(t)
 		_, reading := register.Read(ctx)
 		_, asking := register.Published(ctx)
-		for what, err := range map[string]error{"Read": reading, "Published": asking, "Swap": register.Swap(ctx, "a", "b"), "Raise": register.Raise(ctx, Published{Size: 1})} {
+		for what, err := range map[string]error{"Read": reading, "Published": asking,
+			"Swap": register.Swap(ctx, "a", "b"), "Raise": register.Raise(ctx, Published{Size: 1})} {
 			if !errors.Is(err, ErrAbsent) {
 				t.Errorf("%s before Create: %v", what, err)
 			}
@@ -102,7 +103,8 @@ func TestFileWhoseTextIsLost(t *testing.T) {
 		if err == nil || errors.Is(err, ErrAbsent) || !strings.Contains(err.Error(), filepath.Join(root, headFile)) {
 			t.Errorf("Raise over %s: %v", what, err)
 		}
-		if _, err := register.Published(ctx); err == nil || !strings.Contains(err.Error(), filepath.Join(root, headFile)) {
+		if _, err := register.Published(ctx); err == nil || !strings.Contains(err.Error(),
+			filepath.Join(root, headFile)) {
 			t.Errorf("Published over %s: %v", what, err)
 		}
 	}
@@ -378,7 +380,8 @@ func TestRegisterEndsWithItsContext(t *testing.T) {
 		cancel()
 		_, reading := register.Read(ended)
 		_, asking := register.Published(ended)
-		calls := map[string]error{"Read": reading, "Published": asking, "Raise": register.Raise(ended, Published{Size: 1}), "Swap": register.Swap(ended, "text", "other")}
+		calls := map[string]error{"Read": reading, "Published": asking,
+			"Raise": register.Raise(ended, Published{Size: 1}), "Swap": register.Swap(ended, "text", "other")}
 		for what, err := range calls {
 			if err == nil || errors.Is(err, ErrLost) || errors.Is(err, ErrAbsent) {
 				t.Errorf("%s: %v", what, err)

@@ -27,7 +27,7 @@ type S3 struct {
 	Region string
 	// Key and Secret are the credentials.
 	Key, Secret string
-	// TLS says whether the endpoint is asked over TLS.
+	// TLS reports whether the endpoint is asked over TLS.
 	TLS bool
 	// Conditional says that the engine has conditional puts (If-None-Match: *), so that of two calls at once one wins. It is
 	// tried when the bucket is opened. Without it each Put reads before it puts.
@@ -163,7 +163,7 @@ func (b *bucket) tryConditions(ctx context.Context) error {
 	return nil
 }
 
-// isRefused says whether an error is the refusal of a conditional put.
+// isRefused reports whether an error is the refusal of a conditional put.
 func isRefused(err error) bool {
 	return minio.ToErrorResponse(err).StatusCode == http.StatusPreconditionFailed
 }

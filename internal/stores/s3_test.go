@@ -54,7 +54,8 @@ func TestS3LosesAnswers(t *testing.T) {
 			if err := store.Put(limited(t), objectName(i), []byte("another")); !errors.Is(err, ErrOther) {
 				t.Errorf("conditional %t: another content: %v", conditional, err)
 			}
-			if got, err := store.Get(limited(t), objectName(i), manyBytes); err != nil || string(got) != string(objectContent(i)) {
+			if got, err := store.Get(limited(t), objectName(i), manyBytes); err != nil ||
+				string(got) != string(objectContent(i)) {
 				t.Errorf("conditional %t: %d bytes, %v", conditional, len(got), err)
 			}
 		}
@@ -95,8 +96,9 @@ func TestS3SaysNoLength(t *testing.T) {
 	}
 }
 
-// TestS3AcknowledgesAtOnce: a gateway that sends an answer's headers, and its body once these are acknowledged, isn't kept waiting for the 40 ms by which
-// Linux puts acknowledgements off. The quickest of many answers over one connection says so, whatever else the machine does.
+// TestS3AcknowledgesAtOnce: a gateway that sends an answer's headers, and its body once these are acknowledged, isn't
+// kept waiting for the 40 ms by which Linux puts acknowledgements off. The quickest of many answers over one connection
+// says so, whatever else the machine does.
 func TestS3AcknowledgesAtOnce(t *testing.T) {
 	const later, many, delay = 100, 120, 40 * time.Millisecond
 	listener, err := net.Listen("tcp", "127.0.0.1:0")
@@ -119,7 +121,8 @@ func TestS3AcknowledgesAtOnce(t *testing.T) {
 					if err != nil {
 						return
 					}
-					for _, part := range []string{"HTTP/1.1 200 OK\r\nLast-Modified: Thu, 01 Jan 2026 00:00:00 GMT\r\nContent-Length: 7\r\n\r\n", "content"} {
+					for _, part := range []string{"HTTP/1.1 200 OK\r\nLast-Modified: Thu, 01 Jan 2026 00:00:00 " +
+						"GMT\r\nContent-Length: 7\r\n\r\n", "content"} {
 						if _, err := io.WriteString(connection, part); err != nil {
 							return
 						}
@@ -149,8 +152,8 @@ func TestS3AcknowledgesAtOnce(t *testing.T) {
 	}
 }
 
-// TestS3SaysTheTime: a bucket's time is the Date of an answer, also of a refusal; without one there is none. A server on this machine is known as
-// such.
+// TestS3SaysTheTime: a bucket's time is the Date of an answer, also of a refusal; without one there is none. A server
+// on this machine is known as such.
 func TestS3SaysTheTime(t *testing.T) {
 	const said = "Sun, 06 Nov 1994 08:49:37 GMT"
 	var date string
@@ -167,7 +170,8 @@ func TestS3SaysTheTime(t *testing.T) {
 	must(t, err)
 	date = said
 	for _, status = range []int{http.StatusOK, http.StatusForbidden} {
-		if at, within, err := store.(Timed).Time(limited(t)); !errors.Is(err, ErrSameMachine) || within != time.Second || at.UTC().Format(http.TimeFormat) != said {
+		if at, within, err := store.(Timed).Time(limited(t)); !errors.Is(err, ErrSameMachine) ||
+			within != time.Second || at.UTC().Format(http.TimeFormat) != said {
 			t.Errorf("status %d: %v, %v, %v", status, at, within, err)
 		}
 	}
@@ -202,12 +206,15 @@ func TestPostgresSaysTheTime(t *testing.T) {
 	}
 }
 
-// TestPostgresSessions: whatever the server or the address says, a session of a store's waits for the standby's disk, and no timeout ends that.
+// TestPostgresSessions: whatever the server or the address says, a session of a store's waits for the standby's disk,
+// and no timeout ends that.
 func TestPostgresSessions(t *testing.T) {
 	if why := wants(postgresURL, "postgresql"); why != "" {
 		t.Skip(why)
 	}
-	for said, due := range map[string]string{"": "on", "synchronous_commit=local": "on", "synchronous_commit=remote_write": "on", "synchronous_commit=remote_apply": "remote_apply", "statement_timeout=5000": "on"} {
+	for said, due := range map[string]string{"": "on", "synchronous_commit=local": "on",
+		"synchronous_commit=remote_write": "on", "synchronous_commit=remote_apply": "remote_apply",
+		"statement_timeout=5000": "on"} {
 		register, err := OpenPostgres(limited(t), Postgres{postgresURL + " " + said, "sessions"})
 		must(t, err)
 		defer register.Close()
@@ -216,7 +223,9 @@ func TestPostgresSessions(t *testing.T) {
 		defer places.Close()
 		for _, db := range []*sql.DB{register.(*inPostgres).db, places.(*placesInPostgres).db} {
 			var commit, timeout string
-			must(t, db.QueryRowContext(limited(t), "select current_setting('synchronous_commit'), current_setting('statement_timeout')").Scan(&commit, &timeout))
+			must(t, db.QueryRowContext(limited(t),
+				"select current_setting('synchronous_commit'), current_setting('statement_timeout')").Scan(
+				&commit, &timeout))
 			if commit != due || timeout != "0" {
 				t.Errorf("%q: synchronous_commit is %s, statement_timeout %s", said, commit, timeout)
 			}
@@ -237,8 +246,8 @@ func TestPostgresThatKeepsNothing(t *testing.T) {
 	}
 }
 
-// TestPostgresWithoutItsStandby has PostgreSQL wait for a standby that isn't there: a swap whose caller goes meanwhile is of unknown outcome,
-// nobody reads its text, and it is done once the server waits no more.
+// TestPostgresWithoutItsStandby has PostgreSQL wait for a standby that isn't there: a swap whose caller goes meanwhile
+// is of unknown outcome, nobody reads its text, and it is done once the server waits no more.
 func TestPostgresWithoutItsStandby(t *testing.T) {
 	if why := wants(postgresURL, "postgresql"); why != "" {
 		t.Skip(why)
@@ -277,7 +286,8 @@ func TestPostgresWithoutItsStandby(t *testing.T) {
 		if must(t, all.Err()); !errors.Is(err, ErrUnknown) && !errors.Is(err, context.DeadlineExceeded) {
 			t.Fatal(err)
 		}
-		must(t, server.QueryRowContext(all, "select count(*) > 0 from pg_stat_activity where wait_event = 'SyncRep'").Scan(&waits))
+		must(t, server.QueryRowContext(all,
+			"select count(*) > 0 from pg_stat_activity where wait_event = 'SyncRep'").Scan(&waits))
 	}
 	for i := 0; i < 3; i++ {
 		if text, err := register.Read(limited(t)); err != nil || text != fmt.Sprint(stands) {

@@ -8,8 +8,9 @@ import (
 	"strings"
 )
 
-// RegisterOf opens one of several registers at an address, as RegisterAt has them: each name has its own, below the path or the prefix, or
-// beside PostgreSQL's name. Names are whatever they are; a register's place is named by SHA-256 of it.
+// RegisterOf opens one of several registers at an address, as RegisterAt has them: each name has its own, below the
+// path or the prefix, or beside PostgreSQL's name. Names are whatever they are; a register's place is named by SHA-256
+// of it.
 func RegisterOf(ctx context.Context, address, name string) (Register, error) {
 	own, err := addressOf(address, name)
 	if err != nil {
@@ -30,7 +31,8 @@ func addressOf(address, name string) (string, error) {
 	u, query, err := parsed(address, kind)
 	switch {
 	case kind != "etcd" && kind != "postgres" && kind != "postgresql":
-		return "", fmt.Errorf("%w: a register is at file:PATH, etcd://.. or postgres://.., not at %.20q", ErrAddress, kind)
+		return "", fmt.Errorf("%w: a register is at file:PATH, etcd://.. or postgres://.., not at %.20q",
+			ErrAddress, kind)
 	case err != nil:
 		return "", err
 	case kind == "etcd":

@@ -41,7 +41,8 @@ func TestSeveralRegisters(t *testing.T) {
 			t.Errorf("%s: %s, %v", test.address, own, err)
 		}
 	}
-	for _, address := range []string{"file:", "etcd://h:1", "etcd:///w", "postgres://h/d", "postgres://h/d?log=a&log=b", "s3://h/b", "x", ""} {
+	for _, address := range []string{"file:", "etcd://h:1", "etcd:///w", "postgres://h/d", "postgres://h/d?log=a&log=b",
+		"s3://h/b", "x", ""} {
 		if _, err := RegisterOf(ctx, address, "x"); !errors.Is(err, ErrAddress) {
 			t.Errorf("%q: %v", address, err)
 		}

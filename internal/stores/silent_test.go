@@ -16,7 +16,8 @@ var pause = os.Getenv("STORES_PAUSE")
 // paused is how long an engine is stopped.
 const paused = "4"
 
-// stop stops an engine, makes calls of a second until one fails, and gives that one's error; nil where the engine went on before.
+// stop stops an engine, makes calls of a second until one fails, and gives that one's error; nil where the engine went
+// on before.
 func stop(t *testing.T, engine string, call func(ctx context.Context) error) (err error) {
 	t.Helper()
 	all := processes[engine]
@@ -38,8 +39,8 @@ func stop(t *testing.T, engine string, call func(ctx context.Context) error) (er
 	return err
 }
 
-// whilePaused makes a call of a second on an engine that is stopped: it ends with its context, before the engine goes on, and says so. Once that goes
-// on, the call is made again until it is done.
+// whilePaused makes a call of a second on an engine that is stopped: it ends with its context, before the engine goes
+// on, and says so. Once that goes on, the call is made again until it is done.
 func whilePaused(t *testing.T, engine string, call func(ctx context.Context) error) {
 	t.Helper()
 	must(t, call(limited(t)))
@@ -74,7 +75,11 @@ func TestSilentEngines(t *testing.T) {
 	inTurn(t, identityStores, func(t *testing.T, at tried[Places]) {
 		store := at.opened(t)
 		whilePaused(t, at.name, func(ctx context.Context) error { return store.Add(ctx, []Placed{placed(1)}) })
-		whilePaused(t, at.name, func(ctx context.Context) error { _, err := store.Find(ctx, []Identity{identity(1)}); return err })
+		whilePaused(t, at.name, func(ctx context.Context) error {
+			_,
+				err := store.Find(ctx, []Identity{identity(1)})
+			return err
+		})
 	})
 	inTurn(t, objectStores, func(t *testing.T, at tried[Objects]) {
 		store := at.opened(t)

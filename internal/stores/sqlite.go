@@ -19,8 +19,8 @@ const maxVariables = 500
 
 // inSQLite keeps a row for each identity in a file. Several processes may use it at once, on one machine.
 //
-// It asks of the file system what SQLite does (locks that exclude, fsync that keeps). The write-ahead log is synced at each
-// commit (synchronous=FULL): in that mode NORMAL would lose the last commits when power fails.
+// It asks of the file system what SQLite does (locks that exclude, fsync that keeps). The write-ahead log is synced at
+// each commit (synchronous=FULL): in that mode NORMAL would lose the last commits when power fails.
 type inSQLite struct {
 	*database
 	// table is places, or leaves.
@@ -69,14 +69,15 @@ func (d *database) close() error {
 	return d.db.Close()
 }
 
-// isBroken reports whether SQLite may be left with a lock that it believes it has, or doesn't have: a file system that fails a lock or an unlock leaves it so for as
-// long as this process has the file open.
+// isBroken reports whether SQLite may be left with a lock that it believes it has, or doesn't have: a file system that
+// fails a lock or an unlock leaves it so for as long as this process has the file open.
 func isBroken(err error) bool {
 	var said sqlite3.Error
 	return errors.As(err, &said) && (said.Code == sqlite3.ErrProtocol || said.Code == sqlite3.ErrIoErr)
 }
 
-// maxCached is how many KiB of the file each connection remembers: the upper pages of a log of 10^8 entries. (By itself it remembers 2 MB.)
+// maxCached is how many KiB of the file each connection remembers: the upper pages of a log of 10^8 entries. (By itself
+// it remembers 2 MB.)
 const maxCached = 16 << 10
 
 // OpenSQLite opens the places in a file, and makes it where it isn't there.
@@ -88,7 +89,8 @@ func OpenSQLite(ctx context.Context, path string) (Places, error) {
 	if err := MakeFolder(filepath.Dir(path)); err != nil {
 		return nil, err
 	}
-	settings := url.Values{"_journal_mode": {"WAL"}, "_synchronous": {"FULL"}, "_cache_size": {fmt.Sprint(-maxCached)}, "_busy_timeout": {"50"}, "_txlock": {"immediate"}}
+	settings := url.Values{"_journal_mode": {"WAL"}, "_synchronous": {"FULL"}, "_cache_size": {fmt.Sprint(-maxCached)},
+		"_busy_timeout": {"50"}, "_txlock": {"immediate"}}
 	source := url.URL{Scheme: "file", Path: path, RawQuery: settings.Encode()}
 	of := &database{source: source.String()}
 	if err := of.open(); err != nil {
@@ -96,7 +98,8 @@ func OpenSQLite(ctx context.Context, path string) (Places, error) {
 	}
 	err = of.unlessBusy(ctx, "table", func(db *sql.DB) error {
 		for _, table := range []string{"places", "leaves"} {
-			if _, err := db.ExecContext(ctx, `create table if not exists `+table+` (identity blob primary key, "index" integer not null, timestamp integer not null) without rowid`); err != nil {
+			if _, err := db.ExecContext(ctx, `create table if not exists `+table+
+				` (identity blob primary key, "index" integer not null, timestamp integer not null) without rowid`); err != nil {
 				return err
 			}
 		}
@@ -113,8 +116,9 @@ func OpenSQLite(ctx context.Context, path string) (Places, error) {
 	return &inSQLite{of, "places", make(chan struct{}, 1)}, nil
 }
 
-// unlessBusy does what others may keep from being done, again and again until the context ends. (SQLite's own waiting doesn't end
-// with it.) After a failure of the file's locks or of the disk, the file is opened again, and the statement is tried once more.
+// unlessBusy does what others may keep from being done, again and again until the context ends. (SQLite's own waiting
+// doesn't end with it.) After a failure of the file's locks or of the disk, the file is opened again, and the statement
+// is tried once more.
 func (d *database) unlessBusy(ctx context.Context, what string, do func(*sql.DB) error) error {
 	for again := false; ; {
 		used, err := d.with(do)
@@ -155,7 +159,8 @@ func (s *inSQLite) Find(ctx context.Context, identities []Identity) (map[Identit
 		}
 		places := strings.Repeat(", ?", to-from)[2:]
 		return s.unlessBusy(ctx, "find", func(db *sql.DB) error {
-			rows, err := db.QueryContext(ctx, `select identity, "index", timestamp from `+s.table+` where identity in (`+places+`)`, values...)
+			rows, err := db.QueryContext(ctx, `select identity, "index", timestamp from `+s.table+
+				` where identity in (`+places+`)`, values...)
 			if err != nil {
 				return err
 			}
@@ -205,7 +210,8 @@ func (s *inSQLite) add(ctx context.Context, db *sql.DB, placed []Placed, onConfl
 			values = append(values, one.Identity[:], int64(one.Place.Index), int64(one.Place.Timestamp))
 		}
 		rows := strings.Repeat(", (?, ?, ?)", to-from)[2:]
-		_, err := tx.ExecContext(ctx, "insert into "+s.table+" values "+rows+" on conflict (identity) do "+onConflict, values...)
+		_, err := tx.ExecContext(ctx, "insert into "+s.table+" values "+rows+" on conflict (identity) do "+
+			onConflict, values...)
 		return err
 	})
 	if err != nil {

@@ -99,7 +99,7 @@ type Register interface {
 	// may be repeated. It returns ErrLost if the register has another text, and ErrAbsent if it does not exist.
 	// ErrUnknown means that the swap may have happened, or may still happen as long as the text is old.
 	Swap(ctx context.Context, old, new string) error
-	// Published gives the latest that Raise was given and acknowledged; the zero one after Create.
+	// Published returns the latest that Raise was given and acknowledged; the zero one after Create.
 	Published(ctx context.Context) (Published, error)
 	// Raise sets the published head unless it is older than the current one. It never falls, and the call may be
 	// repeated. Raise returns ErrAbsent if the register was not created.
@@ -110,7 +110,7 @@ type Register interface {
 // Published is how far a log is published: by a head of so many entries, with a timestamp in milliseconds since 1970.
 type Published struct{ Size, Timestamp uint64 }
 
-// Before says whether p is before another one: of fewer entries, or of as many and an earlier moment.
+// Before reports whether p is before another one: of fewer entries, or of as many and an earlier moment.
 func (p Published) Before(other Published) bool {
 	return p.Size < other.Size || p.Size == other.Size && p.Timestamp < other.Timestamp
 }
@@ -135,7 +135,7 @@ type Placed struct {
 // correct, since they are checked with an inclusion proof. If it loses identities, duplicates get into the log, and
 // nothing else happens.
 type Places interface {
-	// Find gives the places of those of these identities that have one; at most MaxPlaces are asked for.
+	// Find returns the places of those of these identities that have one; at most MaxPlaces are asked for.
 	Find(ctx context.Context, identities []Identity) (map[Identity]Place, error)
 	// Add adds at most MaxPlaces identities. An identity that has a place, or occurs earlier in the list, keeps its
 	// first one. After an error some may have been added, and the call may be repeated.

@@ -45,7 +45,8 @@ func syncedAs(t *testing.T, what string, got, want []string) {
 	}
 }
 
-// TestFolderSyncs: an object is on the disk before it has its name, and its folders with their names before Put returns.
+// TestFolderSyncs: an object is on the disk before it has its name, and its folders with their names before Put
+// returns.
 func TestFolderSyncs(t *testing.T) {
 	root, ctx := t.TempDir(), limited(t)
 	store, err := OpenFolder(root)
@@ -64,7 +65,8 @@ func TestFolderSyncs(t *testing.T) {
 	syncedAs(t, "one at the top", put("f"), []string{"file", ". (named)"})
 }
 
-// TestMadeFoldersSync: folders that are made are on the disk with their names, each before the one below it; one that is there stays as it is.
+// TestMadeFoldersSync: folders that are made are on the disk with their names, each before the one below it; one that
+// is there stays as it is.
 func TestMadeFoldersSync(t *testing.T) {
 	root := t.TempDir()
 	folders := func() error { return MakeFolder(filepath.Join(root, "a/b")) }

@@ -38,7 +38,7 @@ type Leaf struct {
 // Length returns how many bytes of its tile the leaf takes.
 func (l *Leaf) Length() int { return l.length }
 
-// Input gives the bytes of the tree's leaf, a MerkleTreeLeaf: version v1 and the type timestamped_entry, two bytes of
+// Input returns the bytes of the tree's leaf, a MerkleTreeLeaf: version v1 and the type timestamped_entry, two bytes of
 // zero, before the entry (RFC 6962, section 3.4).
 func (l *Leaf) Input() []byte { return append([]byte{0, 0}, l.Entry...) }
 

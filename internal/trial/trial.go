@@ -69,7 +69,7 @@ func Wants(t testing.TB, err error, kinds ...error) {
 	}
 }
 
-// Limited gives a context that ends with the test, and after so long.
+// Limited returns a context that ends with the test, and after so long.
 func Limited(t testing.TB, most time.Duration) context.Context {
 	ctx, cancel := context.WithTimeout(context.Background(), most)
 	t.Cleanup(cancel)
@@ -88,7 +88,7 @@ func ShortFiles(t testing.TB, most uint64, do func() error) error {
 	return failed
 }
 
-// Page gives the text of a page on one line.
+// Page returns the text of a page on one line.
 func Page(t testing.TB, path string) string {
 	t.Helper()
 	text, err := os.ReadFile(path)

@@ -19,7 +19,7 @@ func Line(program string) string {
 	return fmt.Sprintf("%s %s (commit %s%s)\n", program, Number(), Commit(), option)
 }
 
-// Asked says whether a command line asks for the version, and for nothing else.
+// Asked reports whether a command line asks for the version, and for nothing else.
 func Asked(words []string) bool {
 	return len(words) == 1 && (words[0] == "--version" || words[0] == "-version" || words[0] == "-V")
 }

@@ -10,9 +10,11 @@ import (
 type About struct {
 	// Key is the log's public key, its SubjectPublicKeyInfo in DER.
 	Key []byte
-	// Entry is what a log list has of the log (log list schema v3, of one log), in JSON, with the fields version and notice beside.
+	// Entry is what a log list has of the log (log list schema v3, of one log), in JSON, with the fields version and
+	// notice beside.
 	Entry []byte
-	// MaxMergeDelay is the maximum merge delay that the log publishes. /metrics has it beside the age of the newest head.
+	// MaxMergeDelay is the maximum merge delay that the log publishes. /metrics has it beside the age of the newest
+	// head.
 	MaxMergeDelay time.Duration
 }
 

@@ -29,8 +29,8 @@ func (b *budget) take(bytes int64) bool {
 
 func (b *budget) give(bytes int64) { b.used.Add(-bytes) }
 
-// held are the bytes of objects that one request has read and not yet answered, which count among those of all and of its client. A nil
-// one counts nothing.
+// held are the bytes of objects that one request has read and not yet answered, which count among those of all and of
+// its client. A nil one counts nothing.
 type held struct {
 	of       *budget
 	ofClient *counts
@@ -64,17 +64,18 @@ func (h *held) change(bytes int64) error {
 	return nil
 }
 
-// giveAll gives back all that it took.
+// giveAll returns back all that it took.
 func (h *held) giveAll() { _ = h.change(-h.bytes) }
 
-// Submitter is who has a bound of its own: all addresses of a prefix together have so many connections, or requests behind a proxy, at once.
+// Submitter is who has a bound of its own: all addresses of a prefix together have so many connections, or requests
+// behind a proxy, at once.
 type Submitter struct {
 	Prefix netip.Prefix
 	Most   int
 }
 
-// counts counts by address, up to a bound for each. An address of IPv6 counts with its /64, which one customer has, and one of a submitter with
-// all of the submitter's.
+// counts counts by address, up to a bound for each. An address of IPv6 counts with its /64, which one customer has, and
+// one of a submitter with all of the submitter's.
 type counts struct {
 	most       int
 	submitters []Submitter
@@ -112,7 +113,7 @@ func (c *counts) giveSome(address netip.Addr, some int) {
 	}
 }
 
-// groupOf gives what an address counts with, and the bound of that.
+// groupOf returns what an address counts with, and the bound of that.
 func (c *counts) groupOf(address netip.Addr) (group netip.Prefix, most int) {
 	if of, is := submitterOf(address, c.submitters); is {
 		return of.Prefix, of.Most
@@ -130,7 +131,7 @@ func groupOf(address netip.Addr) netip.Prefix {
 	return netip.PrefixFrom(address.WithZone(""), bits).Masked()
 }
 
-// submitterOf gives whose an address is: of those whose prefixes have it the one with the smallest.
+// submitterOf returns whose an address is: of those whose prefixes have it the one with the smallest.
 func submitterOf(address netip.Addr, among []Submitter) (found Submitter, is bool) {
 	for _, of := range among {
 		if of.Prefix.Contains(address) && (!is || of.Prefix.Bits() > found.Prefix.Bits()) {
@@ -196,8 +197,8 @@ func (c *connections) waiting() int {
 	return c.idle.Len()
 }
 
-// closeIdle closes the connection on which nothing was asked for the longest, and reports whether there was one. The lock is held until it is closed: another
-// request on it must not be taken in between.
+// closeIdle closes the connection on which nothing was asked for the longest, and reports whether there was one. The
+// lock is held until it is closed: another request on it must not be taken in between.
 func (c *connections) closeIdle() bool {
 	c.mutex.Lock()
 	first := c.idle.Front()

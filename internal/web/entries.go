@@ -44,8 +44,8 @@ type entryOf struct {
 	ExtraData []byte `json:"extra_data"`
 }
 
-// getEntries answers entries of the newest head from start on: as many as were asked for, but none of another data tile, and
-// within the bounds.
+// getEntries answers entries of the newest head from start on: as many as were asked for, but none of another data
+// tile, and within the bounds.
 func (f *Front) getEntries(w http.ResponseWriter, r *http.Request) error {
 	_, numbers, err := numbersOf(r, "start", "end")
 	if err != nil {
@@ -76,7 +76,7 @@ func badParameter(detail string) error {
 	return refusal{status: http.StatusBadRequest, name: "bad-parameter", detail: detail}
 }
 
-// textOf gives the one value that a query has of a name.
+// textOf returns the one value that a query has of a name.
 func textOf(query url.Values, name string) (string, error) {
 	switch len(query[name]) {
 	case 0:
@@ -106,7 +106,8 @@ func (f *Front) entries(ctx context.Context, start, end uint64) ([]entryOf, erro
 	}
 	var entries []entryOf
 	bytes := 0
-	for at := start % fullWidth; at < uint64(len(leaves)) && len(entries) < MaxEntries && start+uint64(len(entries)) <= end; at++ {
+	for at := start % fullWidth; at < uint64(len(leaves)) && len(entries) < MaxEntries && start+
+		uint64(len(entries)) <= end; at++ {
 		entry, err := f.entryOf(ctx, &leaves[at])
 		if err != nil {
 			return nil, err
@@ -177,7 +178,8 @@ func (f *Front) entryOf(ctx context.Context, leaf *tile.Leaf) (entryOf, error) {
 		return entryOf{}, fmt.Errorf("%w: a chain that is too long: %v", log.ErrStore, err)
 	}
 	entry := entryOf{leaf.Input(), data}
-	// The answer has both in base64, and is held until it is sent. It must count before it is made: issuers may make it ten times as long as its tile.
+	// The answer has both in base64, and is held until it is sent. It must count before it is made: issuers may make it
+	// ten times as long as its tile.
 	length := base64.StdEncoding.EncodedLen(len(entry.LeafInput)) + base64.StdEncoding.EncodedLen(len(entry.ExtraData))
 	if err := heldIn(ctx).change(int64(length)); err != nil {
 		return entryOf{}, err
@@ -195,7 +197,7 @@ type issuers struct {
 	bytes int
 }
 
-// issuerOf gives an issuer by its fingerprint, and only bytes that have it.
+// issuerOf returns an issuer by its fingerprint, and only bytes that have it.
 func (f *Front) issuerOf(ctx context.Context, fingerprint [32]byte) ([]byte, error) {
 	f.issuers.mutex.Lock()
 	certificate := f.issuers.kept[fingerprint]

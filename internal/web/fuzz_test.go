@@ -34,13 +34,16 @@ func FuzzHandlers(f *testing.F) {
 	f.Add("GET", "/issuer/"+fingerprintOf(x.authority.Root.Raw), "", []byte{})
 	f.Add("GET", "/ct/v1/get-entries", "start=254&end=258", []byte{})
 	f.Add("GET", "/ct/v1/get-sth-consistency", "first=1&second=257", []byte{})
-	f.Add("GET", "/ct/v1/get-proof-by-hash", "tree_size=257&hash=AAAAAAAAAAAAAAAAAAAAAAAAAAAAAAAAAAAAAAAAAAA=", []byte{})
+	f.Add("GET", "/ct/v1/get-proof-by-hash",
+		"tree_size=257&hash=AAAAAAAAAAAAAAAAAAAAAAAAAAAAAAAAAAAAAAAAAAA=", []byte{})
 	f.Add("GET", "/ct/v1/get-entry-and-proof", "leaf_index=256&tree_size=257", []byte{})
 	f.Fuzz(func(t *testing.T, method, path, query string, body []byte) {
 		asks := func() *httptest.ResponseRecorder {
 			r := &http.Request{
-				Method: method, URL: &url.URL{Path: path, RawQuery: query}, Header: http.Header{}, Host: "log", RemoteAddr: "192.0.2.1:1",
-				Body: io.NopCloser(bytes.NewReader(body)), ContentLength: int64(len(body)), ProtoMajor: 1, ProtoMinor: 1,
+				Method: method, URL: &url.URL{Path: path, RawQuery: query}, Header: http.Header{}, Host: "log",
+				RemoteAddr: "192.0.2.1:1",
+				Body:       io.NopCloser(bytes.NewReader(body)), ContentLength: int64(len(body)),
+				ProtoMajor: 1, ProtoMinor: 1,
 			}
 			w := httptest.NewRecorder()
 			x.front.ServeHTTP(w, r)
@@ -57,7 +60,8 @@ func FuzzHandlers(f *testing.F) {
 			var told struct {
 				Message string `json:"error_message"`
 			}
-			if err := json.Unmarshal(w.Body.Bytes(), &told); err != nil || told.Message == "" || told.Message == "internal" {
+			if err := json.Unmarshal(w.Body.Bytes(), &told); err != nil || told.Message == "" ||
+				told.Message == "internal" {
 				t.Fatalf("%s %q: %d %s", method, path, w.Code, w.Body)
 			}
 			return
@@ -74,15 +78,21 @@ func FuzzHandlers(f *testing.F) {
 
 // Whatever comes on a connection, all that is answered is HTTP, and the server lives.
 func FuzzConnections(f *testing.F) {
-	x := newFixture(f, time.Millisecond, func(o *Options) { o.Lines = NewLines(io.Discard); o.Limits.ConnectionsByAddress = 4000 })
+	x := newFixture(f, time.Millisecond, func(o *Options) {
+		o.Lines = NewLines(
+			io.Discard)
+		o.Limits.ConnectionsByAddress = 4000
+	})
 	address, _ := x.listening(nil)
 	body := standin.Submission(x.issue(false))
 	for _, text := range []string{
 		"GET /checkpoint HTTP/1.1\r\nHost: log\r\n\r\n", "GET /ct/v1/get-entries?start=0&end=0 HTTP/1.0\r\n\r\n",
 		"POST /ct/v1/add-chain HTTP/1.1\r\nHost: log\r\nContent-Length: 2\r\n\r\n{}GET / HTTP/1.1\r\nHost: log\r\n\r\n",
 		"POST /ct/v1/add-chain HTTP/1.1\r\nHost: log\r\nTransfer-Encoding: chunked\r\n\r\n2\r\n{}\r\n0\r\n\r\n",
-		"POST /ct/v1/add-chain HTTP/1.1\r\nHost: log\r\nContent-Length: " + string(rune('0'+len(body)%10)) + "\r\n\r\n" + string(body),
-		"HEAD / HTTP/1.1\r\nHost: log\r\nConnection: close\r\n\r\n", "OPTIONS * HTTP/1.1\r\nHost: log\r\n\r\n", "CONNECT log:1 HTTP/1.1\r\nHost: log\r\n\r\n",
+		"POST /ct/v1/add-chain HTTP/1.1\r\nHost: log\r\nContent-Length: " + string(rune('0'+len(body)%10)) +
+			"\r\n\r\n" + string(body),
+		"HEAD / HTTP/1.1\r\nHost: log\r\nConnection: close\r\n\r\n", "OPTIONS * HTTP/1.1\r\nHost: log\r\n\r\n",
+		"CONNECT log:1 HTTP/1.1\r\nHost: log\r\n\r\n",
 	} {
 		f.Add([]byte(text))
 	}

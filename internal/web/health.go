@@ -14,8 +14,8 @@ func (f *Front) healthz(w http.ResponseWriter, r *http.Request) error {
 	return nil
 }
 
-// readyz says whether submissions would be taken now: the log doesn't end, nothing keeps it from going on, its queue has room,
-// and its head is read within two seconds. An old tile that is damaged keeps it from nothing.
+// readyz reports whether submissions would be taken now: the log doesn't end, nothing keeps it from going on, its queue
+// has room, and its head is read within two seconds. An old tile that is damaged keeps it from nothing.
 func (f *Front) readyz(w http.ResponseWriter, r *http.Request) error {
 	if err := f.unready(r.Context()); err != nil {
 		return err
@@ -25,7 +25,7 @@ func (f *Front) readyz(w http.ResponseWriter, r *http.Request) error {
 	return nil
 }
 
-// unready gives what /readyz refuses by, or nil.
+// unready returns what /readyz refuses by, or nil.
 func (f *Front) unready(ctx context.Context) error {
 	unready := func(name string, why error) error {
 		return refusal{status: http.StatusServiceUnavailable, name: name, after: 1, why: why}
@@ -84,7 +84,8 @@ func (f *Front) Tell(ctx context.Context, every time.Duration) {
 		if figures.Mended != mended {
 			f.options.Lines.Warn("made-again", "objects", figures.Mended-mended, "last", figures.LastMended)
 		}
-		fault, damage, tiles, issuers, mended = figures.Fault, figures.Damage, figures.Damaged, figures.DamagedIssuers, figures.Mended
+		fault, damage, tiles, issuers, mended = figures.Fault, figures.Damage, figures.Damaged,
+			figures.DamagedIssuers, figures.Mended
 		faults = figures.Faults
 		select {
 		case <-timer.C:

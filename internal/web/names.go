@@ -7,8 +7,8 @@ import (
 	"wagtenib/internal/tile"
 )
 
-// tileName is a tile's name, read (C2SP tlog-tiles and static-ct-api): its level, or the data tiles', its index, and its width,
-// which is 256 of a full one.
+// tileName is a tile's name, read (C2SP tlog-tiles and static-ct-api): its level, or the data tiles', its index, and
+// its width, which is 256 of a full one.
 type tileName struct {
 	data  bool
 	level uint64
@@ -87,7 +87,7 @@ func (n tileName) String() string {
 	return name
 }
 
-// isOf says whether a content has as many hashes, or entries, as the name says.
+// isOf reports whether a content has as many hashes, or entries, as the name says.
 func (n tileName) isOf(content []byte) bool {
 	if !n.data {
 		return uint64(len(content)) == 32*n.width
@@ -96,7 +96,7 @@ func (n tileName) isOf(content []byte) bool {
 	return err == nil && uint64(len(leaves)) == n.width
 }
 
-// isFingerprint says whether a text is 32 bytes in hexadecimal digits of lower case.
+// isFingerprint reports whether a text is 32 bytes in hexadecimal digits of lower case.
 func isFingerprint(text string) bool {
 	return len(text) == 64 && strings.Trim(text, "0123456789abcdef") == ""
 }

@@ -10,7 +10,8 @@ import (
 )
 
 const (
-	// leastPacked and maxPacked are how many bytes of an answer are compressed: fewer aren't worth it, and more take a processor for long.
+	// leastPacked and maxPacked are how many bytes of an answer are compressed: fewer aren't worth it, and more take a
+	// processor for long.
 	leastPacked, maxPacked = 1 << 10, 8 << 20
 	inGzip                 = "gzip"
 )
@@ -24,7 +25,7 @@ var packers = sync.Pool{New: func() any {
 	return packer
 }}
 
-// takesGzip says whether a client takes an answer in gzip (RFC 9110, section 12.5.3).
+// takesGzip reports whether a client takes an answer in gzip (RFC 9110, section 12.5.3).
 func takesGzip(r *http.Request) bool {
 	for _, value := range r.Header.Values("Accept-Encoding") {
 		for _, one := range strings.Split(value, ",") {

@@ -16,7 +16,8 @@ var pagePolicy = func() string {
 	_, script, _ := bytes.Cut(pageText, []byte("<script>"))
 	script, _, _ = bytes.Cut(script, []byte("</script>"))
 	hash := sha256.Sum256(script)
-	return "default-src 'none'; connect-src 'self'; style-src 'unsafe-inline'; base-uri 'none'; form-action 'none'; frame-ancestors 'none'; " +
+	return "default-src 'none'; connect-src 'self'; style-src 'unsafe-inline'; base-uri 'none'; form-action 'none'; " +
+		"frame-ancestors 'none'; " +
 		"script-src 'sha256-" + base64.StdEncoding.EncodeToString(hash[:]) + "'"
 }()
 

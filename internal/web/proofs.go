@@ -62,7 +62,8 @@ func (f *Front) getProofByHash(w http.ResponseWriter, r *http.Request) error {
 		return err
 	}
 	var leaf [32]byte
-	if hash, err := base64.StdEncoding.Strict().DecodeString(text); err != nil || copy(leaf[:], hash) != len(hash) || len(hash) != len(leaf) {
+	if hash, err := base64.StdEncoding.Strict().DecodeString(text); err != nil || copy(leaf[:], hash) != len(hash) ||
+		len(hash) != len(leaf) {
 		return badParameter("hash is 32 bytes in base64")
 	}
 	size, index := numbers[0], uint64(0)
@@ -168,7 +169,8 @@ func (f *Front) headOf(ctx context.Context, entries uint64, newest bool) (log.He
 func faultOf(err error) error {
 	var known refusal
 	switch {
-	case err == nil, errors.As(err, &known), errors.Is(err, context.DeadlineExceeded), errors.Is(err, context.Canceled), errors.Is(err, log.ErrStore), errors.Is(err, log.ErrBusy):
+	case err == nil, errors.As(err, &known), errors.Is(err, context.DeadlineExceeded), errors.Is(err, context.Canceled),
+		errors.Is(err, log.ErrStore), errors.Is(err, log.ErrBusy):
 		return err
 	case errors.Is(err, tile.ErrBusy), errors.Is(err, wagtenib.ErrMemory):
 		return fmt.Errorf("%w: %v", log.ErrBusy, err)

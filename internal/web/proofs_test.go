@@ -78,7 +78,8 @@ func (f *fixture) leaves() (hashes [][32]byte, inputs [][]byte) {
 		}
 		f.reads(fmt.Sprintf("get-entries?start=%d&end=%d", len(hashes), head.TreeSize-1), &told)
 		for _, entry := range told.Entries {
-			hashes, inputs = append(hashes, sha256.Sum256(append([]byte{0}, entry.LeafInput...))), append(inputs, entry.LeafInput)
+			hashes, inputs = append(hashes, sha256.Sum256(append([]byte{0}, entry.LeafInput...))),
+				append(inputs, entry.LeafInput)
 		}
 	}
 	return hashes, inputs
@@ -132,7 +133,8 @@ func TestProofs(t *testing.T) {
 					Index uint64   `json:"leaf_index"`
 					Path  [][]byte `json:"audit_path"`
 				}
-				f.reads(fmt.Sprintf("get-proof-by-hash?tree_size=%d&hash=%s", n, url.QueryEscape(base64.StdEncoding.EncodeToString(leaves[index][:]))), &found)
+				f.reads(fmt.Sprintf("get-proof-by-hash?tree_size=%d&hash=%s", n,
+					url.QueryEscape(base64.StdEncoding.EncodeToString(leaves[index][:]))), &found)
 				if found.Index != uint64(index) || !reflect.DeepEqual(found.Path, want) {
 					t.Fatalf("leaf %d of %d: at %d %x, not %x", index, n, found.Index, found.Path, want)
 				}
@@ -142,7 +144,8 @@ func TestProofs(t *testing.T) {
 					Path      [][]byte `json:"audit_path"`
 				}
 				f.reads(fmt.Sprintf("get-entry-and-proof?leaf_index=%d&tree_size=%d", index, n), &entry)
-				if string(entry.LeafInput) != string(inputs[index]) || len(entry.ExtraData) == 0 || !reflect.DeepEqual(entry.Path, want) {
+				if string(entry.LeafInput) != string(inputs[index]) || len(entry.ExtraData) == 0 ||
+					!reflect.DeepEqual(entry.Path, want) {
 					t.Fatalf("entry %d of %d: %+v, not %x", index, n, entry, want)
 				}
 			}
@@ -164,26 +167,34 @@ func TestProofsThatAreRefused(t *testing.T) {
 	leaves, _ := f.leaves()
 	hash := func(leaf [32]byte) string { return url.QueryEscape(base64.StdEncoding.EncodeToString(leaf[:])) }
 	for _, bad := range []string{
-		"get-sth-consistency", "get-sth-consistency?first=1", "get-sth-consistency?second=1", "get-sth-consistency?first=2&second=1", "get-sth-consistency?first=1&second=6",
-		"get-sth-consistency?first=1&first=2&second=3", "get-sth-consistency?first=-1&second=3", "get-sth-consistency?first=01&second=3", "get-sth-consistency?first=1&second=18446744073709551616",
-		"get-proof-by-hash?tree_size=5", "get-proof-by-hash?hash=" + hash(leaves[1]), "get-proof-by-hash?tree_size=6&hash=" + hash(leaves[1]), "get-proof-by-hash?tree_size=5&hash=AA==",
-		"get-proof-by-hash?tree_size=5&hash=%", "get-proof-by-hash?tree_size=5&hash=" + hash(leaves[1]) + "&hash=" + hash(leaves[1]), "get-proof-by-hash?tree_size=5&hash=" + hash(leaves[1]) + "A",
-		"get-entry-and-proof?leaf_index=0", "get-entry-and-proof?tree_size=1", "get-entry-and-proof?leaf_index=1&tree_size=1", "get-entry-and-proof?leaf_index=1&tree_size=6",
+		"get-sth-consistency", "get-sth-consistency?first=1", "get-sth-consistency?second=1",
+		"get-sth-consistency?first=2&second=1", "get-sth-consistency?first=1&second=6",
+		"get-sth-consistency?first=1&first=2&second=3", "get-sth-consistency?first=-1&second=3",
+		"get-sth-consistency?first=01&second=3", "get-sth-consistency?first=1&second=18446744073709551616",
+		"get-proof-by-hash?tree_size=5", "get-proof-by-hash?hash=" + hash(leaves[1]),
+		"get-proof-by-hash?tree_size=6&hash=" + hash(leaves[1]), "get-proof-by-hash?tree_size=5&hash=AA==",
+		"get-proof-by-hash?tree_size=5&hash=%", "get-proof-by-hash?tree_size=5&hash=" + hash(leaves[1]) + "&hash=" +
+			hash(leaves[1]), "get-proof-by-hash?tree_size=5&hash=" + hash(leaves[1]) + "A",
+		"get-entry-and-proof?leaf_index=0", "get-entry-and-proof?tree_size=1",
+		"get-entry-and-proof?leaf_index=1&tree_size=1", "get-entry-and-proof?leaf_index=1&tree_size=6",
 	} {
 		refused(t, bad, f.get("/ct/v1/"+bad), 400, "bad-parameter")
 	}
 	of := "/ct/v1/get-proof-by-hash?tree_size=3&hash="
 	refused(t, "a leaf behind the tree", f.get(of+hash(leaves[3])), 404, "no-such-leaf")
 	refused(t, "no leaf", f.get(of+hash(sha256.Sum256(nil))), 404, "no-such-leaf")
-	refused(t, "a tree without leaves", f.get("/ct/v1/get-proof-by-hash?tree_size=0&hash="+hash(leaves[0])), 404, "no-such-leaf")
+	refused(t, "a tree without leaves", f.get("/ct/v1/get-proof-by-hash?tree_size=0&hash="+hash(leaves[0])), 404,
+		"no-such-leaf")
 	right := f.front.log
 	for _, index := range []uint64{0, 2, 4, stores.MaxNumber} {
 		f.front.log = elsewhere{f.log, index}
-		refused(t, fmt.Sprint("a leaf that is said to stand at ", index), f.get(of+hash(leaves[1])), 404, "no-such-leaf")
+		refused(t, fmt.Sprint("a leaf that is said to stand at ", index), f.get(of+hash(leaves[1])), 404,
+			"no-such-leaf")
 	}
 	f.front.log = right
 
-	calls := []string{"get-sth-consistency?first=2&second=3", "get-proof-by-hash?tree_size=5&hash=" + hash(leaves[1]), "get-entry-and-proof?leaf_index=1&tree_size=4"}
+	calls := []string{"get-sth-consistency?first=2&second=3", "get-proof-by-hash?tree_size=5&hash=" + hash(leaves[1]),
+		"get-entry-and-proof?leaf_index=1&tree_size=4"}
 	each := func(what string, status int, name string) {
 		t.Helper()
 		for _, call := range calls {
@@ -327,5 +338,8 @@ func TestPlaceForAProofIsGivenBack(t *testing.T) {
 	f.isHeld()
 	close(comes)
 	f.front.limits.Reading = trial.Longest
-	eventually(t, "a proof is made again", func() bool { return f.get("/ct/v1/get-sth-consistency?first=1&second=2").Code == 200 })
+	eventually(t, "a proof is made again", func() bool {
+		return f.get(
+			"/ct/v1/get-sth-consistency?first=1&second=2").Code == 200
+	})
 }

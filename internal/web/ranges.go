@@ -8,7 +8,8 @@ import (
 	"time"
 )
 
-// asksForParts says whether a request asks for parts of a content by their bytes. Other units are as if none were asked for (RFC 9110, section 14.2).
+// asksForParts reports whether a request asks for parts of a content by their bytes. Other units are as if none were
+// asked for (RFC 9110, section 14.2).
 func asksForParts(r *http.Request) bool {
 	asked := r.Header.Values("Range")
 	return r.Method == http.MethodGet && len(asked) == 1 && strings.HasPrefix(asked[0], "bytes=")
@@ -24,17 +25,20 @@ func writeParts(w http.ResponseWriter, r *http.Request, kind string, content []b
 	}
 	w.Header().Set("Content-Type", kind)
 	// (it isn't asked by its age or its tag: it has none)
-	asked := &http.Request{Method: r.Method, Header: http.Header{"Range": r.Header["Range"], "If-Range": r.Header["If-Range"]}}
+	asked := &http.Request{Method: r.Method, Header: http.Header{"Range": r.Header["Range"],
+		"If-Range": r.Header["If-Range"]}}
 	within := &unlessBeyond{ResponseWriter: w}
 	http.ServeContent(within, asked, "", time.Time{}, bytes.NewReader(content))
 	if within.beyond {
 		w.Header().Set("Content-Range", fmt.Sprintf("bytes */%d", len(content)))
-		return refusal{status: http.StatusRequestedRangeNotSatisfiable, name: "range", detail: fmt.Sprintf("it has %d bytes", len(content))}
+		return refusal{status: http.StatusRequestedRangeNotSatisfiable, name: "range",
+			detail: fmt.Sprintf("it has %d bytes", len(content))}
 	}
 	return nil
 }
 
-// unlessBeyond holds back what net/http says of parts that aren't there: that is refused as all else is, and kept by no cache.
+// unlessBeyond holds back what net/http says of parts that aren't there: that is refused as all else is, and kept by no
+// cache.
 type unlessBeyond struct {
 	http.ResponseWriter
 	beyond bool

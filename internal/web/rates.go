@@ -15,9 +15,9 @@ const (
 	maxRated = 1 << 16
 )
 
-// rates bounds how many requests of one address are taken a second. Each address has a bucket, which is full at first: a request takes one
-// out of it, and time fills it. An address whose bucket is full again is forgotten, as it were one that never asked; and where there are
-// too many, the one that asked the longest ago is. A nil one bounds nothing.
+// rates bounds how many requests of one address are taken a second. Each address has a bucket, which is full at first:
+// a request takes one out of it, and time fills it. An address whose bucket is full again is forgotten, as it were one
+// that never asked; and where there are too many, the one that asked the longest ago is. A nil one bounds nothing.
 type rates struct {
 	// apart is how long a bucket takes to get one more.
 	apart time.Duration
@@ -42,7 +42,7 @@ func newRates(aSecond int) *rates {
 	return &rates{apart: time.Second / time.Duration(aSecond), at: map[netip.Prefix]*list.Element{}}
 }
 
-// take says whether a request is within the rate, and takes it out of its bucket where it is.
+// take reports whether a request is within the rate, and takes it out of its bucket where it is.
 func (r *rates) take(group netip.Prefix, now time.Time) bool {
 	if r == nil {
 		return true
@@ -85,9 +85,10 @@ func (r *rates) bucketOf(group netip.Prefix, now time.Time) *bucket {
 }
 
 // tooOften is what a client asks above its rate. A rate is one a second at least, so by then one more is taken.
-var tooOften = refusal{status: http.StatusTooManyRequests, name: "too-often", detail: "of one address so many are taken a second", after: 1}
+var tooOften = refusal{status: http.StatusTooManyRequests, name: "too-often",
+	detail: "of one address so many are taken a second", after: 1}
 
-// isInRate says whether a client asks within its rate what a call costs. Submitters have none.
+// isInRate reports whether a client asks within its rate what a call costs. Submitters have none.
 func (f *Front) isInRate(c call, client netip.Addr) bool {
 	if _, is := submitterOf(client, f.limits.Submitters); is {
 		return true

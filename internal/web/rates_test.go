@@ -30,7 +30,8 @@ func takes(t *testing.T, what string, r *rates, address string, at time.Time, mo
 	}
 }
 
-// TestRate: an address that asked nothing has ten seconds of its rate at once, and then one more each time that one comes of it.
+// TestRate: an address that asked nothing has ten seconds of its rate at once, and then one more each time that one
+// comes of it.
 func TestRate(t *testing.T) {
 	for _, aSecond := range []int{1, 4, 100} {
 		r, apart := newRates(aSecond), time.Second/time.Duration(aSecond)
@@ -112,7 +113,8 @@ func knows(t *testing.T, what string, r *rates, addresses ...string) {
 	}
 }
 
-// TestRateForgets: an address whose bucket is full again is forgotten once another one comes that isn't known; others stay.
+// TestRateForgets: an address whose bucket is full again is forgotten once another one comes that isn't known; others
+// stay.
 func TestRateForgets(t *testing.T) {
 	r := newRates(1)
 	at := func(seconds float64, addresses ...string) {
@@ -209,9 +211,12 @@ func (f *fixture) askedBy(client, method, path string, body []byte) *httptest.Re
 // Calls that count in the rates, and those that don't. None of them is made: they are refused by their words.
 var (
 	submitting = []string{"POST /ct/v1/add-chain", "POST /ct/v1/add-pre-chain"}
-	costlyOnes = []string{"GET /ct/v1/get-entries", "HEAD /ct/v1/get-entries", "GET /ct/v1/get-sth-consistency", "GET /ct/v1/get-proof-by-hash", "GET /ct/v1/get-entry-and-proof"}
-	cheapOnes  = []string{"GET /", "GET /checkpoint", "GET /key", "GET /log.v3.json", "GET /healthz", "GET /readyz", "GET /ct/v1/get-roots", "GET /ct/v1/get-sth",
-		"GET /tile/0/000", "GET /issuer/x", "GET /none", "OPTIONS /ct/v1/get-entries", "POST /ct/v1/get-entries", "GET /ct/v1/add-chain"}
+	costlyOnes = []string{"GET /ct/v1/get-entries", "HEAD /ct/v1/get-entries", "GET /ct/v1/get-sth-consistency",
+		"GET /ct/v1/get-proof-by-hash", "GET /ct/v1/get-entry-and-proof"}
+	cheapOnes = []string{"GET /", "GET /checkpoint", "GET /key", "GET /log.v3.json", "GET /healthz", "GET /readyz",
+		"GET /ct/v1/get-roots", "GET /ct/v1/get-sth",
+		"GET /tile/0/000", "GET /issuer/x", "GET /none", "OPTIONS /ct/v1/get-entries", "POST /ct/v1/get-entries",
+		"GET /ct/v1/add-chain"}
 )
 
 func (f *fixture) statusOf(client, call string) int {
@@ -285,7 +290,8 @@ func TestTooOften(t *testing.T) {
 	}
 	w, _, since := again("GET /ct/v1/get-entries")
 	refused(t, "a read", w, 429, "too-often")
-	if w.Header().Get("Retry-After") != "1" || !strings.Contains(w.Body.String(), "of one address so many are taken a second") || w.Header().Get("Connection") != "" {
+	if w.Header().Get("Retry-After") != "1" || !strings.Contains(w.Body.String(),
+		"of one address so many are taken a second") || w.Header().Get("Connection") != "" {
 		t.Errorf("%v %s", w.Header(), w.Body)
 	}
 	if _, taken, _ := again("GET /ct/v1/get-sth-consistency"); time.Duration(taken) > time.Since(since)/time.Second+1 {
@@ -315,8 +321,10 @@ func TestTooOften(t *testing.T) {
 	}
 	shown := httptest.NewRecorder()
 	f.front.Operator().ServeHTTP(shown, httptest.NewRequest("GET", "/metrics", nil))
-	for _, line := range []string{`ctserve_refusals_total{call="get-entries",refusal="too-often"} 1`, `ctserve_refusals_total{call="get-sth-consistency",refusal="too-often"} 1`,
-		`ctserve_refusals_total{call="add-chain",refusal="too-often"} 1`, `ctserve_requests_total{call="add-chain",status="429"} 1`} {
+	for _, line := range []string{`ctserve_refusals_total{call="get-entries",refusal="too-often"} 1`,
+		`ctserve_refusals_total{call="get-sth-consistency",refusal="too-often"} 1`,
+		`ctserve_refusals_total{call="add-chain",refusal="too-often"} 1`,
+		`ctserve_requests_total{call="add-chain",status="429"} 1`} {
 		if !strings.Contains(shown.Body.String(), line+"\n") {
 			t.Errorf("/metrics hasn't %s", line)
 		}
@@ -326,9 +334,10 @@ func TestTooOften(t *testing.T) {
 // TestRatesOnThePages: the pages state the right rates.
 func TestRatesOnThePages(t *testing.T) {
 	trial.Says(t, trial.Page(t, "../../docs/SERVICE.md"), map[string]bool{
-		"An address may use ten seconds of its rate at once":                        burst == 10*time.Second,
-		"`ctserve` remembers how often 65,536 addresses asked":                      maxRated == 65536,
-		"A request above the rate gets status 429 `too-often`, with Retry-After: 1": tooOften.status == 429 && tooOften.name == "too-often" && tooOften.after == 1,
+		"An address may use ten seconds of its rate at once":   burst == 10*time.Second,
+		"`ctserve` remembers how often 65,536 addresses asked": maxRated == 65536,
+		"A request above the rate gets status 429 `too-often`, with Retry-After: 1": tooOften.status == 429 &&
+			tooOften.name == "too-often" && tooOften.after == 1,
 	})
 	limits := DefaultLimits()
 	trial.Says(t, trial.Page(t, "../../docs/OPERATING.md"), map[string]bool{

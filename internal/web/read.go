@@ -96,7 +96,8 @@ func (f *Front) checkpoint(w http.ResponseWriter, r *http.Request) error {
 	return nil
 }
 
-// hasTag says whether a list of tags has one, or any (RFC 9110, section 13.1.2). One that a proxy made weak is the same.
+// hasTag reports whether a list of tags has one, or any (RFC 9110, section 13.1.2). One that a proxy made weak is the
+// same.
 func hasTag(lists []string, tag string) bool {
 	for _, list := range lists {
 		for _, one := range strings.Split(list, ",") {

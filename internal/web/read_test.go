@@ -25,12 +25,14 @@ import (
 	"wagtenib/internal/web/standin"
 )
 
-// served looks at the status, the type and the cache's time of an answer, and that HEAD has the same without the content.
+// served looks at the status, the type and the cache's time of an answer, and that HEAD has the same without the
+// content.
 func (f *fixture) served(path, kind, keep string) []byte {
 	f.t.Helper()
 	w := f.get(path)
 	header := w.Header()
-	if w.Code != 200 || header.Get("Content-Type") != kind || header.Get("Cache-Control") != keep || header.Get("X-Content-Type-Options") != "nosniff" {
+	if w.Code != 200 || header.Get("Content-Type") != kind || header.Get("Cache-Control") != keep ||
+		header.Get("X-Content-Type-Options") != "nosniff" {
 		f.t.Errorf("%s: %d %v", path, w.Code, header)
 	}
 	if header.Get("Content-Length") != fmt.Sprint(w.Body.Len()) {
@@ -50,7 +52,8 @@ func TestObjectsAreServed(t *testing.T) {
 	if !bytes.HasPrefix(note, []byte("log.example/stand-in\n260\n")) {
 		t.Errorf("/checkpoint: %q", note)
 	}
-	for path, length := range map[string]int{"/tile/0/000": 256 * 32, "/tile/0/001.p/4": 4 * 32, "/tile/data/000": 0, "/tile/data/001.p/4": 0} {
+	for path, length := range map[string]int{"/tile/0/000": 256 * 32, "/tile/0/001.p/4": 4 * 32, "/tile/data/000": 0,
+		"/tile/data/001.p/4": 0} {
 		keep := "public, max-age=31536000, immutable"
 		if strings.Contains(path, ".p/") {
 			keep = "public, max-age=60"
@@ -60,11 +63,13 @@ func TestObjectsAreServed(t *testing.T) {
 			t.Errorf("%s has %d bytes", path, len(content))
 		}
 	}
-	issuer := f.served("/issuer/"+fingerprintOf(f.authority.Root.Raw), "application/pkix-cert", "public, max-age=31536000, immutable")
+	issuer := f.served("/issuer/"+fingerprintOf(f.authority.Root.Raw), "application/pkix-cert",
+		"public, max-age=31536000, immutable")
 	if !bytes.Equal(issuer, f.authority.Root.Raw) {
 		t.Error("the issuer is another one")
 	}
-	for _, path := range []string{"/tile/0/002", "/tile/0/000.p/255", "/tile/1/000.p/2", "/tile/data/x001/000", "/issuer/" + strings.Repeat("0", 64)} {
+	for _, path := range []string{"/tile/0/002", "/tile/0/000.p/255", "/tile/1/000.p/2", "/tile/data/x001/000",
+		"/issuer/" + strings.Repeat("0", 64)} {
 		refused(t, path, f.get(path), 404, "absent")
 	}
 }
@@ -75,13 +80,15 @@ func TestDamagedObjectsAreNotServed(t *testing.T) {
 	f := newFixture(t, 0, nil)
 	f.fill(260)
 	for path, width := range map[string]int{
-		"/tile/0/000": 256, "/tile/0/001.p/4": 4, "/tile/data/000": 256, "/tile/data/001.p/4": 4, "/issuer/" + fingerprintOf(f.authority.Root.Raw): 1,
+		"/tile/0/000": 256, "/tile/0/001.p/4": 4, "/tile/data/000": 256, "/tile/data/001.p/4": 4, "/issuer/" +
+			fingerprintOf(f.authority.Root.Raw): 1,
 	} {
 		content := f.get(path).Body.Bytes()
 		one := len(content) / width
 		with := func(more []byte) []byte { return append(append([]byte{}, content...), more...) }
 		for what, other := range map[string][]byte{
-			"empty": {}, "short": content[:len(content)-1], "one less": content[:len(content)-one], "long": with([]byte{0}), "one more": with(content[:one]),
+			"empty": {}, "short": content[:len(content)-1], "one less": content[:len(content)-one],
+			"long": with([]byte{0}), "one more": with(content[:one]),
 		} {
 			f.log.Change(path[1:], other)
 			refused(t, path+", "+what, f.get(path), 503, "store")
@@ -105,8 +112,10 @@ func TestAnswersAreBounded(t *testing.T) {
 	f.fill(260)
 	leaves, _ := f.leaves()
 	objects := []string{
-		"/tile/0/000", "/tile/data/000", "/issuer/" + fingerprintOf(f.authority.Root.Raw), "/ct/v1/get-entries?start=0&end=1",
-		"/ct/v1/get-proof-by-hash?tree_size=260&hash=" + url.QueryEscape(base64.StdEncoding.EncodeToString(leaves[1][:])), "/ct/v1/get-entry-and-proof?leaf_index=1&tree_size=260",
+		"/tile/0/000", "/tile/data/000", "/issuer/" + fingerprintOf(f.authority.Root.Raw),
+		"/ct/v1/get-entries?start=0&end=1",
+		"/ct/v1/get-proof-by-hash?tree_size=260&hash=" + url.QueryEscape(
+			base64.StdEncoding.EncodeToString(leaves[1][:])), "/ct/v1/get-entry-and-proof?leaf_index=1&tree_size=260",
 	}
 	none := []string{"/checkpoint", "/ct/v1/get-sth", "/ct/v1/get-sth-consistency?first=0&second=7", "/healthz"}
 	answered := func(paths ...string) {
@@ -144,7 +153,8 @@ func TestAnswersAreBounded(t *testing.T) {
 	}
 }
 
-// countedWriter notes how many bytes count as held by answers while one is written. (Its last byte is written once none count any more.)
+// countedWriter notes how many bytes count as held by answers while one is written. (Its last byte is written once none
+// count any more.)
 type countedWriter struct {
 	*httptest.ResponseRecorder
 	front   *Front
@@ -158,14 +168,16 @@ func (w *countedWriter) Write(content []byte) (int, error) {
 	return w.ResponseRecorder.Write(content)
 }
 
-// TestAnswersWithEntriesCount asks for entries whose issuers are far longer than their data tile: all bytes of the answer must count while it is written, and an
-// answer that has no room must be refused before it is made.
+// TestAnswersWithEntriesCount asks for entries whose issuers are far longer than their data tile: all bytes of the
+// answer must count while it is written, and an answer that has no room must be refused before it is made.
 func TestAnswersWithEntriesCount(t *testing.T) {
 	f := newFixture(t, 0, func(o *Options) { o.Limits.AnswerBytes = 64 << 20 })
-	issuers := [][]byte{bytes.Repeat([]byte("a"), 1300), bytes.Repeat([]byte("b"), 1300), bytes.Repeat([]byte("c"), 1300)}
+	issuers := [][]byte{bytes.Repeat([]byte("a"), 1300), bytes.Repeat([]byte("b"), 1300),
+		bytes.Repeat([]byte("c"), 1300)}
 	var entries []log.Entry
 	for i := 0; i < 256; i++ {
-		entries = append(entries, log.Entry{Type: chains.X509Entry, Certificate: []byte(fmt.Sprint("certificate ", i)), Issuers: issuers})
+		entries = append(entries, log.Entry{Type: chains.X509Entry, Certificate: []byte(fmt.Sprint("certificate ", i)),
+			Issuers: issuers})
 	}
 	f.log.Add(entries)
 	paths := []string{"/ct/v1/get-entries?start=0&end=255", "/ct/v1/get-entry-and-proof?leaf_index=1&tree_size=256"}
@@ -191,7 +203,8 @@ func TestAnswersWithEntriesCount(t *testing.T) {
 	}
 }
 
-// readsLong is a log that notes how many bytes of long objects are read at once, and keeps each reading until it is let go.
+// readsLong is a log that notes how many bytes of long objects are read at once, and keeps each reading until it is let
+// go.
 type readsLong struct {
 	log.Log
 	now, most atomic.Int64
@@ -210,8 +223,8 @@ func (l *readsLong) Object(ctx context.Context, name string, most int64) ([]byte
 	return content, err
 }
 
-// A long object is read once its bytes are taken: of many who ask for it at once, those for whom there is no room are refused, and read nothing
-// of it.
+// A long object is read once its bytes are taken: of many who ask for it at once, those for whom there is no room are
+// refused, and read nothing of it.
 func TestLongObjectsAreTakenFirst(t *testing.T) {
 	f := newFixture(t, 0, func(o *Options) { o.Limits.AnswerBytes = 40 << 20 })
 	f.fill(3)
@@ -249,9 +262,11 @@ func TestLongObjectsAreTakenFirst(t *testing.T) {
 	}
 }
 
-// The answers of one address have an eighth of what all have, or as much as one object may; another address has its own.
+// The answers of one address have an eighth of what all have, or as much as one object may; another address has its
+// own.
 func TestAnswersByAddress(t *testing.T) {
-	for _, test := range []struct{ all, one int }{{1 << 30, 128 << 20}, {512 << 20, 65 << 20}, {80 << 20, stores.MaxObject + 1<<20}} {
+	for _, test := range []struct{ all, one int }{{1 << 30, 128 << 20}, {512 << 20, 65 << 20},
+		{80 << 20, stores.MaxObject + 1<<20}} {
 		f := newFixture(t, 0, func(o *Options) { o.Limits.AnswerBytes = int64(test.all) })
 		f.fill(5)
 		client, same, other := netip.MustParseAddr("2001:db8::1"), "[2001:db8::2:3]:7", "[2001:db8:0:1::1]:7"
@@ -304,16 +319,21 @@ func TestNames(t *testing.T) {
 		}
 	}
 	for _, text := range []string{
-		"", "0", "0/", "/000", "6/000", "00/000", "01/000", "-1/000", "+1/000", "data", "data/", "Data/000", "entries/000", "names/000",
-		"0/0", "0/00", "0/0000", "0/1000", "0/x000", "0/x000/000", "0/x000/x001/000", "0/001/000", "0/x001/x000", "0/X001/000", "0/x01/000", "0/x001//000",
-		"0/x004/x294/x967/296", "0/x001/x000/x000/x000/000", "0/000/", "0/000.p", "0/000.p/", "0/000.p/0", "0/000.p/256", "0/000.p/01", "0/000.p/1/", "0/000.p/+1",
-		"0/000.p/1.p/1", "0/000.P/1", "0/000 ", " 0/000", "0/00\u0660", "0/000\x00", "0/x001.p/1/000", "../checkpoint", "0/..", "0/x../000",
+		"", "0", "0/", "/000", "6/000", "00/000", "01/000", "-1/000", "+1/000", "data", "data/", "Data/000",
+		"entries/000", "names/000",
+		"0/0", "0/00", "0/0000", "0/1000", "0/x000", "0/x000/000", "0/x000/x001/000", "0/001/000", "0/x001/x000",
+		"0/X001/000", "0/x01/000", "0/x001//000",
+		"0/x004/x294/x967/296", "0/x001/x000/x000/x000/000", "0/000/", "0/000.p", "0/000.p/", "0/000.p/0",
+		"0/000.p/256", "0/000.p/01", "0/000.p/1/", "0/000.p/+1",
+		"0/000.p/1.p/1", "0/000.P/1", "0/000 ", " 0/000", "0/00\u0660", "0/000\x00", "0/x001.p/1/000", "../checkpoint",
+		"0/..", "0/x../000",
 	} {
 		if name, ok := readTileName(text); ok {
 			t.Errorf("%q is read as %s", text, name)
 		}
 	}
-	for _, text := range []string{"", "ab", strings.Repeat("A", 64), strings.Repeat("a", 63), strings.Repeat("a", 65), strings.Repeat("g", 64), strings.Repeat("a", 63) + "/"} {
+	for _, text := range []string{"", "ab", strings.Repeat("A", 64), strings.Repeat("a", 63), strings.Repeat("a", 65),
+		strings.Repeat("g", 64), strings.Repeat("a", 63) + "/"} {
 		if isFingerprint(text) {
 			t.Errorf("%q is taken for a fingerprint", text)
 		}
@@ -334,7 +354,8 @@ func TestTreeHead(t *testing.T) {
 		t.Fatal(w.Code, err)
 	}
 	head, _ := f.log.Checkpoint(httptest.NewRequest("GET", "/", nil).Context())
-	if told.Size != 3 || told.Timestamp != head.Timestamp || !bytes.Equal(told.Root, head.RootHash[:]) || !f.verifies(standin.HeadSigned(head), told.Signature) {
+	if told.Size != 3 || told.Timestamp != head.Timestamp || !bytes.Equal(told.Root, head.RootHash[:]) ||
+		!f.verifies(standin.HeadSigned(head), told.Signature) {
 		t.Errorf("get-sth: %s", w.Body)
 	}
 }
@@ -371,7 +392,8 @@ func TestEntriesAreTheHeads(t *testing.T) {
 			}
 			var chain, issuer cryptobyte.String
 			extra := cryptobyte.String(entry.ExtraData)
-			if !extra.ReadUint24LengthPrefixed(&chain) || !extra.Empty() || !chain.ReadUint24LengthPrefixed(&issuer) || !chain.Empty() {
+			if !extra.ReadUint24LengthPrefixed(&chain) || !extra.Empty() || !chain.ReadUint24LengthPrefixed(&issuer) ||
+				!chain.Empty() {
 				t.Fatalf("entry %d: its chain: %x", start+i, entry.ExtraData)
 			}
 			if !bytes.Equal(issuer, f.authority.Root.Raw) {
@@ -383,7 +405,8 @@ func TestEntriesAreTheHeads(t *testing.T) {
 	if standin.MerkleTreeHash(hashes) != head.RootHash {
 		t.Error("they haven't the head's root")
 	}
-	for _, test := range []struct{ start, end, count uint64 }{{0, 0, 1}, {7, 9, 3}, {255, 256, 1}, {256, 1 << 62, 256}, {512, 515, 3}, {514, 514, 1}, {0, 511, 256}} {
+	for _, test := range []struct{ start, end, count uint64 }{{0, 0, 1}, {7, 9, 3}, {255, 256, 1}, {256, 1 << 62, 256},
+		{512, 515, 3}, {514, 514, 1}, {0, 511, 256}} {
 		if entries := f.entries(test.start, test.end); uint64(len(entries)) != test.count {
 			t.Errorf("%d to %d: %d entries, not %d", test.start, test.end, len(entries), test.count)
 		}
@@ -406,15 +429,18 @@ func TestPrecertificatesEntry(t *testing.T) {
 	var number uint16
 	var timestamp, keyHash []byte
 	var tbs, extensions, submitted, chain, issuer cryptobyte.String
-	if !leaf.ReadUint8(&version) || !leaf.ReadUint8(&kind) || !leaf.ReadBytes(&timestamp, 8) || !leaf.ReadUint16(&number) || !leaf.ReadBytes(&keyHash, 32) ||
+	if !leaf.ReadUint8(&version) || !leaf.ReadUint8(&kind) || !leaf.ReadBytes(&timestamp, 8) ||
+		!leaf.ReadUint16(&number) || !leaf.ReadBytes(&keyHash, 32) ||
 		!leaf.ReadUint24LengthPrefixed(&tbs) || !leaf.ReadUint16LengthPrefixed(&extensions) || !leaf.Empty() {
 		t.Fatalf("the leaf: %x", entry.LeafInput)
 	}
-	if version != 0 || kind != 0 || chains.EntryType(number) != chains.PrecertEntry || !bytes.Equal(keyHash, wanted.IssuerKeyHash[:]) || !bytes.Equal(tbs, wanted.TBSCertificate) {
+	if version != 0 || kind != 0 || chains.EntryType(number) != chains.PrecertEntry ||
+		!bytes.Equal(keyHash, wanted.IssuerKeyHash[:]) || !bytes.Equal(tbs, wanted.TBSCertificate) {
 		t.Errorf("the leaf has another content: %x", entry.LeafInput)
 	}
 	extra := cryptobyte.String(entry.ExtraData)
-	if !extra.ReadUint24LengthPrefixed(&submitted) || !extra.ReadUint24LengthPrefixed(&chain) || !extra.Empty() || !chain.ReadUint24LengthPrefixed(&issuer) || !chain.Empty() {
+	if !extra.ReadUint24LengthPrefixed(&submitted) || !extra.ReadUint24LengthPrefixed(&chain) || !extra.Empty() ||
+		!chain.ReadUint24LengthPrefixed(&issuer) || !chain.Empty() {
 		t.Fatalf("the chain: %x", entry.ExtraData)
 	}
 	if !bytes.Equal(submitted, precertificate) || !bytes.Equal(issuer, f.authority.Root.Raw) {
@@ -427,8 +453,10 @@ func TestParametersAreRefused(t *testing.T) {
 	refused(t, "an empty log", f.get("/ct/v1/get-entries?start=0&end=0"), 400, "bad-parameter")
 	f.fill(3)
 	for _, query := range []string{
-		"", "start=0", "end=0", "start=1&end=0", "start=3&end=3", "start=-1&end=0", "start=+0&end=0", "start=00&end=0", "start=0x1&end=1", "start=0&end=1&end=1",
-		"start=0&end=", "start=0&end=9223372036854775808", "start=0&end=99999999999999999999", "start=0;end=0", "start=0&end=%zz", "start=%30%30&end=1", "start=1e0&end=1",
+		"", "start=0", "end=0", "start=1&end=0", "start=3&end=3", "start=-1&end=0", "start=+0&end=0", "start=00&end=0",
+		"start=0x1&end=1", "start=0&end=1&end=1",
+		"start=0&end=", "start=0&end=9223372036854775808", "start=0&end=99999999999999999999", "start=0;end=0",
+		"start=0&end=%zz", "start=%30%30&end=1", "start=1e0&end=1",
 	} {
 		refused(t, query, f.get("/ct/v1/get-entries?"+query), 400, "bad-parameter")
 	}
@@ -439,23 +467,25 @@ func TestParametersAreNamed(t *testing.T) {
 	f := newFixture(t, 0, nil)
 	f.fill(3)
 	for path, detail := range map[string]string{
-		"/ct/v1/get-entries?end=0":                                    "start is missing",
-		"/ct/v1/get-entries?start=0":                                  "end is missing",
-		"/ct/v1/get-entries?start=0&end=1&end=1":                      "end occurs more than once",
-		"/ct/v1/get-entries?start=0&end=18446744073709551615":         "end is a number from 0 to 9223372036854775807",
-		"/ct/v1/get-entries?start=&end=0":                             "start is a number from 0 to 9223372036854775807",
-		"/ct/v1/get-entries?start=2&end=1":                            "start is after end",
-		"/ct/v1/get-entries?start=3&end=3":                            "the log has 3 entries",
-		"/ct/v1/get-entries?start=0&end=%zz":                          "the query cannot be parsed",
-		"/ct/v1/get-sth-consistency?first=1":                          "second is missing",
-		"/ct/v1/get-sth-consistency?first=2&second=1":                 "first is after second",
-		"/ct/v1/get-proof-by-hash?tree_size=3":                        "hash is missing",
-		"/ct/v1/get-proof-by-hash?hash=&tree_size=3&hash=":            "hash occurs more than once",
-		"/ct/v1/get-proof-by-hash?tree_size=3&hash=AAAA":              "hash is 32 bytes in base64",
-		"/ct/v1/get-entry-and-proof?leaf_index=3&tree_size=3":         "leaf_index is not below tree_size",
-		"/ct/v1/get-entry-and-proof?leaf_index=0&tree_size=4":         "the log has 3 entries",
-		"/ct/v1/get-entry-and-proof?leaf_index=0&leaf_index=0":        "leaf_index occurs more than once",
-		"/ct/v1/get-entry-and-proof?leaf_index=0x0&tree_size=3&x=y&z": "leaf_index is a number from 0 to 9223372036854775807",
+		"/ct/v1/get-entries?end=0":                            "start is missing",
+		"/ct/v1/get-entries?start=0":                          "end is missing",
+		"/ct/v1/get-entries?start=0&end=1&end=1":              "end occurs more than once",
+		"/ct/v1/get-entries?start=0&end=18446744073709551615": "end is a number from 0 to 9223372036854775807",
+		"/ct/v1/get-entries?start=&end=0": "start is a number from 0 to " +
+			"9223372036854775807",
+		"/ct/v1/get-entries?start=2&end=1":                     "start is after end",
+		"/ct/v1/get-entries?start=3&end=3":                     "the log has 3 entries",
+		"/ct/v1/get-entries?start=0&end=%zz":                   "the query cannot be parsed",
+		"/ct/v1/get-sth-consistency?first=1":                   "second is missing",
+		"/ct/v1/get-sth-consistency?first=2&second=1":          "first is after second",
+		"/ct/v1/get-proof-by-hash?tree_size=3":                 "hash is missing",
+		"/ct/v1/get-proof-by-hash?hash=&tree_size=3&hash=":     "hash occurs more than once",
+		"/ct/v1/get-proof-by-hash?tree_size=3&hash=AAAA":       "hash is 32 bytes in base64",
+		"/ct/v1/get-entry-and-proof?leaf_index=3&tree_size=3":  "leaf_index is not below tree_size",
+		"/ct/v1/get-entry-and-proof?leaf_index=0&tree_size=4":  "the log has 3 entries",
+		"/ct/v1/get-entry-and-proof?leaf_index=0&leaf_index=0": "leaf_index occurs more than once",
+		"/ct/v1/get-entry-and-proof?leaf_index=0x0&tree_size=3&x=y&z": "leaf_index is a number from 0 to " +
+			"9223372036854775807",
 	} {
 		w := f.get(path)
 		refused(t, path, w, 400, "bad-parameter")
@@ -513,7 +543,8 @@ func TestCheckpointByItsTag(t *testing.T) {
 	}
 	for _, tags := range [][]string{{tag}, {"W/" + tag}, {`"x", ` + tag}, {`"x"`, tag}, {"*"}} {
 		w := asked(tags...)
-		if w.Code != 304 || w.Body.Len() != 0 || w.Header().Get("ETag") != tag || w.Header().Get("Cache-Control") != "public, max-age=1" {
+		if w.Code != 304 || w.Body.Len() != 0 || w.Header().Get("ETag") != tag ||
+			w.Header().Get("Cache-Control") != "public, max-age=1" {
 			t.Errorf("%q: %d, %d bytes, %v", tags, w.Code, w.Body.Len(), w.Header())
 		}
 	}
@@ -543,14 +574,16 @@ func TestAnswersInGzip(t *testing.T) {
 	}
 	for _, path := range []string{"/tile/data/000", "/tile/data/001.p/4", "/ct/v1/get-entries?start=0&end=255"} {
 		plain := asked(path, "")
-		for takes, packs := range map[string]bool{"": false, "gzip": true, "br, gzip;q=0.5": true, "GZIP": true, "gzip;q=0": false, "gzip; q=0.0": false, "identity": false, "gzip;q=x": false} {
+		for takes, packs := range map[string]bool{"": false, "gzip": true, "br, gzip;q=0.5": true, "GZIP": true,
+			"gzip;q=0": false, "gzip; q=0.0": false, "identity": false, "gzip;q=x": false} {
 			w := asked(path, takes)
 			content := w.Body.Bytes()
 			if packed := w.Header().Get("Content-Encoding") == "gzip"; packed != packs {
 				t.Errorf("%s to who takes %q: in gzip %v", path, takes, packed)
 				continue
 			}
-			if w.Header().Get("Vary") != "Accept-Encoding" || w.Header().Get("Content-Length") != fmt.Sprint(len(content)) {
+			if w.Header().Get("Vary") != "Accept-Encoding" ||
+				w.Header().Get("Content-Length") != fmt.Sprint(len(content)) {
 				t.Errorf("%s: %v", path, w.Header())
 			}
 			if packs {
@@ -577,12 +610,14 @@ func TestAnswersInGzip(t *testing.T) {
 	}
 }
 
-// A page of elsewhere may read each answer of a call that reads, also a refusal, and may ask whether it may; of a submission it may not.
+// A page of elsewhere may read each answer of a call that reads, also a refusal, and may ask whether it may; of a
+// submission it may not.
 func TestPagesOfElsewhere(t *testing.T) {
 	f := newFixture(t, 0, nil)
 	f.fill(3)
 	for path, status := range map[string]int{
-		"/checkpoint": 200, "/ct/v1/get-sth": 200, "/ct/v1/get-entries?start=0&end=1": 200, "/ct/v1/get-entries": 400, "/tile/0/000.p/3": 200, "/tile/0/009": 404,
+		"/checkpoint": 200, "/ct/v1/get-sth": 200, "/ct/v1/get-entries?start=0&end=1": 200, "/ct/v1/get-entries": 400,
+		"/tile/0/000.p/3": 200, "/tile/0/009": 404,
 		"/tile/x": 404, "/issuer/x": 404, "/ct/v1/get-roots": 200, "/ct/v1/get-proof-by-hash": 400,
 	} {
 		if w := f.get(path); w.Code != status || w.Header().Get("Access-Control-Allow-Origin") != "*" {
@@ -590,7 +625,9 @@ func TestPagesOfElsewhere(t *testing.T) {
 		}
 		w := f.do("OPTIONS", path, nil)
 		header := w.Header()
-		if w.Code != 204 || w.Body.Len() != 0 || header.Get("Access-Control-Allow-Origin") != "*" || header.Get("Access-Control-Allow-Methods") != "GET, HEAD, OPTIONS" || header.Get("Allow") != "GET, HEAD, OPTIONS" {
+		if w.Code != 204 || w.Body.Len() != 0 || header.Get("Access-Control-Allow-Origin") != "*" ||
+			header.Get("Access-Control-Allow-Methods") != "GET, HEAD, OPTIONS" ||
+			header.Get("Allow") != "GET, HEAD, OPTIONS" {
 			t.Errorf("OPTIONS %s: %d %v", path, w.Code, header)
 		}
 	}
@@ -672,7 +709,9 @@ func TestReadersAskForNoNewerHead(t *testing.T) {
 	hash := standin.LeafHash(told.Entries[0].Leaf)
 	of := &unasked{Log: f.log, head: head}
 	f.front.log = of
-	for _, path := range []string{"get-entries?start=0&end=299", "get-entries?start=256&end=299", "get-entries?start=7&end=7", "get-sth-consistency?first=7&second=300", "get-entry-and-proof?leaf_index=299&tree_size=300",
+	for _, path := range []string{"get-entries?start=0&end=299", "get-entries?start=256&end=299",
+		"get-entries?start=7&end=7", "get-sth-consistency?first=7&second=300",
+		"get-entry-and-proof?leaf_index=299&tree_size=300",
 		"get-proof-by-hash?tree_size=300&hash=" + url.QueryEscape(base64.StdEncoding.EncodeToString(hash[:]))} {
 		if w := f.get("/ct/v1/" + path); w.Code != 200 {
 			t.Errorf("%s: %d %s", path, w.Code, w.Body)
@@ -682,7 +721,8 @@ func TestReadersAskForNoNewerHead(t *testing.T) {
 		t.Errorf("the newest head is asked for %d times", asked)
 	}
 	f.front.limits.Reading = 100 * time.Millisecond
-	for _, path := range []string{"/checkpoint", "/ct/v1/get-sth", "/ct/v1/get-entries?start=256&end=300", "/ct/v1/get-sth-consistency?first=7&second=301"} {
+	for _, path := range []string{"/checkpoint", "/ct/v1/get-sth", "/ct/v1/get-entries?start=256&end=300",
+		"/ct/v1/get-sth-consistency?first=7&second=301"} {
 		refused(t, path, f.get(path), 503, "late")
 	}
 }
@@ -694,7 +734,8 @@ func TestDamagedObjects(t *testing.T) {
 	w := f.get("/tile/data/000.p/2")
 	tile := w.Body.Bytes()
 	for what, content := range map[string][]byte{
-		"missing": nil, "empty": {}, "short": tile[:len(tile)-1], "long": append(append([]byte(nil), tile...), 0), "one": tile[:len(tile)/2],
+		"missing": nil, "empty": {}, "short": tile[:len(tile)-1], "long": append(append([]byte(nil), tile...), 0),
+		"one":             tile[:len(tile)/2],
 		"of another type": append([]byte{0, 0, 0, 0, 0, 0, 0, 0, 0, 2}, tile[10:]...),
 	} {
 		f.log.Change("tile/data/000.p/2", content)
@@ -778,7 +819,8 @@ func TestAnswersComeLast(t *testing.T) {
 		counted := func() (count int) {
 			w := httptest.NewRecorder()
 			f.front.Operator().ServeHTTP(w, httptest.NewRequest("GET", "/metrics", nil))
-			_, text, _ := strings.Cut(w.Body.String(), fmt.Sprintf("\nctserve_requests_total{call=%q,status=\"%d\"} ", test.call, test.status))
+			_, text, _ := strings.Cut(w.Body.String(), fmt.Sprintf("\nctserve_requests_total{call=%q,status=\"%d\"} ",
+				test.call, test.status))
 			fmt.Sscan(text, &count)
 			return count
 		}
@@ -786,12 +828,14 @@ func TestAnswersComeLast(t *testing.T) {
 		before, lines, times := counted(), told(), 0
 		w := ask(func() {
 			times++
-			for which, of := range map[string]*counts{"requests": &f.front.requests, "proofs": &f.front.proofsOf, "submissions": &f.front.waitingOf, "answers": &f.front.answersOf} {
+			for which, of := range map[string]*counts{"requests": &f.front.requests, "proofs": &f.front.proofsOf,
+				"submissions": &f.front.waitingOf, "answers": &f.front.answersOf} {
 				if len(of.of) != 0 {
 					t.Errorf("%s: of %s %v is held", what, which, of.of)
 				}
 			}
-			if submitted, read := f.front.waiting.used.Load(), f.front.answers.used.Load(); submitted != 0 || read != 0 {
+			if submitted, read := f.front.waiting.used.Load(), f.front.answers.used.Load(); submitted != 0 ||
+				read != 0 {
 				t.Errorf("%s: %d and %d bytes are held", what, submitted, read)
 			}
 			if now, said := counted(), told(); now != before+1 || said != lines+1 {

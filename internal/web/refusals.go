@@ -37,7 +37,8 @@ func refusalOf(err error) refusal {
 		return known
 	}
 	if name := chains.RefusalOf(err); name != "" {
-		return refusal{status: http.StatusBadRequest, name: string(name), detail: strings.TrimPrefix(err.Error(), string(name)+": ")}
+		return refusal{status: http.StatusBadRequest, name: string(name),
+			detail: strings.TrimPrefix(err.Error(), string(name)+": ")}
 	}
 	r := refusal{status: http.StatusServiceUnavailable, why: err}
 	switch {

@@ -63,8 +63,8 @@ func TestRules(t *testing.T) {
 	}
 }
 
-// TestDashboard: each expression of the dashboard names figures that are there, and promtool reads it where it is installed; each of its own
-// variables is one of its list; and each figure of the log that an alarm is of can be seen.
+// TestDashboard: each expression of the dashboard names figures that are there, and promtool reads it where it is
+// installed; each of its own variables is one of its list; and each figure of the log that an alarm is of can be seen.
 func TestDashboard(t *testing.T) {
 	content, err := os.ReadFile("../../release/ctserve.dashboard.json")
 	if err != nil {

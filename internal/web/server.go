@@ -10,8 +10,8 @@ import (
 	"sync"
 )
 
-// maxOfOthers is how many connections operators have, and maxOfNodes how many the other nodes have: they don't count as clients. Each of up to three other nodes opens
-// no more than 1,024 (internal/serve).
+// maxOfOthers is how many connections operators have, and maxOfNodes how many the other nodes have: they don't count as
+// clients. Each of up to three other nodes opens no more than 1,024 (internal/serve).
 const maxOfOthers, maxOfNodes = 64, 4096
 
 // Server answers requests on listeners until it is ended.
@@ -98,7 +98,8 @@ func openIn(connection net.Conn) (*open, bool) {
 	return counted, ok && counted.isClient
 }
 
-// Listen answers what comes to a listener, over TLS where there is a configuration of it. It returns nil once the server ends.
+// Listen answers what comes to a listener, over TLS where there is a configuration of it. It returns nil once the
+// server ends.
 func (s *Server) Listen(listener net.Listener, over *tls.Config) error {
 	listener = s.bounds(listener)
 	if over != nil {
@@ -113,8 +114,8 @@ func (s *Server) Listen(listener net.Listener, over *tls.Config) error {
 	return err
 }
 
-// End takes no more connections, closes those on which nothing is asked, and waits for the answers that are under way, within
-// the context; then it closes all.
+// End takes no more connections, closes those on which nothing is asked, and waits for the answers that are under way,
+// within the context; then it closes all.
 func (s *Server) End(ctx context.Context) error {
 	s.mutex.Lock()
 	s.ending = true

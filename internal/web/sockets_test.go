@@ -100,7 +100,7 @@ func answersOn(t testing.TB, connection net.Conn) (statuses []int) {
 	}
 }
 
-// closed says whether the other side closed without a word, and doesn't only say nothing.
+// closed reports whether the other side closed without a word, and doesn't only say nothing.
 func closed(t testing.TB, what string, from io.Reader) {
 	t.Helper()
 	n, err := from.Read(make([]byte, 1))
@@ -125,18 +125,29 @@ func TestUnclearRequests(t *testing.T) {
 		{"two requests one behind the other", get + "\r\n" + get + "\r\n", []int{200, 200}},
 		{"a GET with a body", get + fmt.Sprintf("Content-Length: %d\r\n\r\n", len(hidden)) + hidden, []int{400}},
 		{"a GET with a body in chunks", get + "Transfer-Encoding: chunked\r\n\r\n0\r\n\r\n" + hidden, []int{411}},
-		{"a length and chunks at nobody's path", fmt.Sprintf("POST /nothing HTTP/1.1\r\nHost: log\r\nContent-Length: %d\r\nTransfer-Encoding: chunked\r\n\r\n0\r\n\r\n", 5+len(hidden)) + hidden, []int{411}},
-		{"a length and chunks where one reads", fmt.Sprintf("POST /checkpoint HTTP/1.1\r\nHost: log\r\nContent-Length: %d\r\nTransfer-Encoding: chunked\r\n\r\n0\r\n\r\n", 5+len(hidden)) + hidden, []int{411}},
-		{"a length and chunks, and a question before", fmt.Sprintf("OPTIONS /checkpoint HTTP/1.1\r\nHost: log\r\nContent-Length: %d\r\nTransfer-Encoding: chunked\r\n\r\n0\r\n\r\n", 5+len(hidden)) + hidden, []int{411}},
+		{"a length and chunks at nobody's path", fmt.Sprintf(
+			"POST /nothing HTTP/1.1\r\nHost: log\r\nContent-Length: %d\r\nTransfer-Encoding: chunked\r\n\r\n0\r\n\r\n",
+			5+len(hidden)) + hidden, []int{411}},
+		{"a length and chunks where one reads", fmt.Sprintf(
+			"POST /checkpoint HTTP/1.1\r\nHost: log\r\nContent-Length: %d\r\nTransfer-Encoding: "+
+				"chunked\r\n\r\n0\r\n\r\n", 5+len(hidden)) + hidden, []int{411}},
+		{"a length and chunks, and a question before", fmt.Sprintf(
+			"OPTIONS /checkpoint HTTP/1.1\r\nHost: log\r\nContent-Length: %d\r\nTransfer-Encoding: "+
+				"chunked\r\n\r\n0\r\n\r\n", 5+len(hidden)) + hidden, []int{411}},
 		{"a GET with an announced body", get + "Content-Length: 100\r\n\r\n", []int{400}},
-		{"two lengths", post + fmt.Sprintf("Content-Length: 2\r\nContent-Length: %d\r\n\r\n{}", len(hidden)+2) + hidden, []int{400}},
+		{"two lengths", post + fmt.Sprintf("Content-Length: 2\r\nContent-Length: %d\r\n\r\n{}", len(hidden)+2) +
+			hidden, []int{400}},
 		{"two lengths in one", post + "Content-Length: 2, 3\r\n\r\n{}" + hidden, []int{400}},
 		{"a length twice", post + "Content-Length: 2\r\nContent-Length: 2\r\nConnection: close\r\n\r\n{}", []int{400}},
-		{"a length and chunks", post + "Content-Length: 2\r\nTransfer-Encoding: chunked\r\n\r\n0\r\n\r\n" + hidden, []int{411}},
-		{"chunks and a length", post + "Transfer-Encoding: chunked\r\nContent-Length: 5\r\n\r\n2\r\n{}\r\n0\r\n\r\n" + hidden, []int{411}},
+		{"a length and chunks", post + "Content-Length: 2\r\nTransfer-Encoding: chunked\r\n\r\n0\r\n\r\n" +
+			hidden, []int{411}},
+		{"chunks and a length", post + "Transfer-Encoding: chunked\r\nContent-Length: 5\r\n\r\n2\r\n{}\r\n0\r\n\r\n" +
+			hidden, []int{411}},
 		{"chunks", post + "Transfer-Encoding: chunked\r\n\r\n2\r\n{}\r\n0\r\n\r\n" + hidden, []int{411}},
-		{"chunks by another name", post + "Transfer-Encoding: xchunked\r\n\r\n2\r\n{}\r\n0\r\n\r\n" + hidden, []int{501}},
-		{"chunks twice", post + "Transfer-Encoding: chunked\r\nTransfer-Encoding: identity\r\n\r\n" + hidden, []int{501}},
+		{"chunks by another name", post + "Transfer-Encoding: xchunked\r\n\r\n2\r\n{}\r\n0\r\n\r\n" +
+			hidden, []int{501}},
+		{"chunks twice", post + "Transfer-Encoding: chunked\r\nTransfer-Encoding: identity\r\n\r\n" +
+			hidden, []int{501}},
 		{"chunks behind a space", post + "Transfer-Encoding : chunked\r\n\r\n0\r\n\r\n" + hidden, []int{400}},
 		{"a length with a sign", post + "Content-Length: +2\r\n\r\n{}" + hidden, []int{400}},
 		{"a negative length", post + "Content-Length: -1\r\n\r\n" + hidden, []int{400}},
@@ -145,7 +156,8 @@ func TestUnclearRequests(t *testing.T) {
 		{"a length above the bound", post + "Content-Length: 1048577\r\n\r\n" + hidden, []int{413}},
 		{"a body that breaks off", post + "Content-Length: 100\r\n\r\n{}", []int{408}},
 		{"no length", post + "\r\n" + hidden, []int{400, 200}},
-		{"a POST where one reads", "POST /checkpoint HTTP/1.1\r\nHost: log\r\nContent-Length: 2\r\n\r\n{}" + get + "\r\n", []int{405, 200}},
+		{"a POST where one reads", "POST /checkpoint HTTP/1.1\r\nHost: log\r\nContent-Length: 2\r\n\r\n{}" + get +
+			"\r\n", []int{405, 200}},
 		{"no host", "GET /healthz HTTP/1.1\r\n\r\n" + hidden, []int{400}},
 		{"two hosts", get + "Host: other\r\n\r\n" + hidden, []int{400}},
 		{"no version", "GET /healthz\r\n\r\n" + hidden, []int{400}},
@@ -169,7 +181,8 @@ func TestUnclearRequests(t *testing.T) {
 // TestSlowClients: a client that sends or reads too slowly is disconnected, and others are answered in the meantime.
 func TestSlowClients(t *testing.T) {
 	f := newFixture(t, 10*time.Millisecond, func(o *Options) {
-		o.Limits.Headers, o.Limits.Request, o.Limits.Idle = 200*time.Millisecond, 400*time.Millisecond, 300*time.Millisecond
+		o.Limits.Headers, o.Limits.Request, o.Limits.Idle = 200*time.Millisecond, 400*time.Millisecond,
+			300*time.Millisecond
 		o.Limits.Submission, o.Limits.Answer = 100*time.Millisecond, time.Second
 	})
 	address, _ := f.listening(nil)
@@ -243,7 +256,8 @@ func TestSlowClients(t *testing.T) {
 	}
 	// A connection is closed if a write on it fails. The resources of its request are freed after that.
 	eventually(t, "all connections are closed, and no bytes are counted", func() bool {
-		return f.front.connections.open.Load() == 0 && f.front.waiting.used.Load() == 0 && f.front.answers.used.Load() == 0
+		return f.front.connections.open.Load() == 0 && f.front.waiting.used.Load() == 0 &&
+			f.front.answers.used.Load() == 0
 	})
 }
 
@@ -303,7 +317,8 @@ type oneOf struct {
 
 func (o oneOf) Accept() (net.Conn, error) { return o.connection, nil }
 
-// TestClosedConnectionsHoldNoPlace: by the time that a connection is closed its place is given back, so that the other side may come again at once.
+// TestClosedConnectionsHoldNoPlace: by the time that a connection is closed its place is given back, so that the other
+// side may come again at once.
 func TestClosedConnectionsHoldNoPlace(t *testing.T) {
 	f, room := newFixture(t, 0, nil), make(chan struct{}, 1)
 	for what, test := range map[string]struct {
@@ -311,7 +326,8 @@ func TestClosedConnectionsHoldNoPlace(t *testing.T) {
 		held   func() int
 	}{
 		"a client's": {func(l net.Listener) net.Listener { return bounded{l, f.front} }, func() int {
-			return int(f.front.connections.open.Load()) + len(f.front.connections.byAddress.of) + f.front.connections.waiting()
+			return int(f.front.connections.open.Load()) + len(f.front.connections.byAddress.of) +
+				f.front.connections.waiting()
 		}},
 		"an operator's": {func(l net.Listener) net.Listener { return few{l, room} }, func() int { return len(room) }},
 	} {
@@ -335,11 +351,12 @@ func TestClosedConnectionsHoldNoPlace(t *testing.T) {
 	}
 }
 
-// TestOperatorCountsApart: while one address has all the connections and requests that it may have, an operator at that address is answered; and who has all
-// of the operator's connections keeps no client out.
+// TestOperatorCountsApart: while one address has all the connections and requests that it may have, an operator at that
+// address is answered; and who has all of the operator's connections keeps no client out.
 func TestOperatorCountsApart(t *testing.T) {
 	f := newFixture(t, 0, func(o *Options) {
-		o.Limits.ConnectionsByAddress, o.Limits.Request, o.Limits.Headers, o.Limits.Idle = 3, time.Hour, time.Hour, time.Hour
+		o.Limits.ConnectionsByAddress, o.Limits.Request, o.Limits.Headers, o.Limits.Idle = 3, time.Hour,
+			time.Hour, time.Hour
 	})
 	clients, _ := f.listening(nil)
 	operator := f.listeningBy(f.front.ServeOthers(f.front.Operator()), nil)
@@ -534,11 +551,15 @@ func TestServerEndsWithinItsBound(t *testing.T) {
 func TestSubmissionsWaitLongerThanRequests(t *testing.T) {
 	// (on a busy machine the request itself takes longer than it may: then it may take longer)
 	for most := 150 * time.Millisecond; ; most *= 4 {
-		f := newFixture(t, 0, func(o *Options) { o.Limits.Headers, o.Limits.Request, o.Limits.Submission = most, most, trial.Longest })
+		f := newFixture(t, 0, func(o *Options) {
+			o.Limits.Headers, o.Limits.Request, o.Limits.Submission = most, most,
+				trial.Longest
+		})
 		address, _ := f.listening(nil)
 		body := standin.Submission(f.issue(false))
 		connection := dial(t, address)
-		fmt.Fprintf(connection, "POST /ct/v1/add-chain HTTP/1.1\r\nHost: log\r\nConnection: close\r\nContent-Length: %d\r\n\r\n%s", len(body), body)
+		fmt.Fprintf(connection, "POST /ct/v1/add-chain HTTP/1.1\r\nHost: log\r\nConnection: close\r\nContent-Length: "+
+			"%d\r\n\r\n%s", len(body), body)
 		came := make(chan []int, 1)
 		go func() { came <- answersOn(t, connection) }()
 		for len(came) == 0 && f.log.Figures().Queue == 0 {
@@ -564,7 +585,8 @@ func TestClientsThatGo(t *testing.T) {
 	address, _ := f.listening(nil)
 	body := standin.Submission(f.issue(false))
 	connection := dial(t, address)
-	fmt.Fprintf(connection, "POST /ct/v1/add-chain HTTP/1.1\r\nHost: log\r\nContent-Length: %d\r\n\r\n%s", len(body), body)
+	fmt.Fprintf(connection, "POST /ct/v1/add-chain HTTP/1.1\r\nHost: log\r\nContent-Length: %d\r\n\r\n%s",
+		len(body), body)
 	for f.log.Figures().Queue == 0 {
 		time.Sleep(time.Millisecond)
 	}
@@ -648,7 +670,8 @@ func TestTLS(t *testing.T) {
 		return &state, err
 	}
 	state, err := ask(&tls.Config{NextProtos: []string{"h2", "http/1.1"}})
-	if err != nil || state.NegotiatedProtocol != "http/1.1" || !bytes.Equal(state.PeerCertificates[0].Raw, certificate) {
+	if err != nil || state.NegotiatedProtocol != "http/1.1" ||
+		!bytes.Equal(state.PeerCertificates[0].Raw, certificate) {
 		t.Errorf("%v, %v", state, err)
 	}
 	if _, err := ask(&tls.Config{MaxVersion: tls.VersionTLS11}); err == nil {
@@ -705,7 +728,8 @@ func (w *watchedClose) Close() error {
 	return nil
 }
 
-// TestIdleIsClosedUnderTheLock: a connection that is closed since nothing is asked on it must be closed before anybody can note that something is.
+// TestIdleIsClosedUnderTheLock: a connection that is closed since nothing is asked on it must be closed before anybody
+// can note that something is.
 func TestIdleIsClosedUnderTheLock(t *testing.T) {
 	c := &connections{}
 	w := &watchedClose{of: c}

@@ -34,7 +34,8 @@ func (f *Front) add(w http.ResponseWriter, r *http.Request, check func([][]byte)
 		return refusal{status: http.StatusServiceUnavailable, name: "ended", after: 10, closes: true}
 	}
 	if f.options.ReadOnly {
-		return refusal{status: http.StatusForbidden, name: "read-only", detail: "the log takes no more submissions", closes: true}
+		return refusal{status: http.StatusForbidden, name: "read-only",
+			detail: "the log takes no more submissions", closes: true}
 	}
 	client := f.clientOf(r)
 	body, taken, err := f.body(r, client)
@@ -61,8 +62,8 @@ func timestampOf(place log.Place) signedTimestamp {
 	return signedTimestamp{0, place.LogID[:], place.Timestamp, place.Extensions, place.Signature}
 }
 
-// body reads a submission, and says how many bytes of the budget it took. A body whose length isn't said is refused: no client
-// of logs sends one.
+// body reads a submission, and says how many bytes of the budget it took. A body whose length isn't said is refused: no
+// client of logs sends one.
 func (f *Front) body(r *http.Request, client netip.Addr) (body []byte, taken int64, err error) {
 	if r.ContentLength < 0 {
 		return nil, 0, refusal{status: http.StatusLengthRequired, name: "length-required", closes: true}
@@ -76,7 +77,8 @@ func (f *Front) body(r *http.Request, client netip.Addr) (body []byte, taken int
 		if n > 0 {
 			// The received bytes count, and not the announced ones. So a client that sends nothing holds nothing.
 			if !f.waitingOf.takeSome(client, n) {
-				return nil, taken, refusal{status: http.StatusTooManyRequests, name: "too-many-bytes", after: 1, closes: true}
+				return nil, taken, refusal{status: http.StatusTooManyRequests, name: "too-many-bytes",
+					after: 1, closes: true}
 			}
 			if !f.waiting.take(int64(n)) {
 				f.waitingOf.giveSome(client, n)
@@ -89,13 +91,15 @@ func (f *Front) body(r *http.Request, client netip.Addr) (body []byte, taken int
 			return body, taken, nil
 		}
 		if err != nil {
-			return nil, taken, refusal{status: http.StatusRequestTimeout, name: "body-broken-off", closes: true, why: err}
+			return nil, taken, refusal{status: http.StatusRequestTimeout, name: "body-broken-off",
+				closes: true, why: err}
 		}
 	}
 }
 
 // checked makes an entry of a submission. Only so many are checked at once.
-func (f *Front) checked(ctx context.Context, body []byte, check func([][]byte) (*chains.Entry, error)) (*chains.Entry, error) {
+func (f *Front) checked(ctx context.Context, body []byte, check func([][]byte) (*chains.Entry,
+	error)) (*chains.Entry, error) {
 	select {
 	case f.checks <- struct{}{}:
 	case <-ctx.Done():
@@ -106,7 +110,8 @@ func (f *Front) checked(ctx context.Context, body []byte, check func([][]byte) (
 		Chain [][]byte `json:"chain"`
 	}
 	if err := json.Unmarshal(body, &submission); err != nil {
-		return nil, refusal{status: http.StatusBadRequest, name: "no-submission", detail: "the body is not a JSON object with the chain as a list of base64 strings"}
+		return nil, refusal{status: http.StatusBadRequest, name: "no-submission",
+			detail: "the body is not a JSON object with the chain as a list of base64 strings"}
 	}
 	return check(submission.Chain)
 }

@@ -128,14 +128,15 @@ func (f *fixture) fill(count int) (certificates [][]byte) {
 	one := f.issue(false)
 	var entries []log.Entry
 	for i := 0; i < count; i++ {
-		entry := log.Entry{Certificate: append([]byte{byte(i >> 8), byte(i)}, one...), Issuers: [][]byte{f.authority.Root.Raw}}
+		entry := log.Entry{Certificate: append([]byte{byte(i >> 8), byte(i)}, one...),
+			Issuers: [][]byte{f.authority.Root.Raw}}
 		certificates, entries = append(certificates, entry.Certificate), append(entries, entry)
 	}
 	f.log.Add(entries)
 	return certificates
 }
 
-// refused says whether an answer is a refusal of this status and name, which no cache keeps.
+// refused reports whether an answer is a refusal of this status and name, which no cache keeps.
 func refused(t testing.TB, what string, w *httptest.ResponseRecorder, status int, name string) {
 	t.Helper()
 	var told struct {
@@ -146,23 +147,26 @@ func refused(t testing.TB, what string, w *httptest.ResponseRecorder, status int
 		t.Fatalf("%s: %d %q: %v", what, w.Code, w.Body, err)
 	}
 	if w.Code != status || told.Message != name || w.Header().Get("Cache-Control") != "no-store" {
-		t.Errorf("%s: %d %s (%s), %q, where %d %s was expected", what, w.Code, told.Message, told.Detail, w.Header()["Cache-Control"], status, name)
+		t.Errorf("%s: %d %s (%s), %q, where %d %s was expected", what, w.Code, told.Message, told.Detail,
+			w.Header()["Cache-Control"], status, name)
 	}
 }
 
-// verifies says whether a DigitallySigned is the log's over some bytes.
+// verifies reports whether a DigitallySigned is the log's over some bytes.
 func (f *fixture) verifies(signed, signature []byte) bool {
 	digest := sha256.Sum256(signed)
 	return len(signature) > 4 && bytes.HasPrefix(signature, []byte{4, 3, 0}) && int(signature[3]) == len(signature)-4 &&
 		ecdsa.VerifyASN1(&f.log.Key.PublicKey, digest[:], signature[4:])
 }
 
-// TestPrecertificatesWithoutMemory: if there is no memory to cut the poison out, a precertificate is for later, and certificates are taken.
+// TestPrecertificatesWithoutMemory: if there is no memory to cut the poison out, a precertificate is for later, and
+// certificates are taken.
 func TestPrecertificatesWithoutMemory(t *testing.T) {
 	f := newFixture(t, 10*time.Millisecond, nil)
 	dry := chains.CutterOver(func([]byte) ([]byte, error) { return nil, wagtenib.ErrMemory })
 	checker := chains.NewChecker(f.checker.Roots(), chains.Rules{}, dry)
-	f.front = New(f.log, tile.NewProver(f.log.Object, 4), checker, Options{Limits: DefaultLimits(), Lines: NewLines(f.lines)})
+	f.front = New(f.log, tile.NewProver(f.log.Object, 4), checker,
+		Options{Limits: DefaultLimits(), Lines: NewLines(f.lines)})
 	w := f.do("POST", "/ct/v1/add-pre-chain", standin.Submission(f.issue(true), f.authority.Root.Raw))
 	if w.Code != 503 || w.Header().Get("Retry-After") != "1" || !strings.Contains(w.Body.String(), `"busy"`) {
 		t.Errorf("%d %v %s", w.Code, w.Header(), w.Body)
@@ -183,7 +187,8 @@ func TestSubmissionsAreAnsweredWithTimestamps(t *testing.T) {
 		{"/ct/v1/add-pre-chain", f.issue(true), f.checker.Precertificate},
 	} {
 		w := f.do("POST", test.path, standin.Submission(test.der, f.authority.Root.Raw))
-		if w.Code != 200 || w.Header().Get("Content-Type") != "application/json" || w.Header().Get("Cache-Control") != "no-store" {
+		if w.Code != 200 || w.Header().Get("Content-Type") != "application/json" ||
+			w.Header().Get("Cache-Control") != "no-store" {
 			t.Fatalf("%s: %d %v %s", test.path, w.Code, w.Header(), w.Body)
 		}
 		var keys map[string]any
@@ -201,7 +206,8 @@ func TestSubmissionsAreAnsweredWithTimestamps(t *testing.T) {
 		if !bytes.Equal(told.Extensions, []byte{0, 0, 5, 0, 0, 0, 0, byte(number)}) {
 			t.Errorf("%s: extensions %x", test.path, told.Extensions)
 		}
-		if !f.verifies(standin.TimestampSigned(*entry, told.Timestamp, told.Extensions), told.Signature) || len(told.ID) != 32 {
+		if !f.verifies(standin.TimestampSigned(*entry, told.Timestamp, told.Extensions), told.Signature) ||
+			len(told.ID) != 32 {
 			t.Errorf("%s: the signature isn't over the entry: %s", test.path, w.Body)
 		}
 	}
@@ -245,7 +251,8 @@ func TestChainsAreRefusedByName(t *testing.T) {
 
 func TestBodiesAreRefused(t *testing.T) {
 	f := newFixture(t, 10*time.Millisecond, func(o *Options) { o.Limits.WaitingBytes = 4096 })
-	for _, body := range []string{"", "chain", `{"chain":"AAAA"}`, `{"chain":["!"]}`, `[]`, `{"chain":[]} {}`, `{"chain":[7]}`, `{"chain":["AAAA"]`} {
+	for _, body := range []string{"", "chain", `{"chain":"AAAA"}`, `{"chain":["!"]}`, `[]`, `{"chain":[]} {}`,
+		`{"chain":[7]}`, `{"chain":["AAAA"]`} {
 		refused(t, body, f.do("POST", "/ct/v1/add-chain", []byte(body)), 400, "no-submission")
 	}
 	refused(t, "no chain", f.do("POST", "/ct/v1/add-chain", []byte(`{}`)), 400, "empty-chain")
@@ -298,7 +305,8 @@ func TestTooLargeSaysTheBound(t *testing.T) {
 	f := newFixture(t, 10*time.Millisecond, nil)
 	f.log.Break(fmt.Errorf("%w: it has 131073 bytes, and may have 131072", log.ErrTooLarge))
 	w := f.do("POST", "/ct/v1/add-chain", standin.Submission(f.issue(false)))
-	if w.Code != 400 || !strings.Contains(w.Body.String(), "entry-too-large") || !strings.Contains(w.Body.String(), "it has 131073 bytes, and may have 131072") {
+	if w.Code != 400 || !strings.Contains(w.Body.String(), "entry-too-large") ||
+		!strings.Contains(w.Body.String(), "it has 131073 bytes, and may have 131072") {
 		t.Errorf("%d %s", w.Code, w.Body)
 	}
 }
@@ -387,7 +395,8 @@ func TestSubmissionsThatWait(t *testing.T) {
 	w := f.do("POST", "/ct/v1/add-chain", standin.Submission(f.issue(false)))
 	refused(t, "late", w, 503, "late")
 	ctx, cancel := context.WithCancel(context.Background())
-	r := httptest.NewRequest("POST", "/ct/v1/add-chain", bytes.NewReader(standin.Submission(f.issue(false)))).WithContext(ctx)
+	r := httptest.NewRequest("POST", "/ct/v1/add-chain", bytes.NewReader(
+		standin.Submission(f.issue(false)))).WithContext(ctx)
 	cancel()
 	w = httptest.NewRecorder()
 	f.front.ServeHTTP(w, r)
@@ -411,7 +420,8 @@ func TestRoots(t *testing.T) {
 		if err := json.Unmarshal(w.Body.Bytes(), &told); err != nil || w.Code != 200 {
 			t.Fatal(w.Code, err)
 		}
-		if len(told.Certificates) != i || !bytes.Equal(told.Certificates[0], f.authority.Root.Raw) || !bytes.Equal(told.Certificates[i-1], [][]byte{f.authority.Root.Raw, other.Root.Raw}[i-1]) {
+		if len(told.Certificates) != i || !bytes.Equal(told.Certificates[0], f.authority.Root.Raw) ||
+			!bytes.Equal(told.Certificates[i-1], [][]byte{f.authority.Root.Raw, other.Root.Raw}[i-1]) {
 			t.Errorf("roots: %s", w.Body)
 		}
 		path := t.TempDir() + "/roots.pem"
@@ -427,7 +437,8 @@ func TestReadingThatIsLate(t *testing.T) {
 	f := newFixture(t, 0, func(o *Options) { o.Limits.Reading = 20 * time.Millisecond })
 	f.fill(1)
 	f.log.Slow = 5 * time.Second
-	for _, path := range []string{"/checkpoint", "/tile/0/000.p/1", "/issuer/" + strings.Repeat("0", 64), "/ct/v1/get-sth", "/ct/v1/get-entries?start=0&end=0"} {
+	for _, path := range []string{"/checkpoint", "/tile/0/000.p/1", "/issuer/" + strings.Repeat("0", 64),
+		"/ct/v1/get-sth", "/ct/v1/get-entries?start=0&end=0"} {
 		refused(t, path, f.get(path), 503, "late")
 	}
 }
@@ -450,7 +461,8 @@ func TestMethodsAndPaths(t *testing.T) {
 		}
 	}
 	for _, path := range []string{
-		"//", "/checkpoint/", "//checkpoint", "/./checkpoint", "/ct/v1/../v1/get-sth", "/check%70oint", "/ct%2fv1/get-sth", "/tile", "/tile/", "/issuer/",
+		"//", "/checkpoint/", "//checkpoint", "/./checkpoint", "/ct/v1/../v1/get-sth", "/check%70oint",
+		"/ct%2fv1/get-sth", "/tile", "/tile/", "/issuer/",
 		"/index.html", "/metrics", "/ct/v1/", "/tile/0/000%2ep/1", "/issuer/../checkpoint", "/Checkpoint",
 	} {
 		refused(t, path, f.get(path), 404, "no-such-path")
@@ -460,18 +472,21 @@ func TestMethodsAndPaths(t *testing.T) {
 func TestPage(t *testing.T) {
 	f := newFixture(t, 0, nil)
 	w := f.get("/")
-	if w.Code != 200 || w.Header().Get("Content-Type") != "text/html; charset=utf-8" || !bytes.Equal(w.Body.Bytes(), pageText) {
+	if w.Code != 200 || w.Header().Get("Content-Type") != "text/html; charset=utf-8" ||
+		!bytes.Equal(w.Body.Bytes(), pageText) {
 		t.Errorf("/: %d %v", w.Code, w.Header())
 	}
 	_, script, _ := strings.Cut(w.Body.String(), "<script>")
 	script, _, _ = strings.Cut(script, "</script>")
 	hash := sha256.Sum256([]byte(script))
-	if policy := w.Header().Get("Content-Security-Policy"); script == "" || !strings.Contains(policy, base64.StdEncoding.EncodeToString(hash[:])) {
+	if policy := w.Header().Get("Content-Security-Policy"); script == "" ||
+		!strings.Contains(policy, base64.StdEncoding.EncodeToString(hash[:])) {
 		t.Errorf("the page's script may not run: %s", policy)
 	}
 }
 
-// The log's key and its entry for a list are answered as they were given, to anybody; without them there is no such path.
+// The log's key and its entry for a list are answered as they were given, to anybody; without them there is no such
+// path.
 func TestAbout(t *testing.T) {
 	of := About{Key: []byte("a key"), Entry: []byte(`{"log_id":"an id"}`)}
 	f := newFixture(t, 0, func(o *Options) { o.About = of })
@@ -480,7 +495,8 @@ func TestAbout(t *testing.T) {
 		t.Errorf("/key: %q", f.get("/key").Body)
 	}
 	w := f.get("/log.v3.json")
-	if w.Code != 200 || w.Header().Get("Content-Type") != "application/json" || w.Body.String() != string(of.Entry) || w.Header().Get("Access-Control-Allow-Origin") != "*" {
+	if w.Code != 200 || w.Header().Get("Content-Type") != "application/json" || w.Body.String() != string(of.Entry) ||
+		w.Header().Get("Access-Control-Allow-Origin") != "*" {
 		t.Errorf("/log.v3.json: %d %v %s", w.Code, w.Header(), w.Body)
 	}
 	none := newFixture(t, 0, nil)
@@ -524,14 +540,30 @@ func TestMetricsAndHealth(t *testing.T) {
 		`ctserve_requests_total{call="none",status="404"} 1`,
 		`ctserve_refusals_total{call="add-chain",refusal="empty-chain"} 1`,
 		`ctserve_request_seconds_count{call="checkpoint"} 1`,
-		"ctserve_entries 5", "ctserve_max_merge_delay_seconds 90", "ctserve_queue 0", `ctserve_build_info{commit="unknown",version="unreleased"} 1`, "ctserve_queue_capacity 1024", "ctserve_lost_swaps_total 3", "ctserve_fault 0", "ctserve_ready 1", "ctserve_roots 1",
-		"ctserve_deleted_tiles_total 4", "ctserve_deleted_heads_total 8", "ctserve_scrubbed_tiles_total 5", "ctserve_damaged_tiles 6", "ctserve_written_bytes_total 16", `ctserve_step_seconds_sum{phase="stage"} 1.5`, `ctserve_step_seconds_count{phase="stage"} 17`, "ctserve_deleted_batches_total 11", "ctserve_staged_batches 12", "ctserve_janitor_failures_total 13", "ctserve_damaged_issuers 9", "ctserve_repaired_objects_total 10", "ctserve_signer_starts_total 7", "ctserve_queued_bytes 0", "ctserve_response_bytes 0", `ctserve_connections_refused_total{bound="address"} 0`,
-		"ctserve_unpublished_entries 18", "ctserve_round_age_seconds 2.5", "ctserve_partial_tiles_deleted_to 512", "ctserve_scrub_next_tile 19", "ctserve_faults_total 0",
-		`ctserve_step_submissions_bucket{le="1"} 18`, `ctserve_step_submissions_bucket{le="8"} 20`, `ctserve_step_submissions_bucket{le="+Inf"} 20`, "ctserve_step_submissions_sum 21", "ctserve_step_submissions_count 20",
-		`ctserve_store_seconds_count{call="put",store="objects"} 3`, `ctserve_store_failures_total{call="put",store="objects"} 1`, `ctserve_store_seconds_count{call="get",store="objects"} 1`,
-		`ctserve_store_failures_total{call="get",store="objects"} 0`, `ctserve_store_seconds_count{call="swap",store="lock"} 0`, `ctserve_store_failures_total{call="find",store="index"} 0`,
-		fmt.Sprintf(`ctserve_store_seconds_sum{call="put",store="objects"} %v`, f.front.options.Stores.All()[0].Took.Seconds()),
-		`ctserve_witness_lag{witness="w.example"} 14`, `ctserve_witness_cosignatures_total{witness="w.example"} 15`, `ctserve_witness_ahead{witness="w.example"} 1`,
+		"ctserve_entries 5", "ctserve_max_merge_delay_seconds 90", "ctserve_queue 0",
+		`ctserve_build_info{commit="unknown",version="unreleased"} 1`, "ctserve_queue_capacity 1024",
+		"ctserve_lost_swaps_total 3", "ctserve_fault 0", "ctserve_ready 1", "ctserve_roots 1",
+		"ctserve_deleted_tiles_total 4", "ctserve_deleted_heads_total 8", "ctserve_scrubbed_tiles_total 5",
+		"ctserve_damaged_tiles 6", "ctserve_written_bytes_total 16", `ctserve_step_seconds_sum{phase="stage"} 1.5`,
+		`ctserve_step_seconds_count{phase="stage"} 17`, "ctserve_deleted_batches_total 11", "ctserve_staged_batches 12",
+		"ctserve_janitor_failures_total 13", "ctserve_damaged_issuers 9", "ctserve_repaired_objects_total 10",
+		"ctserve_signer_starts_total 7", "ctserve_queued_bytes 0", "ctserve_response_bytes 0",
+		`ctserve_connections_refused_total{bound="address"} 0`,
+		"ctserve_unpublished_entries 18", "ctserve_round_age_seconds 2.5", "ctserve_partial_tiles_deleted_to 512",
+		"ctserve_scrub_next_tile 19", "ctserve_faults_total 0",
+		`ctserve_step_submissions_bucket{le="1"} 18`, `ctserve_step_submissions_bucket{le="8"} 20`,
+		`ctserve_step_submissions_bucket{le="+Inf"} 20`, "ctserve_step_submissions_sum 21",
+		"ctserve_step_submissions_count 20",
+		`ctserve_store_seconds_count{call="put",store="objects"} 3`,
+		`ctserve_store_failures_total{call="put",store="objects"} 1`,
+		`ctserve_store_seconds_count{call="get",store="objects"} 1`,
+		`ctserve_store_failures_total{call="get",store="objects"} 0`,
+		`ctserve_store_seconds_count{call="swap",store="lock"} 0`,
+		`ctserve_store_failures_total{call="find",store="index"} 0`,
+		fmt.Sprintf(`ctserve_store_seconds_sum{call="put",store="objects"} %v`,
+			f.front.options.Stores.All()[0].Took.Seconds()),
+		`ctserve_witness_lag{witness="w.example"} 14`, `ctserve_witness_cosignatures_total{witness="w.example"} 15`,
+		`ctserve_witness_ahead{witness="w.example"} 1`,
 	} {
 		if !strings.Contains(w.Body.String(), line+"\n") {
 			t.Errorf("/metrics lacks %s", line)
@@ -544,7 +576,8 @@ func TestMetricsAndHealth(t *testing.T) {
 	}
 	for path, text := range map[string]string{"/healthz": "ok\n", "/readyz": "ready\n"} {
 		path := path
-		if w := unlessLate(func() *httptest.ResponseRecorder { return ask(path) }); w.Code != 200 || w.Body.String() != text {
+		if w := unlessLate(func() *httptest.ResponseRecorder { return ask(path) }); w.Code != 200 ||
+			w.Body.String() != text {
 			t.Errorf("%s: %d %s", path, w.Code, w.Body)
 		}
 	}
@@ -615,7 +648,8 @@ func TestFaultsAndDamageAreTold(t *testing.T) {
 	measures("ctserve_faults_total 2")
 	cancel()
 	<-done
-	for event, told := range map[string]int{"fault": 2, "damage": 1, "made-again": 1, "tend": 1, "witness-seen-more": 1} {
+	for event, told := range map[string]int{"fault": 2, "damage": 1, "made-again": 1, "tend": 1,
+		"witness-seen-more": 1} {
 		if count := strings.Count(f.lines.String(), `"event":"`+event+`"`); count != told {
 			t.Errorf("%s is told %d times", event, count)
 		}
@@ -633,7 +667,8 @@ func TestReloadsAreCounted(t *testing.T) {
 	}
 	w := httptest.NewRecorder()
 	f.front.Operator().ServeHTTP(w, httptest.NewRequest("GET", "/metrics", nil))
-	for _, line := range []string{`{of="roots",outcome="done"} 2`, `{of="roots",outcome="failed"} 1`, `{of="certificate",outcome="failed"} 1`} {
+	for _, line := range []string{`{of="roots",outcome="done"} 2`, `{of="roots",outcome="failed"} 1`,
+		`{of="certificate",outcome="failed"} 1`} {
 		if !strings.Contains(w.Body.String(), "\nctserve_reloads_total"+line+"\n") {
 			t.Errorf("/metrics lacks %s", line)
 		}
@@ -668,7 +703,8 @@ func TestLinesAreBounded(t *testing.T) {
 	now = now.Add(time.Second)
 	l.Info("z")
 	lines := strings.Split(strings.TrimSpace(told.String()), "\n")
-	if len(lines) != 3*maxLines+3 || !strings.Contains(lines[maxLines], "another event") || !strings.HasSuffix(lines[3*maxLines+1], `"event":"dropped","of":"x","lines":7}`) {
+	if len(lines) != 3*maxLines+3 || !strings.Contains(lines[maxLines], "another event") ||
+		!strings.HasSuffix(lines[3*maxLines+1], `"event":"dropped","of":"x","lines":7}`) {
 		t.Errorf("%d lines, at their end %s", len(lines), lines[len(lines)-2:])
 	}
 	for _, line := range lines {
@@ -711,7 +747,8 @@ func TestClientsBehindProxies(t *testing.T) {
 	if client := f.front.clientOf(twice).String(); client != "198.51.100.7" {
 		t.Errorf("of two headers %s is taken", client)
 	}
-	one, same, other := netip.MustParseAddr("2001:db8::1"), netip.MustParseAddr("2001:db8::2:3"), netip.MustParseAddr("2001:db8:0:1::1")
+	one, same, other := netip.MustParseAddr("2001:db8::1"), netip.MustParseAddr("2001:db8::2:3"),
+		netip.MustParseAddr("2001:db8:0:1::1")
 	if !f.front.requests.take(one) || f.front.requests.take(same) || !f.front.requests.take(other) {
 		t.Error("addresses of IPv6 don't count by /64")
 	}
@@ -727,15 +764,18 @@ func TestClientsBehindProxies(t *testing.T) {
 	}
 }
 
-// TestSubmitters: all addresses of a submitter's prefix count together, up to its own bound, by the smallest prefix that has one; others count as before.
+// TestSubmitters: all addresses of a submitter's prefix count together, up to its own bound, by the smallest prefix
+// that has one; others count as before.
 func TestSubmitters(t *testing.T) {
-	submitters := []Submitter{{netip.MustParsePrefix("198.51.100.0/24"), 3}, {netip.MustParsePrefix("198.51.100.128/25"), 1}, {netip.MustParsePrefix("2001:db8::/32"), 2},
+	submitters := []Submitter{{netip.MustParsePrefix("198.51.100.0/24"), 3},
+		{netip.MustParsePrefix("198.51.100.128/25"), 1}, {netip.MustParsePrefix("2001:db8::/32"), 2},
 		{netip.MustParsePrefix("2001::/16"), 9}}
 	f := newFixture(t, 0, func(o *Options) {
 		o.Limits.ConnectionsByAddress, o.Limits.Submitters = 1, submitters
 		o.Proxies = []netip.Prefix{netip.MustParsePrefix("127.0.0.1/32")}
 	})
-	for what, counted := range map[string]*counts{"requests": &f.front.requests, "connections": &f.front.connections.byAddress} {
+	for what, counted := range map[string]*counts{"requests": &f.front.requests,
+		"connections": &f.front.connections.byAddress} {
 		var taken []netip.Addr
 		for _, test := range []struct {
 			address string
@@ -772,7 +812,8 @@ func fingerprintOf(der []byte) string {
 
 var _ http.Handler = (*Front)(nil)
 
-// TestReadOnly: a log that takes no more refuses each submission by a name of its own, reads none of it, and is read as before.
+// TestReadOnly: a log that takes no more refuses each submission by a name of its own, reads none of it, and is read as
+// before.
 func TestReadOnly(t *testing.T) {
 	f := newFixture(t, 10*time.Millisecond, func(o *Options) { o.ReadOnly = true })
 	f.fill(2)

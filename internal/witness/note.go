@@ -249,7 +249,7 @@ func ReadVerifierKey(text string) (name string, key ed25519.PublicKey, err error
 	return name, raw[1:], nil
 }
 
-// isName says whether a text can be a key's name in a note.
+// isName reports whether a text can be a key's name in a note.
 func isName(name string) bool {
 	return name != "" && !strings.ContainsAny(name, "+") && len(strings.Fields(name)) == 1 &&
 		strings.TrimSpace(name) == name

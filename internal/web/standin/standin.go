@@ -64,7 +64,8 @@ func New(every time.Duration) (*Log, error) {
 	if err != nil {
 		return nil, err
 	}
-	l := &Log{Key: key, Every: every, MaxQueue: 1024, id: sha256.Sum256(public), objects: map[string][]byte{}, stop: make(chan struct{})}
+	l := &Log{Key: key, Every: every, MaxQueue: 1024, id: sha256.Sum256(public), objects: map[string][]byte{},
+		stop: make(chan struct{})}
 	l.publish()
 	if every > 0 {
 		go l.run()
@@ -142,7 +143,8 @@ func (l *Log) publish() {
 	l.tiles()
 	root := MerkleTreeHash(l.hashes)
 	l.head = log.Head{TreeSize: uint64(len(l.leaves)), Timestamp: now, RootHash: root}
-	l.head.Note = []byte(fmt.Sprintf("log.example/stand-in\n%d\n%s\n\n— log.example/stand-in AAAAAA==\n", len(l.leaves), base64.StdEncoding.EncodeToString(root[:])))
+	l.head.Note = []byte(fmt.Sprintf("log.example/stand-in\n%d\n%s\n\n— log.example/stand-in AAAAAA==\n", len(l.leaves),
+		base64.StdEncoding.EncodeToString(root[:])))
 	l.head.Signature = l.sign(HeadSigned(l.head))
 	for i, w := range batch {
 		w.place <- places[i]
@@ -152,7 +154,8 @@ func (l *Log) publish() {
 // take settles an entry.
 func (l *Log) take(entry log.Entry, now uint64) log.Place {
 	index := uint64(len(l.leaves))
-	extensions := []byte{0, 0, 5, byte(index >> 32), byte(index >> 24), byte(index >> 16), byte(index >> 8), byte(index)}
+	extensions := []byte{0, 0, 5, byte(index >> 32), byte(index >> 24), byte(index >> 16),
+		byte(index >> 8), byte(index)}
 	timestamped := timestampedEntry(entry, now, extensions)
 	leaf := cryptobyte.NewBuilder(append([]byte(nil), timestamped...))
 	if entry.Type == chains.PrecertEntry {
@@ -167,7 +170,8 @@ func (l *Log) take(entry log.Entry, now uint64) log.Place {
 	})
 	l.leaves = append(l.leaves, leaf.BytesOrPanic())
 	l.hashes = append(l.hashes, LeafHash(append([]byte{0, 0}, timestamped...)))
-	return log.Place{LeafIndex: index, Timestamp: now, Extensions: extensions, LogID: l.id, Signature: l.sign(append([]byte{0, 0}, timestamped...))}
+	return log.Place{LeafIndex: index, Timestamp: now, Extensions: extensions, LogID: l.id,
+		Signature: l.sign(append([]byte{0, 0}, timestamped...))}
 }
 
 func timestampedEntry(entry log.Entry, now uint64, extensions []byte) []byte {
@@ -338,12 +342,16 @@ func (l *Log) Figures() log.Figures {
 	defer l.mutex.Unlock()
 	figures := log.Figures{
 		Queue: len(l.waiting), MaxQueue: l.MaxQueue, Entries: l.head.TreeSize,
-		HeadAge: time.Since(time.UnixMilli(int64(l.head.Timestamp))), LostSwaps: 3, Unpublished: 18, SinceRound: 2500 * time.Millisecond,
-		Swept: 4, SweptHeads: 8, Scrubbed: 5, Damaged: 6, Damage: l.Damage, SignerStarts: 7,
-		Written: 16, Phases: []log.Phase{{Name: "stage", Count: 17, Took: 1500 * time.Millisecond}}, SweptBundles: 11, Staged: 12, TendFailures: 13, TendFailure: "nothing is deleted",
-		DamagedIssuers: 9, Mended: 10, LastMended: "issuer/07", SweptTo: 512, ReadNext: 19, Faults: l.faults, LastFault: l.lastFault,
+		HeadAge: time.Since(time.UnixMilli(int64(l.head.Timestamp))), LostSwaps: 3, Unpublished: 18,
+		SinceRound: 2500 * time.Millisecond,
+		Swept:      4, SweptHeads: 8, Scrubbed: 5, Damaged: 6, Damage: l.Damage, SignerStarts: 7,
+		Written: 16, Phases: []log.Phase{{Name: "stage", Count: 17, Took: 1500 * time.Millisecond}}, SweptBundles: 11,
+		Staged: 12, TendFailures: 13, TendFailure: "nothing is deleted",
+		DamagedIssuers: 9, Mended: 10, LastMended: "issuer/07", SweptTo: 512, ReadNext: 19, Faults: l.faults,
+		LastFault: l.lastFault,
 		Batches:   log.Batches{Steps: 20, Submissions: 21, AtMost: map[int]uint64{1: 18, 8: 20}},
-		Witnesses: []log.Witness{{Name: "w.example", Missed: 14, Cosigned: 15, SeenMore: true, Fault: "it has seen 7 entries"}},
+		Witnesses: []log.Witness{{Name: "w.example", Missed: 14, Cosigned: 15, SeenMore: true,
+			Fault: "it has seen 7 entries"}},
 	}
 	if l.Fault != nil {
 		figures.Fault = l.Fault.Error()
