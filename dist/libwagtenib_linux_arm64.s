@@ -29939,19 +29939,19 @@ wagtenib_guard_receipts:
 	b.ne	.LBB161_11
 	ldur	x11, [x10, #2]
 	ldur	q0, [x10, #34]
-	sub	x19, x29, #8
+	sub	x20, x29, #8
 	ldr	x21, [x29, #96]
 	stp	xzr, xzr, [sp, #72]
 	str	x11, [sp]
 	ldur	x11, [x10, #10]
 	str	q0, [sp, #32]
 	ldur	q0, [x10, #18]
-	stp	x2, x19, [sp, #56]
+	stp	x2, x20, [sp, #56]
 	str	q0, [sp, #16]
 	cbz	x21, .LBB161_20
-	mov	x20, xzr
+	mov	x19, xzr
 	add	x26, x5, x8
-	add	x19, x7, x9
+	add	x20, x7, x9
 	sub	x8, x29, #8
 	str	x11, [sp, #8]
 	b	.LBB161_14
@@ -29967,21 +29967,21 @@ wagtenib_guard_receipts:
 	add	sp, sp, #256
 	ret
 .LBB161_12:
-	ldp	x8, x20, [sp, #64]
+	ldp	x8, x19, [sp, #64]
 	mov	x3, x25
 	ldr	x2, [sp, #56]
 	mov	x4, x24
 	mov	x6, x22
 .LBB161_13:
-	add	x9, x8, x20, lsl #4
+	add	x9, x8, x19, lsl #4
 	sub	x21, x21, #1
-	add	x20, x20, #1
+	add	x19, x19, #1
 	stp	x26, x28, [x9]
 	mov	x26, x27
-	str	x20, [sp, #72]
+	str	x19, [sp, #72]
 	cbz	x21, .LBB161_19
 .LBB161_14:
-	ldr	x9, [x19], #8
+	ldr	x9, [x20], #8
 	ldr	x11, [sp, #80]
 	adrp	x10, .Lstatic.2
 	add	x10, x10, :lo12:.Lstatic.2
@@ -29990,7 +29990,7 @@ wagtenib_guard_receipts:
 	csel	x28, x6, x9, lo
 	csel	x27, x13, x10, hi
 	csel	x6, xzr, x12, lo
-	cmp	x11, x20
+	cmp	x11, x19
 	b.ne	.LBB161_13
 	add	x0, sp, #64
 	mov	x22, x6
@@ -30007,28 +30007,28 @@ wagtenib_guard_receipts:
 	b	.LBB161_11
 .LBB161_19:
 	ldr	x8, [sp, #80]
-	ldr	x19, [sp, #64]
+	ldr	x20, [sp, #64]
 	ldr	x11, [sp, #8]
 	cmp	x8, #0
 	cset	w21, eq
 	b	.LBB161_21
 .LBB161_20:
-	mov	x20, xzr
+	mov	x19, xzr
 	mov	w21, #1
 .LBB161_21:
 	rev	x8, x11
 	mov	w0, #1
 	subs	x8, x8, x2
 	b.ls	.LBB161_26
-	cmp	x8, x20
+	cmp	x8, x19
 	b.ne	.LBB161_26
 	movi	v0.2d, #0000000000000000
 	add	x0, sp, #64
 	mov	x1, x2
 	add	x2, x3, x23
 	mov	x3, x4
-	mov	x4, x19
-	mov	x5, x20
+	mov	x4, x20
+	mov	x5, x19
 	strb	wzr, [sp, #96]
 	stp	q0, q0, [sp, #64]
 	bl	"ct_step_receipts::receipts::root_after::<#0f46d2847b2ce1ce>"
@@ -30060,15 +30060,15 @@ wagtenib_guard_receipts:
 	mov	w0, #4
 .LBB161_26:
 	tbnz	w21, #0, .LBB161_11
-	mov	w20, w0
-	mov	x0, x19
+	mov	w19, w0
+	mov	x0, x20
 	bl	rattle_dealloc
-	mov	w0, w20
+	mov	w0, w19
 	b	.LBB161_11
 .LBB161_28:
 	ldr	x8, [sp]
 	mov	x9, #5497558138880
-	add	x24, x19, #8
+	add	x24, x20, #8
 	rev	x22, x8
 	ldr	x8, [sp, #56]
 	add	x23, x8, x9
@@ -30077,15 +30077,15 @@ wagtenib_guard_receipts:
 	ldp	x9, x10, [x24, #-8]
 	stp	q0, q0, [sp, #64]
 	stp	q0, q0, [sp, #96]
-	cbz	x10, .LBB161_49
+	cbz	x10, .LBB161_47
 	ldrb	w11, [x9]
-	cbnz	w11, .LBB161_51
+	cbnz	w11, .LBB161_49
 	cmp	x10, #1
-	b.eq	.LBB161_49
+	b.eq	.LBB161_47
 	ldrb	w11, [x9, #1]
-	cbnz	w11, .LBB161_52
+	cbnz	w11, .LBB161_50
 	subs	x10, x10, #10
-	b.lo	.LBB161_49
+	b.lo	.LBB161_47
 	mov	x25, x8
 	add	x8, x9, #10
 	ldur	x26, [x9, #2]
@@ -30094,83 +30094,77 @@ wagtenib_guard_receipts:
 	stp	x8, x10, [x29, #-24]
 	bl	"ct_codec::reading::entry_at"
 	ldrb	w8, [sp, #64]
-	cbnz	w8, .LBB161_53
+	cbnz	w8, .LBB161_51
 	ldur	x8, [x29, #-16]
 	subs	x10, x8, #2
-	b.lo	.LBB161_49
+	b.lo	.LBB161_47
 	ldur	x9, [x29, #-24]
 	mov	x0, x9
 	ldrh	w11, [x0], #2
 	rev	w11, w11
 	lsr	w11, w11, #16
 	cmp	x10, x11
-	b.lo	.LBB161_49
-	b.ne	.LBB161_54
+	b.lo	.LBB161_47
+	b.ne	.LBB161_52
 	rev	x11, x26
 	cmp	x22, x11
-	b.lo	.LBB161_55
+	b.lo	.LBB161_53
 	mov	x8, x25
 	cbz	x10, .LBB161_46
 	lsr	x8, x8, #40
-	cbnz	x8, .LBB161_50
+	cbnz	x8, .LBB161_48
 	rev	x8, x23
 	cmp	x10, #8
 	str	x8, [sp, #64]
-	b.ne	.LBB161_50
+	b.ne	.LBB161_48
 	ldrb	w10, [x9, #2]
 	ldrb	w11, [x9, #3]
 	orr	w10, w11, w10
-	cbnz	w10, .LBB161_50
+	cbnz	w10, .LBB161_48
 	ldrb	w10, [x9, #4]
 	cmp	w10, #5
-	b.ne	.LBB161_50
+	b.ne	.LBB161_48
 	lsr	x8, x8, #24
 	ldrb	w9, [x9, #5]
 	cmp	w9, w8, uxtb
-	b.ne	.LBB161_50
+	b.ne	.LBB161_48
 	add	x2, sp, #64
 	mov	w1, #8
 	bl	"core::cmp::slices::groups_equal::<i8,31'core::cmp::numbers::U8PartialEq{}>"
 	mov	x8, x25
-	cbz	w0, .LBB161_50
+	cbz	w0, .LBB161_48
 .LBB161_46:
-	subs	x20, x20, #1
+	mov	w0, wzr
+	subs	x19, x19, #1
 	add	x24, x24, #16
 	add	x23, x23, #1
 	add	x8, x8, #1
 	b.ne	.LBB161_29
-	tbz	w21, #0, .LBB161_56
-	mov	w0, wzr
-	b	.LBB161_11
-.LBB161_49:
+	b	.LBB161_26
+.LBB161_47:
 	mov	w0, #17
 	b	.LBB161_26
-.LBB161_50:
+.LBB161_48:
 	mov	w0, #39
 	b	.LBB161_26
-.LBB161_51:
+.LBB161_49:
 	mov	w0, #18
 	b	.LBB161_26
-.LBB161_52:
+.LBB161_50:
 	mov	w0, #19
 	b	.LBB161_26
-.LBB161_53:
+.LBB161_51:
 	ldrb	w8, [sp, #65]
 	adrp	x9, .Lswitch.table.wagtenib_data_tile_leaves
 	add	x9, x9, :lo12:.Lswitch.table.wagtenib_data_tile_leaves
 	ldr	w0, [x9, x8, lsl #2]
 	b	.LBB161_26
-.LBB161_54:
+.LBB161_52:
 	mov	w0, #22
 	b	.LBB161_26
-.LBB161_55:
+.LBB161_53:
 	mov	w0, #38
 	b	.LBB161_26
-.LBB161_56:
-	mov	x0, x19
-	bl	rattle_dealloc
-	mov	w0, wzr
-	b	.LBB161_11
 .Lfunc_end161:
 	.size	wagtenib_guard_receipts, .Lfunc_end161-wagtenib_guard_receipts
 	.section	.text.wagtenib_guard_state,"ax",@progbits
@@ -30450,85 +30444,85 @@ wagtenib_node_accept:
 	.p2align	2
 	.type	wagtenib_node_next,@function
 wagtenib_node_next:
-	ldr	w11, [x0, #56]
-	cmp	w11, #9
+	ldr	w10, [x0, #56]
+	cmp	w10, #9
 	b.hi	.LBB167_22
 	ldp	x5, x18, [x0]
 	adrp	x8, .LJTI167_0
 	add	x8, x8, :lo12:.LJTI167_0
 	ldp	x17, x15, [x0, #16]
-	ldp	x16, x14, [x0, #32]
+	ldp	x16, x11, [x0, #32]
 	adr	x6, .LBB167_2
-	ldrb	w9, [x8, x11]
+	ldrb	w9, [x8, x10]
 	add	x6, x6, x9, lsl #2
-	mov	w13, wzr
-	mov	x8, x11
-	mov	x9, x11
-	mov	x3, x11
-	mov	x4, x11
-	mov	x12, x11
-	mov	x10, x11
+	mov	w14, wzr
+	mov	x8, x10
+	mov	x9, x10
+	mov	x3, x10
+	mov	x4, x10
+	mov	x13, x10
+	mov	x12, x10
 	br	x6
 .LBB167_2:
 	mov	x3, xzr
 	mov	x4, xzr
+	mov	x13, xzr
 	mov	x12, xzr
-	mov	x10, xzr
-	mov	w13, #1
+	mov	w14, #1
 	b	.LBB167_6
 .LBB167_3:
-	ldr	x10, [x0, #48]
-	mov	w13, #4
+	ldr	x12, [x0, #48]
+	mov	w14, #4
 	b	.LBB167_10
 .LBB167_4:
 	mov	x3, xzr
 	mov	x4, xzr
+	mov	x13, xzr
 	mov	x12, xzr
-	mov	x10, xzr
-	mov	w13, #10
+	mov	w14, #9
 	b	.LBB167_24
 .LBB167_5:
 	mov	x3, xzr
 	mov	x4, xzr
+	mov	x13, xzr
 	mov	x12, xzr
-	mov	x10, xzr
-	mov	w13, #2
+	mov	w14, #2
 .LBB167_6:
-	mov	x11, x5
+	mov	x10, x5
 	mov	x8, x18
 	mov	x9, x17
 	ldr	w6, [x1, #32]
-	ldp	x17, x5, [x1]
-	ldr	x18, [x1, #16]
+	ldp	x11, x18, [x1]
+	ldr	x16, [x1, #16]
 	mov	w0, #113
 	cmp	w6, #2
 	b.gt	.LBB167_12
 	b	.LBB167_25
 .LBB167_7:
-	ldr	x10, [x0, #48]
-	mov	w13, #3
+	ldr	x12, [x0, #48]
+	mov	w14, #3
 	b	.LBB167_10
 .LBB167_8:
 	mov	x3, xzr
 	mov	x4, xzr
+	mov	x13, xzr
 	mov	x12, xzr
-	mov	x10, xzr
-	mov	w13, #8
+	mov	w14, #7
 	b	.LBB167_24
 .LBB167_9:
-	mov	x10, xzr
-	mov	w13, #6
+	mov	x12, xzr
+	mov	w14, #5
 .LBB167_10:
-	mov	x11, x5
+	mov	x10, x5
 	mov	x8, x18
 	mov	x9, x17
 	mov	x3, x16
-	mov	x4, x14
-	mov	x12, x15
+	mov	x4, x11
+	mov	x13, x15
 .LBB167_11:
 	ldr	w6, [x1, #32]
-	ldp	x17, x5, [x1]
-	ldr	x18, [x1, #16]
+	ldp	x11, x18, [x1]
+	ldr	x16, [x1, #16]
 	mov	w0, #113
 	cmp	w6, #2
 	b.le	.LBB167_25
@@ -30538,42 +30532,46 @@ wagtenib_node_next:
 	cmp	w6, #3
 	b.eq	.LBB167_19
 	cmp	w6, #4
-	b.ne	.LBB167_94
-	ldr	x17, [x1, #24]
-	mov	x5, xzr
+	b.ne	.LBB167_74
+	ldr	x11, [x1, #24]
 	mov	x18, xzr
-	mov	w14, wzr
+	mov	x16, xzr
+	mov	w15, wzr
+	mov	w17, wzr
 	mov	x6, xzr
-	mov	w15, #5
+	mov	w0, #4
 	b	.LBB167_31
 .LBB167_16:
 	cmp	w6, #5
 	b.eq	.LBB167_20
 	cmp	w6, #6
-	b.ne	.LBB167_94
-	mov	w14, wzr
+	b.ne	.LBB167_74
+	mov	w15, wzr
+	mov	w17, wzr
 	mov	x6, xzr
-	mov	w15, #7
+	mov	w0, #6
 	b	.LBB167_31
 .LBB167_19:
-	mov	x5, xzr
 	mov	x18, xzr
-	mov	w14, wzr
-	mov	x17, xzr
+	mov	x16, xzr
+	mov	w15, wzr
+	mov	w17, wzr
+	mov	x11, xzr
 	mov	x6, xzr
-	mov	w15, #4
+	mov	w0, #3
 	b	.LBB167_31
 .LBB167_20:
 	ldr	x6, [x1, #24]
-	mov	w14, wzr
-	mov	w15, #6
+	mov	w15, wzr
+	mov	w17, wzr
+	mov	w0, #5
 	b	.LBB167_31
 .LBB167_21:
-	ldr	x12, [x0, #48]
+	ldr	x13, [x0, #48]
 	mov	x3, xzr
 	mov	x4, xzr
-	mov	x10, xzr
-	mov	w13, #7
+	mov	x12, xzr
+	mov	w14, #6
 	b	.LBB167_24
 .LBB167_22:
 	mov	w0, #112
@@ -30581,16 +30579,16 @@ wagtenib_node_next:
 .LBB167_23:
 	mov	x3, xzr
 	mov	x4, xzr
+	mov	x13, xzr
 	mov	x12, xzr
-	mov	x10, xzr
-	mov	w13, #9
+	mov	w14, #8
 .LBB167_24:
-	mov	x11, x15
+	mov	x10, x15
 	mov	x8, x16
-	mov	x9, x14
+	mov	x9, x11
 	ldr	w6, [x1, #32]
-	ldp	x17, x5, [x1]
-	ldr	x18, [x1, #16]
+	ldp	x11, x18, [x1]
+	ldr	x16, [x1, #16]
 	mov	w0, #113
 	cmp	w6, #2
 	b.gt	.LBB167_12
@@ -30599,304 +30597,262 @@ wagtenib_node_next:
 	cmp	w6, #1
 	b.eq	.LBB167_30
 	cmp	w6, #2
-	b.ne	.LBB167_94
+	b.ne	.LBB167_74
+	mov	w15, wzr
 	mov	x6, xzr
-	mov	w15, #3
-	mov	w14, #1
+	mov	w0, #2
+	mov	w17, #1
 	b	.LBB167_31
 .LBB167_29:
-	mov	w14, wzr
-	mov	w15, wzr
-	mov	x5, x6
+	mov	w17, wzr
+	mov	w0, wzr
+	mov	w15, #1
 	mov	x18, x6
-	mov	x17, x6
+	mov	x16, x6
+	mov	x11, x6
 	b	.LBB167_31
 .LBB167_30:
-	mov	x5, xzr
 	mov	x18, xzr
-	mov	w14, wzr
-	mov	x17, xzr
+	mov	x16, xzr
+	mov	w17, wzr
+	mov	x11, xzr
 	mov	x6, xzr
-	mov	w15, #2
+	mov	w15, #1
+	mov	w0, #1
 .LBB167_31:
-	mov	w13, w13
-	adrp	x16, .LJTI167_1
-	add	x16, x16, :lo12:.LJTI167_1
-	adr	x0, .LBB167_32
-	ldrb	w1, [x16, x13]
-	add	x0, x0, x1, lsl #2
-	br	x0
+	mov	w14, w14
+	adrp	x1, .LJTI167_1
+	add	x1, x1, :lo12:.LJTI167_1
+	adr	x5, .LBB167_32
+	ldrb	w7, [x1, x14]
+	add	x5, x5, x7, lsl #2
+	br	x5
 .LBB167_32:
-	cbz	w14, .LBB167_74
-	mov	x1, xzr
+	cbz	w17, .LBB167_72
+	mov	x5, xzr
 	mov	x8, xzr
 	mov	x9, xzr
-	mov	x10, xzr
-	mov	w13, #1
-	mov	x14, x17
-	mov	x15, x5
-	mov	x16, x18
-	b	.LBB167_93
-.LBB167_34:
-	cmp	w15, #2
-	b.le	.LBB167_60
-.LBB167_35:
-	mov	w13, #4
-	b	.LBB167_53
-.LBB167_36:
-	cmp	w15, #2
-	b.le	.LBB167_63
-.LBB167_37:
-	mov	x14, xzr
-	mov	x15, xzr
-	mov	x16, xzr
-	mov	x10, xzr
-	mov	w13, #8
-	mov	x1, x11
-	b	.LBB167_93
-.LBB167_38:
-	mov	x1, xzr
-	cmp	w15, #2
-	mov	w13, #2
-	b.le	.LBB167_65
-	sub	w10, w15, #3
-	cmp	w10, #3
-	b.hs	.LBB167_75
-	mov	x14, x11
-	mov	x15, x8
-	mov	x16, x9
-	mov	x8, x1
-	mov	x9, x1
-	mov	x10, x1
-	b	.LBB167_93
-.LBB167_41:
-	cmp	w15, #2
-	b.le	.LBB167_66
-.LBB167_42:
-	mov	w13, #3
-	b	.LBB167_53
-.LBB167_43:
-	cmp	w15, #2
-	b.le	.LBB167_68
-.LBB167_44:
-	mov	x14, xzr
-	mov	x15, xzr
-	mov	x16, xzr
-	mov	w13, #6
-	b	.LBB167_50
-.LBB167_45:
-	cmp	w15, #3
-	b.gt	.LBB167_58
-	cmp	w15, #2
-	b.lo	.LBB167_59
-	b.ne	.LBB167_59
-	b	.LBB167_74
-.LBB167_48:
-	cmp	w15, #2
-	b.le	.LBB167_70
-.LBB167_49:
-	mov	x14, xzr
-	mov	x15, xzr
-	mov	x16, xzr
-	mov	w13, #10
-.LBB167_50:
-	mov	x1, x11
-	mov	x10, x12
-	b	.LBB167_93
-.LBB167_51:
 	mov	w14, #1
-	mov	w13, #5
-	lsl	w14, w14, w15
-	mov	w15, #250
-	tst	w14, w15
-	b.eq	.LBB167_81
-	mov	x10, xzr
-.LBB167_53:
-	mov	x14, x11
-	mov	x15, x8
-	mov	x16, x9
-.LBB167_54:
-	mov	x1, x12
+	mov	x15, x11
+	mov	x17, x18
+	mov	x1, x16
+	mov	x11, xzr
+	b	.LBB167_73
+.LBB167_34:
+	sub	w11, w0, #2
+	cmp	w11, #5
+	b.hs	.LBB167_61
+.LBB167_35:
+	mov	w14, #4
+	b	.LBB167_43
+.LBB167_36:
+	tbnz	w15, #0, .LBB167_72
+	mov	x15, xzr
+	mov	x17, xzr
+	mov	x1, xzr
+	mov	x11, xzr
+	mov	w14, #9
+	b	.LBB167_56
+.LBB167_38:
+	mov	x5, xzr
+	cmp	w0, #1
+	mov	w14, #2
+	b.le	.LBB167_71
+	sub	w12, w0, #2
+	cmp	w12, #3
+	b.hs	.LBB167_75
+	mov	x15, x10
+	mov	x17, x8
+	mov	x1, x9
+	mov	x8, x5
+	mov	x9, x5
+	mov	x11, x5
+	b	.LBB167_73
+.LBB167_41:
+	sub	w11, w0, #2
+	cmp	w11, #5
+	b.hs	.LBB167_63
+	mov	w14, #3
+.LBB167_43:
+	mov	x15, x10
+	mov	x17, x8
+	mov	x1, x9
+	mov	x5, x13
+.LBB167_44:
 	mov	x8, x3
 	mov	x9, x4
-	b	.LBB167_93
-.LBB167_55:
-	mov	w10, #1
-	mov	w12, #250
-	mov	w13, #9
-	lsl	w10, w10, w15
-	mov	x14, xzr
+	mov	x11, x12
+	b	.LBB167_73
+.LBB167_45:
+	sub	w11, w0, #2
+	cmp	w11, #5
+	b.hs	.LBB167_64
 	mov	x15, xzr
-	mov	x16, xzr
-	mov	x1, x11
-	tst	w10, w12
-	mov	x10, xzr
-	b.ne	.LBB167_93
-	b	.LBB167_74
+	mov	x17, xzr
+	mov	x1, xzr
+	mov	x11, xzr
+	mov	w14, #7
+	b	.LBB167_56
+.LBB167_47:
+	cmp	w0, #2
+	b.gt	.LBB167_58
+	cbz	w0, .LBB167_59
+	cmp	w0, #1
+	b.ne	.LBB167_59
+	b	.LBB167_72
+.LBB167_50:
+	tbz	w15, #0, .LBB167_57
+.LBB167_51:
+	mov	x5, xzr
+	mov	x11, xzr
+	mov	w14, #2
+	b	.LBB167_60
+.LBB167_52:
+	sub	w11, w0, #2
+	cmp	w11, #5
+	b.hs	.LBB167_66
+	mov	x15, xzr
+	mov	x17, xzr
+	mov	x1, xzr
+	mov	w14, #6
+	mov	x5, x10
+	mov	x11, x13
+	b	.LBB167_73
+.LBB167_54:
+	sub	w11, w0, #2
+	cmp	w11, #5
+	b.hs	.LBB167_68
+	mov	x15, xzr
+	mov	x17, xzr
+	mov	x1, xzr
+	mov	x11, xzr
+	mov	w14, #8
 .LBB167_56:
-	cmp	w15, #2
-	b.le	.LBB167_72
+	mov	x5, x10
+	b	.LBB167_73
 .LBB167_57:
-	mov	x14, xzr
-	mov	x15, xzr
-	mov	x16, xzr
-	mov	x10, xzr
-	mov	w13, #7
-	mov	x1, x11
-	b	.LBB167_93
+	mov	x11, xzr
+	mov	w14, #5
+	mov	x15, x10
+	mov	x17, x8
+	mov	x1, x9
+	mov	x5, x13
+	mov	x8, x3
+	mov	x9, x4
+	b	.LBB167_73
 .LBB167_58:
-	sub	w10, w15, #6
-	cmp	w10, #2
+	sub	w12, w0, #5
+	cmp	w12, #2
 	b.hs	.LBB167_80
 .LBB167_59:
-	mov	x1, xzr
-	mov	x10, xzr
-	mov	w13, #1
-	b	.LBB167_82
+	mov	x5, xzr
+	mov	x11, xzr
+	mov	w14, #1
 .LBB167_60:
-	cbz	w15, .LBB167_83
-	cmp	w15, #1
-	b.ne	.LBB167_74
-	mov	x14, xzr
-	mov	x15, xzr
-	mov	x16, xzr
-	mov	w13, #10
-	b	.LBB167_54
+	mov	x15, x10
+	mov	x17, x8
+	mov	x1, x9
+	mov	x8, xzr
+	mov	x9, xzr
+	b	.LBB167_73
+.LBB167_61:
+	cbnz	w0, .LBB167_72
+	mov	w15, w0
+	mov	w14, #6
+	mov	x5, x13
+	mov	x17, x15
+	mov	x1, x15
+	b	.LBB167_44
 .LBB167_63:
-	cbz	w15, .LBB167_84
-	cmp	w15, #1
-	b.eq	.LBB167_37
-	b	.LBB167_74
-.LBB167_65:
-	mov	x14, x11
-	mov	x15, x8
-	mov	x16, x9
-	mov	x8, x1
-	mov	x9, x1
-	mov	x10, x1
-	b.lo	.LBB167_93
-	b	.LBB167_74
+	cbz	w0, .LBB167_35
+	b	.LBB167_72
+.LBB167_64:
+	cbnz	w0, .LBB167_72
+	mov	w15, w0
+	mov	w14, #8
+	b	.LBB167_70
 .LBB167_66:
-	cbz	w15, .LBB167_35
-	cmp	w15, #1
-	b.eq	.LBB167_42
-	b	.LBB167_74
+	cbnz	w0, .LBB167_72
+	mov	w15, w0
+	mov	w14, #7
+	b	.LBB167_70
 .LBB167_68:
-	cbz	w15, .LBB167_85
-	cmp	w15, #1
-	b.eq	.LBB167_44
-	b	.LBB167_74
+	cbnz	w0, .LBB167_72
+	mov	w15, w0
+	mov	w14, #9
 .LBB167_70:
-	cbz	w15, .LBB167_90
-	cmp	w15, #1
-	b.eq	.LBB167_49
-	b	.LBB167_74
-.LBB167_72:
-	cbz	w15, .LBB167_91
-	cmp	w15, #1
-	b.eq	.LBB167_57
-.LBB167_74:
-	mov	x14, xzr
-	mov	x15, xzr
-	mov	x16, xzr
-	mov	x1, xzr
-	mov	x8, xzr
-	mov	x9, xzr
-	mov	x10, xzr
-	mov	w13, wzr
-	b	.LBB167_93
-.LBB167_75:
-	cmp	w15, #7
-	b.ne	.LBB167_86
-	cmp	x5, x11
-	b.hs	.LBB167_81
-	mov	x10, xzr
-	cmp	x18, x9
-	mov	w13, #5
-	b.ne	.LBB167_79
-	cmp	x17, x11
-	b.eq	.LBB167_81
-.LBB167_79:
-	mov	x14, x11
-	mov	x15, x8
-	mov	x16, x9
-	mov	x1, x17
+	mov	x17, x15
+	mov	x1, x15
+	mov	x5, x10
+	mov	x11, x15
+	b	.LBB167_73
+.LBB167_71:
+	mov	x15, x10
+	mov	x17, x8
+	mov	x1, x9
 	mov	x8, x5
-	mov	x9, x18
-	b	.LBB167_93
-.LBB167_80:
-	cmp	w15, #4
-	b.ne	.LBB167_89
-.LBB167_81:
+	mov	x9, x5
+	mov	x11, x5
+	cbz	w0, .LBB167_73
+.LBB167_72:
+	mov	x15, xzr
+	mov	x17, xzr
 	mov	x1, xzr
-	mov	x10, xzr
-	mov	w13, #2
-.LBB167_82:
-	mov	x14, x11
-	mov	x15, x8
-	mov	x16, x9
+	mov	x5, xzr
 	mov	x8, xzr
 	mov	x9, xzr
-	b	.LBB167_93
-.LBB167_83:
-	mov	x14, xzr
-	mov	x15, xzr
-	mov	x16, xzr
-	mov	w13, #6
-	b	.LBB167_54
-.LBB167_84:
-	mov	w14, w15
-	mov	w13, #9
-	b	.LBB167_92
-.LBB167_85:
-	mov	w14, w15
-	mov	w13, #7
-	b	.LBB167_92
-.LBB167_86:
-	cmp	x5, x11
-	b.ne	.LBB167_81
-	cmp	x11, x17
-	b.hs	.LBB167_81
-	mov	w13, #3
-	mov	x14, x11
-	mov	x15, x8
-	mov	x16, x9
-	mov	x1, x17
-	mov	x8, x11
-	mov	x9, x18
-	mov	x10, x6
-	b	.LBB167_93
-.LBB167_89:
-	mov	x14, xzr
-	mov	x15, xzr
-	mov	x16, xzr
-	mov	w13, #6
-	mov	x1, x11
-	mov	x10, x17
-	b	.LBB167_93
-.LBB167_90:
-	mov	w14, w15
-	mov	w13, #6
-	mov	x15, x14
-	mov	x16, x14
-	b	.LBB167_50
-.LBB167_91:
-	mov	w14, w15
-	mov	w13, #8
-.LBB167_92:
-	mov	x15, x14
-	mov	x16, x14
-	mov	x1, x11
-	mov	x10, x14
-.LBB167_93:
+	mov	x11, xzr
+	mov	w14, wzr
+.LBB167_73:
 	mov	w0, wzr
-	stp	x14, x15, [x2]
-	stp	x16, x1, [x2, #16]
+	stp	x15, x17, [x2]
+	stp	x1, x5, [x2, #16]
 	stp	x8, x9, [x2, #32]
-	str	x10, [x2, #48]
-	stp	w13, wzr, [x2, #56]
-.LBB167_94:
+	str	x11, [x2, #48]
+	stp	w14, wzr, [x2, #56]
+.LBB167_74:
 	ret
+.LBB167_75:
+	cmp	w0, #6
+	b.ne	.LBB167_82
+	cmp	x18, x10
+	b.hs	.LBB167_51
+	cmp	x16, x9
+	mov	w14, #5
+	b.ne	.LBB167_79
+	cmp	x11, x10
+	b.eq	.LBB167_51
+.LBB167_79:
+	mov	x15, x10
+	mov	x17, x8
+	mov	x1, x9
+	mov	x5, x11
+	mov	x8, x18
+	mov	x9, x16
+	mov	x11, xzr
+	b	.LBB167_73
+.LBB167_80:
+	cmp	w0, #3
+	b.eq	.LBB167_51
+	mov	x15, xzr
+	mov	x17, xzr
+	mov	x1, xzr
+	mov	w14, #6
+	b	.LBB167_56
+.LBB167_82:
+	cmp	x18, x10
+	b.ne	.LBB167_51
+	cmp	x10, x11
+	b.hs	.LBB167_51
+	mov	w14, #3
+	mov	x15, x10
+	mov	x17, x8
+	mov	x1, x9
+	mov	x5, x11
+	mov	x8, x10
+	mov	x9, x16
+	mov	x11, x6
+	b	.LBB167_73
 .Lfunc_end167:
 	.size	wagtenib_node_next, .Lfunc_end167-wagtenib_node_next
 	.section	.rodata.wagtenib_node_next,"a",@progbits
@@ -30913,16 +30869,15 @@ wagtenib_node_next:
 	.byte	(.LBB167_4-.LBB167_2)>>2
 .LJTI167_1:
 	.byte	(.LBB167_32-.LBB167_32)>>2
-	.byte	(.LBB167_45-.LBB167_32)>>2
+	.byte	(.LBB167_47-.LBB167_32)>>2
 	.byte	(.LBB167_38-.LBB167_32)>>2
 	.byte	(.LBB167_41-.LBB167_32)>>2
 	.byte	(.LBB167_34-.LBB167_32)>>2
-	.byte	(.LBB167_48-.LBB167_32)>>2
-	.byte	(.LBB167_51-.LBB167_32)>>2
-	.byte	(.LBB167_43-.LBB167_32)>>2
-	.byte	(.LBB167_56-.LBB167_32)>>2
+	.byte	(.LBB167_50-.LBB167_32)>>2
+	.byte	(.LBB167_52-.LBB167_32)>>2
+	.byte	(.LBB167_45-.LBB167_32)>>2
+	.byte	(.LBB167_54-.LBB167_32)>>2
 	.byte	(.LBB167_36-.LBB167_32)>>2
-	.byte	(.LBB167_55-.LBB167_32)>>2
 	.section	.text.wagtenib_node_start,"ax",@progbits
 	.globl	wagtenib_node_start
 	.p2align	2

@@ -216,7 +216,7 @@ func TestAuditArguments(t *testing.T) {
 	trial.Must(t, os.Mkdir(at.path("chains"), 0o700))
 	ca := []string{"--issuer", at.path("ca.pem"), "--issuer-key", at.path("ca.key")}
 	for want, words := range map[string][]string{
-		"says which words it takes": {},
+		"wrong number of arguments": {},
 		"is no address":             append([]string{"log.example"}, ca...),
 		"--monitoring-url \"ftp://a\" is no address": append([]string{"https://log.example", "--monitoring-url",
 			"ftp://a"}, ca...),
