@@ -208,7 +208,7 @@ var all = []planted{
 		},
 	}},
 	{"the store's heads are not compared", []edit{
-		{"seen.go", "	between, err := l.headsUpTo(ctx, k, isNext)", "	between, err := \"\", error(nil)"},
+		{"seen.go", "	between, err := l.headsUpTo(ctx, k, isNext)", "	_, between, err := isNext, \"\", error(nil)"},
 	}},
 	{"a state need not go on from the accepted one", []edit{
 		{"seen.go", "	if err := l.extends(ctx, k, accepted.head(), objects); err != nil || between == \"\" {", "	if true {"},
