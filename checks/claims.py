@@ -55,7 +55,7 @@ CLAIMS = [
         " those of this list. Otherwise two of the strings that were hashed have one digest.",
         [
             "The lock replaces a state only if it holds the expected one, and a reading is a state that it held (`MayHappen`).",
-            "A command takes effect only if a node gave it, and a node learns that it took effect only if it did (`MayHappen`).",
+            "A command takes effect only if a node gave it, and a node learns that it took effect only if it did (`MayHappen`). The number of objects that it learns for a staged batch is the number of objects in it.",
             "An object that was stored can be read until it is deleted. A command to delete deletes only the object that it names (`MayHappen`).",
             "Each step is the reply of `wagtenib_step`, and the objects stored for a state are those that `wagtenib_step_resume` replies for its line (`AreStepsMade`).",
             "S has each string that was hashed for these replies: the tiles that were handed in, the staged batches, and the bytes that were read (`IsMadeOfLine`, `IsResumed`).",
@@ -98,14 +98,14 @@ CLAIMS = [
     ),
     Claim(
         "fallen-lock",
-        "What a node signs over a lock that falls",
+        "What one node signs over a lock that falls",
         "A lock may hold any earlier text again, or any other text, at any time. Take everything that one node accepted, and everything that it had signed. If the newest head that it accepted is the head of a list"
         " of leaves, each of these heads that has leaves is the head of a beginning of this list, and the leaves of each step whose receipts were signed are in the list at their indexes."
         " Otherwise two of the strings that were hashed have one digest.",
         [
             "The node accepts a head only after `wagtenib_node_accept` returned 0 for it, over the newest head that it accepted before (`AreActs`).",
             "The node has a head signed only if it is the newest that it accepted, and receipts only after `wagtenib_guard_receipts` returned 0 for them over that head's state (`AreActs`).",
-            "The node's memory keeps the newest accepted head. A node that accepted nothing newer than a fallen text is not protected by this law.",
+            "The node's memory keeps the newest accepted head. A node that accepted nothing newer than a fallen text is not protected by this law, and two nodes may sign two lists.",
             "The newest accepted head is that of some list of leaves.",
             HASHES + " " + COLLISION,
         ],
