@@ -1,4 +1,4 @@
-// Package node is one node of a log: a plain loop in one coroutine, over small interfaces, with the proved decisions in
+// Package node is one node of a log: a plain loop in one goroutine, over small interfaces, with the proved decisions in
 // between. Package serve serves a log out of it.
 //
 // A step goes in this order, which keeps a log one list of entries, whichever node dies at whichever call. The proved
@@ -9,16 +9,16 @@
 //  3. The step's output is staged under a name of its own.
 //  4. The lock is swapped from the newest state to the step's. This is the one decision.
 //  5. The objects are put under their public names, the places are added, and the machine's memory keeps the state.
-//  6. The head is signed, cosigned by enough witnesses if the log has any, and put. Then the lock says that it is
-//     published.
-//  7. The timestamps are signed, and the waiting submissions are answered.
+//  6. The head is signed, and cosigned by enough witnesses if the log has any. The timestamps are signed while it is
+//     put. Then the lock says that it is published.
+//  7. The waiting submissions are answered.
 //
 // Any node may do again what comes after 4, from the staged batch, with the same outcome.
 //
 // # How to use it
 //
-// Start returns a Node and a Loop, or refuses. Run of the Loop must be called once, in one coroutine. A request calls
-// Request, then Lookup, and if that returns nothing Enqueue; after an Answer that is Known it calls Lookup again.
+// Start returns a Node and a Loop, or refuses. Run of the Loop must be called once, in one goroutine. A request calls
+// Request, then Find and Claim (or Lookup, which calls both), and if these return nothing Enqueue; after an Answer that is Known it calls Lookup again.
 // Readers call Snapshot.
 //
 // # In which order to read it

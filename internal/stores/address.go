@@ -110,8 +110,6 @@ func PlacesAt(ctx context.Context, address string) (Places, error) {
 	return nil, fmt.Errorf("%w: an index is at sqlite:PATH or postgres://.., not at %.20q", ErrAddress, kind)
 }
 
-// pathOf returns a path as it is: it is not part of a URL, so a percent sign has no meaning.
-//
 // CheckObjects returns the reason why an address is not one of objects, and nil if it is. It opens nothing.
 func CheckObjects(address string) error {
 	return checked(address, "objects", map[string]func() error{"folder": nil, "s3": func() error { _, err := parseS3(address); return err }})
@@ -144,6 +142,7 @@ func checked(address, what string, kinds map[string]func() error) error {
 	return err
 }
 
+// pathOf returns a path as it is. It is not part of a URL, so a percent sign has no meaning.
 func pathOf(kind, path string) (string, error) {
 	if path == "" {
 		return "", fmt.Errorf("%w: %s: without a path", ErrAddress, kind)
