@@ -183,7 +183,7 @@ CLAIMS = [
         "The names of a certificate are exactly those that the grammar of RFC 5280 gives its subjectAltName and its subject's common names. A watched name is found exactly if one of these names is the"
         " watched name, or is below it, or is a wildcard that stands for it (RFC 9525, section 6.3).",
         [
-            "None. Names in other fields (otherName, directoryName) are not names of this claim.",
+            "There are no premises. Names in other fields (otherName, directoryName) are not names of this claim.",
         ],
         [
             Contract("ct_names/src/reading.rt", "names_of_certificate", [], "The names of a certificate, or the first fault."),
@@ -199,7 +199,7 @@ CLAIMS = [
         "A head is accepted only if its size and root are those of all leaves that the log handed out, and refused only for a defined reason. All heads that a monitor accepted, in any number of runs, are those of"
         " beginnings of one list.",
         [
-            "For the second, each run begins with the state that the run before left.",
+            "For the second sentence of the claim (several runs), each run begins with the state that the run before left.",
         ],
         [
             Contract("ct_monitor/src/keeping.rt", "Monitor::observe", [], "What one call decides."),
