@@ -155,7 +155,12 @@ func (f *follower) run(ctx context.Context) {
 			for _, passed := range list.Passed {
 				f.lines.Warn("log-passed-over", "reason", passed)
 			}
-			logs := f.logsOf(list)
+			logs, err := f.logsOf(list)
+			if err != nil {
+				f.lines.Error("log-list", "fault", err)
+				f.listed.report(time.Now(), err)
+				return
+			}
 			f.lines.Info("log-list", "logs", len(logs), "of", list.Time.Format(time.RFC3339))
 			f.group.Follow(ctx, logs)
 			f.listed.report(time.Now(), nil)
@@ -167,8 +172,13 @@ func (f *follower) run(ctx context.Context) {
 	f.group.Wait()
 }
 
-// logsOf returns the logs of a list that are watched, and those of the settings.
-func (f *follower) logsOf(list loglist.List) []watch.Log {
+// errNoLogs means that a log list has logs, and that none of them is watched.
+var errNoLogs = fmt.Errorf("the log list has no log in a state that is watched (%s)",
+	strings.Join(loglist.WatchedStates, ", "))
+
+// logsOf returns the logs of a list that are watched, and those of the settings. If there are none, nothing would be
+// watched, and the error is errNoLogs.
+func (f *follower) logsOf(list loglist.List) ([]watch.Log, error) {
 	logs := append([]watch.Log{}, f.of.only...)
 	known := map[watch.LogID]bool{}
 	for _, log := range logs {
@@ -179,7 +189,10 @@ func (f *follower) logsOf(list loglist.List) []watch.Log {
 			logs = append(logs, log)
 		}
 	}
-	return logs
+	if len(logs) == 0 {
+		return nil, errNoLogs
+	}
+	return logs, nil
 }
 
 // once reads each log up to its newest head. It returns the faults of logs, by their names.
@@ -191,7 +204,7 @@ func (f *follower) once(ctx context.Context) (map[string]error, error) {
 		if err != nil {
 			listFault = fmt.Errorf("the log list cannot be read: %w", err)
 		} else {
-			logs = f.logsOf(list)
+			logs, listFault = f.logsOf(list)
 		}
 	}
 	faults := map[string]error{}

@@ -40,8 +40,21 @@ func TestLogsOfSettingsComeFirst(t *testing.T) {
 		return loglist.Log{Log: watch.Log{ID: watch.LogID{id}, URL: "https://listed.example", State: state}}
 	}
 	f := &follower{of: logSettings{only: []watch.Log{named}}}
-	logs := f.logsOf(loglist.List{Logs: []loglist.Log{listed(1, "usable"), listed(2, "usable"), listed(3, "rejected")}})
-	if len(logs) != 2 || logs[0].URL != named.URL || logs[1].ID != (watch.LogID{2}) {
-		t.Errorf("%+v", logs)
+	logs, err := f.logsOf(loglist.List{Logs: []loglist.Log{
+		listed(1, "usable"), listed(2, "usable"), listed(3, "rejected")}})
+	if err != nil || len(logs) != 2 || logs[0].URL != named.URL || logs[1].ID != (watch.LogID{2}) {
+		t.Errorf("%+v, %v", logs, err)
+	}
+}
+
+func TestListWithoutWatchedLogs(t *testing.T) {
+	retired := loglist.List{Logs: []loglist.Log{{Log: watch.Log{ID: watch.LogID{1}, State: "retired"}}, {}}}
+	f := &follower{}
+	if logs, err := f.logsOf(retired); !errors.Is(err, errNoLogs) || len(logs) != 0 {
+		t.Errorf("%+v, %v", logs, err)
+	}
+	f.of.only = []watch.Log{{ID: watch.LogID{2}}}
+	if logs, err := f.logsOf(retired); err != nil || len(logs) != 1 {
+		t.Errorf("with a log of the settings: %+v, %v", logs, err)
 	}
 }
