@@ -164,7 +164,7 @@ func TestUnit(t *testing.T) {
 		}
 	}
 	trial.Says(t, trial.Page(t, "../../docs/OPERATING.md"), map[string]bool{
-		"ends with status 3, which the unit doesn't start again": statusSetBack == 3,
+		"ends with status 3, and the unit does not start it again": statusSetBack == 3,
 		"A setting with an unknown name ends a start with status 2": run([]string{"--no-such-word"}, &bytes.Buffer{},
 			openNode) == 2,
 	})
