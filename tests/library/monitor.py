@@ -195,7 +195,7 @@ class Monitor:
             code = subprocess.run([ROOT / "dist" / "processor.sh"], capture_output=True, text=True, check=True).stdout.strip()
             made = f"{folder}/libwagtenib.so"
             subprocess.run(["gcc", "-shared", "-fPIC", "-O2", ROOT / "dist" / "memory.c", code, "-o", made], check=True)
-        self.library = ctypes.CDLL(made)
+        self.functions = ctypes.CDLL(made)
 
     def call(self, state, handed, room):
         """The code, the verdict, the report, the memory after the call, and the length."""
@@ -205,22 +205,22 @@ class Monitor:
         out = memory, size(room), ctypes.byref(length)
         kind, *rest = handed
         if kind == "begin":
-            code = self.library.wagtenib_monitor_begin(*out)
+            code = self.functions.wagtenib_monitor_begin(*out)
         elif kind == "start":
             head = Head(rest[0][0], rest[0][1], (ctypes.c_uint8 * 32)(*rest[0][2]))
-            code = self.library.wagtenib_monitor_start(ctypes.byref(head), b"".join(rest[1]), size(len(rest[1])), *out)
+            code = self.functions.wagtenib_monitor_start(ctypes.byref(head), b"".join(rest[1]), size(len(rest[1])), *out)
         elif kind == "head":
             head = Head(rest[0][0], rest[0][1], (ctypes.c_uint8 * 32)(*rest[0][2]))
-            code = self.library.wagtenib_monitor_head(state, size(len(state)), ctypes.byref(head), ctypes.byref(verdict), *out)
+            code = self.functions.wagtenib_monitor_head(state, size(len(state)), ctypes.byref(head), ctypes.byref(verdict), *out)
         elif kind == "entries":
             start, leaves, told_lengths = rest
             lengths = (wide * max(len(told_lengths), 1))(*told_lengths)
             flat = b"".join(leaves)
-            code = self.library.wagtenib_monitor_entries(
+            code = self.functions.wagtenib_monitor_entries(
                 state, size(len(state)), wide(start), flat, size(len(flat)), lengths, size(len(told_lengths)), ctypes.byref(verdict), ctypes.byref(report), *out
             )
         else:
-            code = self.library.wagtenib_monitor_proof(state, size(len(state)), b"".join(rest[0]), size(len(rest[0])), ctypes.byref(verdict), *out)
+            code = self.functions.wagtenib_monitor_proof(state, size(len(state)), b"".join(rest[0]), size(len(rest[0])), ctypes.byref(verdict), *out)
         told = (
             (verdict.leaves_accepted, verdict.leaves_read, verdict.leaves_wanted),
             (verdict.known.tree_size, verdict.known.timestamp, bytes(verdict.known.root)),

@@ -62,13 +62,13 @@ class Witness:
             code = subprocess.run([ROOT / "dist" / "processor.sh"], capture_output=True, text=True, check=True).stdout.strip()
             made = f"{folder}/libwagtenib.so"
             subprocess.run(["gcc", "-shared", "-fPIC", "-O2", ROOT / "dist" / "memory.c", code, "-o", made], check=True)
-        self.library = ctypes.CDLL(made)
+        self.functions = ctypes.CDLL(made)
 
     def cosign(self, is_first, state, text, old, hashes, time, room):
         """The code, the memory after the call, and the length."""
         memory, length = ctypes.create_string_buffer(FILL * room, max(room, 1)), ctypes.c_uint64(UNTOUCHED)
         size, number = ctypes.c_size_t, ctypes.c_uint64
-        call = self.library.wagtenib_witness_first if is_first else self.library.wagtenib_witness_cosign
+        call = self.functions.wagtenib_witness_first if is_first else self.functions.wagtenib_witness_cosign
         flat = b"".join(hashes)
         code = call(state, size(len(state)), text, size(len(text)), number(old), flat, size(len(hashes)), number(time), memory, size(room), ctypes.byref(length))
         return code, memory.raw[:room], length.value
@@ -76,7 +76,7 @@ class Witness:
     def read(self, seen, state):
         """The code and the tree."""
         tree = Tree(7, 7)
-        code = self.library.wagtenib_witness_state(seen, ctypes.c_size_t(len(seen)), state, ctypes.c_size_t(len(state)), ctypes.byref(tree))
+        code = self.functions.wagtenib_witness_state(seen, ctypes.c_size_t(len(seen)), state, ctypes.c_size_t(len(state)), ctypes.byref(tree))
         return code, (tree.tree_size, tree.time, bytes(tree.root))
 
 

@@ -44,7 +44,7 @@ class Calls:
     """The calls of a library."""
 
     def __init__(self, library):
-        self.library = ctypes.CDLL(library)
+        self.functions = ctypes.CDLL(library)
 
     def words(self, given):
         """The arguments of a call in C: bytes are a pointer and a length, and hashes a pointer and their number."""
@@ -59,7 +59,7 @@ class Calls:
     def once(self, function, given, room):
         """The code of one call with so much room, the length that it tells, and the bytes of its reply. Nothing else is written."""
         length, out = ctypes.c_uint64(UNTOLD), (ctypes.c_uint8 * (room + BEHIND))(*[FILL] * (room + BEHIND))
-        code = getattr(self.library, function)(*self.words(given), out, ctypes.c_size_t(room), ctypes.byref(length))
+        code = getattr(self.functions, function)(*self.words(given), out, ctypes.c_size_t(room), ctypes.byref(length))
         written = length.value if code == 0 else 0
         assert written <= room and bytes(out[written:]) == bytes([FILL]) * (room + BEHIND - written), f"{function} writes after its reply, at {code}"
         return code, length.value, bytes(out[:written])
