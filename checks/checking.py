@@ -65,13 +65,13 @@ def scope_of(text, crate):
                 of = module.split(".")
                 scope[name] = ("type", owner, of[-2] if of[-1] == "TheVariants" else name)
             else:
-                scope[name] = ("word", owner, name)
+                scope[name] = ("word", owner, name, module.split(".")[0])
     return scope
 
 
 @functools.lru_cache(None)
 def words_of(crate):
-    """Returns the definitions of a crate's specs/, by their names. A case of a data type names that type."""
+    """Returns the definitions of a crate's specs/, by their names, and by their files and names. A case of a data type names that type."""
     found = {}
     for path in sorted((CRATES / crate / "specs").glob("*.antt")):
         text = path.read_text()
@@ -83,13 +83,13 @@ def words_of(crate):
             body, first = body_below(lines, at), at
             while first > 0 and re.match(r" *--", lines[first - 1]):
                 first -= 1
-            key = ("word", crate, start.group(2))
+            key = ("word", crate, start.group(2), path.stem)
             one = Text(key, f"{crate}/specs/{path.name}", "\n".join([*lines[first:at], *body]), scope)
             for name in [start.group(2), *cases((start.group(1) or "").strip(), body)]:
                 here[name] = one
         for name, one in here.items():
             scope.setdefault(name, one.key)
-            found[name] = one
+            found[path.stem, name] = found[name] = one
     return found
 
 
@@ -115,10 +115,12 @@ def types_of(crate):
 
 
 def text_of(key):
-    """Returns the text of a key. A word that its crate imports is looked up in the other crates: no two crates define the same word (definitions.py)."""
-    kind, crate, name = key
+    """Returns the text of a key. A word that its file imports is looked up in the other files: no two crates define the same word (definitions.py)."""
+    kind, crate, name, *file = key
     if kind == "type":
         return types_of(crate).get(name)
+    if (*file, name) in words_of(crate):
+        return words_of(crate)[(*file, name)]
     return next((words_of(owner)[name] for owner in (crate, *sorted(own_crates())) if name in words_of(owner)), None)
 
 

@@ -32,14 +32,14 @@ CLAIMS = [
         " occurrences of a merge, in each front's order, of exactly the submissions that were accepted before the shutdown step. Each published head has MTH of all entries"
         " up to then, and each reply is the one that a published state defines.",
         [
-            "The caller uses the fronts and the sequencer of one `open` together (`IsOfHouse`). The type of a front has no other way to make one.",
-            "Before `finish`, the caller retired each front's last holder into `ends`, and asked `is_shut`, `is_settled` and `is_covered`. Each of them answered true.",
+            "The caller uses the fronts and the sequencer of one `open` together (`IsOfHouse`). These are one house. `open` and `succeed` are the only functions that return a front.",
+            "Before `finish`, the caller retired each front into `ends`, by the thread that held it last, and asked `is_shut`, `is_settled` and `is_covered`. Each of them answered true.",
             "`settle` and `take` may be refused for memory. Then nothing is lost, and the caller calls again.",
         ],
         [
             Contract("ct_house/src/opening.rt", "open", ["fresh", "sequences"], "A new house has accepted nothing, and its log has one head of size 0."),
             Contract("ct_house/src/front.rt", "submit", ["same", "answer"], "A ticket says that the submission is now the last one in this front's accepted list. A refusal gives back the same submission, and the list is as it was."),
-            Contract("ct_house/src/sequencer.rt", "shutdown", ["answer", "listed"], "The answer is the number of submissions that all fronts accepted before this step."),
+            Contract("ct_house/src/sequencer.rt", "shutdown", ["answer", "listed"], "The answer is a number n, and the second call is refused. By `finish`, exactly n submissions are accepted in all, so nothing is accepted after this step."),
             Contract("ct_house/src/sequencer.rt", "take", ["taken", "listed", "in_time"], "The sequencer takes the next submissions of one front, in order, and settles them: the first with an identity becomes an entry."),
             Contract("ct_house/src/sequencer.rt", "settle", ["settled", "all"], "After the shutdown, the sequencer settles everything that the fronts had accepted."),
             Contract("ct_house/src/sequencer.rt", "publish", ["head", "in_time", "extends"], "The new head has the number of all entries, MTH of their leaves, and the time that the caller gave. The state before is a beginning of the new one."),
@@ -51,17 +51,17 @@ CLAIMS = [
         "nodes",
         "One list, however many nodes write it",
         "Any number of nodes run one log over one lock and one object store. Start, kill and interleave them in any way, and let any of their commands be lost, repeated or late."
-        " Take the entries that were known, and after them those that each step added whose state the lock took. The lock's state, each stored tile, each receipt and each head are"
-        " those of this list. Otherwise two of the strings that were hashed have one digest.",
+        " Take the entries that were known, and after them those that each step added whose state the lock took. The lock's states, each stored tile, each receipt of an answered step, and"
+        " each approved head up to the last one that a node asked for are those of this list. Otherwise two of the strings that were hashed have one digest.",
         [
             "The lock replaces a state only if it holds the expected one, and a reading is a state that it held (`MayHappen`).",
-            "A command takes effect only if a node gave it, and a node learns that it took effect only if it did (`MayHappen`). The number of objects that it learns for a staged batch is the number of objects in it.",
-            "An object that was stored can be read until it is deleted. A command to delete deletes only the object that it names (`MayHappen`).",
-            "Each step is the reply of `wagtenib_step`, and the objects stored for a state are those that `wagtenib_step_resume` replies for its line (`AreStepsMade`).",
-            "S has each string that was hashed for these replies: the tiles that were handed in, the staged batches, and the bytes that were read (`IsMadeOfLine`, `IsResumed`).",
+            "A command takes effect only if a node gave it, and a node learns that it took effect only if it did (`MayHappen`). The number of objects that it learns for a staged batch is the number of objects in it (`AreAllPut`, which only `whole` needs).",
+            "An object that was stored can be read until it is deleted (this is what `objects` of a world means). A command to delete deletes only the object that it names (`MayHappen`).",
+            "Each step meets what `take_step` ensures, and the objects stored for a state are those that `resume` returns for its line (`AreStepsMade`). The laws `steps_by_calls_are_attempts` and `resumed_by_calls` say so of the replies of `wagtenib_step` and `wagtenib_step_resume`.",
+            "S is any list of strings for which this holds. It has the staged batches, and the bytes that were read (`IsMadeOfLine`, `IsResumed`). For replies of `wagtenib_step` it also has the tiles that were handed in.",
             "The first state is that of known entries (`IsFirstState`, `IsLog`).",
-            "For the heads: a guard allowed each head, one after the other, and a node asked for the newest one (`AreHeadSteps`, `NewestIsAsked`).",
-            "For identities: each step was preceded by a look into the index, and the index missed nothing that was added before.",
+            "For the heads: a guard approved each head, one after the other, each from the state of the one before (`AreHeadSteps`). The law speaks of them up to the last one that a node asked for (`NewestIsAsked`).",
+            "For identities: no batch has one twice, each step was preceded by a look into the index, and the index missed nothing that was added before.",
             "Nothing is rolled back. The world of the law has no event that does it. A restored lock is the subject of a claim of its own (fallen-lock).",
             "No premise says that SHA-256 has no collisions. Instead, the law ends in two different strings with one digest. Each of them is in S, or is hashed for a line of the log"
             " while it grows: over its partial tiles, or its partial data tile (`IsHashedBySteps`).",
@@ -69,7 +69,8 @@ CLAIMS = [
         [
             Contract("ct_node_log/src/laws.rt", "nodes", [], "The list of the known entries and of those that the steps added: the lock, the tiles and the receipts are those of it."),
             Contract("ct_node_log/src/laws.rt", "heads", [], "The heads that guards allowed are those of beginnings of that list."),
-            Contract("ct_node_log/src/laws.rt", "kept", [], "After garbage collection, every tile that a head needs can still be read, under its own name or as the beginning of the full tile."),
+            Contract("ct_node_log/src/laws.rt", "whole", [], "Each object of the step of a published head is in the store."),
+            Contract("ct_node_log/src/laws.rt", "kept", [], "After garbage collection, every tile that was put can still be read, under its own name or as the beginning of the full tile."),
             Contract("ct_node_log/src/laws.rt", "no_identity_twice", [], "No identity is in the list twice after the known entries."),
             Contract("libwagtenib/src/node_laws.rt", "nodes_by_calls_write_one_log", [], "The same for any sequence of calls of the library's functions, from any number of processes."),
         ],
@@ -83,7 +84,7 @@ CLAIMS = [
             "A head is signed only after the register took its state in place of the one that the call was made with.",
             "The key signs nothing else. (The receipt of a leaf and the signature of a head are never the same bytes: `receipts_are_no_heads`.)",
             "The register is not rolled back.",
-            "For the first law, the newest head is that of some list of leaves. For the second, each head is that of some list.",
+            "For the first law, the newest head is that of a list of leaves. For the second, each head is that of a list. Each law is about the lists that its reader has. That some list exists says little.",
             HASHES + " " + COLLISION,
         ],
         [
@@ -181,9 +182,9 @@ CLAIMS = [
         "names",
         "Which names a certificate has",
         "The names of a certificate are exactly those that the grammar of RFC 5280 gives its subjectAltName and its subject's common names. A watched name is found exactly if one of these names is the"
-        " watched name, or is below it, or is a wildcard that stands for it (RFC 9525, section 6.3).",
+        " watched name, or is below it, or is a wildcard that stands for it (RFC 9525, section 6.3). The search in bytes finds a watched name exactly if its text is somewhere in the bytes.",
         [
-            "There are no premises. Names in other fields (otherName, directoryName) are not names of this claim.",
+            "There are no premises. Names in other fields (otherName, directoryName) are not names of this claim. Only the search in bytes finds them.",
         ],
         [
             Contract("ct_names/src/reading.rt", "names_of_certificate", [], "The names of a certificate, or the first fault."),
@@ -191,6 +192,7 @@ CLAIMS = [
             Contract("ct_names/src/laws.rt", "read_certificates_are_there", [], "Nothing else is read."),
             Contract("ct_names/src/laws.rt", "covering_is_by_labels", [], "A name covers a watched one by labels."),
             Contract("ct_names/src/laws.rt", "names_stay_under_the_cut", [], "A precertificate has the names of its certificate."),
+            Contract("ct_name_calls/src/in_bytes.rt", "in_bytes_text", [], "The watched names whose text is in some bytes, as the library writes them."),
         ],
     ),
     Claim(

@@ -6,7 +6,7 @@
 The generated files of dist/ are the assembly of libwagtenib for each processor, as the kit's compiler makes it, without its comments, and with the lines of a build option that is off by default (sha_instructions.c); NOTICE, with the licences
 of the kit's crates whose code is in it; and SOURCES, which says what all of this is made of. With --sources, or without the kit, the script compares SOURCES
 with the checkout: a sum over the code of each crate that the library is made of (without comments and clauses, from which no code is made), and with the kit
-the kit's name. Otherwise it builds the library once more for each processor, over the crates as they are proved and built in crates/*/out, and compares each
+the logic of the kit (README.md names the kits of one logic). Otherwise it builds the library once more for each processor, over the crates as they are proved and built in crates/*/out, and compares each
 byte. It also has the kit's assembler make an object of the text, which must be the very object that the proved library is. With --write it writes the files.
 The Go package in bindings/go/wagtenib has copies of the assembly, of memory.c, of sha_instructions.c and of include/wagtenib.h, because `go build` compiles what its
 folder has. The script always compares these copies, byte for byte, and with --write it writes them too.
@@ -124,12 +124,15 @@ def said_of_sources(kit_name):
     return "".join(f"{line}\n" for line in lines)
 
 
-def kit_name():
-    """Returns the kit's name for itself, or the name in SOURCES if the kit is not here."""
-    if kit():
-        return subprocess.run(["rt", "version"], capture_output=True, text=True, check=True).stdout.strip()
-    said = re.search(r"^kit: (.*)$", (DIST / "SOURCES").read_text(), re.M)
-    return said[1] if said else "unknown"
+def kit_name(is_written=False):
+    """Returns the name of the kit for SOURCES: the one that is there, unless the file is written or the kit here has another logic. (Kits of one logic prove
+    alike, and the code that they make is compared byte for byte.)"""
+    said = re.search(r"^kit: (.*)$", (DIST / "SOURCES").read_text(), re.M) if (DIST / "SOURCES").exists() else None
+    if not kit():
+        return said[1] if said else "unknown"
+    here = subprocess.run(["rt", "version"], capture_output=True, text=True, check=True).stdout.strip()
+    is_alike = said and said[1].partition(" logic ")[2] == here.partition(" logic ")[2]
+    return said[1] if is_alike and not is_written else here
 
 
 def toolchain(folder, of_kit, kept):
@@ -232,12 +235,12 @@ def notice(names, top):
     return "\n".join(said) + "\n"
 
 
-def made():
+def made(is_written):
     """Returns the generated files, each by its name."""
     top = kit()
     with tempfile.TemporaryDirectory(prefix="wagtenib-dist-") as folder:
         texts = {f"{LIBRARY}_linux_{processor}.s": assembly(processor, top, pathlib.Path(folder)) for processor in TARGETS}
-    return {**texts, "NOTICE": notice(of_the_kit(texts.values(), top), top), "SOURCES": said_of_sources(kit_name())}
+    return {**texts, "NOTICE": notice(of_the_kit(texts.values(), top), top), "SOURCES": said_of_sources(kit_name(is_written))}
 
 
 def differing(said, due):
@@ -257,7 +260,7 @@ def main():
         sys.exit(__doc__)
     if words == ["--write"] and not kit():
         sys.exit("checks/dist.py --write needs the Rattle kit: put its folder bin on the PATH (README.md, 'With the kit')")
-    due = made() if kit() and words != ["--sources"] else {"SOURCES": said_of_sources(kit_name())}
+    due = made(words == ["--write"]) if kit() and words != ["--sources"] else {"SOURCES": said_of_sources(kit_name())}
     if words == ["--write"]:
         for name, text in due.items():
             (DIST / name).write_text(text)

@@ -48,7 +48,7 @@ def consistencies(first, second):
     consistency(SIZES, second, second, new, new, hashes)
     consistency(EMPTY, first, second, old, new, [])
     consistency(TOO_LONG, first, second, old, new, hashes + [old])
-    # Where `first` is a power of two the walk begins with the first root itself, and so ends at another second root.
+    # If the first size is a power of two, the walk begins with the first root itself, and so ends at another second root.
     power = first & (first - 1) == 0
     consistency(ROOT_MISMATCH if power else FIRST_MISMATCH, first, second, flipped(old), new, hashes)
     consistency(ROOT_MISMATCH, first, second, old, flipped(new), hashes)

@@ -10,7 +10,7 @@ done
 work=$(mktemp -d)
 trap 'rm -rf "$work"' EXIT
 
-# The archive gets the kit's three functions over malloc inside, so that it needs the C library alone.
+# The archive gets the kit's three functions over malloc inside, so that it needs only the C library.
 heap=$(dirname "$(rt doc)")/c/liblibc_c.a
 proved=$PWD/crates/libwagtenib/out/liblibwagtenib.a
 (cd "$work" && ar x "$heap" heap.pic.o && ar x "$proved")

@@ -43,4 +43,4 @@ if command -v valgrind >/dev/null && valgrind --quiet true 2>/dev/null; then
   valgrind --quiet --leak-check=full --error-exitcode=3 "$work/plain" <"$work/cases" | sed 's/^C:/C under valgrind:/'
 fi
 echo
-echo "libwagtenib.a and libwagtenib.so stand in crates/libwagtenib/out/link; make install PREFIX=.. copies them and the header."
+echo "libwagtenib.a and libwagtenib.so are in crates/libwagtenib/out/link; make install PREFIX=.. copies them and the header."

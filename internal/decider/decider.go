@@ -152,13 +152,15 @@ type Rooted struct {
 
 // Found has the data that a node finds at a start. A nil field or an empty text does not exist.
 type Found struct {
-	// Register is the lock's text.
-	Register string
+	// Register is the lock's text. IsEmptied says that the lock exists, and has no text.
+	Register  string
+	IsEmptied bool
 	// Seen is the newest head that this machine saw, and Guard the last that was signed, if there is a guard (Guarded).
 	Seen, Guard *Rooted
 	Guarded     bool
-	// Published is the newest head that is published, and Listed the newest in the store.
-	Published, Listed *Point
+	// Published is the newest head that is published, and Listed the newest in the store. Their roots matter only if they
+	// have the size and the timestamp of the lock's head.
+	Published, Listed *Rooted
 	// Stands says that the store has an object of a log, and Creates that a log must be created if there is none.
 	Stands, Creates bool
 }
@@ -172,17 +174,9 @@ func (f Found) inCall() wagtenib.NodeFound {
 		return &wagtenib.TreeHead{TreeSize: of.Size, Timestamp: of.Timestamp, Root: of.Root}
 	}
 	return wagtenib.NodeFound{
-		Seen: head(f.Seen), Signed: head(f.Guard), Published: f.Published.sized(), Listed: f.Listed.sized(),
+		Seen: head(f.Seen), Signed: head(f.Guard), Published: head(f.Published), Listed: head(f.Listed),
 		Guarded: f.Guarded, HasObject: f.Stands, Creates: f.Creates,
 	}
-}
-
-// sized returns the same as the library takes it.
-func (p *Point) sized() *wagtenib.HeadSize {
-	if p == nil {
-		return nil
-	}
-	return &wagtenib.HeadSize{TreeSize: p.Size, Timestamp: p.Timestamp}
 }
 
 // Refusal is why a node does not continue from what it finds.
@@ -199,7 +193,8 @@ const (
 	TwoRoots    Refusal = "two-roots"
 	// GuardBehind: the store has a later head than the last one that was signed.
 	GuardBehind Refusal = "guard-behind"
-	// BehindListed: the store has a later head. BehindPublished: a later head is published.
+	// BehindListed: the store has a later head, or another one with the lock's size and timestamp. BehindPublished: such a
+	// head is published.
 	BehindListed    Refusal = "behind-listed"
 	BehindPublished Refusal = "behind-published"
 )
@@ -294,7 +289,11 @@ func (c *Command) objects(before *Command, told Told) ([]string, error) {
 // Start reports whether a node that finds this must create the lock. If not, it continues from the lock's text. A
 // Refusal says that it must do neither.
 func (d *Decider) Start(found Found) (creates bool, err error) {
-	err = wagtenib.NodeStart([]byte(found.Register), found.inCall())
+	var lock []byte
+	if found.Register != "" || found.IsEmptied {
+		lock = []byte(found.Register)
+	}
+	err = wagtenib.NodeStart(lock, found.inCall())
 	if err == nil || errors.Is(err, wagtenib.ErrCreatesLock) {
 		return err != nil, nil
 	}

@@ -90,8 +90,8 @@ func TestStarts(t *testing.T) {
 	t.Parallel()
 	c := New()
 	root, other := [32]byte{}, [32]byte{1}
-	at := func(size, timestamp uint64) *Point { return &Point{size, timestamp} }
-	rooted := func(size, timestamp uint64, root [32]byte) *Rooted { return &Rooted{*at(size, timestamp), root} }
+	at := func(size, timestamp uint64) *Rooted { return &Rooted{Point{size, timestamp}, root} }
+	rooted := func(size, timestamp uint64, root [32]byte) *Rooted { return &Rooted{Point{size, timestamp}, root} }
 	text := textOf(3, 7, 5, 1)
 	for _, it := range []struct {
 		found Found
@@ -113,6 +113,8 @@ func TestStarts(t *testing.T) {
 		{Found{Register: text, Guard: rooted(1, 1, root), Listed: at(1, 2), Guarded: true}, "guard-behind"},
 		{Found{Register: text, Listed: at(3, 8)}, "behind-listed"},
 		{Found{Register: text, Published: at(4, 7)}, "behind-published"},
+		{Found{Register: text, Listed: rooted(3, 7, other)}, "behind-listed"},
+		{Found{Register: text, Published: rooted(3, 7, other)}, "behind-published"},
 		{Found{Creates: true}, "creates"},
 		{Found{Creates: true, Guarded: true}, "creates"},
 		{Found{}, "gone"},

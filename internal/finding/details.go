@@ -106,6 +106,22 @@ func Text(name wagtenib.Name) string {
 	return found[len(found)-1]
 }
 
+// Once returns the names of a certificate with each text once, in the order of their first occurrence, and after them
+// the names that repeat a text. A common name often repeats a name of subjectAltName.
+func Once(names []wagtenib.Name) (once, repeated []wagtenib.Name) {
+	seen := make(map[string]bool, len(names))
+	for _, name := range names {
+		text := Text(name)
+		if seen[text] {
+			repeated = append(repeated, name)
+			continue
+		}
+		seen[text] = true
+		once = append(once, name)
+	}
+	return once, repeated
+}
+
 // errIssuance reports bytes that are no TBSCertificate.
 var errIssuance = errors.New("no certificate")
 

@@ -171,15 +171,19 @@ func mayMatch(host string, labels []string, name Name, watched []string) bool {
 	return true
 }
 
-// Hosts returns the names of a certificate that may match the watched name, as people read them: at most limit.
+// Hosts returns the names of a certificate that may match the watched name, as people read them: each once, and at most
+// limit.
 func (n Name) Hosts(names []wagtenib.Name, limit int) []string {
 	var hosts []string
 	for _, name := range names {
 		if len(hosts) == limit {
 			break
 		}
-		if n.IsEverything() || n.isIn(name) {
-			hosts = append(hosts, Text(name))
+		if !n.IsEverything() && !n.isIn(name) {
+			continue
+		}
+		if text := Text(name); !slices.Contains(hosts, text) {
+			hosts = append(hosts, text)
 		}
 	}
 	return hosts

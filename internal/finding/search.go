@@ -1,7 +1,6 @@
 package finding
 
 import (
-	"bytes"
 	"errors"
 	"strings"
 
@@ -17,12 +16,12 @@ const (
 	InCommonName Place = "cn"         // a common name covers it: the library's verdict
 	LikeAltName  Place = "like-san"   // a name of subjectAltName may match it, by the readings of this package
 	LikeCommon   Place = "like-cn"    // a common name may match it, by the readings of this package
-	InBytes      Place = "bytes"      // only the bytes of the certificate have it
+	InBytes      Place = "bytes"      // only the bytes of the certificate have it: the library's verdict
 	Everywhere   Place = "everything" // the watch list has every certificate reported
 )
 
 // IsProved reports whether the place is a verdict of the proved library.
-func (p Place) IsProved() bool { return p == InAltName || p == InCommonName }
+func (p Place) IsProved() bool { return p == InAltName || p == InCommonName || p == InBytes }
 
 // Match is a watched name that was found.
 type Match struct {
@@ -43,7 +42,6 @@ type Searcher struct {
 	list    wagtenib.WatchList
 	of      []int      // the index in names of each name of list
 	labels  [][]string // of the domains, by the index in names
-	needles [][]byte   // in small letters, by the index in names: what the search of bytes looks for
 	inBytes bool
 }
 
@@ -62,11 +60,6 @@ func NewSearcher(names []Name, options ...Option) *Searcher {
 		for _, pattern := range name.patterns() {
 			patterns, s.of = append(patterns, pattern), append(s.of, i)
 		}
-		needle := name.domain
-		if name.address.IsValid() {
-			needle = name.address.String()
-		}
-		s.needles = append(s.needles, []byte(needle))
 		s.labels = append(s.labels, strings.Split(name.domain, "."))
 	}
 	s.list = wagtenib.NewWatchList(patterns)
@@ -87,10 +80,14 @@ func (s *Searcher) Search(entryType wagtenib.EntryType, certificate []byte) (Res
 	if errors.Is(err, wagtenib.ErrMemory) {
 		return Result{}, err
 	}
-	if err != nil {
-		return Result{Fault: err, Matches: s.matches(make([]Place, len(s.names)), certificate, true)}, nil
-	}
 	places := make([]Place, len(s.names))
+	if err != nil {
+		fault := err
+		if err := s.addBytes(places, certificate); err != nil {
+			return Result{}, err
+		}
+		return Result{Fault: fault, Matches: s.matches(places)}, nil
+	}
 	found, err := wagtenib.WatchedNames(entryType, certificate, s.list)
 	if err != nil {
 		return Result{}, err
@@ -104,7 +101,26 @@ func (s *Searcher) Search(entryType wagtenib.EntryType, certificate []byte) (Res
 		}
 	}
 	s.addReadings(places, names)
-	return Result{Names: names, Matches: s.matches(places, certificate, s.inBytes)}, nil
+	if s.inBytes {
+		if err := s.addBytes(places, certificate); err != nil {
+			return Result{}, err
+		}
+	}
+	return Result{Names: names, Matches: s.matches(places)}, nil
+}
+
+// addBytes sets the places of watched names that have none, and that the bytes of the certificate have.
+func (s *Searcher) addBytes(places []Place, certificate []byte) error {
+	found, err := wagtenib.NamesInBytes(certificate, s.list)
+	if err != nil {
+		return err
+	}
+	for _, one := range found {
+		if place := &places[s.of[one.Position]]; *place == "" {
+			*place = InBytes
+		}
+	}
+	return nil
 }
 
 // addReadings sets the places of watched names that the library does not find, and that a name may match.
@@ -129,22 +145,12 @@ func (s *Searcher) addReadings(places []Place, names []wagtenib.Name) {
 	}
 }
 
-// matches returns the watched names that have a place, or that the bytes have if these are searched.
-func (s *Searcher) matches(places []Place, certificate []byte, inBytes bool) []Match {
-	var lower []byte
+// matches returns the watched names that have a place. A name that every certificate matches has one.
+func (s *Searcher) matches(places []Place) []Match {
 	var matches []Match
 	for i, name := range s.names {
-		switch {
-		case places[i] != "":
-		case name.IsEverything():
+		if places[i] == "" && name.IsEverything() {
 			places[i] = Everywhere
-		case inBytes:
-			if lower == nil {
-				lower = bytes.ToLower(certificate)
-			}
-			if len(s.needles[i]) > 0 && bytes.Contains(lower, s.needles[i]) {
-				places[i] = InBytes
-			}
 		}
 		if places[i] != "" {
 			matches = append(matches, Match{name, places[i]})

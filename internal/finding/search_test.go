@@ -214,6 +214,25 @@ func TestReportsUnreadNames(t *testing.T) {
 	}
 }
 
+// TestSearchesBytesForEachWord: of a certificate that cannot be read, the bytes are searched for an address, for an exact
+// name, and for both spellings of a name with letters beyond ASCII.
+func TestSearchesBytesForEachWord(t *testing.T) {
+	watched := parseAll(t, "192.0.2.7", "=www.example.org", "bücher.example", "absent.example")
+	for text, want := range map[string][]finding.Match{
+		"http://192.0.2.7/":     {{Name: watched[0], Place: finding.InBytes}},
+		"WWW.Example.ORG":       {{Name: watched[1], Place: finding.InBytes}},
+		"xn--BCHER-kva.example": {{Name: watched[2], Place: finding.InBytes}},
+		"bücher.EXAMPLE":        {{Name: watched[2], Place: finding.InBytes}},
+		"www.example.or":        nil,
+		"":                      nil,
+	} {
+		result, err := finding.NewSearcher(watched).Search(wagtenib.X509Entry, []byte(text))
+		if err != nil || result.Fault == nil || !slices.Equal(result.Matches, want) {
+			t.Errorf("%q: %+v %v", text, result, err)
+		}
+	}
+}
+
 // TestFindsTheLastOfManyNames: a certificate with 100,000 names is read whole.
 func TestFindsTheLastOfManyNames(t *testing.T) {
 	var hosts []string

@@ -2,6 +2,7 @@ package node
 
 import (
 	"context"
+	"errors"
 	"fmt"
 
 	"golang.org/x/mod/sumdb/tlog"
@@ -72,7 +73,8 @@ func paths(ctx context.Context, indexes []uint64, head signer.Head, read tile.Re
 }
 
 // signTimestamps has the timestamps of receipts signed, with their paths in the tree of the signer's last head. A head
-// is the first one that is tried as the last.
+// is the first one that is tried as the last. If the signer refuses it, it may know only an older one that this node
+// had it approve, while another node's signer went on. So it is asked which its last one is, which it then reads.
 func (n *Node) signTimestamps(ctx context.Context, receipts []step.Receipt, head signer.Head,
 	read tile.Reader) ([][]byte, error) {
 	for try := 0; ; try++ {
@@ -102,7 +104,8 @@ func (n *Node) signTimestamps(ctx context.Context, receipts []step.Receipt, head
 		if err == nil {
 			return signatures, nil
 		}
-		if try+1 == maxAsked || !n.moved(ctx, last, err) {
+		isOlder := try == 0 && errors.Is(err, signer.ErrRefused)
+		if try+1 == maxAsked || !isOlder && !n.moved(ctx, last, err) {
 			return nil, fmt.Errorf("node: timestamps: %w", err)
 		}
 	}

@@ -90,9 +90,11 @@ func rooted(head *signer.Head) *decider.Rooted {
 // find reads the lock, and after that everything that may be ahead of it.
 func (l *Loop) find(ctx context.Context, remembered *signer.Head) (f found, err error) {
 	f.Creates, f.Guarded, f.Seen = l.config.Create, l.config.Signer.IsGuarded(), rooted(remembered)
-	if f.Register, err = l.lockText(ctx); err != nil {
+	var exists bool
+	if f.Register, exists, err = l.lockText(ctx); err != nil {
 		return f, err
 	}
+	f.IsEmptied = exists && f.Register == ""
 	if f.Register != "" {
 		if f.k, err = l.read(f.Register); err != nil {
 			return f, err
@@ -105,26 +107,61 @@ func (l *Loop) find(ctx context.Context, remembered *signer.Head) (f found, err 
 		return f, fmt.Errorf("node: the lock: %w", err)
 	}
 	if f.published != (stores.Published{}) {
-		f.Published = &decider.Point{Size: f.published.Size, Timestamp: f.published.Timestamp}
+		f.Published = rootless(f.published.Size, f.published.Timestamp)
 	}
 	if f.last, err = l.config.Signer.Last(ctx); err != nil {
 		return f, fmt.Errorf("node: the signer: %w", err)
 	}
 	f.Guard = rooted(f.last)
-	f.Listed, err = l.newestListed(ctx, f)
-	return f, err
+	if f.Listed, err = l.newestListed(ctx, f); err != nil {
+		return f, err
+	}
+	return f, l.addRoots(ctx, f)
 }
 
-// lockText reads the lock's text, which is empty if the lock was never created.
-func (l *Loop) lockText(ctx context.Context) (string, error) {
-	text, err := l.config.Stores.Lock.Read(ctx)
+// rootless returns a head whose root is not known yet.
+func rootless(size, timestamp uint64) *decider.Rooted {
+	return &decider.Rooted{Point: decider.Point{Size: size, Timestamp: timestamp}}
+}
+
+// addRoots adds the root of the stored head to the published and to the listed head that have the size and the timestamp
+// of the lock's head. The decider compares no other root.
+func (l *Loop) addRoots(ctx context.Context, f found) error {
+	if f.k == nil {
+		return nil
+	}
+	own, root, isRead := decider.Point{Size: f.k.Size, Timestamp: f.k.Timestamp}, f.k.Root, false
+	for _, of := range []*decider.Rooted{f.Published, f.Listed} {
+		if of == nil || of.Point != own {
+			continue
+		}
+		if !isRead {
+			head, err := l.readHead(ctx, headName(own.Size, own.Timestamp))
+			switch {
+			case err == nil:
+				root = head.Root
+			case errors.Is(err, stores.ErrAbsent) || errors.Is(err, ErrDamaged):
+				// There is no head to compare with. What reads it later says what is wrong with it.
+			default:
+				return fmt.Errorf("node: the head of the lock's state: %w", err)
+			}
+			isRead = true
+		}
+		of.Root = root
+	}
+	return nil
+}
+
+// lockText reads the lock's text, and reports whether there is a lock.
+func (l *Loop) lockText(ctx context.Context) (text string, exists bool, err error) {
+	text, err = l.config.Stores.Lock.Read(ctx)
 	if errors.Is(err, stores.ErrAbsent) {
-		return "", nil
+		return "", false, nil
 	}
 	if err != nil {
-		return "", fmt.Errorf("node: the lock: %w", err)
+		return "", false, fmt.Errorf("node: the lock: %w", err)
 	}
-	return text, nil
+	return text, true, nil
 }
 
 // hasLog reports whether the store has any object of a log.
@@ -142,7 +179,7 @@ func (l *Loop) hasLog(ctx context.Context) (bool, error) {
 }
 
 // newestListed returns the newest head in the store that is after the lock's or after the signer's last one, or nil.
-func (l *Loop) newestListed(ctx context.Context, f found) (*decider.Point, error) {
+func (l *Loop) newestListed(ctx context.Context, f found) (*decider.Rooted, error) {
 	after := ""
 	switch {
 	case f.k != nil && f.last != nil:
@@ -155,7 +192,7 @@ func (l *Loop) newestListed(ctx context.Context, f found) (*decider.Point, error
 		return nil, err
 	}
 	size, timestamp, err := headNamed(newest)
-	return &decider.Point{Size: size, Timestamp: timestamp}, err
+	return rootless(size, timestamp), err
 }
 
 // newestHead returns the name of the newest head in the store after a name, or nothing.
@@ -175,7 +212,7 @@ func (l *Loop) newestHead(ctx context.Context, after string) (newest string, err
 
 // movedSince reports whether another node set the lock, or had a head signed, since this was found.
 func (l *Loop) movedSince(ctx context.Context, f found) (bool, error) {
-	text, err := l.lockText(ctx)
+	text, _, err := l.lockText(ctx)
 	if err != nil || text != f.Register {
 		return true, err
 	}
@@ -209,10 +246,10 @@ func refused(refusal decider.Refusal, f found) error {
 		return fmt.Errorf("%w: %s, and this machine accepted %d at %d ms, or another root", ErrRolledBack, of,
 			f.Seen.Size, f.Seen.Timestamp)
 	case decider.BehindListed:
-		return fmt.Errorf("%w: %s, and the store has a head of %d at %d ms", ErrRolledBack, of, f.Listed.Size,
+		return fmt.Errorf("%w: %s, and the store has a head of %d at %d ms, or another root", ErrRolledBack, of, f.Listed.Size,
 			f.Listed.Timestamp)
 	case decider.BehindPublished:
-		return fmt.Errorf("%w: %s, and %d at %d ms are published", ErrRolledBack, of, f.published.Size,
+		return fmt.Errorf("%w: %s, and %d at %d ms are published, or another root", ErrRolledBack, of, f.published.Size,
 			f.published.Timestamp)
 	}
 	return fmt.Errorf("%w: %s: %s", ErrRolledBack, refusal, of)

@@ -123,7 +123,7 @@ def try_go(folder):
     made, package = folder / "go.test", ROOT / "bindings" / "go" / "wagtenib"
     go = f'. "{ROOT}/deps/env.sh" && command -v go >/dev/null && exec go "$@"'
     if subprocess.run(["bash", "-c", go, "go", "version"], cwd=ROOT, stdout=subprocess.DEVNULL).returncode or not (ROOT / "vendor" / "modules.txt").exists():
-        return say("the Go package was left out, for want of Go and its modules (make deps)")
+        return say("the Go package was left out: Go and its modules are missing (make deps fetches them)")
     surroundings = {**os.environ, "CGO_ENABLED": "1", "CC": COMPILER, "GOARCH": "arm64"}
     ran("the test of the Go package", ["bash", "-c", go, "go", "test", "-c", "-o", made, "./bindings/go/wagtenib"], cwd=ROOT, env=surroundings)
     told = ran("the test of the Go package", [QEMU, "-L", LIBRARIES, made, "-test.v"], cwd=package)
@@ -137,7 +137,7 @@ def try_python(folder):
     """The comparison of the Python package with models."""
     root = Packages(folder / "python", "arm64", None).with_all_below("python3-minimal", "libpython3-stdlib") if may_install() else None
     if root is None:
-        return say("the Python package was left out, for want of a Python for arm64 (SETUP=yes, as root, has apt fetch it)")
+        return say("the Python package was left out: there is no Python for arm64 (SETUP=yes, as root, has apt fetch it)")
     library = folder / "libwagtenib.so"
     sources = [DIST / "memory.c", DIST / "libwagtenib_linux_arm64.s"]
     ran("the library for arm64", [COMPILER, "-shared", "-fPIC", "-O2", "-fvisibility=hidden", *sources, "-o", library])
@@ -176,7 +176,7 @@ def try_rust(folder):
 
     found = rust_compiler(folder)
     if found is None:
-        return say("the Rust crate was left out, for want of a Rust with the standard library for arm64 (SETUP=yes, as root, has apt fetch it)")
+        return say("the Rust crate was left out: there is no Rust with the standard library for arm64 (SETUP=yes, as root, has apt fetch it)")
     words, surroundings = found
     made = folder / "made"
     made.mkdir()

@@ -1,5 +1,5 @@
 #!/usr/bin/env python3
-"""Compares the entries that libwagtenib reads of data tiles, as gcc makes it of dist/, with a model over random tiles.
+"""Compares the entries that libwagtenib reads of data tiles, and its comparison of a tile with its name, as gcc makes it of dist/, with a model over random tiles.
 
     data_tiles.py [--calls 100000] [--seed 1]
 
@@ -13,6 +13,7 @@ import ctypes
 import pathlib
 import platform
 import random
+import re
 import shutil
 import sys
 
@@ -24,6 +25,9 @@ from wagtenib import Code, _library  # noqa: E402
 
 FAULTS = {"TRUNCATED", "BAD_ENTRY_TYPE", "EMPTY_VECTOR", "PARTIAL_FINGERPRINT"}
 FILL, UNTOUCHED = b"\x5a", 12345
+# The answers about a tile and its name, each of which must come at least once.
+ANSWERS = {"OK", "NO_DATA_TILE", "TILE_AFTER", "TILE_BEFORE", "OTHER_ENTRIES", "WRONG_INDEX"}
+NAME = re.compile(r"tile/data/((?:x\d{3}/)*\d{3})(?:\.p/([1-9]\d?\d?))?")
 
 
 class Fault(Exception):
@@ -40,12 +44,17 @@ def some(source):
     return source.randbytes(source.choice([1, 1, 2, 40, 700]))
 
 
-def entry(source):
+def extension(index):
+    """The CtExtensions with a leaf_index."""
+    return b"\0\0\5" + index.to_bytes(5, "big")
+
+
+def entry(source, extensions=None):
     """The bytes of a TileLeaf."""
     text = source.randbytes(8)
     is_precertificate = source.random() < 0.5
     text += b"\x00\x01" + source.randbytes(32) if is_precertificate else b"\x00\x00"
-    text += opaque(3, some(source)) + opaque(2, source.choice([b"", bytes.fromhex("0000050000000007"), source.randbytes(300)]))
+    text += opaque(3, some(source)) + opaque(2, source.choice([b"", bytes.fromhex("0000050000000007"), source.randbytes(300)]) if extensions is None else extensions)
     if is_precertificate:
         text += opaque(3, some(source))
     return text + opaque(2, source.randbytes(32 * source.choice([0, 1, 2, 3, 9])))
@@ -69,7 +78,7 @@ def damaged(source, tile):
 
 
 class Reader:
-    """What is left of a tile."""
+    """The rest of a tile."""
 
     def __init__(self, tile):
         self.tile, self.at = tile, 0
@@ -166,20 +175,84 @@ def compare(source, tried):
     tried["read"] += 0 if isinstance(due, tuple) else len(due)
 
 
+def name_of(index, width):
+    """The name of the data tile with this index and number of entries (C2SP static-ct-api, "Log Entries")."""
+    groups = [f"{index % 1000:03}"]
+    while index := index // 1000:
+        groups.insert(0, f"x{index % 1000:03}")
+    return f"tile/data/{'/'.join(groups)}" + (f".p/{width}" if width < 256 else "")
+
+
+def named(name):
+    """The index and the number of entries of the data tile with this name, or None."""
+    found = NAME.fullmatch(name)
+    if not found:
+        return None
+    index, width = int(found[1].replace("x", "").replace("/", "")), int(found[2] or 256)
+    # (a tile's entries have indexes below 2^40)
+    return (index, width) if name_of(index, width) == name and width <= 256 and 256 * index + width <= 1 << 40 else None
+
+
+def compared_by_model(name, after, tile):
+    """The answer about a tile, and the index that comes with it, or None."""
+    of = named(name)
+    if of is None:
+        return "NO_DATA_TILE", None
+    first, width = 256 * of[0], of[1]
+    if after < first:
+        return "TILE_AFTER", None
+    if after >= first + width:
+        return "TILE_BEFORE", None
+    entries = read_by_model(tile)
+    if isinstance(entries, tuple):
+        return entries
+    if len(entries) != width:
+        return "OTHER_ENTRIES", len(entries)
+    for index in range(after, first + width):
+        # (the extensions end the leaf)
+        if not entries[index - first][0].endswith(opaque(2, extension(index))):
+            return "WRONG_INDEX", index
+    return "OK", None
+
+
+def compare_name(source, tried):
+    """Compares one tile with its name."""
+    index, width = source.choice([0, 1, 999, 1000, 1234567, (1 << 32) - 1]), source.choice([1, 2, 3, 5])
+    first = 256 * index
+    written = [first + i for i in range(width + source.choice([0, 0, 0, 0, -1, 1]))]
+    wrong = source.randrange(width + 1) if source.random() < 0.3 else None
+    tile = b"".join(entry(source, extension((one + (i == wrong)) % (1 << 40))) for i, one in enumerate(written))
+    if source.random() < 0.2:
+        tile = damaged(source, tile)
+    name = name_of(index, width)
+    if source.random() < 0.2:
+        at = source.randrange(len(name))
+        name = source.choice([name[:at] + name[at + 1 :], name[:at] + source.choice("0x/.p19") + name[at:], name.replace("data", "0"), name_of(index, 256) + ".p/256"])
+    after = max(0, first + source.choice([0, 0, 0, width - 1, width, -1, source.randrange(width)]))
+    due = compared_by_model(name, after, tile)
+    position = ctypes.c_uint64(UNTOUCHED)
+    text = name.encode()
+    code = _library.load().wagtenib_compare_data_tile(text, len(text), after, tile, len(tile), ctypes.byref(position))
+    if (code, position.value) != (0 if due[0] == "OK" else Code[due[0]], UNTOUCHED if due[1] is None else due[1]):
+        sys.exit(f"tests/library/data_tiles.py: {name} from {after} on with {tile.hex()} gave {code} and {position.value}, and is to give {due}")
+    tried[due[0]] += 1
+
+
 def main():
     parser = argparse.ArgumentParser()
     parser.add_argument("--calls", type=int, default=100_000)
     parser.add_argument("--seed", type=int, default=1)
     words = parser.parse_args()
     if not shutil.which("gcc") or platform.machine() not in _library.PROCESSORS:
-        print("tests/library/data_tiles.py: nothing was compared, for want of gcc for a processor of dist/")
+        print("tests/library/data_tiles.py: nothing was compared: there is no gcc for a processor of dist/")
         return
     source, tried = random.Random(words.seed), collections.Counter()
     for _ in range(words.calls):
         compare(source, tried)
-    if missing := FAULTS - set(tried):
+        compare_name(source, tried)
+    if missing := (FAULTS | ANSWERS) - set(tried):
         sys.exit(f"tests/library/data_tiles.py: {words.calls} tiles had none of {sorted(missing)}")
-    print(f"tests/library/data_tiles.py: {words.calls} tiles with {tried['read']} entries, and {sum(tried[one] for one in FAULTS)} faults, as the model has them")
+    print(f"tests/library/data_tiles.py: {words.calls} tiles with {tried['read']} entries, and {sum(tried[one] for one in FAULTS)} faults, and as many names, as the model has them")
 
 
 if __name__ == "__main__":

@@ -175,7 +175,7 @@ class History:
         return f"receipts {shown(state)} {first} {shown(b''.join(subtrees))} {shown(b''.join(leaves))} {lengths}", reply(code, b"", 0)
 
     def accept(self):
-        """A call for a head that a node is to accept after the state's."""
+        """A call for a head that a node should accept after the state's."""
         line, _ = self.head()
         words, accepted = line.split(), head_in(self.state)
         head = (int(words[2]), int(words[3]), bytes.fromhex(words[4]))
@@ -203,7 +203,7 @@ def main():
     said.add_argument("--seed", type=int, default=1)
     asked = said.parse_args()
     if not shutil.which("gcc") or platform.machine() not in ("x86_64", "aarch64"):
-        print("tests/library/guard.py: nothing was compared, for want of gcc for a processor of dist/")
+        print("tests/library/guard.py: nothing was compared: there is no gcc for a processor of dist/")
         return 0
     history = History(asked.seed)
     calls = [history.call() for _ in range(asked.calls)]

@@ -113,8 +113,8 @@ def fault_of_leaf(leaf):
 
 
 class Model:
-    """What a log handed out: the accepted head with its leaves, the waiting head, and the leaves that were read after the accepted ones. A head is its size, its
-    timestamp and its root."""
+    """The heads and leaves that a log handed out: the accepted head with its leaves, the waiting head, and the leaves that were read after the accepted ones.
+    A head is its size, its timestamp and its root."""
 
     def __init__(self):
         self.accepted, self.sure, self.waiting, self.ahead = None, [], None, []
@@ -263,7 +263,7 @@ class History:
         return faulty[at // 4 % len(faulty)]
 
     def handed(self):
-        """What a log hands out, right or wrong."""
+        """A log's answers, right or wrong."""
         chance, model = self.chance, self.model
         which = chance.choice((0, 0, 0, 1))
         log = self.logs[which]
@@ -400,7 +400,7 @@ def main():
     said.add_argument("--seed", type=int, default=1)
     asked = said.parse_args()
     if not shutil.which("gcc") or platform.machine() not in ("x86_64", "aarch64"):
-        print("tests/library/monitor.py: nothing was compared, for want of gcc for a processor of dist/")
+        print("tests/library/monitor.py: nothing was compared: there is no gcc for a processor of dist/")
         return 0
     history, came, verdicts, faults, wrong = History(asked.seed), collections.Counter(), collections.Counter(), collections.Counter(), []
     with tempfile.TemporaryDirectory(prefix="wagtenib-monitor-") as folder:

@@ -1,11 +1,12 @@
 #!/usr/bin/env python3
 """Compares the names that libwagtenib reads, as gcc makes it of dist/, with tests/names/certificate_names.py over random certificates.
 
-    names.py [--calls 3000] [--seed 1]
+    names.py [--calls 3000] [--searches 100000] [--seed 1]
 
 A certificate or a TBSCertificate has random names of every kind, and every other one is damaged. Its names in order, or the first fault with its field, must be the
-model's, and so must be the watched names that are found, with their places. The memory after a call must be as include/wagtenib.h says. Each kind, each place and each
-fault must come at least once. Without gcc for this processor it says so.
+model's, and so must be the watched names that are found, with their places. Random bytes are searched for random watched names besides, and what is found must be what
+a model here finds. The memory after a call must be as include/wagtenib.h says. Each kind, each place and each fault must come at least once. Without gcc for this
+processor it says so.
 """
 import argparse
 import collections
@@ -35,6 +36,8 @@ WATCHED = ["example.org", ".example.org", "www.example.org", "www.example.org.",
            "org", "host.example.org", "bücher.example", "", ".", "a.b.example.org", "EXAMPLE.org"]
 ADDRESSES = [bytes([192, 0, 2, 1]), bytes.fromhex("20010db8000000000000000000000001"), bytes(10) + b"\xff\xff" + bytes([192, 0, 2, 1]), bytes(5), b""]
 FAULTS = {"DER_TRUNCATED", "DER_LONG_TAG", "DER_INDEFINITE_LENGTH", "DER_LONG_LENGTH", "DER_PADDED_LENGTH", "DER_OTHER_TAG", "DER_TRAILING"}
+# Of these bytes random names and random bytes are made for the search in bytes: few letters, and all bytes that are beside the letters of ASCII.
+SEARCHED = b"abyzABYZ@[`{.*-\x00\xc1\xe1\xff"
 FILL, UNTOUCHED = b"\x5a", 12345
 
 
@@ -174,6 +177,74 @@ def memory_is_right(entry_type, data, watched, room):
     return None
 
 
+def text_of(name):
+    """The text of a watched name, which a search in bytes looks for: without one dot at its end, and without the *. or the dot in front."""
+    name = name[:-1] if name[-1:] == b"." else name
+    if name[:2] == b"*.":
+        return name[2:]
+    return name[1:] if name[:1] == b"." else name
+
+
+def compare_in_bytes(data, watched, tried):
+    """Compares the watched names that are found in the bytes with those whose text Python finds there. (`lower` is about the letters of ASCII only.)"""
+    low = data.lower()
+    expected = {position: Place.IN_BYTES for position, name in enumerate(watched) if text_of(name).lower() in low}
+    listed = wagtenib.watch_list(watched)
+    found = wagtenib.names_in_bytes(data, listed)
+    if found != expected:
+        fail(f"{watched} in the bytes {data.hex()} gave {found}, and is to give {expected}")
+    tried.update({f"place {Place.IN_BYTES.name}": len(expected), "not in the bytes": len(watched) - len(expected)})
+
+
+def searched_name(source, data):
+    """A name of random bytes, or a part of the data, with other letters or with another byte, and with a dot or a star around it."""
+    name = bytes(source.choices(SEARCHED, k=source.choice([0, 1, 2, 3, 8])))
+    if data and source.random() < 0.6:
+        start = source.randrange(len(data))
+        name = data[start : start + source.choice([1, 2, 3, 5, 9, 20, 40, 300])]
+    if source.random() < 0.5:
+        name = bytes(byte ^ 32 if byte & 64 and source.random() < 0.5 else byte for byte in name)
+    if name and source.random() < 0.2:
+        at = source.randrange(len(name))
+        name = name[:at] + bytes([source.choice(SEARCHED)]) + name[at + 1 :]
+    return source.choice([b"", b"", b".", b"*.", b"*", b".."]) + name + source.choice([b"", b"", b".", b".."])
+
+
+def search_bytes(source, tried):
+    """Compares one search of random bytes, and the memory after calls over it."""
+    data = bytes(source.choices(SEARCHED, k=source.choice([0, 1, 2, 5, 20, 60, 60])))
+    if source.random() < 0.02:
+        data = source.randbytes(source.randrange(3000))
+    watched = [searched_name(source, data) for _ in range(source.randrange(6))]
+    compare_in_bytes(data, watched, tried)
+    listed = wagtenib.watch_list(watched)
+    cut = listed[: source.randrange(len(listed))] if listed else bytes(source.randrange(1, 8))
+    is_list = any(cut == wagtenib.watch_list(watched[:n]) for n in range(len(watched) + 1))
+    room = source.choice([0, 8, 9, 30, 100])
+    for given, refused in ((listed, False), (cut, not is_list)):
+        code, wrong = call_in_bytes(data, given, room)
+        if wrong or (code == 144) != refused:
+            fail(f"a search of {data.hex()} for the list {given.hex()} with room for {room} bytes gives {code}, {wrong or 'and may not'}")
+        tried[f"code {code} of a search"] += 1
+
+
+def call_in_bytes(data, listed, room):
+    """Makes a call over memory with so much room. Returns its code, and the rule of the header that it breaks, or None."""
+    length, memory = ctypes.c_uint64(UNTOUCHED), ctypes.create_string_buffer(FILL * (room + 1), room + 1)
+    code = _library.load().wagtenib_names_in_bytes(data, len(data), listed, len(listed), memory, room, ctypes.byref(length))
+    if memory.raw[room:] != FILL:
+        return code, "and writes behind its room"
+    if code not in (0, 9, 144):
+        return code, "which is no code of it"
+    if (length.value == UNTOUCHED) != (code == 144):
+        return code, f"and writes the length {length.value}"
+    if (code == 9) != (code != 144 and length.value > room):
+        return code, f"for {length.value} bytes"
+    if memory.raw[length.value if code == 0 else 0 : room].strip(FILL):
+        return code, "and writes more than its output"
+    return code, None
+
+
 def compare(source, tried):
     """Compares one certificate and one list of watched names."""
     bare = source.random() < 0.5
@@ -191,6 +262,7 @@ def compare(source, tried):
     found = found_here(data, bare, listed)
     if found != expected:
         fail(f"{watched} in {data.hex()} (bare: {bare}) gave {found}, and is to give {expected}")
+    compare_in_bytes(data, [name.encode() for name in watched], tried)
     cut = listed[: source.randrange(len(listed))] if listed else b"\x00"
     whole = any(cut == wagtenib.watch_list(name.encode() for name in watched[:n]) for n in range(len(watched) + 1))
     if not whole and found_here(data, bare, cut) != "BAD_WATCHED":
@@ -205,25 +277,28 @@ def compare(source, tried):
 def main():
     parser = argparse.ArgumentParser()
     parser.add_argument("--calls", type=int, default=3000)
+    parser.add_argument("--searches", type=int, default=100_000)
     parser.add_argument("--seed", type=int, default=1)
     words = parser.parse_args()
     if not shutil.which("gcc") or platform.machine() not in _library.PROCESSORS:
-        print("tests/library/names.py: nothing was compared, for want of gcc for a processor of dist/")
+        print("tests/library/names.py: nothing was compared: there is no gcc for a processor of dist/")
         return
     source, tried = random.Random(words.seed), collections.Counter()
     for _ in range(words.calls):
         compare(source, tried)
+    for _ in range(words.searches):
+        search_bytes(source, tried)
     try:
         wagtenib.certificate_names(2, b"")
         fail("an entry of type 2 has names")
     except wagtenib.Error as fault:
         if fault.name != "BAD_ENTRY_TYPE":
             fail(f"an entry of type 2 is refused as {fault.name}")
-    due = FAULTS | set(NameKind) | {f"place {place.name}" for place in Place}
+    due = FAULTS | set(NameKind) | {f"place {place.name}" for place in Place} | {"not in the bytes", *(f"code {code} of a search" for code in (0, 9, 144))}
     if missing := due - set(tried):
         fail(f"{words.calls} certificates had none of {sorted(map(str, missing))}")
     print(f"tests/library/names.py: {words.calls} certificates, {sum(tried[one] for one in NameKind)} names, {sum(tried[one] for one in FAULTS)} faults and "
-          f"{sum(tried[one] for one in due if str(one).startswith('place'))} watched names as the model has them")
+          f"{sum(tried[one] for one in due if str(one).startswith('place'))} watched names as the model has them, {tried['place IN_BYTES']} of them in bytes")
 
 
 if __name__ == "__main__":

@@ -149,9 +149,9 @@ class Calls:
 
     def start(self):
         line, node, size, timestamp, root = self.lock()
-        text = b"" if self.chance.random() < 0.2 else model.next_text(line, node, max(timestamp - 1, 0), 7)
+        text = None if self.chance.random() < 0.2 else model.next_text(line, node, max(timestamp - 1, 0), 7)
         if text and self.chance.random() < 0.1:
-            text = self.damaged(text) or b"x"
+            text = self.chance.choice((b"", self.damaged(text)))
 
         def head():
             """A head near the lock's, or none."""
@@ -161,12 +161,11 @@ class Calls:
             return near(size), near(timestamp), self.chance.choice((root, root, self.chance.randbytes(32)))
 
         found = {"seen": head(), "signed": head(), "published": head(), "listed": head()}
-        found |= {one: found[one] and found[one][:2] for one in ("published", "listed")}
         found |= {flag: self.chance.random() < 0.4 for flag in ("guarded", "has_object", "creates")}
-        if not text and self.chance.random() < 0.5:
+        if text is None and self.chance.random() < 0.5:
             found |= {"seen": None, "signed": None, "published": None, "listed": None}
         due = model.beginning(text, found)
-        given = wagtenib.NodeFound(**{key: wagtenib.TreeHead(*one) if key in ("seen", "signed") and one else one for key, one in found.items()})
+        given = wagtenib.NodeFound(**{key: wagtenib.TreeHead(*one) if isinstance(one, tuple) else one for key, one in found.items()})
         self.codes["CREATES_LOCK"] += due == "CREATES_LOCK"
         self.compare(f"a start with {text!r} and {found}", {"OK": False, "CREATES_LOCK": True}.get(due, due), lambda: wagtenib.node_start(text, given))
 

@@ -23,7 +23,7 @@ import signatures
 HERE = pathlib.Path(__file__).resolve().parent
 ROOT = HERE.parent.parent
 HEADER = (ROOT / "include" / "wagtenib.h").read_text()
-# What the header says of stack, in bytes, whichever function is called.
+# The stack that the header states for each function, in bytes.
 STACK = 16 << 10
 
 # The function that is there only in a build with the processor's SHA instructions, which sha_instructions.py tries. It takes no memory.
@@ -60,7 +60,7 @@ def runs(library):
     yield [HERE / "witness.py", "--calls", "1000"]
     yield [HERE / "monitor.py", "--calls", "2000"]
     yield [HERE / "node.py", "--calls", "4000", "--histories", "6"]
-    yield [HERE / "names.py", "--calls", "600"]
+    yield [HERE / "names.py", "--calls", "600", "--searches", "2000"]
     yield [HERE / "data_tiles.py", "--calls", "1500"]
     yield [HERE / "texts.py", "--calls", "400"]
     yield [ROOT / "bindings" / "python" / "tests" / "compare.py", "--calls", "150"]
@@ -68,7 +68,7 @@ def runs(library):
 
 
 def faults(told):
-    """What is not as it must be."""
+    """The faults of a run."""
     names = set(re.findall(r"^\w+ (wagtenib_\w+)\(", HEADER, re.M)) - ONLY_WITH_THE_OPTION
     said = re.search(r"The stack has (\d+) KB left\.", HEADER)
     if not said or int(said[1]) << 10 != STACK:
@@ -92,7 +92,7 @@ def faults(told):
 
 def main():
     if not shutil.which("gcc") or platform.machine() not in ("x86_64", "aarch64"):
-        print("tests/library/refusals.py: nothing was compared, for want of gcc for a processor of dist/")
+        print("tests/library/refusals.py: nothing was compared: there is no gcc for a processor of dist/")
         return 0
     with tempfile.TemporaryDirectory(prefix="wagtenib-refusals-") as folder:
         folder = pathlib.Path(folder)

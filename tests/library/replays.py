@@ -43,7 +43,7 @@ def runs():
     yield [tiles / "histories.py", "--histories", "4", sys.executable, tiles / "calls.py", "{library}"]
     yield [HERE / "witness.py", "--calls", "2000"]
     yield [HERE / "monitor.py", "--calls", "2000"]
-    yield [HERE / "names.py", "--calls", "300"]
+    yield [HERE / "names.py", "--calls", "300", "--searches", "2000"]
     yield [HERE / "data_tiles.py", "--calls", "1000"]
     yield [HERE / "texts.py", "--calls", "200"]
     yield [HERE / "node.py", "--calls", "4000", "--histories", "4"]
@@ -120,7 +120,7 @@ def main():
     said.add_argument("--keep", type=pathlib.Path, help="the folder in which the calls and the programs are kept")
     asked = said.parse_args()
     if not shutil.which("gcc") or platform.machine() != "x86_64":
-        say("nothing was compared, for want of gcc for amd64")
+        say("nothing was compared: there is no gcc for amd64")
         return
     with contextlib.ExitStack() as stack:
         folder = asked.keep or pathlib.Path(stack.enter_context(tempfile.TemporaryDirectory(prefix="wagtenib-replays-")))

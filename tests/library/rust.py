@@ -144,7 +144,7 @@ class Proofs:
 
 
 def returned(reply):
-    """What the crate returns, by what C has in its memory: nothing but at 0."""
+    """The results of the crate, by the memory of C: none unless the code is 0."""
     code, _, written = reply.partition(" ")
     return f"{code} {written if code == '0' else '-'}"
 
@@ -180,7 +180,7 @@ def main():
         print(f"tests/library/rust.py: bindings/rust/wagtenib/src/error.rs has no error for WAGTENIB_{name}")
         wrong += 1
     if not shutil.which("cargo") or not shutil.which("gcc") or platform.machine() not in ("x86_64", "aarch64"):
-        print("tests/library/rust.py: no test was run, for want of cargo, or of gcc for a processor of dist/")
+        print("tests/library/rust.py: no test was run: there is no cargo, or no gcc for a processor of dist/")
         return int(wrong > 0)
     ran = subprocess.run(["cargo", "test", "--offline", "--quiet"], cwd=RUST, capture_output=True, text=True, timeout=900, env={**os.environ, "RUSTFLAGS": "-D warnings"})
     passed = sum(map(int, re.findall(r"^test result: ok\. (\d+) passed; 0 failed", ran.stdout, re.M)))

@@ -7,7 +7,7 @@
 2. A program that has dist/sha_instructions.c but not the option in its assembly is not linked.
 3. sha_instructions.c hashes --blocks random blocks by the option and by the proved code, in chains over random states, on this machine's processor and on arm64
    under qemu. It also hashes 1,025 leaves, which are compared with hashlib.
-4. The same with a processor that lacks the instructions, where the option must call the proved code.
+4. The same with a processor that lacks the instructions. There the option must call the proved code.
 5. The tests of the Go package with the build tag wagtenib_sha_instructions, which compare --blocks blocks with crypto/sha256, the version line of the service's
    programs, and the tests of the Rust crates with the feature sha-instructions.
 
@@ -115,7 +115,7 @@ def try_processor(folder, processor, compiler, options, emulators):
         what = "by the instructions" if has else "by the proved code, as there are no instructions,"
         say(f"{processor}{', ' + ' '.join(before) if before else ''}: {options.blocks} blocks and {LONGEST + 1} leaves {what} have the right hashes")
     if True not in found:
-        say(f"{processor}: the instructions were left out, for want of a processor or a qemu that has them")
+        say(f"{processor}: the instructions were left out: no processor or qemu here has them")
     return True in found
 
 
@@ -133,7 +133,7 @@ def try_go(options, emulator):
     """The tests of the Go package with the build tag."""
     go = f'. "{ROOT}/deps/env.sh" && command -v go >/dev/null && exec go "$@"'
     if os.environ.get("GO") == "no" or not (ROOT / "vendor" / "modules.txt").exists():
-        return say("the Go package was left out, for want of Go and its modules (make deps)")
+        return say("the Go package was left out: Go and its modules are missing (make deps fetches them)")
     surroundings = {**os.environ, "WAGTENIB_BLOCKS": str(options.blocks), "CGO_ENABLED": "1"}
     words = ["bash", "-c", go, "go", "test", "-count=1", f"-tags={TAG}"]
     ran([*words, ".", "wagtenib/internal/version"], cwd=PACKAGE, env={**surroundings, **known(has_natively())})
@@ -145,7 +145,7 @@ def try_go(options, emulator):
 def try_rust(folder, emulator):
     """The tests of the Rust crates with the feature."""
     if not shutil.which("cargo"):
-        return say("the Rust crate was left out, for want of cargo")
+        return say("the Rust crate was left out: there is no cargo")
     surroundings = {**os.environ, **known(emulator or has_natively()), "CARGO_TARGET_DIR": str(folder / "target"), "CARGO_INCREMENTAL": "0"}
     if emulator:
         surroundings["CARGO_TARGET_X86_64_UNKNOWN_LINUX_GNU_RUNNER"] = " ".join(emulator)

@@ -25,7 +25,7 @@ def main():
     said.add_argument("--seed", default="1")
     asked = said.parse_args()
     if not shutil.which("gcc") or platform.machine() not in ("x86_64", "aarch64"):
-        print("tests/library/step.py: nothing was compared, for want of gcc for a processor of dist/")
+        print("tests/library/step.py: nothing was compared: there is no gcc for a processor of dist/")
         return 0
     with tempfile.TemporaryDirectory(prefix="wagtenib-step-") as folder:
         program = [sys.executable, TILES / "calls.py", library_of("dist", folder)]

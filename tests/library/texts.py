@@ -135,7 +135,7 @@ def main():
     parser.add_argument("--seed", type=int, default=1)
     words = parser.parse_args()
     if not shutil.which("gcc") or platform.machine() not in _library.PROCESSORS:
-        print("tests/library/texts.py: nothing was compared, for want of gcc for a processor of dist/")
+        print("tests/library/texts.py: nothing was compared: there is no gcc for a processor of dist/")
         return
     examples()
     versions()

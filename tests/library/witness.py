@@ -104,7 +104,7 @@ class History:
         return list(self.proofs[key])
 
     def request(self):
-        """What a call is made with, right or wrong: the text, the old size, the proof and the time."""
+        """The arguments of a call, right or wrong: the text, the old size, the proof and the time."""
         last, chance = self.last(), self.chance
         which = chance.choice((0, 0, 0, 1))
         size = min(last.size + chance.randrange(4), SIZES) if chance.random() < 0.8 else chance.randrange(SIZES + 1)
@@ -184,7 +184,7 @@ def main():
     said.add_argument("--seed", type=int, default=1)
     asked = said.parse_args()
     if not shutil.which("gcc") or platform.machine() not in ("x86_64", "aarch64"):
-        print("tests/library/witness.py: nothing was compared, for want of gcc for a processor of dist/")
+        print("tests/library/witness.py: nothing was compared: there is no gcc for a processor of dist/")
         return 0
     history, came, wrong = History(asked.seed), collections.Counter(), []
     with tempfile.TemporaryDirectory(prefix="wagtenib-witness-") as folder:

@@ -1,13 +1,13 @@
 #!/usr/bin/env python3
-"""Random histories of nodes that carry on one log: what crates/ct_node proves, written down once more as docs/NODE.md says it, and judged by running.
+"""Runs random histories of nodes that carry on one log, with a second machine that is written from docs/NODE.md, and judges them.
 
     explore.py [--histories 60] [--seed 1]
 
-A history is a world in which commands come late, twice or never, nodes are killed, told twice, or go on from what they were before, readings are old,
-tiles are swept where a wider one was put, and heads where a later one was. Of the right machine each history has to stay sound, who starts goes on from
-nothing that is behind a head, and at its end a node that starts has to publish the newest state; each wrong machine has to be found out by the clause that
-it breaks, and so has a store in which a place is missing, or which sweeps anything. It prints a line for each machine, and ends with status 1 where one isn't as
-it should be. tests/library/node.py runs the histories over the calls of the library.
+In a history, commands come late, twice or never. Nodes are killed, get an outcome twice, or go on from an earlier command. Readings are old. A tile is
+deleted if a wider one was put, and a head if a later one was. Each history of the right machine must stay sound: a node that starts never goes on from a
+state that is older than a head, and at the end a node that starts must publish the newest state. The clause that it breaks must find each wrong machine, and
+each store in which a place is missing or which deletes any tile or head. The script prints a line for each machine, and ends with status 1 if a line is
+wrong. tests/library/node.py runs the histories over the calls of the library.
 """
 import argparse
 import random
@@ -17,14 +17,14 @@ from collections import Counter
 
 
 class State(typing.NamedTuple):
-    """What the register holds: its moment, that of the state that it was made from, and what tells it from others of that moment."""
+    """The content of the register: its moment, that of the state from which it was made, and a salt that distinguishes it from others of that moment."""
 
     moment: int
     before: int
     salt: int
 
 
-# A node, an outcome and what came are tuples: their name, and then what it is about.
+# A node, an outcome and a command that came are tuples: the name, and then the arguments.
 READING = ("Reading",)
 FIRST = State(1, 0, 0)
 STEPS = 150
@@ -46,10 +46,10 @@ def tile_of(thing):
 
 
 class Machine:
-    """The right machine: what a node does next."""
+    """The right machine: it decides the next command of a node."""
 
     def starts(self, register, listed):
-        """Whether a node goes on from a state where it starts, and the store lists this head, or none."""
+        """Whether a node that starts goes on from a state, if the store lists this head, or none."""
         return listed is None or listed.moment <= register.moment
 
     def follows(self, seen, new):
@@ -80,7 +80,7 @@ class Machine:
         return ("Stepping", node[1]) if node[0] == "Deleting" else READING
 
     def after(self, node, outcome):
-        """The command behind what came of one."""
+        """The command that follows another one after its outcome."""
         verb, told = node[0], outcome[0]
         if told == "Lost" and verb != "Reading":
             return self.lost(node)
@@ -139,7 +139,7 @@ STORES = {"a place is missing": "others", "a tile goes where none is wider": "ke
 
 
 class World:
-    """What stands, and which commands were given and came."""
+    """The objects that exist, and the commands that were given and that came."""
 
     def __init__(self, store=None):
         self.store = store
@@ -148,12 +148,13 @@ class World:
         self.bundles, self.heads, self.places = {FIRST}, {FIRST}, {FIRST}
         self.answered, self.objects = set(), set()
         self.made, self.sent, self.came = set(), [READING], set()
-        # What of objects and heads still stands.
+        # The objects and heads that still exist.
         self.standing, self.listed = set(), {FIRST}
         self.started = None
 
     def comes(self, node):
-        """A command that was given takes effect; the register takes a state only in place of the one that it holds, and objects are put once all stand."""
+        """A command that was given takes effect. The register takes a state only in place of the one that it holds. A command to put objects has taken effect
+        after all of them exist."""
         verb = node[0]
         if verb in ("Reading", "Looking", "Stepping") or verb == "Swapping" and self.held != node[1]:
             return
@@ -173,11 +174,11 @@ class World:
                 self.listed.add(node[1])
 
     def lacking(self, node):
-        """What of a command's objects doesn't stand."""
+        """The objects of a command that don't exist."""
         return [(node[1], index) for index in range(node[2]) if (node[1], index) not in self.objects]
 
     def puts(self, chance, node):
-        """One object of a command stands, whichever."""
+        """Puts one object of a command, a random one."""
         if node[0] == "Putting" and node[2]:
             self.stands({(node[1], chance.randrange(node[2]))})
 
@@ -186,7 +187,7 @@ class World:
         self.standing |= objects
 
     def sweeps(self, chance):
-        """Some tile and some head are deleted, where a wider one and a later one were put."""
+        """Deletes a tile if a wider one was put, and a head if a later one was put."""
         if self.standing:
             tile, width = tile_of(chance.choice(sorted(self.standing)))
             if self.store == "a tile goes where none is wider" or any(other == tile and wide > width for other, wide in map(tile_of, self.objects)):
@@ -196,7 +197,7 @@ class World:
             self.listed.discard(head)
 
     def begins(self, chance, machine):
-        """A node starts: it has read the register, however long ago, and lists the heads that stand behind that."""
+        """A node starts: it has read the register, any time ago, and lists the heads after that."""
         register, newest = chance.choice(self.past), max(self.listed)
         goes = machine.starts(register, newest if newest.moment >= register.moment else None)
         if goes and any(state.moment > register.moment for state in self.heads):
@@ -216,7 +217,7 @@ class World:
         return ("Stepped", new, count(new))
 
     def outcomes(self, chance, node):
-        """What may be told of a command."""
+        """The possible outcomes of a command."""
         verb, told = node[0], [("Lost",)] if chance.random() < 0.1 else []
         if node in self.came:
             told.append(("Done",))
@@ -233,14 +234,14 @@ class World:
         return told
 
     def tells(self, machine, node, outcome):
-        """Who gave a command is told of it, and goes on."""
+        """The node that gave a command gets its outcome, and goes on."""
         behind = machine.after(node, outcome)
         if behind == READING or behind not in self.sent:
             self.sent.append(behind)
         return behind
 
     def fault(self):
-        """The clause by which what stands isn't sound, or none."""
+        """The clause that doesn't hold of the objects, or none."""
         held, past = self.held, self.past
         for state in past:
             if state != held and state not in self.heads:
@@ -283,7 +284,7 @@ class World:
         return None
 
     def is_published_by(self, machine):
-        """Whether a node that starts publishes the newest state, where each command comes and nobody else is at work."""
+        """Whether a node that starts publishes the newest state, if each command comes and no other node is at work."""
         node, held = READING, self.held
         for _ in range(20):
             if held in self.heads:
@@ -297,7 +298,7 @@ class World:
 
 
 def history(chance, machine, store):
-    """A history: the clause that doesn't hold behind it, or none, and the world."""
+    """A history: the clause that doesn't hold after it, or none, and the world."""
     world = World(store)
     for _ in range(STEPS):
         # (what was given last is likelier than what was given long ago)

@@ -1,5 +1,5 @@
-"""What docs/NODE.md says of a lock's text, of the names of staged batches and of a node that starts, written once more: an oracle for tests/library/node.py. What a node
-does next is the machine of explore.py."""
+"""A model of a lock's text, of the names of staged batches and of a node that starts, written from docs/NODE.md, for tests/library/node.py. explore.py has
+the machine that decides the next command of a node."""
 import re
 
 from explore import State
@@ -43,13 +43,12 @@ def reaches_other(head, other):
 
 
 def beginning(text, found):
-    """The name of the code of a node that finds this when it starts. A head is a size, a timestamp and a root; a published and a listed one have no root."""
-    if text and not said(text):
+    """Returns the name of the code of a node that finds this when it starts. A head is a size, a timestamp and a root. The text is None if there is no lock."""
+    if text is not None and not said(text):
         return "BAD_LOCK_TEXT"
-    others = [one and (one[:2], text[39:103] == one[2].hex().encode()) for one in (found["seen"], found["signed"])]
-    seen, signed = others
-    published, listed = found["published"], found["listed"]
-    if not text:
+    others = [one and (one[:2], text is not None and text[39:103] == one[2].hex().encode()) for one in map(found.get, ("seen", "signed", "published", "listed"))]
+    seen, signed, published, listed = others
+    if text is None:
         nothing = not found["has_object"] and all(one is None for one in (seen, signed, published, listed))
         return "CREATES_LOCK" if found["creates"] and nothing else "LOCK_GONE"
     size, state = said(text)
@@ -58,10 +57,10 @@ def beginning(text, found):
         return "BEHIND_SEEN"
     if found["guarded"] and not reaches_other(head, signed):
         return "TWO_ROOTS" if head == signed[0] else "BEHIND_SIGNED"
-    if found["guarded"] and listed and not (signed and reaches(signed[0], listed)):
+    if found["guarded"] and listed and not (signed and reaches(signed[0], listed[0])):
         return "SIGNED_BEHIND_LISTED"
-    if listed and not reaches(head, listed):
+    if not reaches_other(head, listed):
         return "BEHIND_LISTED"
-    if published and not reaches(head, published):
+    if not reaches_other(head, published):
         return "BEHIND_PUBLISHED"
     return "OK"

@@ -3,9 +3,9 @@
 
     wrong_machines.py
 
-The edits of crates/ct_node/wrong-bodies change the code alone, so each is refused where the code isn't what the definition says. Here both are changed, and
-rt has to prove the functions of src/node.rt and src/starting.rt, and to refuse the lemma that is about that very transition. So too where a sweep may delete
-more. Each takes 20 seconds of a processor. It prints a line for each, and ends with status 1 where one isn't as it should be.
+The edits of crates/ct_node/wrong-bodies change only the code. So each is refused because the code differs from the definition. Here both are changed. rt must
+prove the functions of src/node.rt and src/starting.rt, and must refuse the lemma about this transition. The same holds for deletions that delete too much.
+Each machine takes 20 seconds of a processor. The script prints a line for each, and ends with status 1 if one is wrong.
 """
 import pathlib
 import re
@@ -18,7 +18,7 @@ ROOT = pathlib.Path(__file__).resolve().parent.parent.parent
 NODES, STARTS = ("specs/Nodes.antt", "src/node.rt"), ("specs/Starts.antt", "src/starting.rt")
 FUNCTIONS = {"is_past", "may_follow", "Node::next", "begin", "create", "start"}
 
-# Of each machine the lemma that has to be refused, and what stands where, and what is put there: in the definition, and in the code.
+# For each machine: the lemma that must be refused, and the edits, each with its old and new text: in the definition, and in the code.
 MACHINES = {
     "swap before the bundle": (
         "tell_stepping",
@@ -69,8 +69,8 @@ MACHINES = {
 STARTING = {
     "goes on from behind a listed head": (
         "none_ahead",
-        ("if not (is_free p f.listed) then", "if not (is_free p f.published) then"),
-        ("if !free(head, found.listed) {", "if !free(head, found.published) {"),
+        ("if not (is_free_of_other p f.listed) then", "if not (is_free_of_other p f.published) then"),
+        ("if !free_of_other(head, found.listed) {", "if !free_of_other(head, found.published) {"),
     ),
     "creates beside a guard's head": (
         "known_nothing",
@@ -90,7 +90,7 @@ SWEEPING = {
     "the newest head goes": ("later_left", ("(l.moment < m.moment) × AreLeft", "(l.moment ≤ m.moment) × AreLeft")),
 }
 
-# Of each machine the lemma, and of each file what stands there, and what is put there.
+# For each machine: the lemma, and for each file the old text and the new text.
 ALL = {
     **{name: (lemma, [(file, *change) for file, change in zip(NODES, changes)]) for name, (lemma, *changes) in MACHINES.items()},
     **{name: (lemma, [(file, *change) for file, change in zip(STARTS, changes)]) for name, (lemma, *changes) in STARTING.items()},
@@ -106,7 +106,7 @@ def changed(path, old, new):
 
 
 def checked(crate):
-    """What rt says of a crate: whether it is proved, which of the machine's functions are, and the lemmas that aren't."""
+    """The results of rt for a crate: whether it is proved, which of the machine's functions are, and the lemmas that aren't."""
     ran = subprocess.run(["rt", "check"], cwd=crate, stdout=subprocess.PIPE, stderr=subprocess.STDOUT, text=True)
     proved = FUNCTIONS & set(re.findall(r"^fn ct_node::(?:node|starting)::(\S+): proved$", ran.stdout, re.M))
     refused = re.findall(r"\w+\.antt:\d+:\d+: error: `(\w+)`", ran.stdout)

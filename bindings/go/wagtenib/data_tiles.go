@@ -4,6 +4,8 @@ package wagtenib
 
 // #cgo nocallback wagtenib_data_tile_leaves
 // #cgo noescape wagtenib_data_tile_leaves
+// #cgo nocallback wagtenib_compare_data_tile
+// #cgo noescape wagtenib_compare_data_tile
 // #include "wagtenib.h"
 import "C"
 
@@ -47,8 +49,8 @@ func (e *TileError) Error() string {
 func (e *TileError) Unwrap() error { return e.Code }
 
 // DataTileLeaves returns the entries of a data tile (C2SP static-ct-api, "Log Entries"), in order. It reads any number
-// of entries, also none. So the caller must compare their number with the one in the tile's name. It does not look at
-// the extensions of an entry, which must name the entry's index in the log.
+// of entries, also none, and does not look at the extensions of an entry. CompareDataTile compares the entries with the
+// tile's name.
 //
 // The error is nil, ErrMemory, or a *TileError of ErrTruncated, ErrBadEntryType, ErrEmptyVector or
 // ErrPartialFingerprint.
@@ -76,6 +78,21 @@ func DataTileLeaves(tile []byte) ([]TileEntry, error) {
 		text = text[length+numbersOfEntry-sizeOfLength:]
 	}
 	return entries, nil
+}
+
+// CompareDataTile compares a data tile with its name ("tile/data/.."), for a reader that has the entries of the log
+// before the index next. The error is nil if it is the data tile of this name, has as many entries as the name says and
+// the entry at next, and if each entry from that one on names exactly its own index in its extensions (leaf_index, C2SP
+// static-ct-api).
+//
+// Otherwise the error is the first of these: ErrNoDataTile, ErrTileAfter, ErrTileBefore; ErrTruncated, ErrBadEntryType,
+// ErrEmptyVector or ErrPartialFingerprint, and index is the index in the tile of the entry that is none; ErrOtherEntries,
+// and index is the number of entries; ErrWrongIndex, and index is the first wrong one in the log. Or it is ErrMemory.
+func CompareDataTile(name string, next uint64, tile []byte) (index uint64, err error) {
+	bytes, found := []byte(name), C.uint64_t(0)
+	err = result(C.wagtenib_compare_data_tile(ofBytes(bytes), C.size_t(len(bytes)), C.uint64_t(next), ofBytes(tile),
+		C.size_t(len(tile)), &found))
+	return uint64(found), err
 }
 
 // tileEntry returns the entry of a tile that has this leaf, and at these places what was submitted and the

@@ -12,6 +12,8 @@ package wagtenib
 // #cgo noescape wagtenib_monitor_entries
 // #cgo nocallback wagtenib_monitor_proof
 // #cgo noescape wagtenib_monitor_proof
+// #cgo nocallback wagtenib_monitor_entry
+// #cgo noescape wagtenib_monitor_entry
 // #include "wagtenib.h"
 import "C"
 
@@ -187,4 +189,12 @@ func MonitorProof(state []byte, proof []Hash) (found Judgement, next []byte, err
 	return judged(func(verdict *C.struct_wagtenib_monitor_verdict, out *C.uint8_t, room C.size_t, length *C.uint64_t) C.uint32_t {
 		return C.wagtenib_monitor_proof(ofBytes(state), C.size_t(len(state)), ofHashes(proof), C.size_t(len(proof)), verdict, out, room, length)
 	})
+}
+
+// MonitorEntry judges one leaf (MerkleTreeLeaf, RFC 6962, section 3.4) beside a tree head with this timestamp. It returns the timestamp of the leaf. All timestamps are
+// in milliseconds. The error is nil if the leaf is no later than the head, ErrLaterEntry if it is, which speaks against the log, or that of DecodeLeaf.
+func MonitorEntry(headTimestamp uint64, leaf []byte) (timestamp uint64, err error) {
+	var found C.uint64_t
+	err = result(C.wagtenib_monitor_entry(C.uint64_t(headTimestamp), ofBytes(leaf), C.size_t(len(leaf)), &found))
+	return uint64(found), err
 }

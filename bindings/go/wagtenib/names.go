@@ -6,6 +6,8 @@ package wagtenib
 // #cgo noescape wagtenib_certificate_names
 // #cgo nocallback wagtenib_watched_names
 // #cgo noescape wagtenib_watched_names
+// #cgo nocallback wagtenib_names_in_bytes
+// #cgo noescape wagtenib_names_in_bytes
 // #include "wagtenib.h"
 import "C"
 
@@ -63,6 +65,7 @@ type Place uint8
 const (
 	InAltName    Place = 1 // it is a name of subjectAltName
 	InCommonName Place = 2 // it is a common name, and no name of subjectAltName
+	InBytes      Place = 3 // its text is somewhere in the bytes: the place of NamesInBytes
 )
 
 // Found holds a watched name that is found in a certificate.
@@ -71,7 +74,7 @@ type Found struct {
 	Place    Place
 }
 
-// WatchList is a list of watched names, encoded once for many calls of WatchedNames.
+// WatchList is a list of watched names, encoded once for many calls of WatchedNames and NamesInBytes.
 type WatchList struct{ bytes []byte }
 
 // NewWatchList returns the list of these names. A name that begins with a dot is watched with all names below it.
@@ -97,9 +100,30 @@ func WatchedNames(entryType EntryType, certificate []byte, watched WatchList) ([
 	if err := certificateResult(code, field); err != nil {
 		return nil, err
 	}
+	return foundNames(text), nil
+}
+
+// NamesInBytes returns which of the watched names are somewhere in the bytes, in the order of the list, each with the place InBytes. The bytes may be any bytes:
+// for example a certificate that cannot be read, or that has the name in a field that WatchedNames does not read. A watched name is in the bytes if its text is,
+// without regard to the case of ASCII letters. Its text is the name without one dot at its end, and without the "*." or the dot in front. An empty text is in all
+// bytes.
+//
+// The error is nil or ErrMemory.
+func NamesInBytes(data []byte, watched WatchList) ([]Found, error) {
+	text, code := output(0, func(out *C.uint8_t, room C.size_t, length *C.uint64_t) C.uint32_t {
+		return C.wagtenib_names_in_bytes(ofBytes(data), C.size_t(len(data)), ofBytes(watched.bytes), C.size_t(len(watched.bytes)), out, room, length)
+	})
+	if err := result(code); err != nil {
+		return nil, err
+	}
+	return foundNames(text), nil
+}
+
+// foundNames reads the watched names that the library found.
+func foundNames(text []byte) []Found {
 	found := make([]Found, 0, len(text)/(sizeOfLength+1))
 	for ; len(text) > 0; text = text[sizeOfLength+1:] {
 		found = append(found, Found{binary.BigEndian.Uint64(text), Place(text[sizeOfLength])})
 	}
-	return found, nil
+	return found
 }

@@ -111,6 +111,29 @@ func TestFindsPlaces(t *testing.T) {
 	}
 }
 
+// TestFindsNamesInBytes: a watched name is found in the bytes of a certificate that cannot be read, in an organization and across fields, whatever the case of its
+// letters. The dot or the "*." in front and the dot at the end are no part of what is looked for. The dot at the end goes first, so "*." is the text "*".
+func TestFindsNamesInBytes(t *testing.T) {
+	certificate := named(t, newAuthority(t)).Raw
+	cut := certificate[:len(certificate)-1]
+	watched := []string{"absent.example", "An ORGANIZATION", ".mixed.example.com", "*.wild.example.org", "www.example.org.", "", "*.", "an organizatiom", "\x82\x0fwww"}
+	want := []wagtenib.Found{{Position: 1, Place: wagtenib.InBytes}, {Position: 2, Place: wagtenib.InBytes}, {Position: 3, Place: wagtenib.InBytes},
+		{Position: 4, Place: wagtenib.InBytes}, {Position: 5, Place: wagtenib.InBytes}, {Position: 6, Place: wagtenib.InBytes}, {Position: 8, Place: wagtenib.InBytes}}
+	if _, err := wagtenib.CertificateNames(wagtenib.X509Entry, cut); !errors.Is(err, wagtenib.ErrDERTruncated) {
+		t.Fatal(err)
+	}
+	found, err := wagtenib.NamesInBytes(cut, wagtenib.NewWatchList(watched))
+	if err != nil || !slices.Equal(found, want) {
+		t.Errorf("%v %v", found, err)
+	}
+	if found, err := wagtenib.NamesInBytes(nil, wagtenib.NewWatchList([]string{"a", "."})); err != nil || len(found) != 1 || found[0].Position != 1 {
+		t.Errorf("no bytes: %v %v", found, err)
+	}
+	if found, err := wagtenib.NamesInBytes(cut, wagtenib.NewWatchList(nil)); err != nil || len(found) != 0 {
+		t.Errorf("no names: %v %v", found, err)
+	}
+}
+
 // TestReadsWideCommonNames: a common name in a BMPString keeps its bytes.
 func TestReadsWideCommonNames(t *testing.T) {
 	wide := asn1.RawValue{Tag: asn1.TagBMPString, Bytes: []byte{0, 'w', 0, '.', 0x65, 0xe5}}

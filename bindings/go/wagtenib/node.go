@@ -96,15 +96,13 @@ func NodeNext(command NodeCommand, outcome NodeOutcome) (NodeCommand, error) {
 	return NodeCommand{ofState(&next.seen), ofState(&next.next), uint64(next.objects), NodeCommandKind(next.command)}, nil
 }
 
-// HeadSize is the size of a head and its timestamp, in milliseconds since 1970.
-type HeadSize struct{ TreeSize, Timestamp uint64 }
-
-// NodeFound is what a node finds of a log when it starts, beside the lock's text. What is nil is not there.
+// NodeFound is what a node finds of a log when it starts, beside the lock's text. What is nil is not there. The root of a head is compared only if its size and its
+// timestamp are those of the lock's head.
 type NodeFound struct {
 	Seen      *TreeHead // the newest head that this machine saw
 	Signed    *TreeHead // the last head that was signed
-	Published *HeadSize // the newest head that is published
-	Listed    *HeadSize // the newest head that the store lists
+	Published *TreeHead // the newest head that is published
+	Listed    *TreeHead // the newest head that the store lists
 	Guarded   bool      // a guard decides what is signed
 	HasObject bool      // the store has an object of a log
 	Creates   bool      // the operator asks for a new log
@@ -124,10 +122,10 @@ func (f NodeFound) inC() (found C.struct_wagtenib_node_found) {
 		found.signed_head = f.Signed.inC()
 	}
 	if flag(f.Published != nil, 4) {
-		found.published_size, found.published_timestamp = C.uint64_t(f.Published.TreeSize), C.uint64_t(f.Published.Timestamp)
+		found.published = f.Published.inC()
 	}
 	if flag(f.Listed != nil, 8) {
-		found.listed_size, found.listed_timestamp = C.uint64_t(f.Listed.TreeSize), C.uint64_t(f.Listed.Timestamp)
+		found.listed = f.Listed.inC()
 	}
 	flag(f.Guarded, 16)
 	flag(f.HasObject, 32)
@@ -135,13 +133,21 @@ func (f NodeFound) inC() (found C.struct_wagtenib_node_found) {
 	return found
 }
 
-// NodeStart decides what a node does when it starts. It must read the lock first and the rest after it. No bytes mean that there is no lock.
+// lockExists is the flag of struct wagtenib_node_found that says that there is a lock.
+const lockExists = 128
+
+// NodeStart decides what a node does when it starts. It must read the lock first and the rest after it. A nil slice means that there is no
+// lock. A lock that exists and has no bytes is refused (ErrLockText).
 //
-// The error is nil exactly if the node continues from the lock's text, since no head that it found is later than the lock's. If it is ErrCreatesLock, the node creates the
+// The error is nil exactly if the node continues from the lock's text, since no head that it found is later than the lock's, or has its
+// size and timestamp and another root. If it is ErrCreatesLock, the node creates the
 // lock of a new log. Otherwise the node must do neither, and the error is the first reason: ErrLockText, ErrLockGone if there is no lock, or ErrBehindSeen, ErrTwoRoots or
 // ErrBehindSigned, ErrSignedBehindListed, ErrBehindListed, ErrBehindPublished.
 func NodeStart(lock []byte, found NodeFound) error {
 	all := found.inC()
+	if lock != nil {
+		all.flags += lockExists
+	}
 	return result(C.wagtenib_node_start(ofBytes(lock), C.size_t(len(lock)), &all))
 }
 

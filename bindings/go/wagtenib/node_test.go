@@ -115,9 +115,8 @@ func TestNodeStart(t *testing.T) {
 	head := func(size, timestamp uint64, root wagtenib.Hash) *wagtenib.TreeHead {
 		return &wagtenib.TreeHead{TreeSize: size, Timestamp: timestamp, Root: root}
 	}
-	at := func(size, timestamp uint64) *wagtenib.HeadSize {
-		return &wagtenib.HeadSize{TreeSize: size, Timestamp: timestamp}
-	}
+	at := func(size, timestamp uint64) *wagtenib.TreeHead { return head(size, timestamp, root) }
+	other := wagtenib.Hash{2}
 	type found = wagtenib.NodeFound
 	for _, of := range []struct {
 		lock  []byte
@@ -134,12 +133,17 @@ func TestNodeStart(t *testing.T) {
 		{lock, found{Signed: head(3, 10, root)}, nil},
 		{lock, found{Listed: at(1, 1), Guarded: true}, wagtenib.ErrSignedBehindListed},
 		{lock, found{Listed: at(3, 10)}, wagtenib.ErrBehindListed},
+		{lock, found{Listed: head(3, 9, other)}, wagtenib.ErrBehindListed},
+		{lock, found{Listed: head(2, 8, other)}, nil},
+		{lock, found{Published: head(3, 9, other)}, wagtenib.ErrBehindPublished},
+		{lock, found{Published: head(2, 8, other)}, nil},
 		{lock, found{Published: at(4, 9)}, wagtenib.ErrBehindPublished},
 		{nil, found{Creates: true}, wagtenib.ErrCreatesLock},
 		{nil, found{}, wagtenib.ErrLockGone},
 		{nil, found{Creates: true, HasObject: true}, wagtenib.ErrLockGone},
 		{nil, found{Creates: true, Seen: head(0, 1, root)}, wagtenib.ErrLockGone},
 		{[]byte("a text"), found{Creates: true}, wagtenib.ErrLockText},
+		{[]byte{}, found{Creates: true}, wagtenib.ErrLockText},
 	} {
 		if err := wagtenib.NodeStart(of.lock, of.found); !errors.Is(err, of.want) {
 			t.Errorf("%+v: %v, and expected was %v", of.found, err, of.want)

@@ -93,6 +93,12 @@ const (
 	ErrOtherLengths        Code = C.WAGTENIB_OTHER_LENGTHS         // the lengths of the entries do not add up to that of their bytes
 	ErrWatched             Code = C.WAGTENIB_BAD_WATCHED           // the bytes are no list of watched names
 	ErrNotUTF8             Code = C.WAGTENIB_NOT_UTF8              // the text is not UTF-8
+	ErrLaterEntry          Code = C.WAGTENIB_LATER_ENTRY           // the entry is later than the head
+	ErrNoDataTile          Code = C.WAGTENIB_NO_DATA_TILE          // the name is not that of a data tile
+	ErrTileAfter           Code = C.WAGTENIB_TILE_AFTER            // the data tile begins after the next entry
+	ErrTileBefore          Code = C.WAGTENIB_TILE_BEFORE           // the data tile ends before the next entry
+	ErrOtherEntries        Code = C.WAGTENIB_OTHER_ENTRIES         // the data tile has another number of entries than its name says
+	ErrWrongIndex          Code = C.WAGTENIB_WRONG_INDEX           // an entry of the data tile does not name its own index in its extensions
 )
 
 // The faults of a node's commands and of a lock's text, and what a node that starts must not continue from.
@@ -107,8 +113,8 @@ const (
 	ErrBehindSigned       Code = C.WAGTENIB_BEHIND_SIGNED        // a later head than the lock's was signed
 	ErrTwoRoots           Code = C.WAGTENIB_TWO_ROOTS            // another head with the lock's size and timestamp was signed
 	ErrSignedBehindListed Code = C.WAGTENIB_SIGNED_BEHIND_LISTED // the store lists a later head than the last one that was signed
-	ErrBehindListed       Code = C.WAGTENIB_BEHIND_LISTED        // the store lists a later head than the lock's
-	ErrBehindPublished    Code = C.WAGTENIB_BEHIND_PUBLISHED     // a later head than the lock's is published
+	ErrBehindListed       Code = C.WAGTENIB_BEHIND_LISTED        // the store lists a later head than the lock's, or another one with its size and timestamp
+	ErrBehindPublished    Code = C.WAGTENIB_BEHIND_PUBLISHED     // a later head than the lock's is published, or another one with its size and timestamp
 )
 
 var texts = map[Code]string{
@@ -172,6 +178,12 @@ var texts = map[Code]string{
 	ErrOtherLengths:        "the lengths of the entries do not add up to that of their bytes",
 	ErrWatched:             "the bytes are no list of watched names",
 	ErrNotUTF8:             "the text is not UTF-8",
+	ErrLaterEntry:          "the entry is later than the head",
+	ErrNoDataTile:          "the name is not that of a data tile",
+	ErrTileAfter:           "the data tile begins after the next entry",
+	ErrTileBefore:          "the data tile ends before the next entry",
+	ErrOtherEntries:        "the data tile has another number of entries than its name says",
+	ErrWrongIndex:          "an entry of the data tile does not name its own index in its extensions",
 	ErrCommand:             "no command of a node has this number",
 	ErrOutcome:             "no outcome of a command has this number",
 	ErrLockText:            "the bytes are no lock's text",
@@ -182,8 +194,8 @@ var texts = map[Code]string{
 	ErrBehindSigned:        "a later head than the lock's was signed",
 	ErrTwoRoots:            "another head with the lock's size and timestamp was signed",
 	ErrSignedBehindListed:  "the store lists a later head than the last one that was signed",
-	ErrBehindListed:        "the store lists a later head than the lock's",
-	ErrBehindPublished:     "a later head than the lock's is published",
+	ErrBehindListed:        "the store lists a later head than the lock's, or another one with its size and timestamp",
+	ErrBehindPublished:     "a later head than the lock's is published, or another one with its size and timestamp",
 }
 
 // Error returns the fault in words.

@@ -22,9 +22,10 @@
  *   wagtenib_step_*                          3 bytes and 1 KB
  *   wagtenib_*_tiles                         2 bytes and 1 KB
  *   wagtenib_data_tile_leaves                10 bytes and 1 KB
+ *   wagtenib_compare_data_tile               8 bytes and 1 KB
  *   wagtenib_precertificate_entry, wagtenib_promised_leaf, wagtenib_check_promise   3 bytes and 1 KB
  *   wagtenib_witness_*                       1 byte and 1 KB
- *   wagtenib_certificate_names, wagtenib_watched_names   8 bytes and 1 KB
+ *   wagtenib_certificate_names, wagtenib_watched_names, wagtenib_names_in_bytes   8 bytes and 1 KB
  *   wagtenib_checkpoint_text, wagtenib_read_checkpoint, wagtenib_cosignature_message   2 bytes and 1 KB
  *   wagtenib_monitor_*                       8 bytes and 16 KB
  */
@@ -119,13 +120,19 @@ enum {
     WAGTENIB_BEHIND_SIGNED = 119,    /* a head was signed that is later than the lock's */
     WAGTENIB_TWO_ROOTS = 120,        /* another head with the lock's size and timestamp was signed */
     WAGTENIB_SIGNED_BEHIND_LISTED = 121, /* the store lists a head that is later than the last one that was signed */
-    WAGTENIB_BEHIND_LISTED = 122,    /* the store lists a head that is later than the lock's */
-    WAGTENIB_BEHIND_PUBLISHED = 123, /* a head is published that is later than the lock's */
+    WAGTENIB_BEHIND_LISTED = 122,    /* the store lists a head that is later than the lock's, or another one with its size and timestamp */
+    WAGTENIB_BEHIND_PUBLISHED = 123, /* a head is published that is later than the lock's, or another one with its size and timestamp */
     WAGTENIB_PARTIAL_FINGERPRINT = 139, /* the length of an entry's fingerprints is no multiple of 32 */
     WAGTENIB_OTHER_COUNT = 140,      /* there are not as many subtrees as a tree of the head's size has */
     WAGTENIB_OTHER_LENGTHS = 141,    /* the lengths of the entries do not add up to leaves_length */
+    WAGTENIB_LATER_ENTRY = 142,      /* the entry is later than the head */
     WAGTENIB_BAD_WATCHED = 144,      /* the bytes are no list of watched names */
-    WAGTENIB_NOT_UTF8 = 145          /* the text is not UTF-8 */
+    WAGTENIB_NOT_UTF8 = 145,         /* the text is not UTF-8 */
+    WAGTENIB_NO_DATA_TILE = 146,     /* the name is not that of a data tile */
+    WAGTENIB_TILE_AFTER = 147,       /* the data tile begins after the next entry */
+    WAGTENIB_TILE_BEFORE = 148,      /* the data tile ends before the next entry */
+    WAGTENIB_OTHER_ENTRIES = 149,    /* the data tile has another number of entries than its name says */
+    WAGTENIB_WRONG_INDEX = 150       /* an entry of the data tile does not name its own index in its extensions */
 };
 
 /* The verdicts of a monitor (struct wagtenib_monitor_verdict). No call returns them. */
@@ -359,20 +366,19 @@ uint32_t wagtenib_node_next(const struct wagtenib_node_command *command, const s
 
 /* What a node finds of a log when it starts, beside the lock's text. `flags` is the sum of: 1 if the machine saw a head before (`seen`), 2 if a head was
  * signed (`signed_head`), 4 if a head is published, 8 if the store lists a head (the newest one), 16 if a guard decides what is signed, 32 if the store
- * has any object of a log, 64 if the operator asks for a new log. */
+ * has any object of a log, 64 if the operator asks for a new log, 128 if the lock exists. The root of a head is compared only if its size and its timestamp are
+ * those of the lock's head. */
 struct wagtenib_node_found {
     struct wagtenib_head seen;
     struct wagtenib_head signed_head;
-    uint64_t published_size;
-    uint64_t published_timestamp;
-    uint64_t listed_size;
-    uint64_t listed_timestamp;
+    struct wagtenib_head published;
+    struct wagtenib_head listed;
     uint32_t flags;
 };
 
 /* What a node does when it starts. It must read the lock first and the rest after it; lock_length is 0 if there is no lock. 0: it continues from the lock's text, since
- * no head that it found is later. 116: it creates the lock. 117 to 123: it must do neither, for the first reason in this order: 117 if there is no lock; otherwise
- * 118, 120 or 119, 121, 122, 123. 114: the bytes are no lock's text. */
+ * no head that it found is later, and none with the size and timestamp of the lock's head has another root. 116: it creates the lock. 117 to 123: it must do neither, for the first reason in this order: 117 if there is no lock; otherwise
+ * 118, 120 or 119, 121, 122, 123. 114: the bytes are no lock's text, or there are none although the lock exists. */
 uint32_t wagtenib_node_start(const uint8_t *lock, size_t lock_length, const struct wagtenib_node_found *found);
 
 /* Whether a node may go on from `head`, if `accepted` is the newest head that it accepted. `proof` is the consistency proof between them; if their sizes are
@@ -435,10 +441,16 @@ uint32_t wagtenib_proof_of_tiles(uint64_t first, uint64_t second, const uint8_t 
  *   TileEntry entries[];                       40 bytes for each entry and all bytes of the tile are always room enough */
 
 /* Reads a data tile. 0 exactly if the bytes are leaves of data tiles (TileLeaf), one after the other, to their end; their entries are in `entries`. The number of
- * entries is not limited, and may be 0: the caller must compare it with the one in the tile's name. The extensions of an entry, which must name its index in the
- * log, are not looked at. 9: *length says how much room the entries need, and nothing else is written. 17, 20, 21 or 139: an entry is none, *faulty_index gets its
+ * entries is not limited, and may be 0, and the extensions of an entry are not looked at: wagtenib_compare_data_tile compares them with the tile's name. 9: *length says how much room the entries need, and nothing else is written. 17, 20, 21 or 139: an entry is none, *faulty_index gets its
  * index in the tile, and the code says its first fault. 8: malloc refused. Nothing else is written with any code except 0. */
 uint32_t wagtenib_data_tile_leaves(const uint8_t *tile, size_t tile_length, uint8_t *entries, size_t room, uint64_t *length, uint64_t *faulty_index);
+
+/* Compares a data tile with its name ("tile/data/.."), for a reader that has the entries of the log before the index `next`. 0: it is the data tile of this name,
+ * as many entries as the name says, it has the entry at `next`, and each entry from that one on names exactly its own index in its extensions (leaf_index). 150: the
+ * same, but *index gets the first index in the log, from `next` on, whose entry does not. 149: it has another number of entries, which *index gets. 17, 20, 21 or
+ * 139: an entry is none, *index gets its index in the tile, and the code says its first fault. 146: the name is not that of a data tile. 147: the tile begins after
+ * `next`. 148: it ends before it; the bytes are not read with 146 to 148. 8: malloc refused. Nothing is written but *index, with the codes that say so. */
+uint32_t wagtenib_compare_data_tile(const uint8_t *name, size_t name_length, uint64_t next, const uint8_t *tile, size_t tile_length, uint64_t *index);
 
 /* Certificates (RFC 6962 sections 3.1 to 3.4), in DER. Output of a length that only the call knows goes into `entry` or `leaf`, which has room for that many
  * bytes, and *length gets its length. 9: it has no room, *length says how much it needs, and nothing else is written. 80 to 90: a certificate gives nothing.
@@ -481,7 +493,7 @@ uint32_t wagtenib_check_promise(const uint8_t *certificate, size_t certificate_l
  *
  *   struct {
  *       uint64 position;                       of the watched name in the list, counted from 0
- *       enum { alt_name(1), common_name(2), (255) } where;   common_name: no name of subjectAltName is the watched one
+ *       enum { alt_name(1), common_name(2), in_bytes(3), (255) } where;   common_name: no name of subjectAltName is the watched one
  *   } Found;
  *
  *   Found found[];
@@ -497,6 +509,12 @@ uint32_t wagtenib_certificate_names(uint32_t entry_type, const uint8_t *certific
  * their host, and an IP address by its text (RFC 5952). 0, 8, 9, or the first reason in this order: 20, 144, 80 to 86. */
 uint32_t wagtenib_watched_names(uint32_t entry_type, const uint8_t *certificate, size_t certificate_length, const uint8_t *watched, size_t watched_length,
                                 uint8_t *found, size_t room, uint64_t *length, uint32_t *field);
+
+/* Which of the watched names are somewhere in the bytes, in the order of the list, each with the place in_bytes. The bytes may be any bytes: for example a
+ * certificate that cannot be read, or that has the name in a field that no call above reads. A watched name is in the bytes if its text is, without regard to the
+ * case of ASCII letters. Its text is the name without one dot at its end, and without the `*.` or the dot in front. An empty text is in all bytes. 0, 8, 9 or 144. */
+uint32_t wagtenib_names_in_bytes(const uint8_t *bytes, size_t bytes_length, const uint8_t *watched, size_t watched_length, uint8_t *found, size_t room,
+                                 uint64_t *length);
 
 /* Texts and bytes that are signed, and the numbers by which keys are named. A reader needs them to check the signatures of logs and witnesses. No function here
  * checks a signature, and none decides what may be signed. */
@@ -579,7 +597,8 @@ uint32_t wagtenib_witness_state(const uint8_t *seen, size_t seen_length, const u
  *   3. after each call that returns 0, keep the *length bytes of `out` as the state, and only then act on the verdict.
  *
  * A call that never came back counts for nothing: the old state still stands. Every head that gets the verdict 128 is that of a beginning of one list of leaves,
- * those that the log handed out and that are accepted after the last call. The verdicts 132, 133, 134, 135 and 138 speak against the log.
+ * those that the log handed out and that are accepted after the last call. The verdicts 132, 133, 134, 135 and 138 speak against the log, and so
+ * does an entry that is later than its head (later_timestamp is not 0, or wagtenib_monitor_entry returns 142).
  *
  * A state is read only if its parts fit one another and its hash is right. Everything else is refused as 36. A state that a call wrote is never refused. An empty
  * state is never taken for the first one. The calls take memory (malloc), and give it back before they return. 4,259 bytes have room for every state. */
@@ -620,7 +639,7 @@ uint32_t wagtenib_monitor_start(const struct wagtenib_head *head, const uint8_t 
 /* The verdict on a tree head. It is compared with the accepted head and the waiting one: 130 to 134. If it is larger and later than both, it waits from then on
  * (unless another head waits already), and is compared with the leaves that were read: 128, 129 or 135. 0: the verdict is in `verdict`, and `out` begins with the
  * next state, which has *length bytes; the rest of `out` is unchanged. 9: that state has *length bytes, and `out` has no room for them; nothing else is written.
- * 36: `state` is no state, or none that answers of a log can have led to. 8: malloc refused. Nothing is written with 36 and 8. */
+ * 36: `state` is no state. 8: malloc refused. Nothing is written with 36 and 8. */
 uint32_t wagtenib_monitor_head(const uint8_t *state, size_t state_length, const struct wagtenib_head *head, struct wagtenib_monitor_verdict *verdict, uint8_t *out,
                                size_t room, uint64_t *length);
 
@@ -636,6 +655,11 @@ uint32_t wagtenib_monitor_entries(const uint8_t *state, size_t state_length, uin
  * Otherwise as wagtenib_monitor_head. */
 uint32_t wagtenib_monitor_proof(const uint8_t *state, size_t state_length, const uint8_t *path, size_t path_length, struct wagtenib_monitor_verdict *verdict,
                                 uint8_t *out, size_t room, uint64_t *length);
+
+/* The verdict on one leaf (MerkleTreeLeaf, RFC 6962 section 3.4) beside a tree head with this timestamp, both in milliseconds. A report has only the first entries that
+ * are later or no leaf. 0: it is no later than the head. 142: it is later, which speaks against the log (section 3.5). *timestamp gets the leaf's in both cases. 17 to
+ * 22: the bytes are no leaf, as of wagtenib_decode_leaf, and nothing is written. */
+uint32_t wagtenib_monitor_entry(uint64_t head_timestamp, const uint8_t *leaf, size_t leaf_length, uint64_t *timestamp);
 
 #ifdef __cplusplus
 }

@@ -4,12 +4,12 @@ Each function says in include/wagtenib.h what it does. It returns a value, or ra
 """
 
 from ._certificates import Promise, check_promise, precertificate_entry, promised_leaf
-from ._data_tiles import TileEntry, data_tile_leaves
+from ._data_tiles import TileEntry, compare_data_tile, data_tile_leaves
 from ._errors import CertificateError, Code, Error, Field, TileError
 from ._guard import TreeHead, guard_first_head, guard_head, guard_receipt, guard_receipts, guard_state
 from ._library import Unavailable
-from ._monitor import EntryReport, Judgement, Verdict, monitor_begin, monitor_entries, monitor_head, monitor_proof, monitor_start
-from ._names import Name, NameKind, Place, certificate_names, watch_list, watched_names
+from ._monitor import EntryReport, Judgement, Verdict, monitor_begin, monitor_entries, monitor_entry, monitor_head, monitor_proof, monitor_start
+from ._names import Name, NameKind, Place, certificate_names, names_in_bytes, watch_list, watched_names
 from ._node import NodeCommand, NodeDoes, NodeFound, NodeOutcome, NodeState, NodeTold, batch_name, batch_state, lock_state, lock_text, node_accept, node_next, node_start
 from ._step import Object, Published, Receipt, Step, Submission, step, step_begin, step_claim, step_needs, step_resume
 from ._texts import Checkpoint, checkpoint_text, cosignature_message, log_id, note_key_id, read_checkpoint, tree_head_signature, version
@@ -54,6 +54,7 @@ __all__ = [
     "check_promise",
     "checkpoint_text",
     "cosignature_message",
+    "compare_data_tile",
     "data_tile_leaves",
     "decode_leaf",
     "guard_first_head",
@@ -68,8 +69,10 @@ __all__ = [
     "monitor_begin",
     "monitor_entries",
     "monitor_head",
+    "monitor_entry",
     "monitor_proof",
     "monitor_start",
+    "names_in_bytes",
     "node_accept",
     "node_next",
     "node_start",

@@ -79,8 +79,14 @@ class Code(enum.IntEnum):
     PARTIAL_FINGERPRINT = 139
     OTHER_COUNT = 140
     OTHER_LENGTHS = 141
+    LATER_ENTRY = 142
     BAD_WATCHED = 144
     NOT_UTF8 = 145
+    NO_DATA_TILE = 146
+    TILE_AFTER = 147
+    TILE_BEFORE = 148
+    OTHER_ENTRIES = 149
+    WRONG_INDEX = 150
 
 
 class Field(enum.IntEnum):

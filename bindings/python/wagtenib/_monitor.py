@@ -131,3 +131,15 @@ def monitor_entries(state: bytes, start: int, leaves: Sequence[bytes]) -> tuple[
 def monitor_proof(state: bytes, proof: Sequence[bytes]) -> Judgement:
     """Judges a consistency proof from the accepted head to the waiting one. The state stays the same."""
     return _judged(lambda *out: load().wagtenib_monitor_proof(*text(state), *hashes(proof), *out))
+
+
+def monitor_entry(head_timestamp: int, leaf: bytes) -> tuple[int, bool]:
+    """Judges one leaf (MerkleTreeLeaf) beside a tree head with this timestamp. Returns the timestamp of the leaf, and whether it is later, which speaks against the log.
+
+    All timestamps are in milliseconds. The error is that of decode_leaf.
+    """
+    timestamp = ctypes.c_uint64()
+    code = load().wagtenib_monitor_entry(number(head_timestamp), *text(leaf), ctypes.byref(timestamp))
+    if code != Code.LATER_ENTRY:
+        check(code)
+    return timestamp.value, code == Code.LATER_ENTRY

@@ -32,6 +32,7 @@ class Place(enum.IntEnum):
 
     ALT_NAME = 1
     COMMON_NAME = 2
+    IN_BYTES = 3
 
 
 @dataclasses.dataclass(frozen=True)
@@ -56,7 +57,7 @@ def certificate_names(entry_type: int, certificate: bytes) -> list[Name]:
 
 
 def watch_list(names: Iterable[bytes]) -> bytes:
-    """Returns the list of these watched names, as watched_names takes it."""
+    """Returns the list of these watched names, as watched_names and names_in_bytes take it."""
     return b"".join(struct.pack(">Q", len(name)) + name for name in names)
 
 
@@ -65,4 +66,15 @@ def watched_names(entry_type: int, certificate: bytes, watched: bytes) -> dict[i
     field = ctypes.c_uint32()
     code, found = output(0, 1, lambda *out: load().wagtenib_watched_names(entry_type, *text(certificate), *text(watched), *out, ctypes.byref(field)))
     check(code, field.value)
+    return {position: Place(place) for position, place in struct.iter_unpack(">QB", found)}
+
+
+def names_in_bytes(data: bytes, watched: bytes) -> dict[int, Place]:
+    """Returns which of the watched names are somewhere in the bytes, by their positions in the list, each with the place IN_BYTES.
+
+    The bytes may be any bytes: for example a certificate that cannot be read. A watched name is in the bytes if its text is, without regard to the case of ASCII
+    letters. Its text is the name without one dot at its end, and without the `*.` or the dot in front.
+    """
+    code, found = output(0, 1, lambda *out: load().wagtenib_names_in_bytes(*text(data), *text(watched), *out))
+    check(code)
     return {position: Place(place) for position, place in struct.iter_unpack(">QB", found)}

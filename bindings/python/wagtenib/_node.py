@@ -31,7 +31,8 @@ class _Found(ctypes.Structure):
     _fields_ = [
         ("seen", _Head),
         ("signed_head", _Head),
-        *((name, ctypes.c_uint64) for name in ("published_size", "published_timestamp", "listed_size", "listed_timestamp")),
+        ("published", _Head),
+        ("listed", _Head),
         ("flags", ctypes.c_uint32),
     ]
 
@@ -100,21 +101,23 @@ class NodeOutcome:
 
 @dataclasses.dataclass(frozen=True)
 class NodeFound:
-    """What a node finds of a log when it starts, beside the lock's text. `published` and `listed` are a size and a timestamp."""
+    """What a node finds of a log when it starts, beside the lock's text.
+
+    The root of a head is compared only if its size and its timestamp are those of the lock's head.
+    """
 
     seen: TreeHead | None = None
     signed: TreeHead | None = None
-    published: tuple[int, int] | None = None
-    listed: tuple[int, int] | None = None
+    published: TreeHead | None = None
+    listed: TreeHead | None = None
     guarded: bool = False
     has_object: bool = False
     creates: bool = False
 
-    def in_c(self) -> _Found:
-        known = (self.seen, self.signed, self.published, self.listed, self.guarded or None, self.has_object or None, self.creates or None)
+    def in_c(self, has_lock: bool) -> _Found:
+        known = (self.seen, self.signed, self.published, self.listed, self.guarded or None, self.has_object or None, self.creates or None, has_lock or None)
         none, flags = TreeHead(0, 0, bytes(32)), sum(1 << bit for bit, one in enumerate(known) if one is not None)
-        sizes = [number(one) for pair in (self.published, self.listed) for one in pair or (0, 0)]
-        return _Found((self.seen or none).in_c(), (self.signed or none).in_c(), *sizes, flags)
+        return _Found(*((head or none).in_c() for head in (self.seen, self.signed, self.published, self.listed)), flags)
 
 
 def node_next(command: NodeCommand, outcome: NodeOutcome) -> NodeCommand:
@@ -126,9 +129,9 @@ def node_next(command: NodeCommand, outcome: NodeOutcome) -> NodeCommand:
     return NodeCommand(NodeDoes(found.command), _state(found.seen), _state(found.next), found.objects)
 
 
-def node_start(lock: bytes, found: NodeFound) -> bool:
-    """Returns whether a node that starts must create the lock. If it returns False, the node continues from the lock's text. No bytes mean that there is no lock."""
-    code = load().wagtenib_node_start(*text(lock), ctypes.byref(found.in_c()))
+def node_start(lock: bytes | None, found: NodeFound) -> bool:
+    """Returns whether a node that starts must create the lock. If it returns False, the node continues from the lock's text. None means that there is no lock."""
+    code = load().wagtenib_node_start(*text(lock or b""), ctypes.byref(found.in_c(lock is not None)))
     if code not in (0, Code.CREATES_LOCK):
         raise Error(code)
     return code != 0

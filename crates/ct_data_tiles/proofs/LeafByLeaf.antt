@@ -24,17 +24,6 @@ use Rattle.ct_data_tiles.specs.Entries.{IsDataTileName, HasEntry, IsFirstWrong}
 abbrev pub LeadsTo : ℕ → ℕ → List TileLeaf → Type 0
 LeadsTo first i leaves = (o : Option ℕ) → IsFirstWrong (first + i) (tiled_all (drop i leaves)) o → IsFirstWrong first (tiled_all leaves) o
 
-each_leaf : (leaves : List TileLeaf) → AllByRecursion IsTileLeaf (tiled_all leaves) → All (λ l. IsTileLeaf (tiled l)) leaves
-each_leaf [] h = All-nil (λ l. IsTileLeaf (tiled l))
-each_leaf (l ∷ leaves) h = All-cons (λ l. IsTileLeaf (tiled l)) l leaves h.0 (each_leaf leaves h.1)
-
--- a property of each leaf holds for each one of a part of them
-pub each_behind : (n place : ℕ) (part leaves : List TileLeaf) → part ≡ leaves → AllByRecursion IsTileLeaf (tiled_all leaves)
-    → All (λ l. IsTileLeaf (tiled l)) (take n (drop place part))
-each_behind n place part leaves e h =
-    subst (λ (xs : List TileLeaf). All (λ l. IsTileLeaf (tiled l)) (take n (drop place xs))) (sym e)
-    (All-take (λ l. IsTileLeaf (tiled l)) n (drop place leaves) (All-drop (λ l. IsTileLeaf (tiled l)) place leaves (each_leaf leaves h)))
-
 whole_rest : (place : ℕ) (leaves : List TileLeaf) → take (length leaves - place) (drop place leaves) ≡ drop place leaves
 whole_rest place leaves =
     let size : length (drop place leaves) ≡ length leaves - place = length-drop place leaves in

@@ -1,6 +1,6 @@
 -- The relation of a data tile to the entries of a log that a client has read so far.
-use Rattle.std.specs.Prelude.{◌≡◌, ◌<◌, ◌≤◌, ◌+◌, ℕ, List, map, length}
-use Rattle.ct_data_tiles.specs.TileLeaf.{Tiled, leaf_of}
+use Rattle.std.specs.Prelude.{◌≡◌, ◌<◌, ◌≤◌, ◌+◌, ℕ, List, length}
+use Rattle.ct_data_tiles.specs.TileLeaf.{Tiled}
 use Rattle.ct_data_tiles.specs.DataTile.{IsDataTile, DataTileFaulty}
 use Rattle.ct_data_tiles.specs.declared.fault.DataTileFault.{DataTileFault}
 use Rattle.ct_data_tiles.specs.declared.fault.DataTileFault.TheVariants as tile_fault
@@ -10,13 +10,6 @@ use Rattle.ct_data_tiles.specs.declared.answer.DataTileAnswer.{DataTileAnswer}
 use Rattle.ct_data_tiles.specs.declared.answer.DataTileAnswer.TheVariants.{Gap, Known, Damaged, Entries}
 use Rattle.ct_data_tiles.specs.declared.answer.Damage.{Damage}
 use Rattle.ct_data_tiles.specs.declared.answer.Damage.TheVariants.{NoDataTile, AtLeaf, OtherCount}
-use Rattle.ct_data_tiles.specs.declared.answer.NextEntries.{NextEntries}
-
--- The entries of the tile with these leaves from the index `next` on: the bytes of the tree's leaves (MerkleTreeLeaf, RFC 6962, section
--- 3.4) in order (`leaves`), and the first index whose leaf does not have exactly this index in its extensions (`wrong_index`).
-pub record AreNext (next : ℕ) (tile : Tile) (L : List Tiled) (e : NextEntries) : Type 0 where
-  pub leaves : map (λ l. l.items) e.leaves.items ≡ map leaf_of (entries_from next tile L)
-  pub wrong_index : IsFirstWrong next (entries_from next tile L) e.wrong_index
 
 -- the damage that corresponds to the first fault of a tile's bytes: the same fault at the same index in the tile. Out of memory is no
 -- damage.
@@ -37,12 +30,14 @@ IsDamaged next name b (OtherCount count) =
 -- - `Gap`: it begins after that index.
 -- - `Known`: it ends before that index.
 -- - `Damaged`: it is not the data tile of that name.
--- - `Entries`: it is that data tile and has the entry at `next`, and the result has the entries from that one on.
+-- - `Entries`: it is that data tile and has the entry at `next`. The value is the first index, from that entry on, whose entry does not have
+--   exactly this index in its extensions, or none.
 --
 -- Only the name is needed for the first two.
 abbrev pub IsTileAnswer : ℕ → List ℕ → List ℕ → DataTileAnswer → Type 0
 IsTileAnswer next name b Gap = (tile : Tile) × IsDataTileName name tile × (next < first_entry tile)
 IsTileAnswer next name b Known = (tile : Tile) × IsDataTileName name tile × (first_entry tile + tile.width ≤ next)
 IsTileAnswer next name b (Damaged damage) = IsDamaged next name b damage
-IsTileAnswer next name b (Entries e) =
-    (tile : Tile) × (L : List Tiled) × IsDataTileName name tile × HasEntry tile next × IsDataTile L b × (length L ≡ tile.width) × AreNext next tile L e
+IsTileAnswer next name b (Entries wrong) =
+    (tile : Tile) × (L : List Tiled) × IsDataTileName name tile × HasEntry tile next × IsDataTile L b × (length L ≡ tile.width)
+    × IsFirstWrong next (entries_from next tile L) wrong

@@ -13,18 +13,8 @@ pub enum Damage {
     OtherCount(usize),
 }
 
-/// The entries of a tile, from the requested one on.
-#[derive(Drop)]
-pub struct NextEntries {
-    /// The bytes of the tree's leaves (MerkleTreeLeaf, RFC 6962 section 3.4), in order. The leaf hash is the hash of these bytes.
-    pub leaves: Vec<Vec<u8>>,
-    /// The first index in the log, of these entries, whose entry does not have exactly this index in its extensions (leaf_index, C2SP
-    /// static-ct-api). A log that publishes such an entry violates the specification.
-    pub wrong_index: Option<u64>,
-}
-
 /// The relation of a data tile to the entries of a log that a client has read up to an index.
-#[derive(Drop)]
+#[derive(Clone, Copy, Debug)]
 pub enum DataTileAnswer {
     /// It begins after the next entry, so the entries between are missing.
     Gap,
@@ -32,6 +22,7 @@ pub enum DataTileAnswer {
     Known,
     /// It is not the data tile of that name.
     Damaged(Damage),
-    /// It contains the next entry.
-    Entries(NextEntries),
+    /// It contains the next entry. The value is the first index in the log, from that entry on, whose entry does not have exactly this index
+    /// in its extensions (leaf_index, C2SP static-ct-api), or none. A log that publishes such an entry violates the specification.
+    Entries(Option<u64>),
 }

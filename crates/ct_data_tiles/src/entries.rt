@@ -1,20 +1,18 @@
-//! Reads entries from a data tile.
+//! Compares a data tile with its name.
 
-ghost use Rattle.std.specs.Prelude.{◌≡◌, ◌≤◌, ◌<◌, ◌+◌, ◌^◌, ℕ, List, All, length, map, IfOk, MatchOption};
+ghost use Rattle.std.specs.Prelude.{◌≡◌, ◌≤◌, ◌<◌, ◌+◌, ◌^◌, ℕ, List, length, IfOk, MatchOption};
 ghost use Rattle.std.specs.Bool.{MatchBool};
-ghost use Rattle.ct_data_tiles.specs.TileLeaf.{Tiled, IsTileLeaf, leaf_of};
 ghost use Rattle.ct_data_tiles.specs.Lent.{tiled};
 ghost use Rattle.ct_data_tiles.specs.DataTile.{tiled_all};
 ghost use Rattle.ct_data_tiles.specs.Entries.{IsDataTileName, first_entry, HasEntry, NamesOwnIndex, IsFirstWrong};
 ghost use Rattle.ct_data_tiles.specs.TileAnswers.{IsDamageOf, IsTileAnswer};
 ghost use Rattle.ct_tile_names.specs.declared.tile.Tile.{Tile as TileOf};
 
-use crate::answer::{Damage, DataTileAnswer, NextEntries};
+use crate::answer::{Damage, DataTileAnswer};
 use crate::data_tile::tile_leaves;
 use crate::fault::DataTileFault;
 use crate::leaf::TileLeaf;
-use crate::wanting::{Unnamed, Unread, Unwritten};
-use crate::writing::leaf_input;
+use crate::wanting::{Unnamed, Unread};
 use ct_codec::index_extension;
 use ct_tile_names::{Content, Tile};
 use std::alloc::{AllocError, Global};
@@ -41,34 +39,6 @@ fn first_wrong(first: u64, leaves: &[TileLeaf<'_>]) -> Option<u64>
         }
     }
     None
-}
-
-// Returns the bytes of the tree's leaf that a tile leaf holds.
-fn input_of(alloc: Global, leaf: &TileLeaf<'_>) -> Result<Vec<u8>, AllocError>
-    requires { IsTileLeaf (tiled leaf.now) }
-    ensures { IfOk result (λ v. v.items ≡ leaf_of (tiled leaf.now)) }
-{
-    match leaf_input(alloc, leaf) {
-        Ok(bytes) => Ok(bytes),
-        Err(refusal) => {
-            // A leaf that was read is refused for no other reason.
-            let _ = Unwritten::from(refusal).refusal?;
-            Ok(Vec::new(alloc))
-        }
-    }
-}
-
-// Returns these bytes for each leaf, in order.
-fn inputs_of(alloc: Global, leaves: &[TileLeaf<'_>]) -> Result<Vec<Vec<u8>>, AllocError>
-    requires { All (λ l. IsTileLeaf (tiled l)) leaves.now }
-    ensures { IfOk result (λ v. map (λ l. l.items) v.items ≡ map leaf_of (tiled_all leaves.now)) }
-{
-    let mut inputs = Vec::with_capacity(alloc, leaves.len())?;
-    for leaf in leaves {
-        let input = input_of(alloc, leaf)?;
-        inputs.push(input)?;
-    }
-    Ok(inputs)
 }
 
 // Returns the data tile that has this name, if there is one.
@@ -102,7 +72,7 @@ fn damage_of(fault: DataTileFault) -> Result<Damage, AllocError>
 }
 
 // Returns the result for the bytes of a tile that has the next entry at the index `place`.
-fn entries_of_bytes(
+fn compare_bytes(
     alloc: Global,
     next: u64,
     place: usize,
@@ -125,23 +95,19 @@ fn entries_of_bytes(
     if count != tile.width as usize {
         return Ok(DataTileAnswer::Damaged(Damage::OtherCount(count)));
     }
-    let wanted = &leaves[place..];
-    let inputs = inputs_of(alloc, wanted)?;
-    Ok(DataTileAnswer::Entries(NextEntries {
-        leaves: inputs,
-        wrong_index: first_wrong(next, wanted),
-    }))
+    let wrong = first_wrong(next, &leaves[place..]);
+    Ok(DataTileAnswer::Entries(wrong))
 }
 
-/// Relates a data tile of this name and these bytes (C2SP static-ct-api, "Log Entries") to a client that has read the entries of a log
+/// Compares the bytes of a data tile with its name (C2SP static-ct-api, "Log Entries"), for a client that has read the entries of a log
 /// before the index `next`. The name suffices to find that a tile begins after that index or ends before it. In these cases the bytes are
 /// not read.
 ///
-/// Allocates the entries that are returned, and a list of the tile's leaves, which borrow their parts from its bytes.
+/// Allocates a list of the tile's leaves, which borrow their parts from its bytes.
 ///
 /// # Errors
 /// Memory could not be allocated.
-pub fn entries_of_tile(
+pub fn compare_data_tile(
     alloc: Global,
     next: u64,
     name: &[u8],
@@ -158,5 +124,5 @@ pub fn entries_of_tile(
     if place >= u64::from(tile.width) {
         return Ok(DataTileAnswer::Known);
     }
-    entries_of_bytes(alloc, next, place as usize, tile, bytes)
+    compare_bytes(alloc, next, place as usize, tile, bytes)
 }

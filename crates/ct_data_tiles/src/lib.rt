@@ -11,10 +11,9 @@
 //! - [`add_entries`], for the writer, adds texts to a partial tile, and returns a [`DataRow`]: the tiles that become full, and the partial
 //!   one after them. No tree hash covers all of an entry's text, since only that text contains the precertificate and the fingerprints. So
 //!   the contract holds for any bytes, and for every list of texts whose partial tile was given.
-//! - [`entries_of_tile`], for the reader, takes the name and the bytes of a data tile, and the index of the next entry that is requested.
-//!   It returns the bytes of the tree's leaves from that entry on, or it reports that the tile begins after it, ends before it, or is
-//!   damaged, and where. It also reports the first leaf whose extensions are not exactly its own index. No tile of hashes is needed, since
-//!   a client that hashes the leaves computes the root itself. The parts of an entry that no tree hash covers are read but not returned.
+//! - [`compare_data_tile`], for the reader, takes the name and the bytes of a data tile, and the index of the next entry that is requested.
+//!   It reports that the tile begins after it, ends before it, or is damaged, and where. It also reports the first entry from that one on
+//!   whose extensions are not exactly its own index. [`tile_leaves`] returns the entries.
 //!
 //! The extensions are any bytes. [`leaf_index`] reads the index if they contain exactly an index. So a leaf with an extension of a later
 //! version is read and hashed like any other.
@@ -32,9 +31,9 @@ mod row;
 mod wanting;
 mod writing;
 
-pub use answer::{Damage, DataTileAnswer, NextEntries};
+pub use answer::{Damage, DataTileAnswer};
 pub use data_tile::{count_tile_leaves, tile_leaves};
-pub use entries::entries_of_tile;
+pub use entries::compare_data_tile;
 pub use fault::{DataTileFault, TileFault};
 pub use index::leaf_index;
 pub use leaf::{TileLeaf, tile_leaf_of};

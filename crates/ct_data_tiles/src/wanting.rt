@@ -1,14 +1,12 @@
 //! The meaning of the errors of other crates in this one. Each is a value, unless memory could not be allocated.
 
-ghost use Rattle.std.specs.Prelude.{◌≡◌, ◌≢◌, None, MatchResult};
-ghost use Rattle.ct_codec.specs.declared.refusal.Refusal.TheVariants.{Memory};
+ghost use Rattle.std.specs.Prelude.{◌≡◌, None, MatchResult};
 ghost use Rattle.ct_data_tiles.specs.declared.fault.DataTileFault.TheVariants.{Memory as TileMemory};
 ghost use Rattle.ct_tile_names.specs.declared.tile.NameFault.TheVariants.{NoSuchTile, Memory as NameMemory};
 ghost use Rattle.ct_data_tiles.specs.TileAnswers.{IsDamageOf};
 
 use crate::answer::Damage;
 use crate::fault::DataTileFault;
-use ct_codec::Refusal;
 use ct_tile_names::{NameFault, Tile};
 use std::alloc::AllocError;
 
@@ -45,23 +43,5 @@ impl From<DataTileFault> for Unread {
             DataTileFault::Memory => Err(AllocError),
         };
         Unread { damage }
-    }
-}
-
-// The reason why a leaf is not written, unless memory could not be allocated.
-#[derive(Drop)]
-pub(crate) struct Unwritten {
-    pub(crate) refusal: Result<Refusal, AllocError>,
-}
-
-impl From<Refusal> for Unwritten {
-    ghost from_gives = { λ refusal unwritten. MatchResult unwritten.refusal (λ _. refusal ≢ Memory) (λ _. refusal ≡ Memory) };
-
-    fn from(refusal: Refusal) -> Unwritten {
-        let refusal = match refusal {
-            Refusal::Memory => Err(AllocError),
-            refusal => Ok(refusal),
-        };
-        Unwritten { refusal }
     }
 }

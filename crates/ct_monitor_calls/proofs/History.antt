@@ -1,5 +1,5 @@
 -- Heads that calls accepted.
-use Rattle.std.proofs.Common.{◌≡◌, ◌∙◌, ◌+◌, ◌-◌, ◌<◌, ◌≤◌, ℕ, List, [], ◌∷◌, ◌++◌, length, take, All, Option, Some, None, sym, refl, ap, subst, arith, inl, inr, length-append, append_assoc, append-nil}
+use Rattle.std.proofs.Common.{◌≡◌, ◌∙◌, ◌-◌, ◌<◌, ◌≤◌, ℕ, List, [], ◌∷◌, ◌++◌, length, take, All, Option, Some, None, sym, refl, ap, subst, arith, inl, inr, length-append, append_assoc, append-nil}
 use Rattle.std.specs.Prelude.{⊤}
 use Rattle.std.proofs.lemmas.List.{length-take}
 use Rattle.std.proofs.lemmas.List.Elements.{All-nil, All-cons}
@@ -153,7 +153,7 @@ proof_not_accepted H (Some first) (Some second) p v s e = subst (λ (x : Verdict
 proof_not_accepted H (Some first) None p v s e = subst is_accepted (sym (sym s ∙ e)) tt
 proof_not_accepted H None second p v s e = subst is_accepted (sym (sym s ∙ e)) tt
 
-answer_follows : (H : List ℕ → List ℕ) (w : Watched) (handed : Handed) (v : Verdict) (next : Watched) → IsHandedOut H w → HandedSays H w handed v next
+pub answer_follows : (H : List ℕ → List ℕ) (w : Watched) (handed : Handed) (v : Verdict) (next : Watched) → IsHandedOut H w → HandedSays H w handed v next
     → Follows H w v next
 answer_follows H w (a_head head) v next i s = subst (Follows H w v) (sym s.1) (head_follows H w head v i s.0)
 answer_follows H w (entries_from start E) v next i s = subst (Follows H w v) (sym s.1) (entries_follow H w w.waiting start E v i.0 i.1 i s.0)
@@ -196,12 +196,7 @@ pub record Shown (H : List ℕ → List ℕ) (before : List ℕ) (calls : List M
 -- a state that a log led to is never refused
 never_refused : (H : List ℕ → List ℕ) → ((x : List ℕ) → length (H x) ≡ 32) → (bytes : List ℕ) (w : Watched) → IsHandedOut H w → KeepsInBytes H bytes w
     → IsNeverRefused H bytes
-never_refused H h bytes w i s handed (inl none) = none s.0 s.1
-never_refused H h bytes w i s handed (inr (r, t, v, is, says, unfit)) =
-    let same : s.0 ≡ r = one_state H h s.0 r bytes s.1 is in
-    let step = says.0 w (subst (λ (x : WatcherState). Keeps H x w) same s.2) in
-    let follows = answer_follows H w handed v step.0 i step.2 in
-    unfit (states_fit H t step.0 follows.watched step.1)
+never_refused H h bytes w i s none = none s.0 s.1
 
 -- an accepted head is the head of a prefix of any longer list
 of_first : (H : List ℕ → List ℕ) (w : Watched) (c : MonitorCall) (k : Called H w c) (D Y : List (List ℕ)) → Follows H w c.verdict k.next → D ≡ k.next.sure ++ Y

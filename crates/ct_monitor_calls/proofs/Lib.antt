@@ -3,4 +3,5 @@ pub mod NoTexts
 pub mod Fits
 pub mod History
 pub mod Answered
+pub mod Unchanged
 pub mod Starts

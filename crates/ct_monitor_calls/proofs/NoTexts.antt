@@ -1,5 +1,5 @@
 -- Bytes that are not a text of a part.
-use Rattle.std.proofs.Common.{◌≡◌, ◌∙◌, ◌+◌, ◌-◌, ◌/◌, ◌%◌, ◌<◌, ◌≤◌, ◌^◌, ◌==◌, Bool, true, false, ℕ, List, [], ◌∷◌, ◌++◌, length, take, drop, Option, Some, None, sym, refl, ap, subst, arith, length-append, append_assoc, append-nil, true≢false}
+use Rattle.std.proofs.Common.{◌≡◌, ◌∙◌, ◌-◌, ◌/◌, ◌%◌, ◌<◌, ◌≤◌, ◌^◌, ◌==◌, Bool, true, false, ℕ, List, [], ◌∷◌, ◌++◌, length, take, drop, Option, Some, None, sym, refl, ap, subst, arith, length-append, append_assoc, append-nil, true≢false}
 use Rattle.std.specs.Bool.{Decides, MatchBool}
 use Rattle.std.specs.Simd.{first_chunks}
 use Rattle.std.proofs.lemmas.Bool.{eq-eqb}

@@ -11,7 +11,7 @@ use Rattle.ct_monitor.specs.declared.verdict.Verdict.{Verdict}
 use Rattle.ct_monitor.specs.declared.verdict.Verdict.TheVariants.{Accepted, Gap}
 use Rattle.ct_monitor_calls.specs.Entries.{IsFirstLater, IsFirstFaulty, moment_awaited, size_awaited, leaves_to_read}
 use Rattle.ct_monitor_calls.specs.Fitting.{FitsTogether}
-use Rattle.ct_monitor_calls.specs.StateText.{IsInBytes, IsMonitorState, IsNoState, monitor_state_text}
+use Rattle.ct_monitor_calls.specs.StateText.{IsInBytes, IsMonitorState, monitor_state_text}
 use Rattle.ct_monitor_calls.specs.declared.answer.Answer.{Answer}
 use Rattle.ct_monitor_calls.specs.declared.answer.EntriesAnswer.{EntriesAnswer}
 use Rattle.ct_monitor_calls.specs.declared.entries.LaterEntry.{LaterEntry}
@@ -53,11 +53,9 @@ pub record HasState (H : List ℕ → List ℕ) (t : WatcherState) (a : Answer) 
   pub read : a.leaves_read ≡ t.all.0
   pub wanted : a.leaves_wanted ≡ size_awaited t.waiting t.all.0
 
--- The bytes are refused: they are not a state; or they are a state that gives a verdict on this answer after which its parts do not fit. No
--- log can have led to such a state (`IsNeverRefused` in specs/Laws.antt).
-abbrev pub RefusesState : (List ℕ → List ℕ) → List ℕ → Handed → Type 0
-RefusesState H bytes handed =
-    IsNoState H bytes ⊎ ((s t : WatcherState) × (v : Verdict) × IsMonitorState H s bytes × StateJudges H s handed v t × (FitsTogether H t → ⊥))
+-- The answer has the state t, or that of these bytes if the parts of t do not fit.
+abbrev pub LeavesState : (List ℕ → List ℕ) → List ℕ → WatcherState → Answer → Type 0
+LeavesState H bytes t a = HasState H t a ⊎ ((FitsTogether H t → ⊥) × ((s : WatcherState) × IsMonitorState H s bytes × HasState H s a))
 
 -- the answer to a call over the state that these bytes encode
 abbrev pub IsMonitorAnswer : (List ℕ → List ℕ) → List ℕ → Handed → Answer → Type 0

@@ -10,7 +10,7 @@ use Rattle.ct_monitor.specs.Verdicts.{IsGrownLater}
 use Rattle.ct_monitor.specs.WatcherState.{WatcherState, Keeps}
 use Rattle.ct_monitor.specs.declared.verdict.Verdict.{Verdict}
 use Rattle.ct_monitor.specs.declared.verdict.Verdict.TheVariants.{Accepted}
-use Rattle.ct_monitor_calls.specs.Calls.{Handed, HandedSays, StateJudges, RefusesState, IsMonitorBegin}
+use Rattle.ct_monitor_calls.specs.Calls.{Handed, HandedSays, StateJudges, IsMonitorBegin}
 use Rattle.ct_monitor_calls.specs.Fitting.{FitsTogether}
 use Rattle.ct_monitor_calls.specs.StateText.{IsInBytes, IsMonitorState, IsNoState, monitor_state_text}
 
@@ -50,9 +50,9 @@ IsOfFirstLeaves H D c = c.verdict ≡ Accepted
 abbrev pub KeepsInBytes : (List ℕ → List ℕ) → List ℕ → Watched → Type 0
 KeepsInBytes H bytes w = (t : WatcherState) × IsMonitorState H t bytes × Keeps H t w
 
--- no call over these bytes refuses them, whatever answer it is given
+-- no call over these bytes refuses them, whatever answer it is given: a call refuses only bytes that are no state
 abbrev pub IsNeverRefused : (List ℕ → List ℕ) → List ℕ → Type 0
-IsNeverRefused H bytes = (handed : Handed) → RefusesState H bytes handed → ⊥
+IsNeverRefused H bytes = IsNoState H bytes → ⊥
 
 -- The log has handed out w after these calls, if it had handed out `first` before. The last state keeps w, and is never refused. Each head
 -- that a call accepted is the head of a prefix of the accepted leaves of w.

@@ -1,9 +1,11 @@
 //! The calls.
 
 ghost use Rattle.std.specs.Prelude.{◌≡◌, ◌⊎◌, ◌+◌, ◌-◌, ◌<◌, ◌≤◌, ◌^◌, IfOk, MatchOption, None, map};
+ghost use Rattle.ct_monitor.specs.WatcherState.{WatcherState};
+ghost use Rattle.ct_monitor_calls.specs.StateText.{IsMonitorState, IsNoState};
 ghost use Rattle.sha2.specs.Sha256.{sha256};
 ghost use Rattle.ct_monitor.specs.declared.verdict.Verdict.TheVariants.{Gap};
-ghost use Rattle.ct_monitor_calls.specs.Calls.{FindsEntries, HasState, IsMonitorAnswer, IsEntriesAnswer, IsMonitorBegin, RefusesState, StateJudges, a_head, a_proof, entries_from};
+ghost use Rattle.ct_monitor_calls.specs.Calls.{FindsEntries, HasState, IsMonitorAnswer, IsEntriesAnswer, IsMonitorBegin, LeavesState, StateJudges, a_head, a_proof, entries_from};
 ghost use Rattle.ct_monitor_calls.specs.Entries.{moment_awaited, size_awaited};
 ghost use Rattle.ct_monitor_calls.specs.Fitting.{FitsTogether};
 
@@ -111,24 +113,49 @@ fn judge_proof(watcher: &Watcher<Sha256Hash>, path: &[[u8; 32]]) -> Verdict
     watcher.take_proof(path)
 }
 
-/// The verdict on a tree head, over a state. `None` means that the bytes are not a state, or that they are a state to which no log can have
-/// led.
+// The answer that has this verdict and leaves the state as it is.
+fn unchanged(alloc: Global, state: &[u8], verdict: Verdict) -> Result<Option<Answer>, AllocError>
+    ensures { IfOk result (λ o. MatchOption o (IsNoState sha256 state.now)
+        (λ a. (a.verdict ≡ verdict) × ((s : WatcherState) × IsMonitorState sha256 s state.now × HasState sha256 s a))) }
+{
+    let Some(watcher) = read_state(alloc, state)? else {
+        return Ok(None);
+    };
+    let answer = answer_of(alloc, verdict, &watcher)?;
+    Ok(Some(answer))
+}
+
+// The answer that has this verdict and the state of the watcher, or that leaves the state as it is if the watcher's parts do not fit. No answer of a log leads there:
+// then a state keeps nothing that a log handed out, and each verdict is right.
+fn answer_after(
+    alloc: Global,
+    state: &[u8],
+    verdict: Verdict,
+    watcher: &Watcher<Sha256Hash>,
+) -> Result<Option<Answer>, AllocError>
+    ensures { IfOk result (λ o. MatchOption o (IsNoState sha256 state.now)
+        (λ a. (a.verdict ≡ verdict) × LeavesState sha256 state.now watcher.now a)) }
+{
+    if !fits_together(watcher) {
+        return unchanged(alloc, state, verdict);
+    }
+    let answer = answer_of(alloc, verdict, watcher)?;
+    Ok(Some(answer))
+}
+
+/// The verdict on a tree head, over a state. `None` means that the bytes are not a state.
 ///
 /// # Errors
 ///
 /// Returns an error if memory runs out.
 pub fn take_head(alloc: Global, state: &[u8], head: Head) -> Result<Option<Answer>, AllocError>
-    ensures { IfOk result (λ o. MatchOption o (RefusesState sha256 state.now (a_head head)) (λ a. IsMonitorAnswer sha256 state.now (a_head head) a)) }
+    ensures { IfOk result (λ o. MatchOption o (IsNoState sha256 state.now) (λ a. IsMonitorAnswer sha256 state.now (a_head head) a)) }
 {
     let Some(mut watcher) = read_state(alloc, state)? else {
         return Ok(None);
     };
     let verdict = judge_head(&mut watcher, head)?;
-    if !fits_together(&watcher) {
-        return Ok(None);
-    }
-    let answer = answer_of(alloc, verdict, &watcher)?;
-    Ok(Some(answer))
+    answer_after(alloc, state, verdict, &watcher)
 }
 
 // How many of the available leaves are read: as far as the waiting head goes.
@@ -177,8 +204,7 @@ fn reported(verdict: Verdict, report: Report) -> Report
     }
 }
 
-/// The verdict on the leaves from the index `start` on, over a state. `None` means that the bytes are not a state, or that they are a state
-/// to which no log can have led.
+/// The verdict on the leaves from the index `start` on, over a state. `None` means that the bytes are not a state.
 ///
 /// # Errors
 ///
@@ -189,7 +215,7 @@ pub fn take_entries(
     start: u64,
     leaves: &[Vec<u8>],
 ) -> Result<Option<EntriesAnswer>, AllocError>
-    ensures { IfOk result (λ o. MatchOption o (RefusesState sha256 state.now (entries_from start (map (λ l. l.items) leaves.now)))
+    ensures { IfOk result (λ o. MatchOption o (IsNoState sha256 state.now)
         (λ a. IsEntriesAnswer sha256 state.now start (map (λ l. l.items) leaves.now) a)) }
 {
     let Some(mut watcher) = read_state(alloc, state)? else {
@@ -197,11 +223,10 @@ pub fn take_entries(
     };
     let report = report_of(&watcher, leaves);
     let verdict = judge_entries(&mut watcher, start, leaves)?;
-    if !fits_together(&watcher) {
-        return Ok(None);
-    }
     let told = reported(verdict, report);
-    let answer = answer_of(alloc, verdict, &watcher)?;
+    let Some(answer) = answer_after(alloc, state, verdict, &watcher)? else {
+        return Ok(None);
+    };
     Ok(Some(EntriesAnswer {
         answer,
         later: told.later,
@@ -209,8 +234,7 @@ pub fn take_entries(
     }))
 }
 
-/// The verdict on a consistency proof from the accepted head to the waiting one, over a state. `None` means that the bytes are not a state,
-/// or that they are a state to which no log can have led.
+/// The verdict on a consistency proof from the accepted head to the waiting one, over a state. `None` means that the bytes are not a state.
 ///
 /// # Errors
 ///
@@ -220,15 +244,12 @@ pub fn take_proof(
     state: &[u8],
     path: &[[u8; 32]],
 ) -> Result<Option<Answer>, AllocError>
-    ensures { IfOk result (λ o. MatchOption o (RefusesState sha256 state.now (a_proof path.now)) (λ a. IsMonitorAnswer sha256 state.now (a_proof path.now) a)) }
+    ensures { IfOk result (λ o. MatchOption o (IsNoState sha256 state.now) (λ a. IsMonitorAnswer sha256 state.now (a_proof path.now) a)) }
 {
     let Some(watcher) = read_state(alloc, state)? else {
         return Ok(None);
     };
     let verdict = judge_proof(&watcher, path);
-    if !fits_together(&watcher) {
-        return Ok(None);
-    }
     let answer = answer_of(alloc, verdict, &watcher)?;
     Ok(Some(answer))
 }

@@ -8,6 +8,8 @@ use Rattle.ct_names.specs.Reading.{Fails}
 use Rattle.ct_names.specs.Watched.{found_in, IsFound}
 use Rattle.ct_names.specs.declared.watched.FoundIn.{FoundIn}
 use Rattle.ct_names.specs.declared.watched.FoundIn.TheVariants.{AltName, CommonName}
+use Rattle.ct_names.specs.declared.fault.NamesFault.{NamesFault}
+use Rattle.ct_names.specs.declared.fault.NamesFault.TheVariants as faults
 use Rattle.ct_name_calls.specs.NameBytes.{names_read, AreNames}
 use Rattle.ct_name_calls.specs.declared.fault.WatchedFault.{WatchedFault}
 use Rattle.ct_name_calls.specs.declared.fault.WatchedFault.TheVariants as fault
@@ -47,11 +49,20 @@ abbrev pub IsFoundText : EntryKind → List ℕ → List ℕ → List ℕ → Ty
 IsFoundText e b watched text =
     (ws : List (List ℕ)) × (ns : List Named) × AreWatched ws watched × AreNames e ns b × (text ≡ found_from 0 ns ws)
 
--- The reason why no watched name is looked for. BadList: the bytes are not a list of watched names. Unread: the names of b cannot be read,
--- or memory could not be allocated.
+-- the bytes are a list of watched names
+abbrev pub IsWatchedList : List ℕ → Type 0
+IsWatchedList bytes = (names : List (List ℕ)) × AreWatched names bytes
+
+-- the list was read before this fault of the certificate was found; if memory could not be allocated, it may not have been read
+abbrev pub ListIsReadBefore : NamesFault → List ℕ → Type 0
+ListIsReadBefore (faults.At u) watched = IsWatchedList watched
+ListIsReadBefore faults.Memory watched = Unit {0}
+
+-- The reason why no watched name is looked for. BadList: the bytes are not a list of watched names. Unread: they are one, and the names of b
+-- cannot be read; or memory could not be allocated. So if both are bad, the list's fault is told.
 abbrev pub FailsWatched : WatchedFault → EntryKind → List ℕ → List ℕ → Type 0
 FailsWatched fault.BadList e b watched = (ws : List (List ℕ)) → AreWatched ws watched → ⊥
-FailsWatched (fault.Unread f) e b watched = Fails f (names_read e b)
+FailsWatched (fault.Unread f) e b watched = Fails f (names_read e b) × ListIsReadBefore f watched
 
 -- A watched name, without one dot at its end, is found by the labels of a certificate's names.
 abbrev pub FindingIsByLabels : Type 0

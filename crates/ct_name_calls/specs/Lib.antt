@@ -1,2 +1,3 @@
 pub mod NameBytes
 pub mod FoundBytes
+pub mod InBytes

@@ -6,6 +6,7 @@
 //! - [`covers`] reports whether a name is a watched one, is below it, or is a wildcard that matches it, by labels.
 //! - [`find_watched`] reports in which of a certificate's names a watched one is found, either by itself (`www.example.org`) or with
 //!   everything below it (`.example.org`).
+//! - [`is_name_in`] reports whether a watched name is in the bytes of a certificate, also if these cannot be read.
 //! - [`laws`] shows that no bytes have two readings, that each proper prefix of a certificate is refused, and that the names stay the same
 //!   if an extension other than subjectAltName is cut out, as in an entry of a precertificate.
 //!
@@ -14,6 +15,7 @@
 
 mod fault;
 mod hosts;
+mod in_bytes;
 pub mod laws;
 mod matching;
 mod name;
@@ -21,6 +23,7 @@ mod reading;
 mod watched;
 
 pub use fault::NamesFault;
+pub use in_bytes::{is_name_in, lowered};
 pub use matching::{covers, narrowed, without_dot};
 pub use name::{Name, NameKind};
 pub use reading::{names_of_certificate, names_of_tbs};

@@ -61,7 +61,7 @@ fn is_at_or_below(name: &[u8], watched: &[u8]) -> bool
 
 // The bytes after the `*.` with which the name begins.
 #[tactic(auto, unfolding(crate::specs::Covers::star_parent))]
-fn parent_of_star(name: &[u8]) -> Option<&[u8]>
+pub(crate) fn parent_of_star(name: &[u8]) -> Option<&[u8]>
     ensures some { IfSome result (λ r. star_parent name.now ≡ Some r.now) }
     ensures none { IfNone result (star_parent name.now ≡ None) }
 {

@@ -8,7 +8,7 @@ use Rattle.ct_node.specs.declared.starting.Other.{Other}
 use Rattle.ct_node.specs.declared.starting.Found.{Found}
 use Rattle.ct_node.specs.declared.starting.Beginning.{Beginning}
 use Rattle.ct_node.specs.declared.starting.Beginning.TheVariants.{Goes, Creates, Gone, BehindSeen, BehindGuard, TwoRoots, GuardBehind, BehindListed, BehindPublished}
-use Rattle.ct_node.specs.Starts.{is_at, comes_behind, reaches, reaches_other, is_free, is_free_of_other, is_two, guard_reaches, by_published, by_listed, by_guarded, of_guard, by_guard, begun, is_nothing, may_create, created, started, started_by, shown_next, shown_over, IsNoFurther, IfAny, IsNoOther, NoneIsAhead, GoesBehindNone, NothingIsKnown, CreatesOverNothing, ShownNeverGoesBack}
+use Rattle.ct_node.specs.Starts.{is_at, comes_behind, reaches, reaches_other, is_free_of_other, is_two, guard_reaches, by_published, by_listed, by_guarded, of_guard, by_guard, begun, is_nothing, may_create, created, started, started_by, shown_next, shown_over, IsNoFurther, IfAny, IsNoOther, NoneIsAhead, GoesBehindNone, NothingIsKnown, CreatesOverNothing, ShownNeverGoesBack}
 
 -- ---- tests
 abbrev IsNoTrue : Bool → Type 0
@@ -99,14 +99,6 @@ pub reached_other : (p : Point) (o : Other) → IsNoOther p o → reaches_other 
 reached_other p o (inl e, f) = left (is_at p o.at && o.same) (comes_behind p o.at) (both (is_at p o.at) o.same (same_at p o.at e) (f e))
 reached_other p o (inr h, f) = right (is_at p o.at && o.same) (comes_behind p o.at) (further_behind p o.at h)
 
-pub free : (p : Point) (o : Option Point) → is_free p o ≡ true → IfAny (λ q. IsNoFurther q p) o
-free p None e = tt
-free p (Some q) e = no_further p q e
-
-pub freed : (p : Point) (o : Option Point) → IfAny (λ q. IsNoFurther q p) o → is_free p o ≡ true
-freed p None e = refl
-freed p (Some q) e = reached p q e
-
 pub free_other : (p : Point) (o : Option Other) → is_free_of_other p o ≡ true → IfAny (IsNoOther p) o
 free_other p None e = tt
 free_other p (Some o) e = no_other p o e
@@ -115,20 +107,20 @@ pub freed_other : (p : Point) (o : Option Other) → IfAny (IsNoOther p) o → i
 freed_other p None e = refl
 freed_other p (Some o) e = reached_other p o e
 
-abbrev pub Reaches : Option Other → Point → Type 0
-Reaches g q = (h : Other) × (g ≡ Some h) × IsNoFurther q h.at
+abbrev pub Reaches : Option Other → Other → Type 0
+Reaches g q = (h : Other) × (g ≡ Some h) × IsNoFurther q.at h.at
 
-pub guard_has : (g : Option Other) (o : Option Point) (q : Point) → guard_reaches g o ≡ true → o ≡ Some q → Reaches g q
-guard_has g o q e is = has g (subst (λ (z : Option Point). guard_reaches g z ≡ true) is e)
+pub guard_has : (g : Option Other) (o : Option Other) (q : Other) → guard_reaches g o ≡ true → o ≡ Some q → Reaches g q
+guard_has g o q e is = has g (subst (λ (z : Option Other). guard_reaches g z ≡ true) is e)
   where
     has : (g : Option Other) → guard_reaches g (Some q) ≡ true → Reaches g q
-    has (Some h) e = (h, refl, no_further h.at q e)
+    has (Some h) e = (h, refl, no_further h.at q.at e)
     has None e = absurd (no_false e)
 
-pub guard_had : (g : Option Other) (o : Option Point) → ((q : Point) → o ≡ Some q → Reaches g q) → guard_reaches g o ≡ true
+pub guard_had : (g : Option Other) (o : Option Other) → ((q : Other) → o ≡ Some q → Reaches g q) → guard_reaches g o ≡ true
 guard_had g None f = refl
 guard_had g (Some q) f =
-    let r = f q refl in subst (λ (z : Option Other). guard_reaches z (Some q) ≡ true) (sym r.1) (reached r.0.at q r.2)
+    let r = f q refl in subst (λ (z : Option Other). guard_reaches z (Some q) ≡ true) (sym r.1) (reached r.0.at q.at r.2)
 
 -- ---- the decision of a node
 abbrev IsGoes : Beginning → Type 0
@@ -165,12 +157,12 @@ module _ (f : Found) (p : Point) where
       let b = goes_if (f.guarded && not (is_free_of_other p f.guard)) (of_guard f p) (by_guarded f p)
       (two_stop (is_two p f.guard)) a.1 in
       let c = goes_if (f.guarded && not (guard_reaches f.guard f.listed)) GuardBehind (by_listed f p) (λ z. z) b.1 in
-      let d = goes_if (not (is_free p f.listed)) BehindListed (by_published f p) (λ z. z) c.1 in
-      let e = goes_if (not (is_free p f.published)) BehindPublished Goes (λ z. z) d.1 in
+      let d = goes_if (not (is_free_of_other p f.listed)) BehindListed (by_published f p) (λ z. z) c.1 in
+      let e = goes_if (not (is_free_of_other p f.published)) BehindPublished Goes (λ z. z) d.1 in
       record {
         seen = free_other p f.seen (not_false (is_free_of_other p f.seen) a.0);
-        published = free p f.published (not_false (is_free p f.published) e.0);
-        listed = free p f.listed (not_false (is_free p f.listed) d.0);
+        published = free_other p f.published (not_false (is_free_of_other p f.published) e.0);
+        listed = free_other p f.listed (not_false (is_free_of_other p f.listed) d.0);
         guard = λ g. free_other p f.guard (gate_open f.guarded (is_free_of_other p f.guard) b.0 g);
         guards = λ g q is. guard_has f.guard f.listed q (gate_open f.guarded (guard_reaches f.guard f.listed) c.0 g) is;
       }
@@ -182,8 +174,8 @@ module _ (f : Found) (p : Point) where
       (gate_shut f.guarded (is_free_of_other p f.guard) (λ g. freed_other p f.guard (n.guard g)))
       (goes_by (f.guarded && not (guard_reaches f.guard f.listed)) GuardBehind (by_listed f p)
       (gate_shut f.guarded (guard_reaches f.guard f.listed) (λ g. guard_had f.guard f.listed (λ q is. n.guards g q is)))
-      (goes_by (not (is_free p f.listed)) BehindListed (by_published f p) (is_false (is_free p f.listed) (freed p f.listed n.listed))
-      (goes_by (not (is_free p f.published)) BehindPublished Goes (is_false (is_free p f.published) (freed p f.published n.published)) tt))))
+      (goes_by (not (is_free_of_other p f.listed)) BehindListed (by_published f p) (is_false (is_free_of_other p f.listed) (freed_other p f.listed n.listed))
+      (goes_by (not (is_free_of_other p f.published)) BehindPublished Goes (is_false (is_free_of_other p f.published) (freed_other p f.published n.published)) tt))))
 
 started_at : (f : Found) (p : Point) → f.register ≡ Some p → started f ≡ begun f p
 started_at f p e = ap (started_by f) e
@@ -226,8 +218,8 @@ begun_creates_no f p =
     (creates_no (f.guarded && not (is_free_of_other p f.guard)) (of_guard f p) (by_guarded f p)
     (creates_no (is_two p f.guard) TwoRoots BehindGuard (λ z. z) (λ z. z))
     (creates_no (f.guarded && not (guard_reaches f.guard f.listed)) GuardBehind (by_listed f p) (λ z. z)
-    (creates_no (not (is_free p f.listed)) BehindListed (by_published f p) (λ z. z)
-    (creates_no (not (is_free p f.published)) BehindPublished Goes (λ z. z) (λ z. z)))))
+    (creates_no (not (is_free_of_other p f.listed)) BehindListed (by_published f p) (λ z. z)
+    (creates_no (not (is_free_of_other p f.published)) BehindPublished Goes (λ z. z) (λ z. z)))))
 
 where_none : (f : Found) (o : Option Point) → IsCreates (started_by f o) → (o ≡ None) × IsCreates (created f)
 where_none f None h = (refl, h)

@@ -3,8 +3,8 @@ use Rattle.std.proofs.Common.{refl, subst, ◌⊎◌, inl, inr, ⊎_elim, ◌≡
 use Rattle.ct_node.specs.declared.state.State.{State}
 use Rattle.ct_node.specs.declared.node.Node.{Node}
 use Rattle.ct_node.specs.declared.node.Node.TheVariants.{Reading, Looking, Stepping, Staging, Swapping, Deleting, Putting, Placing, Heading, Answering}
-use Rattle.ct_node.specs.Worlds.{Has, Object, World, beginning, Happening, Comes, Makes, Puts, Goes, Told, comes, happens, MayHappen, LeadTo, IsFirstState}
-use Rattle.ct_node.specs.Sweeps.{IsFullFor, SweptWorld, swept_beginning, SweptHappening, Beside, TileGoes, HeadGoes, objects_behind, heads_behind, happens_swept, AreLeft, MayHappenSwept, LeadToSwept, StandsInstead, IsStillRead, SweepsKeep}
+use Rattle.ct_node.specs.Worlds.{Has, Object, World, beginning, Happening, Comes, Makes, Puts, Goes, Told, comes, happens, MayHappen, LeadTo}
+use Rattle.ct_node.specs.Sweeps.{IsFullFor, SweptWorld, swept_beginning, SweptHappening, Beside, TileGoes, HeadGoes, objects_behind, heads_behind, happens_swept, MayHappenSwept, LeadToSwept, StandsInstead, SweepsKeep}
 use Rattle.ct_node.proofs.Sound.{heads_are_whole}
 
 -- ---- the end of a history

@@ -1,6 +1,6 @@
 -- A node that starts continues from the history's newest published state, or from a later one.
-use Rattle.std.proofs.Common.{refl, subst, ◌⊎◌, inl, inr, ⊎_elim, ◌≡◌, ℕ, ◌<◌, ◌≤◌, sym, ◌∙◌, ap, arith, ltb-true, ltb-false, List, [], ◌∷◌}
-use Rattle.std.specs.Prelude.{Bool, true, false, nat_lt, Option, Some, None}
+use Rattle.std.proofs.Common.{refl, subst, ◌⊎◌, inl, inr, ⊎_elim, ◌≡◌, ℕ, ◌<◌, ◌≤◌, sym, ap, arith, ltb-true, ltb-false, List, [], ◌∷◌}
+use Rattle.std.specs.Prelude.{true, false, nat_lt, Option, Some, None}
 use Rattle.ct_node.specs.declared.state.State.{State}
 use Rattle.ct_node.specs.declared.starting.Point.{Point}
 use Rattle.ct_node.specs.declared.starting.Other.{Other}
@@ -8,7 +8,7 @@ use Rattle.ct_node.specs.declared.starting.Found.{Found}
 use Rattle.ct_node.specs.Worlds.{Has, Made, World, IsChain, IsSoundWorld}
 use Rattle.ct_node.specs.Sweeps.{SweptWorld}
 use Rattle.ct_node.specs.Starts.{IsNoFurther, IfAny, IsNoOther, NoneIsAhead}
-use Rattle.ct_node.specs.TakeUps.{point_of, IsReadTruly, IsTakenUp, StartsTakeUpNewest, IsPointOf, IsRootedOf, IsAllOf, StepsAdd, StartsGoOn}
+use Rattle.ct_node.specs.TakeUps.{point_of, IsReadTruly, StartsTakeUpNewest, IsPointOf, IsRootedOf, StepsAdd, StartsGoOn}
 use Rattle.ct_node.proofs.Ahead.{goes_behind_none}
 use Rattle.ct_node.proofs.Sound.{worlds_are_sound, pasts_are_chains, holds_newest}
 use Rattle.ct_node.proofs.Swept.{sweeps_keep}
@@ -30,9 +30,9 @@ module _ (size : State → ℕ) (w : SweptWorld) (k : State) (f : Found) (read :
   standing l h =
       ⊎_elim
       (λ (c : l.moment ≤ k.moment). c)
-      (λ (x : (q : Point) × (f.listed ≡ Some q) × (l.moment ≤ q.moment)).
-      let further : IsNoFurther x.0 (point_of size k) = subst (IfAny (λ q. IsNoFurther q (point_of size k))) x.1 none.listed in
-      omega (arith, x.2, no_later x.0 (point_of size k) further))
+      (λ (x : (q : Other) × (f.listed ≡ Some q) × (l.moment ≤ q.at.moment)).
+      let other : IsNoOther (point_of size k) x.0 = subst (IfAny (IsNoOther (point_of size k))) x.1 none.listed in
+      omega (arith, x.2, no_later x.0.at (point_of size k) other.0))
       (read.listed l h)
 
   put : ((l : State) → Has l w.world.heads → (m : State) × Has m w.heads × (l.moment ≤ m.moment)) → (l : State) → Has l w.world.heads
@@ -95,8 +95,8 @@ starts_go_on count size tile b hs w i leads adds f all =
     (goes_behind_none f p all.register).1
     (record {
       seen = any_weaker (IsRootedOf size v) (IsNoOther p) other f.seen all.seen;
-      published = any_weaker (IsPointOf size v) (λ q. IsNoFurther q p) point f.published all.published;
-      listed = any_weaker (IsPointOf size v) (λ q. IsNoFurther q p) point f.listed all.listed;
+      published = any_weaker (IsRootedOf size v) (IsNoOther p) other f.published all.published;
+      listed = any_weaker (IsRootedOf size v) (IsNoOther p) other f.listed all.listed;
       guard = λ g. any_weaker (IsRootedOf size v) (IsNoOther p) other f.guard (all.guard g);
       guards = all.guards;
     })

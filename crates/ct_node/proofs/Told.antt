@@ -1,13 +1,13 @@
 -- The reason of each answer of a start is true, and no other answer's reason is.
-use Rattle.std.proofs.Common.{refl, subst, ◌⊎◌, inl, inr, ⊎_elim, ◌≡◌, sym, ◌∙◌, ap}
+use Rattle.std.proofs.Common.{refl, subst, inl, ◌≡◌, sym, ◌∙◌, ap}
 use Rattle.std.specs.Prelude.{Bool, true, false, not, ◌&&◌, if◌then◌else◌, Option, Some, None}
 use Rattle.ct_node.specs.declared.starting.Point.{Point}
 use Rattle.ct_node.specs.declared.starting.Other.{Other}
 use Rattle.ct_node.specs.declared.starting.Found.{Found}
 use Rattle.ct_node.specs.declared.starting.Beginning.{Beginning}
 use Rattle.ct_node.specs.declared.starting.Beginning.TheVariants.{Goes, Creates, Gone, BehindSeen, BehindGuard, TwoRoots, GuardBehind, BehindListed, BehindPublished}
-use Rattle.ct_node.specs.Starts.{is_at, is_free, is_free_of_other, is_two, guard_reaches, by_published, by_listed, by_guarded, of_guard, by_guard, begun, may_create, created, started, started_by, IsNoFurther, IfAny, IsNoOther, NothingIsKnown, PassesSeen, PassesGuard, IsOfGuard, PassesGuarded, PassesListed, TellsWhy, AnswersTell}
-use Rattle.ct_node.proofs.Ahead.{no_false, no_true, and_true, not_false, is_false, gate_open, gate_shut, at_same, same_at, reached, no_other, reached_other, free, freed, free_other, freed_other, Reaches, guard_has, guard_had, if_true, if_false, known_nothing, nothing_known, goes_behind_none, creates_over_nothing}
+use Rattle.ct_node.specs.Starts.{is_at, is_free_of_other, is_two, guard_reaches, by_published, by_listed, by_guarded, of_guard, by_guard, begun, may_create, started, started_by, IfAny, IsNoOther, PassesSeen, PassesGuard, PassesGuarded, PassesListed, TellsWhy, AnswersTell}
+use Rattle.ct_node.proofs.Ahead.{no_false, no_true, and_true, not_false, is_false, gate_open, gate_shut, at_same, same_at, reached_other, free_other, freed_other, Reaches, guard_has, guard_had, if_true, if_false, known_nothing, nothing_known, goes_behind_none, creates_over_nothing}
 
 -- ---- tests
 not_true : (t : Bool) → not t ≡ true → t ≡ false
@@ -30,7 +30,7 @@ if_tells : (f : Found) (t : Bool) (x rest : Beginning) → (t ≡ true → Tells
 if_tells f true x rest a b = a refl
 if_tells f false x rest a b = b refl
 
-abbrev some_of : Point → Option Point → Point
+abbrev some_of : Other → Option Other → Other
 some_of p None = p
 some_of p (Some q) = q
 
@@ -39,19 +39,12 @@ ahead_other : (p : Point) (o : Option Other) → is_free_of_other p o ≡ false 
 ahead_other p None e = absurd (no_true e)
 ahead_other p (Some x) e = (x, refl, λ n. no_true (sym (reached_other p x n) ∙ e))
 
-ahead : (p : Point) (o : Option Point) → is_free p o ≡ false → (q : Point) × (o ≡ Some q) × (IsNoFurther q p → ⊥)
-ahead p None e = absurd (no_true e)
-ahead p (Some q) e = (q, refl, λ n. no_true (sym (reached p q n) ∙ e))
-
-ahead_of_guard : (g : Option Other) (o : Option Point) → guard_reaches g o ≡ false → (q : Point) × (o ≡ Some q) × (Reaches g q → ⊥)
+ahead_of_guard : (g : Option Other) (o : Option Other) → guard_reaches g o ≡ false → (q : Other) × (o ≡ Some q) × (Reaches g q → ⊥)
 ahead_of_guard g None e = absurd (no_true e)
 ahead_of_guard g (Some q) e = (q, refl, λ r. no_true (sym (guard_had g (Some q) (λ z i. subst (Reaches g) (ap (some_of q) i) r)) ∙ e))
 
 not_free_other : (p : Point) (o : Option Other) (x : Other) → o ≡ Some x → (IsNoOther p x → ⊥) → not (is_free_of_other p o) ≡ true
 not_free_other p o x is other = is_not (is_free_of_other p o) (λ t. other (subst (IfAny (IsNoOther p)) is (free_other p o t)))
-
-not_free : (p : Point) (o : Option Point) (q : Point) → o ≡ Some q → (IsNoFurther q p → ⊥) → not (is_free p o) ≡ true
-not_free p o q is further = is_not (is_free p o) (λ t. further (subst (IfAny (λ z. IsNoFurther z p)) is (free p o t)))
 
 -- ---- the answers if there is a lock
 module _ (f : Found) (p : Point) where
@@ -85,18 +78,18 @@ module _ (f : Found) (p : Point) where
       (λ v.
       let guarded : PassesGuarded f p =
       (guard, λ g q is. guard_has f.guard f.listed q (gate_open f.guarded (guard_reaches f.guard f.listed) v g) is) in
-      if_tells f (not (is_free p f.listed)) BehindListed (by_published f p)
-      (λ y. (p, guarded, ahead p f.listed (not_true (is_free p f.listed) y)))
+      if_tells f (not (is_free_of_other p f.listed)) BehindListed (by_published f p)
+      (λ y. (p, guarded, ahead_other p f.listed (not_true (is_free_of_other p f.listed) y)))
       (λ y.
-      let listed : PassesListed f p = (guarded, free p f.listed (not_false (is_free p f.listed) y)) in
-      if_tells f (not (is_free p f.published)) BehindPublished Goes
-      (λ z. (p, listed, ahead p f.published (not_true (is_free p f.published) z)))
+      let listed : PassesListed f p = (guarded, free_other p f.listed (not_false (is_free_of_other p f.listed) y)) in
+      if_tells f (not (is_free_of_other p f.published)) BehindPublished Goes
+      (λ z. (p, listed, ahead_other p f.published (not_true (is_free_of_other p f.published) z)))
       (λ z. (
         p,
         e,
         record {
           seen = seen.1;
-          published = free p f.published (not_false (is_free p f.published) z);
+          published = free_other p f.published (not_false (is_free_of_other p f.published) z);
           listed = listed.1;
           guard = guard.1;
           guards = guarded.1;
@@ -126,7 +119,7 @@ module _ (f : Found) (p : Point) where
 
   last_of : PassesListed f p → started f ≡ by_published f p
   last_of s =
-      fourth_of s.0 ∙ if_false (not (is_free p f.listed)) BehindListed (by_published f p) (is_false (is_free p f.listed) (freed p f.listed s.1))
+      fourth_of s.0 ∙ if_false (not (is_free_of_other p f.listed)) BehindListed (by_published f p) (is_false (is_free_of_other p f.listed) (freed_other p f.listed s.1))
 
   guard_stops : PassesSeen f p → f.guarded ≡ true → (o : Other) → f.guard ≡ Some o → (IsNoOther p o → ⊥)
       → started f ≡ (of_guard f p)
@@ -173,10 +166,10 @@ told_started f GuardBehind t =
     (is_not (guard_reaches f.guard f.listed) (λ r. t.3.2 (guard_has f.guard f.listed q r t.3.1)))))
 told_started f BehindListed t =
     let p = t.0 in
-    sym (fourth_of f p t.1 ∙ if_true (not (is_free p f.listed)) BehindListed (by_published f p) (not_free p f.listed t.2.0 t.2.1 t.2.2))
+    sym (fourth_of f p t.1 ∙ if_true (not (is_free_of_other p f.listed)) BehindListed (by_published f p) (not_free_other p f.listed t.2.0 t.2.1 t.2.2))
 told_started f BehindPublished t =
     let p = t.0 in
-    sym (last_of f p t.1 ∙ if_true (not (is_free p f.published)) BehindPublished Goes (not_free p f.published t.2.0 t.2.1 t.2.2))
+    sym (last_of f p t.1 ∙ if_true (not (is_free_of_other p f.published)) BehindPublished Goes (not_free_other p f.published t.2.0 t.2.1 t.2.2))
 
 pub answers_tell : AnswersTell
 answers_tell f = (started_tells f f.register refl, told_started f)

@@ -23,11 +23,6 @@ abbrev pub reaches_other : Point → Other → Bool
 reaches_other p o = (is_at p o.at && o.same) || comes_behind p o.at
 
 -- there is no other head, or it is reached
-abbrev pub is_free : Point → Option Point → Bool
-is_free p None = true
-is_free p (Some q) = reaches p q
-
--- the same for a head of which it is known whether its root is that of the lock's
 abbrev pub is_free_of_other : Point → Option Other → Bool
 is_free_of_other p None = true
 is_free_of_other p (Some o) = reaches_other p o
@@ -38,18 +33,18 @@ is_two p None = false
 is_two p (Some o) = is_at p o.at
 
 -- there is no listed head, or the guard's last one reaches it
-abbrev pub guard_reaches : Option Other → Option Point → Bool
+abbrev pub guard_reaches : Option Other → Option Other → Bool
 guard_reaches g None = true
-guard_reaches (Some g) (Some q) = reaches g.at q
+guard_reaches (Some g) (Some q) = reaches g.at q.at
 guard_reaches None (Some q) = false
 
 -- the answer if at most a published head may still be ahead of p
 abbrev pub by_published : Found → Point → Beginning
-by_published f p = if not (is_free p f.published) then BehindPublished else Goes
+by_published f p = if not (is_free_of_other p f.published) then BehindPublished else Goes
 
 -- the answer if a listed head may be ahead of p, too
 abbrev pub by_listed : Found → Point → Beginning
-by_listed f p = if not (is_free p f.listed) then BehindListed else by_published f p
+by_listed f p = if not (is_free_of_other p f.listed) then BehindListed else by_published f p
 
 -- the answer if a listed head may be ahead of the guard's, too
 abbrev pub by_guarded : Found → Point → Beginning
@@ -119,10 +114,10 @@ IsNoOther p o = IsNoFurther o.at p × (o.at ≡ p → o.same ≡ true)
 -- If there is a guard, then no listed head is ahead of the guard's (`guards`).
 pub record NoneIsAhead (f : Found) (p : Point) : Type 0 where
   pub seen : IfAny (IsNoOther p) f.seen
-  pub published : IfAny (λ q. IsNoFurther q p) f.published
-  pub listed : IfAny (λ q. IsNoFurther q p) f.listed
+  pub published : IfAny (IsNoOther p) f.published
+  pub listed : IfAny (IsNoOther p) f.listed
   pub guard : f.guarded ≡ true → IfAny (IsNoOther p) f.guard
-  pub guards : f.guarded ≡ true → (q : Point) → f.listed ≡ Some q → (g : Other) × (f.guard ≡ Some g) × IsNoFurther q g.at
+  pub guards : f.guarded ≡ true → (q : Other) → f.listed ≡ Some q → (g : Other) × (f.guard ≡ Some g) × IsNoFurther q.at g.at
 
 -- a node continues from the lock's head if and only if none is ahead of it
 abbrev pub GoesBehindNone : Type 0
@@ -151,16 +146,16 @@ abbrev pub PassesGuard : Found → Point → Type 0
 PassesGuard f p = PassesSeen f p × (f.guarded ≡ true → IfAny (IsNoOther p) f.guard)
 
 -- the guard's last head is at least as far as this one
-abbrev pub IsOfGuard : Found → Point → Type 0
-IsOfGuard f q = (g : Other) × (f.guard ≡ Some g) × IsNoFurther q g.at
+abbrev pub IsOfGuard : Found → Other → Type 0
+IsOfGuard f q = (g : Other) × (f.guard ≡ Some g) × IsNoFurther q.at g.at
 
 -- the same, and if there is a guard, no listed head is ahead of the guard's
 abbrev pub PassesGuarded : Found → Point → Type 0
-PassesGuarded f p = PassesGuard f p × (f.guarded ≡ true → (q : Point) → f.listed ≡ Some q → IsOfGuard f q)
+PassesGuarded f p = PassesGuard f p × (f.guarded ≡ true → (q : Other) → f.listed ≡ Some q → IsOfGuard f q)
 
 -- the same, and no listed head is ahead
 abbrev pub PassesListed : Found → Point → Type 0
-PassesListed f p = PassesGuarded f p × IfAny (λ q. IsNoFurther q p) f.listed
+PassesListed f p = PassesGuarded f p × IfAny (IsNoOther p) f.listed
 
 -- The reason that each answer reports. It includes that the checks before it passed.
 abbrev pub TellsWhy : Found → Beginning → Type 0
@@ -170,9 +165,9 @@ TellsWhy f Gone = (f.register ≡ None) × (NothingIsKnown f → ⊥)
 TellsWhy f BehindSeen = (p : Point) × (f.register ≡ Some p) × ((o : Other) × (f.seen ≡ Some o) × (IsNoOther p o → ⊥))
 TellsWhy f BehindGuard = (p : Point) × PassesSeen f p × (f.guarded ≡ true) × ((o : Other) × (f.guard ≡ Some o) × (IsNoOther p o → ⊥) × (o.at ≡ p → ⊥))
 TellsWhy f TwoRoots = (p : Point) × PassesSeen f p × (f.guarded ≡ true) × ((o : Other) × (f.guard ≡ Some o) × (o.at ≡ p) × (o.same ≡ false))
-TellsWhy f GuardBehind = (p : Point) × PassesGuard f p × (f.guarded ≡ true) × ((q : Point) × (f.listed ≡ Some q) × (IsOfGuard f q → ⊥))
-TellsWhy f BehindListed = (p : Point) × PassesGuarded f p × ((q : Point) × (f.listed ≡ Some q) × (IsNoFurther q p → ⊥))
-TellsWhy f BehindPublished = (p : Point) × PassesListed f p × ((q : Point) × (f.published ≡ Some q) × (IsNoFurther q p → ⊥))
+TellsWhy f GuardBehind = (p : Point) × PassesGuard f p × (f.guarded ≡ true) × ((q : Other) × (f.listed ≡ Some q) × (IsOfGuard f q → ⊥))
+TellsWhy f BehindListed = (p : Point) × PassesGuarded f p × ((o : Other) × (f.listed ≡ Some o) × (IsNoOther p o → ⊥))
+TellsWhy f BehindPublished = (p : Point) × PassesListed f p × ((o : Other) × (f.published ≡ Some o) × (IsNoOther p o → ⊥))
 
 -- the reason of the answer is true, and no two answers have a true reason for one start
 abbrev pub AnswersTell : Type 0

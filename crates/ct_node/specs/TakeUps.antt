@@ -1,5 +1,5 @@
 -- The state that a node continues from when it starts, for whatever happens to the commands of any number of nodes.
-use Rattle.std.specs.Prelude.{◌≡◌, ◌⊎◌, ℕ, ◌<◌, ◌≤◌, List, Some, true}
+use Rattle.std.specs.Prelude.{◌≡◌, ◌⊎◌, ℕ, ◌≤◌, List, Some, true}
 use Rattle.ct_node.specs.declared.state.State.{State}
 use Rattle.ct_node.specs.declared.starting.Point.{Point}
 use Rattle.ct_node.specs.declared.starting.Other.{Other}
@@ -18,7 +18,7 @@ point_of size k = record { size = size k; moment = k.moment }
 pub record IsReadTruly (size : State → ℕ) (w : SweptWorld) (k : State) (f : Found) : Type 0 where
   pub register : f.register ≡ Some (point_of size k)
   pub held : Has k w.world.past
-  pub listed : (l : State) → Has l w.heads → (l.moment ≤ k.moment) ⊎ ((q : Point) × (f.listed ≡ Some q) × (l.moment ≤ q.moment))
+  pub listed : (l : State) → Has l w.heads → (l.moment ≤ k.moment) ⊎ ((q : Other) × (f.listed ≡ Some q) × (l.moment ≤ q.at.moment))
 
 -- A node that continues from the state k is ahead of everything that was published:
 -- - No head that was ever put is later (`heads`).
@@ -52,10 +52,10 @@ IsRootedOf size w o = IsPointOf size w o.at × (o.at ≡ point_of size w.held �
 pub record IsAllOf (size : State → ℕ) (w : World) (f : Found) : Type 0 where
   pub register : f.register ≡ Some (point_of size w.held)
   pub seen : IfAny (IsRootedOf size w) f.seen
-  pub published : IfAny (IsPointOf size w) f.published
-  pub listed : IfAny (IsPointOf size w) f.listed
+  pub published : IfAny (IsRootedOf size w) f.published
+  pub listed : IfAny (IsRootedOf size w) f.listed
   pub guard : f.guarded ≡ true → IfAny (IsRootedOf size w) f.guard
-  pub guards : f.guarded ≡ true → (q : Point) → f.listed ≡ Some q → (g : Other) × (f.guard ≡ Some g) × IsNoFurther q g.at
+  pub guards : f.guarded ≡ true → (q : Other) → f.listed ≡ Some q → (g : Other) × (f.guard ≡ Some g) × IsNoFurther q.at g.at
 
 -- no step has fewer entries than the state that it was made from
 abbrev pub StepsAdd : (State → ℕ) → List Made → Type 0

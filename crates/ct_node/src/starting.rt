@@ -1,6 +1,6 @@
 //! Decides whether a node that starts may continue from the lock's state.
 ghost use Rattle.std.specs.Prelude.{◌≡◌};
-ghost use Rattle.ct_node.specs.Starts.{is_at, comes_behind, reaches, reaches_other, is_free, is_free_of_other, is_two, guard_reaches, begun, created, started, shown_next};
+ghost use Rattle.ct_node.specs.Starts.{is_at, comes_behind, reaches, reaches_other, is_free_of_other, is_two, guard_reaches, begun, created, started, shown_next};
 
 /// How far a log is according to one of its tree heads.
 #[derive(Clone, Copy, Debug, PartialEq, Eq)]
@@ -28,9 +28,9 @@ pub struct Found {
     /// The newest head that this machine saw.
     pub seen: Option<Other>,
     /// The newest head that is published.
-    pub published: Option<Point>,
+    pub published: Option<Other>,
     /// The newest head that the store lists.
-    pub listed: Option<Point>,
+    pub listed: Option<Other>,
     /// Whether a guard protects the log's key.
     pub guarded: bool,
     /// The last head that the guard let through.
@@ -59,9 +59,9 @@ pub enum Beginning {
     TwoRoots,
     /// The store lists a head that the guard's last one does not reach. So the guard is older than the store.
     GuardBehind,
-    /// The store lists a head that the lock's does not reach.
+    /// The store lists a head that the lock's does not reach, as for `BehindSeen`.
     BehindListed,
-    /// A head is published that the lock's does not reach.
+    /// A head is published that the lock's does not reach, as for `BehindSeen`.
     BehindPublished,
 }
 
@@ -94,16 +94,6 @@ fn reached_other(head: Point, other: Other) -> bool
 }
 
 // Reports whether a head reaches `other`, if there is one.
-fn free(head: Point, other: Option<Point>) -> bool
-    ensures { result ≡ is_free head other }
-{
-    match other {
-        Some(other) => reached(head, other),
-        None => true,
-    }
-}
-
-// Reports the same for a head of which it is known whether its root is that of the lock's.
 fn free_of_other(head: Point, other: Option<Other>) -> bool
     ensures { result ≡ is_free_of_other head other }
 {
@@ -124,12 +114,12 @@ fn two(head: Point, other: Option<Other>) -> bool
 }
 
 // Reports whether the guard's last head reaches the listed one, if there is one.
-fn guard_reached(guard: Option<Other>, listed: Option<Point>) -> bool
+fn guard_reached(guard: Option<Other>, listed: Option<Other>) -> bool
     ensures { result ≡ guard_reaches guard listed }
 {
     match (guard, listed) {
         (_, None) => true,
-        (Some(guard), Some(listed)) => reached(guard.at, listed),
+        (Some(guard), Some(listed)) => reached(guard.at, listed.at),
         (None, Some(_)) => false,
     }
 }
@@ -151,10 +141,10 @@ fn begin(found: Found, head: Point) -> Beginning
     if found.guarded && !guard_reached(found.guard, found.listed) {
         return Beginning::GuardBehind;
     }
-    if !free(head, found.listed) {
+    if !free_of_other(head, found.listed) {
         return Beginning::BehindListed;
     }
-    if !free(head, found.published) {
+    if !free_of_other(head, found.published) {
         return Beginning::BehindPublished;
     }
     Beginning::Goes

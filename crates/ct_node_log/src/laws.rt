@@ -6,6 +6,7 @@ ghost use Rattle.ct_node_log.specs.Logs.{NodesWriteOneLog};
 ghost use Rattle.ct_node_log.specs.Names.{StepsWriteTiles, StepsHaveOneContent};
 ghost use Rattle.ct_node_log.specs.Once.{NodesAddOnce};
 ghost use Rattle.ct_node_log.specs.Public.{PublicNamesHaveOneContent};
+ghost use Rattle.ct_node_log.specs.Whole.{HeadsHaveAllObjects};
 
 /// Suppose that the nodes' steps are made by `take_step`, and that the objects that they put of a state are those that `resume` returns for
 /// its line and any bytes. Then, whatever happens to the commands of any number of nodes, there is one list of entries:
@@ -21,6 +22,16 @@ pub fn nodes()
     ct_step::laws::sequencers_over_lines();
     ct_node::laws::worlds();
     names();
+    ct_log_state::laws::bundles();
+}
+
+/// Suppose that the number of objects that such nodes learn of a state's staged batch is the number of objects in it. Then each object of the step of a published head
+/// is in the store, or two of the strings that are hashed collide.
+pub fn whole()
+    ensures { HeadsHaveAllObjects }
+{
+    nodes();
+    ct_node::laws::worlds();
     ct_log_state::laws::bundles();
 }
 

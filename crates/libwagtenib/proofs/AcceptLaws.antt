@@ -1,7 +1,7 @@
 -- The law of one node over a lock that may fall.
 use Rattle.std.proofs.Common.{◌≡◌, ◌∙◌, ◌⊎◌, ◌+◌, ◌≤◌, ℕ, List, [], ◌∷◌, length, take, drop, Some, None, All, sym, subst, ap, inl, inr, ⊎_elim, arith}
 use Rattle.std.proofs.lemmas.List.{length-take-le}
-use Rattle.std.proofs.lemmas.List.Elements.{All-nil, All-head, All-tail}
+use Rattle.std.proofs.lemmas.List.Elements.{All-nil, All-head, All-tail, All-contains}
 use Rattle.ct_guard.proofs.NewestHead.{heads_go_back}
 use Rattle.ct_guard.specs.Guarded.{PassesHead}
 use Rattle.ct_guard.specs.NewestHead.{HeadStep, AreHeadSteps, IsHeadOfFirst, NewestIsOf, IsHashedForHeads}
@@ -12,10 +12,11 @@ use Rattle.ct_step_receipts.proofs.StepReceipts.{step_receipts_stand}
 use Rattle.ct_step_receipts.specs.StepReceipts.{PassesReceipts, IsHashedForStep}
 use Rattle.ct_tree.specs.declared.head.Head.{Head}
 use Rattle.ct_verify.specs.Laws.{AreHashes}
-use Rattle.libwagtenib.proofs.GuardLaws.{above_0-head, above_0-receipt, same_head}
+use Rattle.libwagtenib.proofs.GuardLaws.{above_0-head, above_0-receipt, of_one, same_head, taken_go_back, wrote}
 use Rattle.libwagtenib.specs.Guard.{AcceptsHead, GuardsReceipts, IsStateOf}
 use Rattle.libwagtenib.specs.AcceptLaws.{AcceptCall, ReceiptsCall, NodeAct, Accepts, Signs, Promises, AreActs, newest_accepted, accepted_steps, seen_steps}
-use Rattle.libwagtenib.specs.AcceptLaws.{AreLeavesFrom, AreActsOf, IsHashedForPromises, IsHashedForActs, AcceptedAreSteps, ActsAreOfOneLog}
+use Rattle.libwagtenib.specs.AcceptLaws.{AreLeavesFrom, AreActsOf, IsHashedForPromises, IsHashedForActs, AcceptedAreSteps, ActsAreOfOneLog, IsHashedForStepReceipts, StepReceiptsStandInNewest}
+use Rattle.libwagtenib.specs.GuardLaws.{HeadCall, head_steps_of}
 
 -- a call that returned 0 accepted the head
 accepts : (H : List ℕ → List ℕ) (accepted head : Head) (proof : List (List ℕ)) → AcceptsHead H 0 accepted head proof
@@ -106,3 +107,15 @@ acts_are_of_one_log H sized accepted acts a D newest =
     (All-tail (λ (s : HeadStep). IsHeadOfFirst H D s.head) before (accepted_steps acts) all)))
     (λ (pair : CollideAmong H S). inr (collide_more H S T (λ x w. inl w) pair))
     (heads_go_back H sized None (seen_steps accepted acts) D (accepted_are_steps H accepted acts a) (newest_is H D accepted [] acts newest))
+
+pub step_receipts_stand_in_newest : StepReceiptsStandInNewest
+step_receipts_stand_in_newest H sized last held h calls a D newest c among r over =
+    let T = IsHashedForStepReceipts H last calls D r in
+    let S = IsHashedForHeads H last (head_steps_of calls) D in
+    let is = wrote H c.over c.head c.proof c.ahead c.before c.signed c.returned in
+    ⊎_elim
+    (λ (all : All (λ (s : HeadStep). IsHeadOfFirst H D s.head) (head_steps_of calls)).
+    leaves_of H sized D T c.head r (λ n l x w. inr (n, l, w))
+    (All-contains (λ (c : HeadCall H). IsHeadOfFirst H D c.head) calls c (of_one H D calls all) among) (subst (IsStateOf c.head) (sym over) is))
+    (λ (pair : CollideAmong H S). inr (collide_more H S T (λ x w. inl w) pair))
+    (taken_go_back H sized last held h calls a D newest)

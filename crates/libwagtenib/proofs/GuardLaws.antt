@@ -95,7 +95,7 @@ was_first : (H : List ℕ → List ℕ) (head named : Head) (before signed : Lis
 was_first H head named before signed (inl z) = z.2
 was_first H head named before signed (inr z) = absurd (omega (arith, z.0))
 
-wrote : (H : List ℕ → List ℕ) (over : Over) (head : Head) (proof : List (List ℕ)) (ahead : ℕ) (before signed : List ℕ)
+pub wrote : (H : List ℕ → List ℕ) (over : Over) (head : Head) (proof : List (List ℕ)) (ahead : ℕ) (before signed : List ℕ)
     → LetsThrough H over head proof ahead before signed → IsStateOf head signed
 wrote H (no_state named) head proof ahead before signed z = was_first H head named before signed z.1
 wrote H (the_state state) head proof ahead before signed z = (followed H state head proof ahead before signed z).3
@@ -170,7 +170,7 @@ let_through H state leaf index path (inr (last, is, inl z)) = (last, is, z.1)
 let_through H state leaf index path (inr (last, is, inr (r, code, stops))) = absurd (omega (arith, code, above_0-receipt r))
 
 -- each head that has leaves is that of a beginning of a list, by its call
-of_one : (H : List ℕ → List ℕ) (D : List (List ℕ)) (calls : List (HeadCall H)) → All (λ (s : HeadStep). IsHeadOfFirst H D s.head) (head_steps_of calls)
+pub of_one : (H : List ℕ → List ℕ) (D : List (List ℕ)) (calls : List (HeadCall H)) → All (λ (s : HeadStep). IsHeadOfFirst H D s.head) (head_steps_of calls)
     → All (λ (c : HeadCall H). IsHeadOfFirst H D c.head) calls
 of_one H D [] all = All-nil (λ (c : HeadCall H). IsHeadOfFirst H D c.head)
 of_one H D (c ∷ calls) all =

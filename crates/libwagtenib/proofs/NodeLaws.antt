@@ -1,5 +1,6 @@
 -- Histories by calls are histories of ct_node's nodes, so its laws hold of them.
 use Rattle.std.proofs.Common.{◌≡◌, ◌∙◌, ◌⊎◌, ⊎_elim, inl, inr, refl, arith, sym, ap, subst, ℕ, List, [], ◌∷◌, ◌++◌, length, take, Option, Some, None}
+use Rattle.std.specs.Prelude.{Bool, true, false, if◌then◌else◌}
 use Rattle.std.proofs.lemmas.Option.{same_Some, none-some}
 use Rattle.ct_data_tiles.specs.TileLeaf.{Tiled}
 use Rattle.ct_log_state.specs.declared.line.StateLine.{StateLine}
@@ -8,20 +9,22 @@ use Rattle.ct_node.specs.declared.state.State.{State}
 use Rattle.ct_node.specs.declared.node.Node.{Node}
 use Rattle.ct_node.specs.declared.node.Node.TheVariants.{Reading, Looking, Stepping, Staging, Swapping, Deleting, Putting, Placing, Heading, Answering}
 use Rattle.ct_node.specs.declared.node.Outcome.{Outcome}
+use Rattle.ct_node.specs.declared.node.Outcome.TheVariants.{Done, Lost, Read, Published, Bundle, Stepped, Listed}
 use Rattle.ct_node.specs.declared.starting.Point.{Point}
 use Rattle.ct_node.specs.declared.starting.Beginning.{Beginning}
 use Rattle.ct_node.specs.declared.starting.Beginning.TheVariants.{Goes, Creates, Gone, BehindSeen, BehindGuard, TwoRoots, GuardBehind, BehindListed, BehindPublished}
-use Rattle.ct_node.specs.Nodes.{after}
+use Rattle.ct_node.specs.Nodes.{after, follows, is_behind}
 use Rattle.ct_node.specs.Starts.{started, GoesBehindNone, NoneIsAhead}
 use Rattle.ct_node.specs.Worlds.{Has, World, Happening, Comes, Makes, Puts, Goes as GoesAway, Told, comes, happens, beginning, MayHappen, LeadTo, IsFirstState, IsSoundWorld, WorldsAreSound}
 use Rattle.ct_node.specs.LookUps.{AllLookUp}
 use Rattle.ct_step.specs.Lines.{IsHashedBySteps}
 use Rattle.ct_node_log.specs.Logs.{StandsOf, NodesWriteOneLog, log_of_past}
 use Rattle.ct_node_log.specs.Once.{NodesAddOnce}
+use Rattle.ct_node_log.specs.Whole.{HeadsHaveAllObjects}
 use Rattle.libwagtenib.specs.declared.node.NodeCommand.{NodeCommand}
 use Rattle.libwagtenib.specs.declared.node.NodeFound.{NodeFound}
 use Rattle.libwagtenib.specs.Node.{node_of_c, c_of_node, outcome_of_c, GivesNext, found_of_c, start_code, lock_of, StartsNode}
-use Rattle.libwagtenib.specs.NodeLaws.{CallsWorld, calls_beginning, NextCall, CallHappening, Beside, Called, IsNoTelling, happens_by_calls, MayHappenByCalls, LeadToByCalls, GivesNode, CallsAreHistories, CallsWriteOneLog, CallsNameOneContent, AllLookUpByCalls, CallsAddOnce, CallsStartBehindNone}
+use Rattle.libwagtenib.specs.NodeLaws.{CommandsAreRead, AreCommandsOf, CallsAreTold, GiveCommands, IsKeptText, TellsOf, NeedsOf, CommandsHaveTexts, CallsWorld, calls_beginning, NextCall, CallHappening, Beside, Called, IsNoTelling, happens_by_calls, MayHappenByCalls, LeadToByCalls, GivesNode, CallsAreHistories, CallsWriteOneLog, CallsPutAll, CallsNameOneContent, AllLookUpByCalls, CallsAddOnce, CallsStartBehindNone}
 
 -- ---- a command that is written is read again
 
@@ -47,6 +50,143 @@ written c =
     r.1.4 ∙ ap (λ (n : Node). c_of_node (after n r.1.1)) one ∙ ap (λ (x : Outcome). c_of_node (after c.node x)) two)
     (λ r. ⊎_elim (λ s. absurd (omega (arith, s.0))) (λ s. absurd (omega (arith, s.0))) r)
     c.returned
+
+-- ---- a command that is written is read again, whatever the outcomes were
+
+read_again : (k : Node) → node_of_c (c_of_node k) ≡ Some k
+read_again Reading = refl
+read_again (Looking s) = refl
+read_again (Stepping s) = refl
+read_again (Staging s t n) = refl
+read_again (Swapping s t n) = refl
+read_again (Deleting s t) = refl
+read_again (Putting s n) = refl
+read_again (Placing s) = refl
+read_again (Heading s) = refl
+read_again (Answering s) = refl
+
+pub commands_are_read : CommandsAreRead
+commands_are_read c = ap (λ (z : NodeCommand). node_of_c z) (written c) ∙ read_again (after c.node c.outcome)
+
+-- a command is that of a node at the same index
+node_at : (given : List NodeCommand) (sent : List Node) (d : NodeCommand) (n : Node) → AreCommandsOf given sent → Has d given → node_of_c d ≡ Some n → Has n sent
+unfolding AreCommandsOf
+node_at [] sent d n a h e = absurd h
+node_at (c ∷ cs) [] d n a h e = absurd a
+node_at (c ∷ cs) (m ∷ ms) d n a (inl same) e = inl (same_Some n m (sym e ∙ ap (λ (z : NodeCommand). node_of_c z) same ∙ a.0))
+node_at (c ∷ cs) (m ∷ ms) d n a (inr i) e = inr (node_at cs ms d n a.1 i e)
+
+pub calls_are_told : CallsAreTold
+unfolding AreCommandsOf
+calls_are_told w given c a h = (node_at given w.sent c.command c.node a h c.is_node, (commands_are_read c, a))
+
+-- ---- the texts of commands
+
+if_needs : (T : State → Type 0) (Q : State → ℕ → Type 0) (b : Bool) (m n : Node) → NeedsOf T Q m → NeedsOf T Q n → NeedsOf T Q (if b then m else n)
+if_needs T Q true m n h i = h
+if_needs T Q false m n h i = i
+
+next_needs : (T : State → Type 0) (Q : State → ℕ → Type 0) (s : Node) (o : Outcome) → NeedsOf T Q s → TellsOf T Q s o → NeedsOf T Q (after s o)
+next_needs T Q Reading Done h t = tt
+next_needs T Q Reading Lost h t = tt
+next_needs T Q Reading (Read x) h t = t
+next_needs T Q Reading Published h t = tt
+next_needs T Q Reading (Bundle m) h t = tt
+next_needs T Q Reading (Stepped x m) h t = tt
+next_needs T Q Reading (Listed x) h t = tt
+next_needs T Q (Looking k) Done h t = h
+next_needs T Q (Looking k) Lost h t = tt
+next_needs T Q (Looking k) (Read x) h t = h
+next_needs T Q (Looking k) Published h t = h
+next_needs T Q (Looking k) (Bundle m) h t = (h, t)
+next_needs T Q (Looking k) (Stepped x m) h t = h
+next_needs T Q (Looking k) (Listed x) h t = h
+next_needs T Q (Stepping k) Done h t = h
+next_needs T Q (Stepping k) Lost h t = tt
+next_needs T Q (Stepping k) (Read x) h t = h
+next_needs T Q (Stepping k) Published h t = h
+next_needs T Q (Stepping k) (Bundle m) h t = h
+next_needs T Q (Stepping k) (Stepped x m) h t = if_needs T Q (follows k x) (Staging k x m) (Stepping k) (h, t.0, t.1) h
+next_needs T Q (Stepping k) (Listed x) h t = if_needs T Q (is_behind k x) (Deleting k x) (Stepping k) h h
+next_needs T Q (Staging k l n) Done h t = h
+next_needs T Q (Staging k l n) Lost h t = tt
+next_needs T Q (Staging k l n) (Read x) h t = h
+next_needs T Q (Staging k l n) Published h t = h
+next_needs T Q (Staging k l n) (Bundle m) h t = h
+next_needs T Q (Staging k l n) (Stepped x m) h t = h
+next_needs T Q (Staging k l n) (Listed x) h t = h
+next_needs T Q (Swapping k l n) Done h t = (h.1, h.2)
+next_needs T Q (Swapping k l n) Lost h t = tt
+next_needs T Q (Swapping k l n) (Read x) h t = h
+next_needs T Q (Swapping k l n) Published h t = h
+next_needs T Q (Swapping k l n) (Bundle m) h t = h
+next_needs T Q (Swapping k l n) (Stepped x m) h t = h
+next_needs T Q (Swapping k l n) (Listed x) h t = h
+next_needs T Q (Deleting k l) Done h t = h
+next_needs T Q (Deleting k l) Lost h t = h
+next_needs T Q (Deleting k l) (Read x) h t = h
+next_needs T Q (Deleting k l) Published h t = h
+next_needs T Q (Deleting k l) (Bundle m) h t = h
+next_needs T Q (Deleting k l) (Stepped x m) h t = h
+next_needs T Q (Deleting k l) (Listed x) h t = h
+next_needs T Q (Putting l n) Done h t = h.0
+next_needs T Q (Putting l n) Lost h t = tt
+next_needs T Q (Putting l n) (Read x) h t = h
+next_needs T Q (Putting l n) Published h t = h
+next_needs T Q (Putting l n) (Bundle m) h t = h
+next_needs T Q (Putting l n) (Stepped x m) h t = h
+next_needs T Q (Putting l n) (Listed x) h t = h
+next_needs T Q (Placing l) Done h t = h
+next_needs T Q (Placing l) Lost h t = tt
+next_needs T Q (Placing l) (Read x) h t = h
+next_needs T Q (Placing l) Published h t = h
+next_needs T Q (Placing l) (Bundle m) h t = h
+next_needs T Q (Placing l) (Stepped x m) h t = h
+next_needs T Q (Placing l) (Listed x) h t = h
+next_needs T Q (Heading l) Done h t = h
+next_needs T Q (Heading l) Lost h t = tt
+next_needs T Q (Heading l) (Read x) h t = h
+next_needs T Q (Heading l) Published h t = h
+next_needs T Q (Heading l) (Bundle m) h t = h
+next_needs T Q (Heading l) (Stepped x m) h t = h
+next_needs T Q (Heading l) (Listed x) h t = h
+next_needs T Q (Answering l) Done h t = tt
+next_needs T Q (Answering l) Lost h t = tt
+next_needs T Q (Answering l) (Read x) h t = h
+next_needs T Q (Answering l) Published h t = h
+next_needs T Q (Answering l) (Bundle m) h t = h
+next_needs T Q (Answering l) (Stepped x m) h t = h
+next_needs T Q (Answering l) (Listed x) h t = h
+
+module _ (T : State → Type 0) (Q : State → ℕ → Type 0) where
+  abbrev AllNeed : List NodeCommand → Type 0
+  AllNeed given = (c : NodeCommand) (n : Node) → Has c given → node_of_c c ≡ Some n → NeedsOf T Q n
+
+  all_need : (calls : List NextCall) (given all : List NodeCommand) → GiveCommands given calls all
+      → ((c : NextCall) → Has c calls → TellsOf T Q c.node c.outcome) → AllNeed given → AllNeed all
+  unfolding GiveCommands
+  all_need [] given all g tells h = subst (λ (z : List NodeCommand). AllNeed z) g h
+  all_need (c ∷ calls) given all g tells h =
+      let next : NeedsOf T Q (after c.node c.outcome) = next_needs T Q c.node c.outcome (h c.command c.node g.0 c.is_node) (tells c (inl refl)) in
+      all_need calls (c.next ∷ given) all g.1 (λ d i. tells d (inr i))
+      (λ d n i e.
+      ⊎_elim
+      (λ (same : d ≡ c.next).
+      subst (λ (z : Node). NeedsOf T Q z)
+      (same_Some (after c.node c.outcome) n (sym (commands_are_read c) ∙ sym (ap (λ (z : NodeCommand). node_of_c z) same) ∙ e)) next)
+      (λ (there : Has d given). h d n there e)
+      i)
+
+pub commands_have_texts : CommandsHaveTexts
+commands_have_texts line text objects calls all gives tells =
+    all_need (λ k. IsKeptText line k (text k)) (λ k n. length (objects k) ≡ n) calls (c_of_node Reading ∷ []) all gives tells
+    (λ c n h e.
+    ⊎_elim
+    (λ (same : c ≡ c_of_node Reading).
+    subst (λ (z : Node). NeedsOf (λ k. IsKeptText line k (text k)) (λ k m. length (objects k) ≡ m) z)
+    (read_back Reading n (sym (ap (λ (z : NodeCommand). node_of_c z) same) ∙ e)) tt)
+    (λ (none : ⊥). absurd none)
+    h)
 
 -- ---- a history by calls is one of the nodes
 
@@ -159,6 +299,10 @@ calls_write_one_log sound one_log H S line step plan known count b hs w first le
     (λ (pair : CollideAmong H (IsHashedBySteps H S E)). inr pair)
     (one_log H S line step plan known count b (of_nodes hs) w.world first machine.0 is steps E all)
 
+pub calls_put_all : HeadsHaveAllObjects → CallsPutAll
+calls_put_all have_all H S line step plan known count b hs w first leads is steps whole l head =
+    have_all H S line step plan known count b (of_nodes hs) w.world first (of_history count b hs w leads).0 is steps whole l head
+
 all_looked : (ids : State → List (List ℕ)) (hs : List CallHappening) (w : CallsWorld) → AllLookUpByCalls ids w hs → AllLookUp ids w.world (of_nodes hs)
 unfolding as_node of_nodes AllLookUp AllLookUpByCalls
 all_looked ids [] w u = tt
@@ -202,7 +346,7 @@ zero_goes BehindPublished e = absurd (omega (arith, e))
 pub calls_start_behind_none : GoesBehindNone → CallsStartBehindNone
 calls_start_behind_none goes code lock p f is starts =
     ⊎_elim
-    (λ (r : (code ≡ 114) × (lock_of lock ≡ None)). absurd (none-some (Some p) (sym r.1 ∙ is)))
+    (λ (r : (code ≡ 114) × (lock_of f.flags lock ≡ None)). absurd (none-some (Some p) (sym r.1 ∙ is)))
     (λ r.
     let head : r.0 ≡ Some p = same_Some r.0 (Some p) (sym r.1 ∙ is) in
     let is_code : code ≡ start_code (started (found_of_c lock (Some p) f)) =

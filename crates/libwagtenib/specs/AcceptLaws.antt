@@ -1,12 +1,13 @@
 -- The law of one node over a lock that may fall: it may hold any earlier text again, or any other text, at any time. H is any hash function on byte lists with
 -- hashes of 32 bytes. The library's is SHA-256.
-use Rattle.std.specs.Prelude.{◌≡◌, ◌⊎◌, ◌+◌, ◌≤◌, ⊤, ℕ, List, [], ◌∷◌, length, take, drop, None}
-use Rattle.ct_guard.specs.NewestHead.{HeadStep, AreHeadSteps, IsHeadOfFirst, IsHashedForHeads}
+use Rattle.std.specs.Prelude.{◌≡◌, ◌⊎◌, ◌+◌, ◌≤◌, ⊤, ℕ, List, [], ◌∷◌, Contains, length, take, drop, Option, None}
+use Rattle.ct_guard.specs.NewestHead.{HeadStep, AreHeadSteps, IsHeadOfFirst, NewestIsOf, IsHashedForHeads}
 use Rattle.ct_monitor.specs.Heads.{IsHeadOfAll}
 use Rattle.ct_older_tree.specs.Hashed.{CollideAmong}
 use Rattle.ct_step_receipts.specs.StepReceipts.{IsHashedForStep}
 use Rattle.ct_tree.specs.declared.head.Head.{Head}
 use Rattle.libwagtenib.specs.Guard.{AcceptsHead, GuardsReceipts, IsStateOf}
+use Rattle.libwagtenib.specs.GuardLaws.{HeadCall, AreTaken, HoldsStateOf, head_steps_of}
 
 -- A call of `wagtenib_node_accept` returned 0.
 pub record AcceptCall (H : List ℕ → List ℕ) : Type 0 where
@@ -96,3 +97,19 @@ ActsAreOfOneLog =
     → (accepted : Head) (acts : List (NodeAct H)) → AreActs H accepted acts
     → (D : List (List ℕ)) → IsHeadOfAll H D (newest_accepted accepted acts)
     → (IsHeadOfFirst H D accepted × AreActsOf D acts) ⊎ CollideAmong H (IsHashedForActs H accepted acts D)
+
+-- the string is hashed for these heads, or when the receipts of a step are let through, or in the tree of a beginning of D
+abbrev pub IsHashedForStepReceipts : (H : List ℕ → List ℕ) → Option Head → List (HeadCall H) → List (List ℕ) → ReceiptsCall H → List ℕ → Type 0
+IsHashedForStepReceipts H last calls D r x =
+    IsHashedForHeads H last (head_steps_of calls) D x
+    ⊎ ((n : ℕ) × (n ≤ length D) × IsHashedForStep H (take n D) r.first r.subtrees r.leaves x)
+
+-- Take any heads that were signed over one register, of which the newest is that of the list D, and any call that let the receipts of a step through after one of
+-- them. The leaves of the step are in D from its first index on, or two of the strings that are hashed collide.
+abbrev pub StepReceiptsStandInNewest : Type 0
+StepReceiptsStandInNewest =
+    (H : List ℕ → List ℕ) → ((x : List ℕ) → length (H x) ≡ 32)
+    → (last : Option Head) (held : Option (List ℕ)) → HoldsStateOf last held → (calls : List (HeadCall H)) → AreTaken H held calls
+    → (D : List (List ℕ)) → NewestIsOf H D (head_steps_of calls)
+    → (c : HeadCall H) → Contains calls c → (r : ReceiptsCall H) → r.state ≡ c.signed
+    → AreLeavesFrom D r.first r.leaves ⊎ CollideAmong H (IsHashedForStepReceipts H last calls D r)

@@ -1,9 +1,12 @@
 -- The codes and the bytes that a call of the monitor returns and writes.
-use Rattle.std.specs.Prelude.{◌≡◌, ◌⊎◌, ℕ, List, length, replicate, sum, Option, Some, None}
+use Rattle.std.specs.Prelude.{◌≡◌, ◌⊎◌, ◌≤◌, ℕ, List, length, replicate, sum, Option, Some, None}
 use Rattle.sha2.specs.Sha256.{sha256}
 use Rattle.ct_monitor.specs.declared.verdict.Verdict.{Verdict}
 use Rattle.ct_monitor.specs.declared.verdict.Verdict.TheVariants.{Accepted, Pending, Again, Stale, Shrunk, Fork, TimeNotLater, RootMismatch, Gap, Consistent, Inconsistent}
-use Rattle.ct_monitor_calls.specs.Calls.{Handed, entries_from, IsMonitorAnswer, IsEntriesAnswer, IsMonitorBegin, RefusesState}
+use Rattle.ct_codec.specs.declared.fault.DecodeFault.{DecodeFault}
+use Rattle.ct_monitor_calls.specs.Entries.{HasTimestamp, IsFaulty, IsLaterThan}
+use Rattle.ct_monitor_calls.specs.Calls.{Handed, entries_from, IsMonitorAnswer, IsEntriesAnswer, IsMonitorBegin}
+use Rattle.ct_monitor_calls.specs.StateText.{IsNoState}
 use Rattle.ct_monitor_calls.specs.Starts.{IsMonitorStart, RefusesStart}
 use Rattle.ct_monitor_calls.specs.declared.answer.Answer.{Answer}
 use Rattle.ct_monitor_calls.specs.declared.answer.EntriesAnswer.{EntriesAnswer}
@@ -72,11 +75,11 @@ abbrev pub GivesAnswer : Answer → ℕ → MonitorVerdict → MonitorVerdict �
 GivesAnswer a code verdict told before after count =
     WritesOutput a.state.items code before after count × (((code ≡ 0) × TellsVerdict told a) ⊎ ((code ≡ 9) × (told ≡ verdict)))
 
--- A call over a state. 36: the bytes are no state, or one that no log can have led to. 0: the verdict and the next state are written. 9: that state has no room. 8: an allocation was refused.
+-- A call over a state. 36: the bytes are no state. 0: the verdict and the next state are written. 9: that state has no room. 8: an allocation was refused.
 -- Nothing is written but at 0, and the length at 0 and 9.
 abbrev pub Judges : Handed → List ℕ → ℕ → MonitorVerdict → MonitorVerdict → List ℕ → List ℕ → ℕ → ℕ → Type 0
 Judges handed state code verdict told before after count_before count =
-    ((code ≡ 36) × RefusesState sha256 state handed × (told ≡ verdict) × (after ≡ before) × (count ≡ count_before))
+    ((code ≡ 36) × IsNoState sha256 state × (told ≡ verdict) × (after ≡ before) × (count ≡ count_before))
     ⊎ (((a : Answer) × IsMonitorAnswer sha256 state handed a × GivesAnswer a code verdict told before after count)
     ⊎ ((code ≡ 8) × (told ≡ verdict) × (after ≡ before) × (count ≡ count_before)))
 
@@ -115,7 +118,7 @@ TellsReport r a = TellsLater a.later r.later_index r.later_timestamp × TellsFau
 -- A call with entries over a state, as `Judges`. The report on the entries is written only at 0.
 abbrev pub JudgesEntries : ℕ → List (List ℕ) → List ℕ → ℕ → MonitorVerdict → MonitorVerdict → EntryReport → EntryReport → List ℕ → List ℕ → ℕ → ℕ → Type 0
 JudgesEntries start leaves state code verdict told report reported before after count_before count =
-    ((code ≡ 36) × RefusesState sha256 state (entries_from start leaves) × (told ≡ verdict) × (reported ≡ report) × (after ≡ before) × (count ≡ count_before))
+    ((code ≡ 36) × IsNoState sha256 state × (told ≡ verdict) × (reported ≡ report) × (after ≡ before) × (count ≡ count_before))
     ⊎ (((a : EntriesAnswer) × IsEntriesAnswer sha256 state start leaves a × GivesAnswer a.answer code verdict told before after count
     × (((code ≡ 0) × TellsReport reported a) ⊎ ((code ≡ 9) × (reported ≡ report))))
     ⊎ ((code ≡ 8) × (told ≡ verdict) × (reported ≡ report) × (after ≡ before) × (count ≡ count_before)))
@@ -129,3 +132,11 @@ abbrev pub JudgesPieces : ℕ → List ℕ → List ℕ → List ℕ → ℕ →
 JudgesPieces start leaves lengths state code verdict told report reported before after count_before count =
     ((code ≡ 141) × (AddUp lengths leaves → ⊥) × (told ≡ verdict) × (reported ≡ report) × (after ≡ before) × (count ≡ count_before))
     ⊎ (AddUp lengths leaves × JudgesEntries start (pieces lengths leaves) state code verdict told report reported before after count_before count)
+
+-- A call with one leaf beside a head with the timestamp `moment`. 0: it is a leaf with the new timestamp, which is no later than the head's. 142: it is one, and later.
+-- 17 to 22: the bytes are no leaf, this is their first fault, and nothing is written.
+abbrev pub JudgesEntry : ℕ → List ℕ → ℕ → ℕ → ℕ → Type 0
+JudgesEntry moment leaf code before timestamp =
+    ((code ≡ 0) × HasTimestamp timestamp leaf × (timestamp ≤ moment))
+    ⊎ (((code ≡ 142) × IsLaterThan moment timestamp leaf)
+    ⊎ ((f : DecodeFault) × (code ≡ leaf_code f) × IsFaulty f leaf × (timestamp ≡ before)))

@@ -3,7 +3,8 @@ use Rattle.std.specs.Prelude.{◌≡◌, ◌⊎◌, ◌==◌, ℕ, List, Option,
 use Rattle.ct_names.specs.Names.{Named}
 use Rattle.ct_promise.specs.declared.field.Unread.{Unread}
 use Rattle.ct_name_calls.specs.NameBytes.{names_read, IsNamesText}
-use Rattle.ct_name_calls.specs.FoundBytes.{AreWatched, IsFoundText}
+use Rattle.ct_name_calls.specs.FoundBytes.{AreWatched, IsWatchedList, IsFoundText}
+use Rattle.ct_name_calls.specs.InBytes.{IsInBytesText}
 use Rattle.ct_name_calls.specs.declared.names.EntryKind.{EntryKind}
 use Rattle.ct_name_calls.specs.declared.names.EntryKind.TheVariants.{X509, Precert}
 use Rattle.libwagtenib.specs.Certificates.{der_code, place_number}
@@ -25,12 +26,13 @@ WritesNamesOf e certificate code before after count_before count field_before fi
     ⊎ ((TellsUnread (names_read e certificate) code field × (after ≡ before) × (count ≡ count_before))
     ⊎ ((code ≡ 8) × (after ≡ before) × (count ≡ count_before) × (field ≡ field_before)))
 
--- A call over the watched names that are found there. 144: the bytes are no list of watched names. Otherwise as WritesNamesOf.
+-- A call over the watched names that are found there. 144: the bytes are no list of watched names, whatever the certificate is. 80 to 86: they are a list.
+-- Otherwise as WritesNamesOf.
 abbrev pub WritesFoundOf : EntryKind → List ℕ → List ℕ → ℕ → List ℕ → List ℕ → ℕ → ℕ → ℕ → ℕ → Type 0
 WritesFoundOf e certificate watched code before after count_before count field_before field =
     ((text : List ℕ) × IsFoundText e certificate watched text × WritesOutput text code before after count × (field ≡ field_before))
     ⊎ (((code ≡ 144) × ((names : List (List ℕ)) → AreWatched names watched → ⊥) × (after ≡ before) × (count ≡ count_before) × (field ≡ field_before))
-    ⊎ ((TellsUnread (names_read e certificate) code field × (after ≡ before) × (count ≡ count_before))
+    ⊎ ((TellsUnread (names_read e certificate) code field × IsWatchedList watched × (after ≡ before) × (count ≡ count_before))
     ⊎ ((code ≡ 8) × (after ≡ before) × (count ≡ count_before) × (field ≡ field_before))))
 
 -- A call over the names of an entry whose type is a number. 20: no entry has this type, and nothing is written.
@@ -44,3 +46,11 @@ abbrev pub WritesWatchedNames : ℕ → List ℕ → List ℕ → ℕ → List �
 WritesWatchedNames t certificate watched code before after count_before count field_before field =
     ((code ≡ 20) × (entry_kind t ≡ None) × (after ≡ before) × (count ≡ count_before) × (field ≡ field_before))
     ⊎ ((e : EntryKind) × (entry_kind t ≡ Some e) × WritesFoundOf e certificate watched code before after count_before count field_before field)
+
+-- A call over the watched names that are in some bytes. 0 or 9: the bytes of those that are there are written, as WritesOutput says. 144: the bytes are no list of
+-- watched names. 8: an allocation was refused. Nothing is written with 144 and 8.
+abbrev pub WritesNamesInBytes : List ℕ → List ℕ → ℕ → List ℕ → List ℕ → ℕ → ℕ → Type 0
+WritesNamesInBytes bytes watched code before after count_before count =
+    ((text : List ℕ) × IsInBytesText bytes watched (Some text) × WritesOutput text code before after count)
+    ⊎ (((code ≡ 144) × IsInBytesText bytes watched None × (after ≡ before) × (count ≡ count_before))
+    ⊎ ((code ≡ 8) × (after ≡ before) × (count ≡ count_before)))

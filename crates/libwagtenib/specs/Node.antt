@@ -86,10 +86,6 @@ GivesNext code c o before next =
 abbrev pub has_flag : ℕ → ℕ → Bool
 has_flag flags flag = flags / flag % 2 == 1
 
--- a size and a timestamp, if the flag is set
-abbrev pub point_of_c : ℕ → ℕ → ℕ → ℕ → Option Point
-point_of_c flags flag size timestamp = if has_flag flags flag then Some (record { size = size; moment = timestamp }) else None
-
 -- a head beside a lock's text, if the flag is set
 abbrev pub other_of_c : List ℕ → ℕ → ℕ → TreeHead → Option Other
 other_of_c lock flags flag h =
@@ -98,14 +94,14 @@ other_of_c lock flags flag h =
     else None
 
 -- the facts that a node finds, if the lock has this head; the flags are 1 if the machine saw a head, 2 if a head was signed, 4 if one is published, 8 if the store lists one, 16 if a
--- guard decides what is signed, 32 if the store has an object of a log, 64 if the operator asks for a new log
+-- guard decides what is signed, 32 if the store has an object of a log, 64 if the operator asks for a new log, 128 if the lock exists
 abbrev pub found_of_c : List ℕ → Option Point → NodeFound → Found
 found_of_c lock head f =
     record {
       register = head;
       seen = other_of_c lock f.flags 1 f.seen;
-      published = point_of_c f.flags 4 f.published_size f.published_timestamp;
-      listed = point_of_c f.flags 8 f.listed_size f.listed_timestamp;
+      published = other_of_c lock f.flags 4 f.published;
+      listed = other_of_c lock f.flags 8 f.listed;
       guarded = has_flag f.flags 16;
       guard = other_of_c lock f.flags 2 f.signed_head;
       stands = has_flag f.flags 32;
@@ -128,13 +124,13 @@ start_code BehindPublished = 123
 abbrev pub point_said : Said → Point
 point_said s = record { size = s.size; moment = s.state.moment }
 
--- the head of a lock's text, and none of no bytes; or nothing if the bytes are no lock's text
-abbrev pub lock_of : List ℕ → Option (Option Point)
-lock_of [] = Some None
-lock_of (b ∷ bs) = option_map (λ s. Some (point_said s)) (text_said (b ∷ bs))
+-- the head of a lock's text; no head of no bytes, unless the flags say that the lock exists; or nothing if the bytes are no lock's text
+abbrev pub lock_of : ℕ → List ℕ → Option (Option Point)
+lock_of flags [] = if has_flag flags 128 then None else Some None
+lock_of flags (b ∷ bs) = option_map (λ s. Some (point_said s)) (text_said (b ∷ bs))
 
 -- 114: the bytes are no lock's text. Otherwise the number of what a node does that finds this.
 abbrev pub StartsNode : ℕ → List ℕ → NodeFound → Type 0
 StartsNode code lock f =
-    ((code ≡ 114) × (lock_of lock ≡ None))
-    ⊎ ((head : Option Point) × (lock_of lock ≡ Some head) × (code ≡ start_code (started (found_of_c lock head f))))
+    ((code ≡ 114) × (lock_of f.flags lock ≡ None))
+    ⊎ ((head : Option Point) × (lock_of f.flags lock ≡ Some head) × (code ≡ start_code (started (found_of_c lock head f))))

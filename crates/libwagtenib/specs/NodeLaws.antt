@@ -2,11 +2,14 @@
 use Rattle.std.specs.Prelude.{◌≡◌, ◌↔◌, ◌⊎◌, ⊤, ℕ, ◌<◌, List, [], ◌∷◌, length, take, Some}
 use Rattle.ct_data_tiles.specs.TileLeaf.{Tiled}
 use Rattle.ct_growth.specs.Identities.{AreNewFrom}
+use Rattle.ct_lock_text.specs.LockText.{text_state}
+use Rattle.ct_log_state.specs.Lines.{state_line_text}
 use Rattle.ct_log_state.specs.declared.line.StateLine.{StateLine}
 use Rattle.ct_node.specs.declared.state.State.{State}
 use Rattle.ct_node.specs.declared.node.Node.{Node}
-use Rattle.ct_node.specs.declared.node.Node.TheVariants.{Reading, Putting, Answering}
+use Rattle.ct_node.specs.declared.node.Node.TheVariants.{Reading, Looking, Stepping, Staging, Swapping, Deleting, Putting, Placing, Heading, Answering}
 use Rattle.ct_node.specs.declared.node.Outcome.{Outcome}
+use Rattle.ct_node.specs.declared.node.Outcome.TheVariants.{Done, Lost, Read, Published, Bundle, Stepped, Listed}
 use Rattle.ct_node.specs.declared.starting.Point.{Point}
 use Rattle.ct_node.specs.LookUps.{LooksUp}
 use Rattle.ct_node.specs.Nodes.{after}
@@ -14,6 +17,7 @@ use Rattle.ct_node.specs.Starts.{NoneIsAhead}
 use Rattle.ct_node.specs.Worlds.{Has, Made, Object, World, Happening, Told, happens, beginning, MayHappen, MayBeTold, IsFirstState}
 use Rattle.ct_node_log.specs.Logs.{IsOf, AreStepsMade, StandsOf, log_of_past}
 use Rattle.ct_node_log.specs.Once.{entry_identities, AreStepsAdding}
+use Rattle.ct_node_log.specs.Whole.{AreAllPut, HasAllObjects}
 use Rattle.ct_step.specs.Lines.{LineAttempt, IsHashedBySteps}
 use Rattle.ct_step.specs.Steps.{IsLog}
 use Rattle.ct_older_tree.specs.Hashed.{CollideAmong}
@@ -80,6 +84,71 @@ CallsAreHistories =
     (count : State → ℕ) (b : State) (hs : List CallHappening) (w : CallsWorld) → LeadToByCalls count (calls_beginning b) hs w → (n : Node)
     → GivesNode w n → Has n w.world.sent
 
+-- The command that a call wrote is read again: it is that of ct_node's next node.
+abbrev pub CommandsAreRead : Type 0
+CommandsAreRead = (c : NextCall) → node_of_c c.next ≡ Some (after c.node c.outcome)
+
+-- these commands are those of these nodes, one by one
+unfoldable pub AreCommandsOf : List NodeCommand → List Node → Type 0
+AreCommandsOf [] [] = ⊤
+AreCommandsOf [] (n ∷ ns) = ⊥
+AreCommandsOf (c ∷ cs) [] = ⊥
+AreCommandsOf (c ∷ cs) (n ∷ ns) = (node_of_c c ≡ Some n) × AreCommandsOf cs ns
+
+-- Nothing is asked of the lock, of the store or of the outcomes. If the commands that calls gave are those that the nodes of a world gave, then a call over one of
+-- them is over a command of one of these nodes, and it gives what that node gives next.
+abbrev pub CallsAreTold : Type 0
+CallsAreTold =
+    (w : World) (given : List NodeCommand) (c : NextCall) → AreCommandsOf given w.sent → Has c.command given
+    → Has c.node w.sent × AreCommandsOf (c.next ∷ given) (happens w (Told c.node c.outcome)).sent
+
+-- Calls with any outcomes, one after the other. Each is over a command that an earlier one wrote, or that was given before. All commands that are given in the end.
+unfoldable pub GiveCommands : List NodeCommand → List NextCall → List NodeCommand → Type 0
+GiveCommands given [] all = given ≡ all
+GiveCommands given (c ∷ calls) all = Has c.command given × GiveCommands (c.next ∷ given) calls all
+
+-- the text is read as this state, and begins with the line of the state
+abbrev pub IsKeptText : (State → StateLine) → State → List ℕ → Type 0
+IsKeptText line k text = (text_state text ≡ Some k) × (take 295 text ≡ state_line_text (line k))
+
+-- Q holds for the state whose staged batch a node reads, and a number of objects
+abbrev pub BatchHas : (State → ℕ → Type 0) → Node → ℕ → Type 0
+BatchHas Q (Looking k) n = Q k n
+BatchHas Q s n = ⊤
+
+-- what an outcome tells a node: T holds for the state that the lock held, or to which a step led, and Q for a state and the number of objects of its staged batch
+abbrev pub TellsOf : (State → Type 0) → (State → ℕ → Type 0) → Node → Outcome → Type 0
+TellsOf T Q s Done = ⊤
+TellsOf T Q s Lost = ⊤
+TellsOf T Q s (Read k) = T k
+TellsOf T Q s Published = ⊤
+TellsOf T Q s (Bundle n) = BatchHas Q s n
+TellsOf T Q s (Stepped l n) = T l × Q l n
+TellsOf T Q s (Listed l) = ⊤
+
+-- T holds for each state that a node must know by its text, and Q for the number of objects of its staged batch
+abbrev pub NeedsOf : (State → Type 0) → (State → ℕ → Type 0) → Node → Type 0
+NeedsOf T Q Reading = ⊤
+NeedsOf T Q (Looking k) = T k
+NeedsOf T Q (Stepping k) = T k
+NeedsOf T Q (Staging k l n) = T k × T l × Q l n
+NeedsOf T Q (Swapping k l n) = T k × T l × Q l n
+NeedsOf T Q (Deleting k l) = T k
+NeedsOf T Q (Putting l n) = T l × Q l n
+NeedsOf T Q (Placing l) = T l
+NeedsOf T Q (Heading l) = T l
+NeedsOf T Q (Answering l) = T l
+
+-- Nothing is asked of the lock or of the store. Suppose that a caller keeps a text for each state that an outcome named, which is read as this state and begins with
+-- its line, and the objects of its staged batch, as many as the outcome said. Then for each command that a call gave, it has such texts of the command's states, and
+-- as many objects as the command says.
+abbrev pub CommandsHaveTexts : Type 0
+CommandsHaveTexts =
+    (line : State → StateLine) (text : State → List ℕ) (objects : State → List (List ℕ)) (calls : List NextCall) (all : List NodeCommand)
+    → GiveCommands (c_of_node Reading ∷ []) calls all
+    → ((c : NextCall) → Has c calls → TellsOf (λ k. IsKeptText line k (text k)) (λ k n. length (objects k) ≡ n) c.node c.outcome)
+    → (c : NodeCommand) (n : Node) → Has c all → node_of_c c ≡ Some n → NeedsOf (λ k. IsKeptText line k (text k)) (λ k n. length (objects k) ≡ n) n
+
 -- If a call says to answer the submissions of a state, the head of that state is in the store, and its step is of the entries E: the receipt at an index is that
 -- of the submission at this index of the step's batch.
 abbrev pub AnswersAreOf : (List ℕ → List ℕ) → (State → StateLine) → (Made → LineAttempt) → State → List Tiled → CallsWorld → Type 0
@@ -96,6 +165,16 @@ CallsWriteOneLog =
     (hs : List CallHappening) (w : CallsWorld) → IsFirstState count b → LeadToByCalls count (calls_beginning b) hs w → IsLog H known (line b)
     → AreStepsMade H S line step count plan w.world.made → (E : List Tiled) → E ≡ log_of_past step known w.world.past
     → ((known ≡ take (length known) E) × StandsOf H line step b plan E w.world × AnswersAreOf H line step b E w) ⊎ CollideAmong H (IsHashedBySteps H S E)
+
+-- Whatever happens by calls, if the number of objects that calls are handed for a staged batch is the number of objects in it, then each object of the step of a
+-- published head is in the store; or two strings collide that S has, or that are hashed for the log's lines.
+abbrev pub CallsPutAll : Type 0
+CallsPutAll =
+    (H : List ℕ → List ℕ) (S : List (List ℕ)) (line : State → StateLine) (step : Made → LineAttempt) (plan : Object → List ℕ × List ℕ) (known : List Tiled)
+    (count : State → ℕ) (b : State)
+    (hs : List CallHappening) (w : CallsWorld) → IsFirstState count b → LeadToByCalls count (calls_beginning b) hs w → IsLog H known (line b)
+    → AreStepsMade H S line step count plan w.world.made → ((m : Made) → Has m w.world.made → AreAllPut H S line count plan m.new) → (l : State) → Has l w.world.heads
+    → HasAllObjects H step b plan (log_of_past step known w.world.past) w.world l ⊎ CollideAmong H (IsHashedBySteps H S (log_of_past step known w.world.past))
 
 -- Any two objects that calls say to put, and that have the same name, have the same content; or two strings collide that S has (the strings that nodes hashed when
 -- they made steps and resumed them), or that are hashed for the log's lines.
@@ -134,5 +213,5 @@ CallsAddOnce =
 -- A call returns 0 over a lock's text exactly if no head that the node finds is ahead of the text's.
 abbrev pub CallsStartBehindNone : Type 0
 CallsStartBehindNone =
-    (code : ℕ) (lock : List ℕ) (p : Point) (f : NodeFound) → lock_of lock ≡ Some (Some p) → StartsNode code lock f
+    (code : ℕ) (lock : List ℕ) (p : Point) (f : NodeFound) → lock_of f.flags lock ≡ Some (Some p) → StartsNode code lock f
     → ((code ≡ 0) ↔ NoneIsAhead (found_of_c lock (Some p) f) p)

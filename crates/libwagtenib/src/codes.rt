@@ -116,9 +116,9 @@ pub const BEHIND_SIGNED: u32 = 119;
 pub const TWO_ROOTS: u32 = 120;
 /// The store lists a head that is later than the last one that was signed.
 pub const SIGNED_BEHIND_LISTED: u32 = 121;
-/// The store lists a later head.
+/// The store lists a later head, or another one with this size and timestamp.
 pub const BEHIND_LISTED: u32 = 122;
-/// A later head is published.
+/// A later head is published, or another one with this size and timestamp.
 pub const BEHIND_PUBLISHED: u32 = 123;
 /// The verdict of a monitor: the waiting head is that of all leaves that were read.
 pub const ACCEPTED: u32 = 128;
@@ -148,7 +148,19 @@ pub const PARTIAL_FINGERPRINT: u32 = 139;
 pub const OTHER_COUNT: u32 = 140;
 /// The lengths of the entries do not add up to the length of their bytes.
 pub const OTHER_LENGTHS: u32 = 141;
+/// The entry is later than the head.
+pub const LATER_ENTRY: u32 = 142;
 /// The bytes are no list of watched names.
 pub const BAD_WATCHED: u32 = 144;
 /// The text is not UTF-8.
 pub const NOT_UTF8: u32 = 145;
+/// The name is not that of a data tile.
+pub const NO_DATA_TILE: u32 = 146;
+/// The data tile begins after the next entry.
+pub const TILE_AFTER: u32 = 147;
+/// The data tile ends before the next entry.
+pub const TILE_BEFORE: u32 = 148;
+/// The data tile has another number of entries than its name says.
+pub const OTHER_ENTRIES: u32 = 149;
+/// An entry of the data tile does not name its own index in its extensions.
+pub const WRONG_INDEX: u32 = 150;

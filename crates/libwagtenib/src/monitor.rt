@@ -3,9 +3,10 @@
 ghost use Rattle.std.specs.Bool.{MatchBool};
 ghost use Rattle.std.specs.Prelude.{◌≡◌, ◌⊎◌, IfOk, MatchOption, length, sum};
 ghost use Rattle.sha2.specs.Sha256.{sha256};
-ghost use Rattle.ct_monitor_calls.specs.Calls.{IsMonitorAnswer, IsEntriesAnswer, RefusesState, a_head, a_proof, entries_from};
+ghost use Rattle.ct_monitor_calls.specs.Calls.{IsMonitorAnswer, IsEntriesAnswer, a_head, a_proof, entries_from};
+ghost use Rattle.ct_monitor_calls.specs.StateText.{IsNoState};
 ghost use Rattle.libwagtenib.specs.Guard.{head_of_c};
-ghost use Rattle.libwagtenib.specs.Monitor.{AddUp, BeginsMonitor, GivesAnswer, Judges, JudgesEntries, JudgesPieces, StartsMonitor, TellsFaulty, TellsLater, TellsReport, TellsVerdict, start_code, verdict_code, verdict_fault, verdict_known, verdict_root};
+ghost use Rattle.libwagtenib.specs.Monitor.{AddUp, BeginsMonitor, GivesAnswer, Judges, JudgesEntries, JudgesEntry, JudgesPieces, StartsMonitor, TellsFaulty, TellsLater, TellsReport, TellsVerdict, start_code, verdict_code, verdict_fault, verdict_known, verdict_root};
 ghost use Rattle.libwagtenib.specs.Output.{WritesOutput};
 ghost use Rattle.libwagtenib.specs.Tiles.{pieces};
 
@@ -14,6 +15,7 @@ use crate::head::{TreeHead, head_of, of_head};
 use crate::output::write_output;
 use crate::tiles::pieces_of;
 use crate::{codes, leaf, proofs};
+use ct_codec::lend_leaf;
 use ct_monitor::Verdict;
 use ct_monitor_calls::{Answer, EntriesAnswer, FaultyEntry, LaterEntry, StartFault};
 use ct_tree::Head;
@@ -185,7 +187,7 @@ fn answer_to_head(
     state: &[u8],
     head: &TreeHead,
 ) -> Result<Option<Answer>, AllocError>
-    ensures { IfOk result (λ o. MatchOption o (RefusesState sha256 state.now (a_head (head_of_c head.now)))
+    ensures { IfOk result (λ o. MatchOption o (IsNoState sha256 state.now)
         (λ a. IsMonitorAnswer sha256 state.now (a_head (head_of_c head.now)) a)) }
 {
     ct_monitor_calls::take_head(alloc, state, head_of(head))
@@ -238,7 +240,7 @@ fn answer_to(
     leaves: &[u8],
     lengths: &[u64],
 ) -> Result<Option<EntriesAnswer>, AllocError>
-    ensures { IfOk result (λ o. MatchOption o (RefusesState sha256 state.now (entries_from start (pieces lengths.now leaves.now)))
+    ensures { IfOk result (λ o. MatchOption o (IsNoState sha256 state.now)
         (λ a. IsEntriesAnswer sha256 state.now start (pieces lengths.now leaves.now) a)) }
 {
     let entries = pieces_of(alloc, leaves, lengths)?;
@@ -373,5 +375,29 @@ pub extern "C" fn wagtenib_monitor_entries(
         )
     } else {
         codes::OTHER_LENGTHS
+    }
+}
+
+/// The verdict on one leaf (MerkleTreeLeaf, RFC 6962, section 3.4) beside a tree head with this timestamp, both in milliseconds. 0: it is no later than the head. 142:
+/// it is later, which speaks against the log (section 3.5). `timestamp` gets the leaf's in both cases. 17 to 22: the bytes are no leaf, this is their first fault, and
+/// nothing is written.
+#[unsafe(no_mangle)]
+pub extern "C" fn wagtenib_monitor_entry(
+    head_timestamp: u64,
+    leaf: &[u8],
+    timestamp: &mut u64,
+) -> u32
+    ensures { JudgesEntry head_timestamp leaf.now result timestamp.old timestamp.new }
+{
+    match lend_leaf(leaf) {
+        Ok(read) => {
+            *timestamp = read.timestamp;
+            if head_timestamp < read.timestamp {
+                codes::LATER_ENTRY
+            } else {
+                codes::OK
+            }
+        }
+        Err(fault) => crate::leaf::number_of(fault),
     }
 }

@@ -1,15 +1,15 @@
-//! The names of a certificate, and the watched names that are found in it (`ct_name_calls`).
+//! The names of a certificate, and the watched names that are found in it or in any bytes (`ct_name_calls`).
 
 ghost use Rattle.std.specs.Prelude.{◌≡◌};
-ghost use Rattle.libwagtenib.specs.Names.{entry_kind, WritesNamesOf, WritesFoundOf, WritesCertificateNames, WritesWatchedNames};
+ghost use Rattle.libwagtenib.specs.Names.{entry_kind, WritesNamesOf, WritesFoundOf, WritesCertificateNames, WritesWatchedNames, WritesNamesInBytes};
 
 use crate::certificates::{number_of_der, number_of_place};
 use crate::codes;
 use crate::codes::OUT_OF_MEMORY;
 use crate::output::write_output;
-use ct_name_calls::{EntryKind, WatchedFault, found_text, names_text};
+use ct_name_calls::{EntryKind, WatchedFault, found_text, in_bytes_text, names_text};
 use ct_names::NamesFault;
-use std::alloc::Global;
+use std::alloc::{AllocError, Global};
 
 // Returns the part of a certificate that an entry of this type contains.
 fn kind_of(entry_type: u32) -> Option<EntryKind>
@@ -104,4 +104,22 @@ pub extern "C" fn wagtenib_watched_names(
         return codes::BAD_ENTRY_TYPE;
     };
     write_found(alloc, kind, certificate, watched, found, length, field)
+}
+
+/// Writes which of the watched names are somewhere in the bytes, whatever these are, without regard to the case of ASCII letters. 144: the watched names are no list.
+#[unsafe(no_mangle)]
+pub extern "C" fn wagtenib_names_in_bytes(
+    alloc: Global,
+    bytes: &[u8],
+    watched: &[u8],
+    found: &mut [u8],
+    length: &mut u64,
+) -> u32
+    ensures { WritesNamesInBytes bytes.now watched.now result found.old found.new length.old length.new }
+{
+    match in_bytes_text(alloc, bytes, watched) {
+        Ok(Some(text)) => write_output(&text, found, length),
+        Ok(None) => codes::BAD_WATCHED,
+        Err(AllocError) => OUT_OF_MEMORY,
+    }
 }

@@ -1,7 +1,7 @@
 //! The next command of a node of a log (`ct_node`): the command that follows a command, by its outcome; and whether a node may start.
 
 ghost use Rattle.std.specs.Prelude.{◌≡◌, ◌<◌};
-ghost use Rattle.libwagtenib.specs.Node.{state_of_c, c_of_state, node_of_c, c_of_node, outcome_of_c, GivesNext, has_flag, point_of_c, other_of_c, found_of_c, start_code, lock_of, StartsNode};
+ghost use Rattle.libwagtenib.specs.Node.{state_of_c, c_of_state, node_of_c, c_of_node, outcome_of_c, GivesNext, has_flag, other_of_c, found_of_c, start_code, lock_of, StartsNode};
 
 use crate::codes;
 use crate::head::TreeHead;
@@ -42,10 +42,8 @@ pub struct NodeOutcome {
 pub struct NodeFound {
     pub seen: TreeHead,
     pub signed_head: TreeHead,
-    pub published_size: u64,
-    pub published_timestamp: u64,
-    pub listed_size: u64,
-    pub listed_timestamp: u64,
+    pub published: TreeHead,
+    pub listed: TreeHead,
     pub flags: u32,
 }
 
@@ -172,21 +170,6 @@ fn is_set(flags: u32, flag: u32) -> bool
     flags / flag % 2 == 1
 }
 
-// A size and a timestamp, if the flag is set.
-fn point_if(flags: u32, flag: u32, size: u64, timestamp: u64) -> Option<Point>
-    requires { 0 < flag }
-    ensures { result ≡ point_of_c flags flag size timestamp }
-{
-    if is_set(flags, flag) {
-        Some(Point {
-            size,
-            moment: timestamp,
-        })
-    } else {
-        None
-    }
-}
-
 // A head beside a lock's text, if the flag is set.
 fn other_if(lock: &[u8], flags: u32, flag: u32, head: &TreeHead) -> Option<Other>
     requires { 0 < flag }
@@ -212,13 +195,8 @@ fn found_with(lock: &[u8], head: Option<Point>, found: &NodeFound) -> Found
     Found {
         register: head,
         seen: other_if(lock, found.flags, 1, &found.seen),
-        published: point_if(
-            found.flags,
-            4,
-            found.published_size,
-            found.published_timestamp,
-        ),
-        listed: point_if(found.flags, 8, found.listed_size, found.listed_timestamp),
+        published: other_if(lock, found.flags, 4, &found.published),
+        listed: other_if(lock, found.flags, 8, &found.listed),
         guarded: is_set(found.flags, 16),
         guard: other_if(lock, found.flags, 2, &found.signed_head),
         stands: is_set(found.flags, 32),
@@ -243,12 +221,12 @@ fn number_of_start(beginning: Beginning) -> u32
     }
 }
 
-// The head of a lock's text, or none of no bytes; or nothing if the bytes are no lock's text.
-fn head_in(lock: &[u8]) -> Option<Option<Point>>
-    ensures { result ≡ lock_of lock.now }
+// The head of a lock's text, or none if there is no lock; or nothing if the bytes are no lock's text. A lock that exists has a text of at least one byte.
+fn head_in(flags: u32, lock: &[u8]) -> Option<Option<Point>>
+    ensures { result ≡ lock_of flags lock.now }
 {
     if lock.is_empty() {
-        return Some(None);
+        return if is_set(flags, 128) { None } else { Some(None) };
     }
     let said = said_in(lock)?;
     Some(Some(Point {
@@ -258,12 +236,12 @@ fn head_in(lock: &[u8]) -> Option<Option<Point>>
 }
 
 /// Decides what a node does when it starts. 0: it continues from the lock's text. 116: it creates the lock. 117 to 123: it must do neither, for the first reason in
-/// this order: 117 if there is no lock; otherwise 118, 120 or 119, 121, 122, 123. 114: the bytes are no lock's text.
+/// this order: 117 if there is no lock; otherwise 118, 120 or 119, 121, 122, 123. 114: the bytes are no lock's text, or there are none although the lock exists.
 #[unsafe(no_mangle)]
 pub extern "C" fn wagtenib_node_start(lock: &[u8], found: &NodeFound) -> u32
     ensures { StartsNode result lock.now found.now }
 {
-    let Some(head) = head_in(lock) else {
+    let Some(head) = head_in(found.flags, lock) else {
         return codes::BAD_LOCK_TEXT;
     };
     number_of_start(start(found_with(lock, head, found)))

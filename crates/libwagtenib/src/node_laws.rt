@@ -2,11 +2,23 @@
 //!
 //! Any number of processes may make the calls, in any order. A call that never came back is left out.
 
-ghost use Rattle.libwagtenib.specs.NodeLaws.{CallsAreHistories, CallsWriteOneLog, CallsNameOneContent, CallsAddOnce, CallsStartBehindNone};
+ghost use Rattle.libwagtenib.specs.NodeLaws.{CommandsAreRead, CallsAreTold, CallsAreHistories, CommandsHaveTexts, CallsWriteOneLog, CallsPutAll, CallsNameOneContent, CallsAddOnce, CallsStartBehindNone};
 
 /// Whatever becomes of commands by calls is a history of `ct_node`'s nodes.
+/// - `read`: the command that a call wrote is read again, as the next node's.
+/// - `told`: whatever the outcomes are, and whatever the lock and the store do, each command that a call gave is one of a node, and the call writes what this node
+///   gives next.
+/// - `histories`: if the lock and the store keep what they promise, each command that calls gave is one that a node of the history gave.
 pub fn commands_by_calls_are_histories()
-    ensures { CallsAreHistories }
+    ensures read { CommandsAreRead }
+    ensures told { CallsAreTold }
+    ensures histories { CallsAreHistories }
+{}
+
+/// A caller that keeps the text of each state that an outcome names, and the objects of its staged batch, has them for each command that calls give, whatever the
+/// outcomes are.
+pub fn commands_by_calls_have_texts()
+    ensures { CommandsHaveTexts }
 {}
 
 /// There is one list of entries. All that is in the stores is of it, and each call that says to answer submissions does so under a head of it. Or two of the strings
@@ -16,6 +28,14 @@ pub fn nodes_by_calls_write_one_log()
 {
     ct_node_log::laws::nodes();
     ct_node::laws::worlds();
+}
+
+/// If calls are handed the right number of objects of each staged batch, each object of the step of a published head is in the store, or two of the strings that are
+/// hashed collide.
+pub fn nodes_by_calls_put_all()
+    ensures { CallsPutAll }
+{
+    ct_node_log::laws::whole();
 }
 
 /// Any two objects that calls say to put under one name have one content, or two of the strings that are hashed collide.

@@ -79,8 +79,14 @@ pub mod code {
     pub const PARTIAL_FINGERPRINT: u32 = 139;
     pub const OTHER_COUNT: u32 = 140;
     pub const OTHER_LENGTHS: u32 = 141;
+    pub const LATER_ENTRY: u32 = 142;
     pub const BAD_WATCHED: u32 = 144;
     pub const NOT_UTF8: u32 = 145;
+    pub const NO_DATA_TILE: u32 = 146;
+    pub const TILE_AFTER: u32 = 147;
+    pub const TILE_BEFORE: u32 = 148;
+    pub const OTHER_ENTRIES: u32 = 149;
+    pub const WRONG_INDEX: u32 = 150;
     pub const ACCEPTED: u32 = 128;
     pub const PENDING: u32 = 129;
     pub const AGAIN: u32 = 130;
@@ -141,10 +147,8 @@ pub struct wagtenib_node_outcome {
 pub struct wagtenib_node_found {
     pub seen: wagtenib_head,
     pub signed_head: wagtenib_head,
-    pub published_size: u64,
-    pub published_timestamp: u64,
-    pub listed_size: u64,
-    pub listed_timestamp: u64,
+    pub published: wagtenib_head,
+    pub listed: wagtenib_head,
     pub flags: u32,
 }
 
@@ -218,11 +222,13 @@ extern "C" {
     pub fn wagtenib_path_of_tiles(leaf_index: u64, tree_size: u64, contents: *const u8, contents_length: usize, lengths: *const u64, tiles: usize, path: *mut u8, room: usize, count: *mut u64) -> u32;
     pub fn wagtenib_proof_of_tiles(first: u64, second: u64, contents: *const u8, contents_length: usize, lengths: *const u64, tiles: usize, proof: *mut u8, room: usize, count: *mut u64) -> u32;
     pub fn wagtenib_data_tile_leaves(tile: *const u8, tile_length: usize, entries: *mut u8, room: usize, length: *mut u64, faulty_index: *mut u64) -> u32;
+    pub fn wagtenib_compare_data_tile(name: *const u8, name_length: usize, next: u64, tile: *const u8, tile_length: usize, index: *mut u64) -> u32;
     pub fn wagtenib_precertificate_entry(tbs: *const u8, tbs_length: usize, entry: *mut u8, room: usize, length: *mut u64, field: *mut u32) -> u32;
     pub fn wagtenib_promised_leaf(certificate: *const u8, certificate_length: usize, issuer: *const u8, issuer_length: usize, timestamp: u64, extensions: *const u8, extensions_length: usize, leaf: *mut u8, room: usize, length: *mut u64, field: *mut u32) -> u32;
     pub fn wagtenib_check_promise(certificate: *const u8, certificate_length: usize, issuer: *const u8, issuer_length: usize, timestamp: u64, extensions: *const u8, extensions_length: usize, leaf_index: u64, tree_size: u64, path: *const u8, path_length: usize, root: *const u8, field: *mut u32) -> u32;
     pub fn wagtenib_certificate_names(entry_type: u32, certificate: *const u8, certificate_length: usize, names: *mut u8, room: usize, length: *mut u64, field: *mut u32) -> u32;
     pub fn wagtenib_watched_names(entry_type: u32, certificate: *const u8, certificate_length: usize, watched: *const u8, watched_length: usize, found: *mut u8, room: usize, length: *mut u64, field: *mut u32) -> u32;
+    pub fn wagtenib_names_in_bytes(bytes: *const u8, bytes_length: usize, watched: *const u8, watched_length: usize, found: *mut u8, room: usize, length: *mut u64) -> u32;
     pub fn wagtenib_checkpoint_text(origin: *const u8, origin_length: usize, tree_size: u64, root: *const u8, text: *mut u8, room: usize, length: *mut u64) -> u32;
     pub fn wagtenib_read_checkpoint(text: *const u8, text_length: usize, checkpoint: *mut wagtenib_checkpoint) -> u32;
     pub fn wagtenib_tree_head_signature(head: *const wagtenib_head, signed_bytes: *mut u8);
@@ -237,6 +243,7 @@ extern "C" {
     pub fn wagtenib_monitor_head(state: *const u8, state_length: usize, head: *const wagtenib_head, verdict: *mut wagtenib_monitor_verdict, out: *mut u8, room: usize, length: *mut u64) -> u32;
     pub fn wagtenib_monitor_entries(state: *const u8, state_length: usize, start: u64, leaves: *const u8, leaves_length: usize, lengths: *const u64, count: usize, verdict: *mut wagtenib_monitor_verdict, report: *mut wagtenib_entry_report, out: *mut u8, room: usize, length: *mut u64) -> u32;
     pub fn wagtenib_monitor_proof(state: *const u8, state_length: usize, path: *const u8, path_length: usize, verdict: *mut wagtenib_monitor_verdict, out: *mut u8, room: usize, length: *mut u64) -> u32;
+    pub fn wagtenib_monitor_entry(head_timestamp: u64, leaf: *const u8, leaf_length: usize, timestamp: *mut u64) -> u32;
     /// It exists only with the feature, and returns whether the processor's SHA instructions are used in place of the proved code.
     #[cfg(feature = "sha-instructions")]
     pub fn wagtenib_has_sha_instructions() -> bool;

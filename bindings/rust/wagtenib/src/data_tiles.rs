@@ -56,8 +56,7 @@ fn number(bytes: &[u8]) -> usize {
 
 /// Returns the entries of a data tile, in order.
 ///
-/// It reads any number of entries, also none. So the caller must compare their number with the one in the tile's name. It does not look at the extensions of an entry,
-/// which must name the entry's index in the log.
+/// It reads any number of entries, also none, and does not look at the extensions of an entry. [`compare`] compares the entries with the tile's name.
 ///
 /// # Errors
 ///
@@ -81,4 +80,20 @@ pub fn leaves(tile: &[u8]) -> Result<Vec<TileEntry<'_>>, TileError> {
         rest = &after[32..];
     }
     Ok(entries)
+}
+
+/// Compares a data tile with its name ("tile/data/.."), for a reader that has the entries of the log before the index `next`. It is `Ok` if it is the data tile of this
+/// name, has as many entries as the name says and the entry at `next`, and if each entry from that one on names exactly its own index in its extensions (leaf_index,
+/// C2SP static-ct-api).
+///
+/// # Errors
+///
+/// The first of [`Error::NoDataTile`], [`Error::TileAfter`] and [`Error::TileBefore`]; a fault of [`leaves`] with the index in the tile of the entry;
+/// [`Error::OtherEntries`], and `entry` is the number of entries; [`Error::WrongIndex`], and `entry` is the first wrong index in the log; or [`Error::OutOfMemory`].
+pub fn compare(name: &str, next: u64, tile: &[u8]) -> Result<(), TileError> {
+    let mut index = 0;
+    // SAFETY: the pointers are those of slices and variables that live through the call.
+    let answer = unsafe { sys::wagtenib_compare_data_tile(name.as_ptr(), name.len(), next, tile.as_ptr(), tile.len(), &mut index) };
+    let has_none = |error| matches!(error, Error::NoDataTile | Error::TileAfter | Error::TileBefore | Error::OutOfMemory);
+    result(answer).map_err(|error| TileError { error, entry: (!has_none(error)).then_some(index) })
 }

@@ -102,13 +102,19 @@ errors! {
     BehindSigned = BEHIND_SIGNED, "a later head than the lock's was signed";
     TwoRoots = TWO_ROOTS, "another head with the lock's size and timestamp was signed";
     SignedBehindListed = SIGNED_BEHIND_LISTED, "the store lists a later head than the last one that was signed";
-    BehindListed = BEHIND_LISTED, "the store lists a later head than the lock's";
-    BehindPublished = BEHIND_PUBLISHED, "a later head than the lock's is published";
+    BehindListed = BEHIND_LISTED, "the store lists a later head than the lock's, or another one with its size and timestamp";
+    BehindPublished = BEHIND_PUBLISHED, "a later head than the lock's is published, or another one with its size and timestamp";
     PartialFingerprint = PARTIAL_FINGERPRINT, "the length of the issuers' fingerprints is no multiple of 32 bytes";
     OtherCount = OTHER_COUNT, "there are not as many subtrees as a tree of the head's size has";
     OtherLengths = OTHER_LENGTHS, "the lengths of the entries do not add up to that of their bytes";
     BadWatched = BAD_WATCHED, "the bytes are no list of watched names";
     NotUtf8 = NOT_UTF8, "the text is not UTF-8";
+    LaterEntry = LATER_ENTRY, "the entry is later than the head";
+    NoDataTile = NO_DATA_TILE, "the name is not that of a data tile";
+    TileAfter = TILE_AFTER, "the data tile begins after the next entry";
+    TileBefore = TILE_BEFORE, "the data tile ends before the next entry";
+    OtherEntries = OTHER_ENTRIES, "the data tile has another number of entries than its name says";
+    WrongIndex = WRONG_INDEX, "an entry of the data tile does not name its own index in its extensions";
 }
 
 impl std::fmt::Display for Error {

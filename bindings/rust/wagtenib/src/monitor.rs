@@ -165,3 +165,16 @@ pub fn proof(state: &[u8], path: &[Hash]) -> Result<Judgement, Error> {
         unsafe { sys::wagtenib_monitor_proof(state.as_ptr(), state.len(), first_of(path), path.len(), verdict, out, room, length) }
     })
 }
+
+/// Judges one leaf (MerkleTreeLeaf, RFC 6962, section 3.4) beside a tree head with this timestamp. Returns the timestamp of the leaf. All timestamps are in
+/// milliseconds.
+///
+/// # Errors
+///
+/// [`Error::LaterEntry`] if the leaf is later than the head, which speaks against the log; or those of [`decode`](crate::leaf::decode).
+pub fn entry(head_timestamp: u64, leaf: &[u8]) -> Result<u64, Error> {
+    let mut timestamp = 0;
+    // SAFETY: the pointers are those of a slice and of a variable that live through the call.
+    result(unsafe { sys::wagtenib_monitor_entry(head_timestamp, leaf.as_ptr(), leaf.len(), &mut timestamp) })?;
+    Ok(timestamp)
+}

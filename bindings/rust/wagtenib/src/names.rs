@@ -1,7 +1,8 @@
 //! The names of certificates (RFC 5280, section 4), and which watched names are found in them.
 
 use crate::certificates::{of_answer, CertificateError};
-use crate::memory::output;
+use crate::memory::{output, written};
+use crate::Error;
 use wagtenib_sys as sys;
 
 /// What bytes are: the certificate of an entry, or its TBSCertificate.
@@ -51,6 +52,8 @@ pub enum Place {
     AltName,
     /// It is a common name, and no name of subjectAltName.
     CommonName,
+    /// Its text is somewhere in the bytes: the place of [`in_bytes`].
+    InBytes,
 }
 
 /// A watched name that is found.
@@ -92,7 +95,7 @@ pub fn of_certificate(entry_type: EntryType, certificate: &[u8]) -> Result<Vec<N
     Ok(names)
 }
 
-/// A list of watched names, which is encoded once for many calls of [`watched`].
+/// A list of watched names, which is encoded once for many calls of [`watched`] and [`in_bytes`].
 #[derive(Clone, Debug, Default)]
 pub struct WatchList(Vec<u8>);
 
@@ -121,6 +124,30 @@ pub fn watched(entry_type: EntryType, certificate: &[u8], list: &WatchList) -> R
         unsafe { sys::wagtenib_watched_names(kind, of.0, of.1, listed.0, listed.1, out, room, length, &mut field) }
     });
     of_answer(answer, field)?;
-    let place = |number| if number == 1 { Place::AltName } else { Place::CommonName };
-    Ok(text.chunks_exact(9).map(|one| Found { position: number(one).0, place: place(one[8]) }).collect())
+    Ok(found_names(&text))
+}
+
+/// Returns which of the watched names are somewhere in the bytes, in the order of the list, each with the place [`Place::InBytes`]. The bytes may be any bytes: for
+/// example a certificate that cannot be read, or that has the name in a field that [`watched`] does not read. A watched name is in the bytes if its text is, without
+/// regard to the case of ASCII letters. Its text is the name without one dot at its end, and without the `*.` or the dot in front. An empty text is in all bytes.
+///
+/// # Errors
+///
+/// [`Error::OutOfMemory`].
+pub fn in_bytes(bytes: &[u8], list: &WatchList) -> Result<Vec<Found>, Error> {
+    let text = written(0, |out, room, length| {
+        // SAFETY: as in of_certificate.
+        unsafe { sys::wagtenib_names_in_bytes(bytes.as_ptr(), bytes.len(), list.0.as_ptr(), list.0.len(), out, room, length) }
+    })?;
+    Ok(found_names(&text))
+}
+
+/// Reads the watched names that the library found.
+fn found_names(text: &[u8]) -> Vec<Found> {
+    let place = |number| match number {
+        1 => Place::AltName,
+        2 => Place::CommonName,
+        _ => Place::InBytes,
+    };
+    text.chunks_exact(9).map(|one| Found { position: number(one).0, place: place(one[8]) }).collect()
 }

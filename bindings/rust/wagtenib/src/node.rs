@@ -139,16 +139,8 @@ pub fn next(command: Command, outcome: Outcome) -> Command {
     Command::of(&next)
 }
 
-/// The size of a head, and its timestamp in milliseconds since 1970.
-#[derive(Clone, Copy, Debug, PartialEq, Eq)]
-pub struct HeadSize {
-    /// The number of leaves.
-    pub tree_size: u64,
-    /// Milliseconds since 1970.
-    pub timestamp: u64,
-}
-
-/// What a node finds of a log when it starts, beside the lock's text. What is `None` is not there.
+/// What a node finds of a log when it starts, beside the lock's text. What is `None` is not there. The root of a head is compared only if its size and its timestamp
+/// are those of the lock's head.
 #[derive(Clone, Copy, Debug, Default, PartialEq, Eq)]
 pub struct Found {
     /// The newest head that this machine saw.
@@ -156,9 +148,9 @@ pub struct Found {
     /// The last head that was signed.
     pub signed: Option<TreeHead>,
     /// The newest head that is published.
-    pub published: Option<HeadSize>,
+    pub published: Option<TreeHead>,
     /// The newest head that the store lists.
-    pub listed: Option<HeadSize>,
+    pub listed: Option<TreeHead>,
     /// Whether a guard decides what is signed.
     pub guarded: bool,
     /// Whether the store has an object of a log.
@@ -168,17 +160,14 @@ pub struct Found {
 }
 
 impl Found {
-    fn in_c(&self) -> sys::wagtenib_node_found {
-        let flags = [self.seen.is_some(), self.signed.is_some(), self.published.is_some(), self.listed.is_some(), self.guarded, self.has_object, self.creates];
-        let size = |head: Option<HeadSize>| head.map_or((0, 0), |head| (head.tree_size, head.timestamp));
-        let (published, listed) = (size(self.published), size(self.listed));
+    fn in_c(&self, has_lock: bool) -> sys::wagtenib_node_found {
+        let flags = [self.seen.is_some(), self.signed.is_some(), self.published.is_some(), self.listed.is_some(), self.guarded, self.has_object, self.creates, has_lock];
+        let head = |head: Option<TreeHead>| head.map_or_else(Default::default, |head| head.in_c());
         sys::wagtenib_node_found {
-            seen: self.seen.map_or_else(Default::default, |head| head.in_c()),
-            signed_head: self.signed.map_or_else(Default::default, |head| head.in_c()),
-            published_size: published.0,
-            published_timestamp: published.1,
-            listed_size: listed.0,
-            listed_timestamp: listed.1,
+            seen: head(self.seen),
+            signed_head: head(self.signed),
+            published: head(self.published),
+            listed: head(self.listed),
             flags: flags.iter().enumerate().map(|(bit, is_set)| u32::from(*is_set) << bit).sum(),
         }
     }
@@ -202,20 +191,22 @@ pub fn accept(accepted: &TreeHead, head: &TreeHead, proof: &[Hash]) -> Result<()
 /// What a node that starts may do.
 #[derive(Clone, Copy, Debug, PartialEq, Eq)]
 pub enum Start {
-    /// It continues from the lock's text, since no head that it found is later.
+    /// It continues from the lock's text, since no head that it found is later, or has the size and timestamp of the lock's and another root.
     Continues,
     /// It creates the lock of a new log.
     CreatesLock,
 }
 
-/// Decides what a node does when it starts. It must read the lock first and the rest after it. No bytes mean that there is no lock.
+/// Decides what a node does when it starts. It must read the lock first and the rest after it. `None` means that there is no lock. A
+/// lock that exists and has no bytes is refused.
 ///
 /// # Errors
 ///
 /// The first reason why the node must neither continue nor create a lock: [`Error::BadLockText`], [`Error::LockGone`] if there is no lock, or
 /// [`Error::BehindSeen`], [`Error::TwoRoots`] or [`Error::BehindSigned`], [`Error::SignedBehindListed`], [`Error::BehindListed`], [`Error::BehindPublished`].
-pub fn start(lock: &[u8], found: &Found) -> Result<Start, Error> {
-    let found = found.in_c();
+pub fn start(lock: Option<&[u8]>, found: &Found) -> Result<Start, Error> {
+    let found = found.in_c(lock.is_some());
+    let lock = lock.unwrap_or_default();
     // SAFETY: the pointers are those of references that live through the call.
     match result(unsafe { sys::wagtenib_node_start(lock.as_ptr(), lock.len(), &found) }) {
         Ok(()) => Ok(Start::Continues),

@@ -1,7 +1,7 @@
 //! The commands of a node in the order of docs/NODE.md, lock texts, and what a node that starts finds.
 
 use wagtenib::guard::TreeHead;
-use wagtenib::node::{self, Command, Found, HeadSize, Outcome, Start, State};
+use wagtenib::node::{self, Command, Found, Outcome, Start, State};
 use wagtenib::{lock, Error};
 
 const SEEN: State = State { timestamp: 7, previous_timestamp: 5, salt: 1 };
@@ -74,23 +74,26 @@ fn a_node_starts_from_what_it_finds() {
     root[0] = 1;
     let text = lock::lock_text(&line(), "-", 7, 2).unwrap();
     let head = |tree_size, timestamp, root| Some(TreeHead { tree_size, timestamp, root });
-    let at = |tree_size, timestamp| Some(HeadSize { tree_size, timestamp });
+    let at = |tree_size, timestamp| head(tree_size, timestamp, root);
     let none = Found::default();
     for (lock, found, due) in [
-        (&text[..], none, Ok(Start::Continues)),
-        (&text, Found { seen: head(3, 9, root), signed: head(3, 9, root), guarded: true, published: at(3, 9), listed: at(3, 9), ..none }, Ok(Start::Continues)),
-        (&text, Found { seen: head(3, 9, [0; 32]), ..none }, Err(Error::BehindSeen)),
-        (&text, Found { seen: head(4, 8, root), ..none }, Err(Error::BehindSeen)),
-        (&text, Found { signed: head(3, 9, [0; 32]), guarded: true, ..none }, Err(Error::TwoRoots)),
-        (&text, Found { signed: head(3, 10, root), guarded: true, ..none }, Err(Error::BehindSigned)),
-        (&text, Found { signed: head(3, 10, root), ..none }, Ok(Start::Continues)),
-        (&text, Found { listed: at(1, 1), guarded: true, ..none }, Err(Error::SignedBehindListed)),
-        (&text, Found { listed: at(3, 10), ..none }, Err(Error::BehindListed)),
-        (&text, Found { published: at(4, 9), ..none }, Err(Error::BehindPublished)),
-        (&[], Found { creates: true, ..none }, Ok(Start::CreatesLock)),
-        (&[], none, Err(Error::LockGone)),
-        (&[], Found { creates: true, has_object: true, ..none }, Err(Error::LockGone)),
-        (b"a text", Found { creates: true, ..none }, Err(Error::BadLockText)),
+        (Some(&text[..]), none, Ok(Start::Continues)),
+        (Some(&text), Found { seen: head(3, 9, root), signed: head(3, 9, root), guarded: true, published: at(3, 9), listed: at(3, 9), ..none }, Ok(Start::Continues)),
+        (Some(&text), Found { seen: head(3, 9, [0; 32]), ..none }, Err(Error::BehindSeen)),
+        (Some(&text), Found { seen: head(4, 8, root), ..none }, Err(Error::BehindSeen)),
+        (Some(&text), Found { signed: head(3, 9, [0; 32]), guarded: true, ..none }, Err(Error::TwoRoots)),
+        (Some(&text), Found { signed: head(3, 10, root), guarded: true, ..none }, Err(Error::BehindSigned)),
+        (Some(&text), Found { signed: head(3, 10, root), ..none }, Ok(Start::Continues)),
+        (Some(&text), Found { listed: at(1, 1), guarded: true, ..none }, Err(Error::SignedBehindListed)),
+        (Some(&text), Found { listed: at(3, 10), ..none }, Err(Error::BehindListed)),
+        (Some(&text), Found { listed: head(3, 9, [0; 32]), ..none }, Err(Error::BehindListed)),
+        (Some(&text), Found { published: head(3, 9, [0; 32]), ..none }, Err(Error::BehindPublished)),
+        (Some(&text), Found { published: at(4, 9), ..none }, Err(Error::BehindPublished)),
+        (None, Found { creates: true, ..none }, Ok(Start::CreatesLock)),
+        (None, none, Err(Error::LockGone)),
+        (None, Found { creates: true, has_object: true, ..none }, Err(Error::LockGone)),
+        (Some(&[]), Found { creates: true, ..none }, Err(Error::BadLockText)),
+        (Some(b"a text"), Found { creates: true, ..none }, Err(Error::BadLockText)),
     ] {
         assert_eq!(node::start(lock, &found), due, "{found:?}");
     }

@@ -115,6 +115,18 @@ fn names_are_read_and_found() {
 }
 
 #[test]
+fn names_are_found_in_bytes() {
+    let tbs = tbs();
+    let cut = &tbs[..tbs.len() - 1];
+    assert_eq!(names::of_certificate(EntryType::Precert, cut).unwrap_err().error, Error::DerTruncated);
+    let list = WatchList::new(["other.example", "CN.Example", "*.n.EXAMPLE", ".an.exampl.", ""]);
+    let at = |position| Found { position, place: Place::InBytes };
+    assert_eq!(names::in_bytes(cut, &list).unwrap(), [at(1), at(2), at(3), at(4)]);
+    assert_eq!(names::in_bytes(&[], &list).unwrap(), [at(4)]);
+    assert_eq!(names::in_bytes(cut, &WatchList::default()).unwrap(), []);
+}
+
+#[test]
 fn texts_are_those_of_their_formats() {
     let root = hash(ROOTS[8]);
     let checkpoint = Checkpoint { origin: "example.org/log", tree_size: 8, root };

@@ -1,4 +1,4 @@
-use Rattle.std.proofs.Common.{ℕ, List, Option, subst, inl}
+use Rattle.std.proofs.Common.{ℕ, List, Option, subst}
 use Rattle.std.specs.Prelude.{MatchOption}
 use Rattle.sha2.specs.Sha256.{sha256}
 use Rattle.ct_monitor.specs.WatcherState.{WatcherState}
@@ -11,7 +11,7 @@ abbrev IsReadAs : List ℕ → Option WatcherState → Type 0
 IsReadAs bytes o = MatchOption o (IsNoState sha256 bytes) (λ w. IsMonitorState sha256 w bytes)
 
 pub returns-in_default : goal.returns-in_default
-returns-in_default c = inl (subst (IsReadAs c.args.state.now) c.in_default.is c.in_ok-watcher.ensures)
+returns-in_default c = subst (IsReadAs c.args.state.now) c.in_default.is c.in_ok-watcher.ensures
 
 pub returns : goal.returns
 returns c =

@@ -1,11 +1,12 @@
 use Rattle.std.proofs.Common.{subst}
 use Rattle.std.specs.Prelude.{IfOk, MatchOption}
 use Rattle.sha2.specs.Sha256.{sha256}
-use Rattle.ct_monitor_calls.specs.Calls.{a_head, IsMonitorAnswer, RefusesState}
+use Rattle.ct_monitor_calls.specs.Calls.{a_head, IsMonitorAnswer}
+use Rattle.ct_monitor_calls.specs.StateText.{IsNoState}
 use Rattle.ct_tree.specs.declared.head.Head.{Head}
 use Rattle.libwagtenib.proofs.monitor.answer_to_head.Goals as goal
 
 pub returns : goal.returns
 returns c =
-    subst (λ (h : Head). IfOk c.take_head.result (λ o. MatchOption o (RefusesState sha256 c.args.state.now (a_head h)) (λ a. IsMonitorAnswer sha256 c.args.state.now (a_head h) a)))
+    subst (λ (h : Head). IfOk c.take_head.result (λ o. MatchOption o (IsNoState sha256 c.args.state.now) (λ a. IsMonitorAnswer sha256 c.args.state.now (a_head h) a)))
     c.head_of.ensures c.take_head.ensures

@@ -1,12 +1,13 @@
 use Rattle.std.proofs.Common.{Option, inl, inr, subst}
 use Rattle.std.specs.Prelude.{MatchOption}
 use Rattle.sha2.specs.Sha256.{sha256}
-use Rattle.ct_monitor_calls.specs.Calls.{a_proof, IsMonitorAnswer, RefusesState}
+use Rattle.ct_monitor_calls.specs.Calls.{a_proof, IsMonitorAnswer}
+use Rattle.ct_monitor_calls.specs.StateText.{IsNoState}
 use Rattle.ct_monitor_calls.specs.declared.answer.Answer.{Answer}
 use Rattle.libwagtenib.proofs.monitor.wagtenib_monitor_proof.Goals as goal
 
 pub returns-in-Ok-Some : goal.returns-in-Ok-Some
 returns-in-Ok-Some c =
-    let is = subst (λ (o : Option Answer). MatchOption o (RefusesState sha256 c.args.state.now (a_proof c.args.path.now)) (λ a. IsMonitorAnswer sha256 c.args.state.now (a_proof c.args.path.now) a))
+    let is = subst (λ (o : Option Answer). MatchOption o (IsNoState sha256 c.args.state.now) (λ a. IsMonitorAnswer sha256 c.args.state.now (a_proof c.args.path.now) a))
     c.in-Ok-Some.field-0-is c.in-Ok-Some.ensures in
     inr (inl (c.in-Ok-Some.answer, is, c.give.ensures))

@@ -1,24 +1,19 @@
-use Rattle.std.proofs.Common.{◌≡◌, ◌∙◌, ◌-◌, ◌<◌, List, length, map, ap, subst, arith}
+use Rattle.std.proofs.Common.{◌≡◌, ◌∙◌, ◌-◌, ◌<◌, List, length, ap, subst, arith}
 use Rattle.std.proofs.lemmas.List.{length-map}
-use Rattle.ct_data_tiles.specs.TileLeaf.{Tiled, leaf_of}
+use Rattle.ct_data_tiles.specs.TileLeaf.{Tiled}
 use Rattle.ct_data_tiles.specs.Lent.{tiled}
 use Rattle.ct_data_tiles.specs.DataTile.{tiled_all}
 use Rattle.ct_data_tiles.specs.Entries.{first_entry, IsFirstWrong}
-use Rattle.ct_data_tiles.proofs.LeafByLeaf.{each_behind, behind, few_behind, damaged_by}
-use Rattle.ct_data_tiles.proofs.entries.entries_of_bytes.Goals as goal
+use Rattle.ct_data_tiles.proofs.LeafByLeaf.{behind, few_behind, damaged_by}
+use Rattle.ct_data_tiles.proofs.entries.compare_bytes.Goals as goal
 
 pub returns-in-Err : goal.returns-in-Err
 returns-in-Err c = λ name named.
     damaged_by c.args.next name c.args.bytes.now c.args.tile c.in-Err.fault c.in_ok-damage-in-Err.damage c.in_ok-damage-in-Err.ensures c.in-Err.ensures.fault named
     c.requires.has
 
-pub inputs_of-requires : goal.inputs_of-requires
-inputs_of-requires c =
-    each_behind (length c.deref.result.now - c.args.place) c.args.place c.deref.result.now c.in-Ok.leaves.items c.deref.ensures.value
-    c.in-Ok.ensures.found.leaves
-
-pub first_wrong-requires : goal.first_wrong-requires
-first_wrong-requires c =
+pub first_wrong-wrong-requires : goal.first_wrong-wrong-requires
+first_wrong-wrong-requires c =
     let part = c.deref.result.now in
     let count : length part ≡ c.args.tile.width = ap length c.deref.ensures.value ∙ omega (arith, c.len-count.ensures, c.if-count-tile.false) in
     let inside : c.args.place < c.args.tile.width = omega (arith, c.requires.has.1, c.requires.place) in
@@ -36,8 +31,5 @@ returns c = λ name named.
       c.requires.has,
       c.in-Ok.ensures.found,
       length-map leaves tiled ∙ count,
-      record {
-        leaves = c.in_ok-inputs.ensures ∙ ap (map leaf_of) same;
-        wrong_index = subst (λ (L : List Tiled). IsFirstWrong c.args.next L c.first_wrong.result) same c.first_wrong.ensures;
-      },
+      subst (λ (L : List Tiled). IsFirstWrong c.args.next L c.first_wrong-wrong.result) same c.first_wrong-wrong.ensures,
     )
