@@ -1,6 +1,6 @@
 // Command ctcheck judges a log from what it published in a folder or a bucket: ctcheck FOLDER|s3://.. KEY.PEM
-// [ANSWERS..]. KEY.PEM has the log's public key; a file of answers has a JSON object a line, as check.Answer has it. It
-// says what it saw, or what is wrong, with status 1.
+// [ANSWERS..]. KEY.PEM has the log's public key. A file of answers is one that ctload --answers wrote: each line is a
+// JSON object, as check.Answer has it. It says what it saw, or what is wrong, with status 1.
 //
 // ctcheck evidence FOLDER KEY.PEM judges the evidence against a log that a monitor kept in a folder. It prints what the
 // files show, and what must be believed beside them. The status is 1 if they do not show what evidence.json says.
@@ -20,13 +20,50 @@ import (
 	"wagtenib/internal/version"
 )
 
+const (
+	usage = "ctcheck FOLDER|s3://.. KEY.PEM [ANSWERS..]\nctcheck evidence FOLDER KEY.PEM\n"
+	page  = `ctcheck FOLDER|s3://.. KEY.PEM [ANSWERS..]
+
+Judges a log from what it published. It prints what it saw, or what is wrong, with status 1.
+
+  FOLDER|s3://..  the log's objects: FOLDER/objects of the log's folder, a copy of it, or the address of its bucket
+  KEY.PEM         the file with the log's public key in PEM
+  ANSWERS         a file that ctload --answers wrote. Each timestamp in it must be the log's, and have its entry
+
+ctcheck evidence FOLDER KEY.PEM
+
+Judges evidence against a log. It prints what the files show, and what must be believed beside them. The status is 1 if
+they do not show what evidence.json says.
+
+  FOLDER          the folder with the files that ctwatch evidence or ctwatch --evidence wrote
+  KEY.PEM         the file with the log's public key in PEM, from a log list and not from FOLDER
+
+ctcheck --version prints the version. ctwatch audit --sct judges a single answer of add-chain.
+`
+)
+
+// asksForHelp reports whether the arguments of the command line, or those after evidence, ask for the page.
+func asksForHelp(words []string) bool {
+	if len(words) > 1 && words[0] == "evidence" {
+		words = words[1:]
+	}
+	if len(words) == 0 {
+		return false
+	}
+	return words[0] == "help" || words[0] == "--help" || words[0] == "-help" || words[0] == "-h"
+}
+
 func main() {
 	if version.Asked(os.Args[1:]) {
 		fmt.Print(version.Line("ctcheck"))
 		return
 	}
+	if asksForHelp(os.Args[1:]) {
+		fmt.Print(page)
+		return
+	}
 	if len(os.Args) < 3 {
-		fmt.Fprintln(os.Stderr, "ctcheck FOLDER|s3://.. KEY.PEM [ANSWERS..]\nctcheck evidence FOLDER KEY.PEM")
+		fmt.Fprint(os.Stderr, usage+"ctcheck --help says what each argument is.\n")
 		os.Exit(2)
 	}
 	if len(os.Args) == 4 && os.Args[1] == "evidence" {
@@ -121,12 +158,36 @@ func readAnswers(name string, answers []check.Answer) ([]check.Answer, error) {
 	defer file.Close()
 	lines := bufio.NewScanner(file)
 	lines.Buffer(nil, maxLine)
-	for lines.Scan() {
+	for number := 1; lines.Scan(); number++ {
 		var a check.Answer
-		if err := json.Unmarshal(lines.Bytes(), &a); err != nil {
-			return nil, fmt.Errorf("ctcheck: %s: %w", name, err)
+		var fields map[string]json.RawMessage
+		err := json.Unmarshal(lines.Bytes(), &a)
+		if err == nil {
+			err = json.Unmarshal(lines.Bytes(), &fields)
+		}
+		if err != nil {
+			return nil, fmt.Errorf("ctcheck: %s: not an answers file of ctload: line %d: %w", name, number, err)
+		}
+		if field := missing(fields); field != "" {
+			return nil, fmt.Errorf("ctcheck: %s: not an answers file of ctload: line %d has no field %s "+
+				"(ctwatch audit --sct judges an answer of add-chain)", name, number, field)
 		}
 		answers = append(answers, a)
 	}
 	return answers, lines.Err()
+}
+
+// missing returns the name of a field of check.Answer that a line lacks, or nothing. The line of a precertificate has
+// issuer_key_hash and tbs_certificate, and the line of a certificate has certificate.
+func missing(fields map[string]json.RawMessage) string {
+	names := []string{"log_id", "timestamp", "extensions", "signature", "certificate"}
+	if fields["issuer_key_hash"] != nil || fields["tbs_certificate"] != nil {
+		names = append(names[:4:4], "issuer_key_hash", "tbs_certificate")
+	}
+	for _, name := range names {
+		if fields[name] == nil {
+			return name
+		}
+	}
+	return ""
 }

@@ -119,10 +119,11 @@ func TestJudge(t *testing.T) {
 	if _, err := judge(l.folder, l.key, []string{long}); err == nil || !strings.Contains(err.Error(), "too long") {
 		t.Errorf("a line that is too long: %v", err)
 	}
-	for _, text := range []string{"x\n", "[]\n", `{"timestamp":"7"}` + "\n"} {
+	for _, text := range []string{"x\n", "[]\n", `{"timestamp":"7"}` + "\n", "null\n", "{\n}\n"} {
 		path := filepath.Join(t.TempDir(), "answers")
 		must(t, os.WriteFile(path, []byte(text), 0o600))
-		if _, err := judge(l.folder, l.key, []string{path}); err == nil || !strings.Contains(err.Error(), path) {
+		if _, err := judge(l.folder, l.key, []string{path}); err == nil ||
+			!strings.Contains(err.Error(), path+": not an answers file of ctload: line 1") {
 			t.Errorf("%q: %v", text, err)
 		}
 	}
@@ -134,6 +135,64 @@ func TestJudge(t *testing.T) {
 		}
 		if _, err := judge(of[0], of[1], files); !errors.Is(err, os.ErrNotExist) {
 			t.Errorf("%q: %v", of, err)
+		}
+	}
+}
+
+// TestRefusesOtherAnswers: a plain answer of add-chain is no line of an answers file, and neither is a line that lacks
+// one field. The error names the file, the line and the field.
+func TestRefusesOtherAnswers(t *testing.T) {
+	l := newLog(t)
+	refused := func(what, text, due string) {
+		t.Helper()
+		path := file(t, l.answer)
+		whole, err := os.ReadFile(path)
+		must(t, err)
+		must(t, os.WriteFile(path, append(whole, text+"\n"...), 0o600))
+		due = path + ": not an answers file of ctload: line 2 has no field " + due + " "
+		if _, err := judge(l.folder, l.key, []string{path}); err == nil || !strings.Contains(err.Error(), due) {
+			t.Errorf("%s: %v, and not %q", what, err, due)
+		}
+	}
+	in := base64.StdEncoding.EncodeToString
+	refused("an answer of add-chain", fmt.Sprintf(`{"sct_version":0,"id":%q,"timestamp":%d,"extensions":%q,"signature":%q}`,
+		in(l.answer.LogID), l.answer.Timestamp, in(l.answer.Extensions), in(l.answer.Signature)), "log_id")
+	precertificate := l.answer
+	precertificate.Certificate, precertificate.IssuerKeyHash, precertificate.TBSCertificate = nil, make([]byte, 32), []byte{1}
+	for _, of := range []struct {
+		answer check.Answer
+		names  []string
+	}{
+		{l.answer, []string{"log_id", "timestamp", "extensions", "signature", "certificate"}},
+		{precertificate, []string{"log_id", "timestamp", "extensions", "signature", "issuer_key_hash", "tbs_certificate"}},
+	} {
+		for _, name := range of.names {
+			line, err := json.Marshal(of.answer)
+			must(t, err)
+			var fields map[string]json.RawMessage
+			must(t, json.Unmarshal(line, &fields))
+			if len(fields) != len(of.names) || fields[name] == nil {
+				t.Fatalf("an answer has %d fields, and %s is one", len(fields), name)
+			}
+			delete(fields, name)
+			line, err = json.Marshal(fields)
+			must(t, err)
+			refused("an answer without "+name, string(line), name)
+		}
+	}
+}
+
+// TestHelp: a request for help prints what each argument is on standard output, with status 0.
+func TestHelp(t *testing.T) {
+	for _, words := range [][]string{{"--help"}, {"-h"}, {"help"}, {"evidence", "--help"}} {
+		status, out, problem := trial.Runs(t, words...)
+		if status != 0 || problem != "" {
+			t.Errorf("%q: status %d and %q", words, status, problem)
+		}
+		for _, due := range []string{"\n  FOLDER|s3://.. ", "\n  KEY.PEM ", "\n  ANSWERS ", "\n  FOLDER "} {
+			if !strings.Contains(out, due) {
+				t.Errorf("%q: there is no %q in %q", words, due, out)
+			}
 		}
 	}
 }

@@ -73,11 +73,7 @@ func runAudit(words []string, answers, faults io.Writer) error {
 	flags := commandFlags("audit", auditPage, faults)
 	var given auditFlags
 	given.add(flags)
-	// (the address may be before the flags, as the page has it)
-	if len(words) > 0 && !strings.HasPrefix(words[0], "-") {
-		words = append(append([]string{}, words[1:]...), words[0])
-	}
-	if err := parseFlags(flags, words, 1); err != nil {
+	if err := parseFlags(flags, addressLast(words), 1); err != nil {
 		return err
 	}
 	options, err := given.options(flags.Arg(0))
@@ -101,6 +97,14 @@ func runAudit(words []string, answers, faults io.Writer) error {
 		return fmt.Errorf("%w: %s", errAudit, strings.Join(report.FailedChecks(), ", "))
 	}
 	return nil
+}
+
+// addressLast puts the address after the flags. It may be before them, as the pages have it.
+func addressLast(words []string) []string {
+	if len(words) > 0 && !strings.HasPrefix(words[0], "-") {
+		return append(append([]string{}, words[1:]...), words[0])
+	}
+	return words
 }
 
 // write writes the report into its two files.
@@ -141,7 +145,7 @@ func (a *auditFlags) options(address string) (options probe.Options, err error) 
 	if options.Submitter, err = a.submitter(); err != nil {
 		return options, err
 	}
-	if options.Client, err = a.client(); err != nil {
+	if options.Client, err = clientOptions("ctserve-audit", a.ca, a.contact); err != nil {
 		return options, err
 	}
 	if a.roots != "" {
@@ -200,20 +204,20 @@ func asSubmitter[S probe.Submitter](of S, err error) (probe.Submitter, error) {
 	return of, nil
 }
 
-// client returns how the requests are made.
-func (a *auditFlags) client() (options logclient.Options, err error) {
-	if options.UserAgent, err = logclient.UserAgent("ctserve-audit", version.Number(), a.contact); err != nil {
+// clientOptions returns how the requests of a command are made.
+func clientOptions(command, ca, contact string) (options logclient.Options, err error) {
+	if options.UserAgent, err = logclient.UserAgent(command, version.Number(), contact); err != nil {
 		return options, fmt.Errorf("--contact: %w", err)
 	}
 	transport := http.DefaultTransport.(*http.Transport).Clone()
-	if a.ca != "" {
-		text, err := os.ReadFile(a.ca)
+	if ca != "" {
+		text, err := os.ReadFile(ca)
 		if err != nil {
 			return options, fmt.Errorf("--ca-file: %w", err)
 		}
 		pool := x509.NewCertPool()
 		if !pool.AppendCertsFromPEM(text) {
-			return options, fmt.Errorf("--ca-file %s has no certificate in PEM", a.ca)
+			return options, fmt.Errorf("--ca-file %s has no certificate in PEM", ca)
 		}
 		transport.TLSClientConfig = &tls.Config{RootCAs: pool}
 	}

@@ -35,6 +35,8 @@ var commands = map[string]func(words []string, answers, faults io.Writer) error{
 	"index":      runIndex,
 	"clock":      runClock,
 	"audit":      runAudit,
+	"archive":    runArchive,
+	"roots":      runRoots,
 }
 
 // runCommand does one of the commands, and gives the status: 0 where it is done, 1 where it isn't, 2 where the words aren't ones.
@@ -209,7 +211,11 @@ func aboutOf(s *settings, public []byte) (web.About, error) {
 		Version string `json:"version"`
 		Notice  string `json:"notice,omitempty"`
 	}{entryOf(s, public), version.Number() + " (commit " + version.Commit() + ")", s.notice}, "", "  ")
-	return web.About{Key: public, Entry: append(entry, '\n'), MaxMergeDelay: s.node.maxMergeDelay}, err
+	about := web.About{Key: public, Entry: append(entry, '\n'), MaxMergeDelay: s.node.maxMergeDelay}
+	if s.node.archive != "" {
+		about.MaxMergeDelay = 0
+	}
+	return about, err
 }
 
 // publicKey is the log's, out of a file or of its signing key.
@@ -262,6 +268,11 @@ func runCheck(words []string, answers, faults io.Writer) error {
 		fmt.Fprintf(answers, "%-16s %s\n", of, said)
 	}
 	look("origin", s.node.origin, nil)
+	if s.node.archive != "" {
+		said, err := checkArchive(s.node)
+		look("archive", said, err)
+		return wrongSettings(wrong)
+	}
 	if s.node.signerAt != "" {
 		_, err := os.Stat(s.node.signerAt)
 		look("signer-socket", s.node.signerAt, err)
@@ -312,8 +323,13 @@ func runCheck(words []string, answers, faults io.Writer) error {
 	if about, err := os.Stat(s.node.folder); err == nil && !about.IsDir() {
 		look("folder", "", fmt.Errorf("%s is not a folder (name a folder, or a path that does not exist yet)", s.node.folder))
 	}
-	if wrong > 0 {
-		return fmt.Errorf("%d settings are wrong", wrong)
+	return wrongSettings(wrong)
+}
+
+// wrongSettings returns the error of so many wrong settings, and nil for none.
+func wrongSettings(count int) error {
+	if count > 0 {
+		return fmt.Errorf("%d settings are wrong", count)
 	}
 	return nil
 }

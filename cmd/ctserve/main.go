@@ -4,8 +4,8 @@
 // submissions, publishes, answers the waiting requests, and exits with status 0, or with 1 if this takes too long. A
 // second signal ends it at once. A process of its own has the key: `ctserve signer`, which ctserve starts, or finds at
 // a socket. `ctserve key`, `check` and `list-entry` create a key, check settings, and write the entry of a log list.
-// `index` builds a log's deduplication index again from its tiles, `clock` confirms the day, and `audit` looks at a log
-// from outside.
+// `index` builds a log's deduplication index again from its tiles, `clock` confirms the day, `audit` looks at a log from
+// outside, `roots` writes the roots of CCADB's tables, and `archive` makes an archive of another log.
 package main
 
 import (
@@ -79,6 +79,9 @@ func run(words []string, to io.Writer, open opener) int {
 	if status, ends := settingsfile.Ends(err, to); ends {
 		return status
 	}
+	if s.node.archive != "" {
+		open = openArchive
+	}
 	surviveReader()
 	signals := make(chan os.Signal, 4)
 	signal.Notify(signals, syscall.SIGHUP, syscall.SIGTERM, syscall.SIGINT)
@@ -109,7 +112,7 @@ type served struct {
 }
 
 func serveLog(s *settings, lines *web.Lines, signals <-chan os.Signal, open opener) (err error) {
-	roots, err := s.roots.Load()
+	roots, err := s.loadRoots()
 	if err != nil {
 		return err
 	}
@@ -198,6 +201,10 @@ func putEntry(s *settings, of *opened, entry []byte) error {
 	return of.putEntry(ctx, entry)
 }
 
+// lookForHead is how often awaitHead looks. Each look is a request to the store, and a node makes its first round a second
+// after its start at the latest.
+const lookForHead = 100 * time.Millisecond
+
 // awaitHead waits for the first head of a log, for as long as a reading may take.
 func awaitHead(s *settings, of log.Log) {
 	ctx, cancel := context.WithTimeout(context.Background(), s.limits.Reading)
@@ -207,7 +214,7 @@ func awaitHead(s *settings, of log.Log) {
 			return
 		}
 		select {
-		case <-time.After(10 * time.Millisecond):
+		case <-time.After(lookForHead):
 		case <-ctx.Done():
 			return
 		}
@@ -269,10 +276,12 @@ func reload(s *settings, front *web.Front, checker *chains.Checker, certificates
 		}
 		lines.Info("reload", append([]any{"of", of}, more...)...)
 	}
-	added, removed, err := checker.Reload(s.roots)
-	reloaded("roots", err, "roots", len(checker.Roots().Certificates()), "added", added, "removed", removed)
-	if err == nil {
-		tellLeftOut(checker.Roots(), lines)
+	if s.node.archive == "" {
+		added, removed, err := checker.Reload(s.roots)
+		reloaded("roots", err, "roots", len(checker.Roots().Certificates()), "added", added, "removed", removed)
+		if err == nil {
+			tellLeftOut(checker.Roots(), lines)
+		}
 	}
 	for at, name := range []string{"certificate", "nodes-certificate"} {
 		if certificates[at] != nil {

@@ -42,9 +42,11 @@ type settings struct {
 type node struct {
 	origin, signingKey string
 	// guard is whether the signer has a guard. nil means that no setting says so, and then it has one.
-	guard                            *bool
-	guardState, signerAt             string
-	folder, store, register, places  string
+	guard                           *bool
+	guardState, signerAt            string
+	folder, store, register, places string
+	// archive is the folder of an archive that is served in place of a log. It is empty for a log.
+	archive                          string
 	latestHead, namedDay             string
 	maxSkew                          time.Duration
 	synchronized                     bool
@@ -81,7 +83,9 @@ Other commands, each with --help:
   ctserve list-entry        writes the log's entry for a log list
   ctserve index FILE        builds the deduplication index again from the tiles
   ctserve clock FILE DAY    says which day it is, if only the machine's clock says so
-  ctserve audit URL         looks at a log from outside, as a browser programme's monitor does`
+  ctserve audit URL         looks at a log from outside, as a browser programme's monitor does
+  ctserve roots TABLE..     writes the roots of CCADB's tables into the folder of roots
+  ctserve archive URL       makes an archive of a log of RFC 6962 that ends`
 
 // parse reads the command line, and the file that it names. If both have a setting, the command line counts.
 func parse(words []string, help io.Writer) (*settings, error) {
@@ -158,6 +162,7 @@ func (n *node) storeFlags(flags *flag.FlagSet) {
 	flags.StringVar(&n.store, "store", "", "`address` of the objects: folder:PATH, s3://HOST/BUCKET")
 	flags.StringVar(&n.register, "lock", "", "`address` of the lock, which has the log's newest state: file:PATH, etcd://HOST:PORT/PREFIX, postgres://HOST/DATABASE?log=NAME")
 	flags.StringVar(&n.places, "index", "", "`address` of the deduplication index: sqlite:PATH, postgres://HOST/DATABASE?log=NAME")
+	flags.StringVar(&n.archive, "archive", "", "`folder` of an archive of another log (ctserve archive --help), which is served read-only. The archive has the log's key, origin and last head, so it replaces these settings and the stores")
 	flags.StringVar(&n.latestHead, "latest-head", "", "`file` with the latest tree head that this node saw. A log that is older is refused. It must be on this machine, and in no backup of the stores (default FOLDER.latest-head, beside the folder)")
 	flags.BoolVar(&n.isPublic, "public-store", false, "have the log read from the store itself (a bucket or folder behind a web server or CDN): also write checkpoint and log.v3.json there, and compress data tiles in S3. All nodes must have the same value")
 	flags.BoolVar(&n.create, "create", false, "create the log if there is none. Without it, ctserve does not start with an empty lock")
@@ -202,8 +207,11 @@ func (n *node) witnessFlags(flags *flag.FlagSet) {
 // settle checks which settings need one another, and fills in the defaults that follow from others.
 func (s *settings) settle() error {
 	n, l := &s.node, &s.limits
+	if err := s.settleArchive(); err != nil {
+		return err
+	}
 	for _, needed := range []struct{ name, value string }{{"roots", strings.Join(s.roots.Paths, "")}, {"origin", n.origin}, {"signing-key or --signer-socket", n.signingKey + n.signerAt}} {
-		if needed.value == "" {
+		if needed.value == "" && n.archive == "" {
 			return fmt.Errorf("--%s is missing", needed.name)
 		}
 	}
@@ -225,7 +233,7 @@ func (s *settings) settle() error {
 	if (s.certificate == "") != (s.key == "") {
 		return errors.New("--tls-certificate and --tls-key need each other")
 	}
-	s.rules.ServerAuthentication = !s.anyPurpose
+	s.rules.ServerAuthentication, s.roots.AnyPurpose = !s.anyPurpose, s.anyPurpose
 	if window := s.rules.Window; !window.From.IsZero() && !window.To.IsZero() && !window.From.Before(window.To) {
 		return errors.New("--not-after-start must be before --not-after-limit")
 	}

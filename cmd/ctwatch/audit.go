@@ -57,7 +57,9 @@ func (s *auditSettings) client() (logclient.Options, error) {
 	if err != nil {
 		return logclient.Options{}, fmt.Errorf("%w: --contact: %w", errUsage, err)
 	}
-	return logclient.Options{UserAgent: agent}, nil
+	return logclient.Options{UserAgent: agent, Retrying: firstOfEach(func(address string, fault error) {
+		fmt.Fprintf(os.Stderr, "ctwatch: %s: %s (it is tried again)\n", alert.Safe(address), alert.Safe(fault.Error()))
+	})}, nil
 }
 
 // readLogs returns the logs that are asked: those of --log, and all of the list in any state, since a certificate can

@@ -92,6 +92,19 @@ func TestReadsAFileOfSettings(t *testing.T) {
 	}
 }
 
+// TestSaysWhatToWriteInTheFile: a flag without its value, and a duration in words, are refused with what to write.
+func TestSaysWhatToWriteInTheFile(t *testing.T) {
+	path := filepath.Join(t.TempDir(), "settings")
+	for line, remedy := range map[string]string{"from-start": "write from-start true", "quiet yes": "write quiet true",
+		"pause 2 seconds": "a duration such as 2s", "silent-after": "a duration such as 2s"} {
+		must(t, os.WriteFile(path, []byte("name example.org\n"+line+"\n"), 0o600))
+		status, _, faults := ctwatch(t, "run", "--config", path)
+		if status != statusUsage || !strings.Contains(faults, "line 2") || !strings.Contains(faults, remedy) {
+			t.Errorf("%s: status %d: %s", line, status, faults)
+		}
+	}
+}
+
 // TestChecksWatchLists: names prints what each name covers, also of a list of certspotter, where no dot is an exact
 // name.
 func TestChecksWatchLists(t *testing.T) {
@@ -157,7 +170,7 @@ func stored(t *testing.T, hosts ...string) *watchstore.Store {
 // ask asks the page.
 func ask(store *watchstore.Store, path string) *httptest.ResponseRecorder {
 	answer := httptest.NewRecorder()
-	pageHandler(store, nil).ServeHTTP(answer, httptest.NewRequest(http.MethodGet, path, nil))
+	pageHandler(store, &listStatus{}, nil).ServeHTTP(answer, httptest.NewRequest(http.MethodGet, path, nil))
 	return answer
 }
 

@@ -58,7 +58,9 @@ func healthStatus(health watchstore.Health, silent time.Duration) error {
 	case health.Evidence > 0:
 		return &statusError{statusAccused,
 			"ctwatch: there is evidence against a log (ctwatch evidence NUMBER FOLDER writes its files)"}
-	case health.Logs == 0 || time.Since(health.Reported) > silent:
+	case health.Logs == 0:
+		return &statusError{statusUnread, "ctwatch: no log is watched yet (the lines of ctwatch run say why)"}
+	case time.Since(health.Reported) > silent:
 		return &statusError{statusUnread, fmt.Sprintf("ctwatch: no log was read for %v (is ctwatch run at work?)",
 			silent)}
 	case len(health.Silent) > 0:

@@ -13,6 +13,7 @@ import (
 	"sync"
 	"time"
 
+	"wagtenib/internal/alert"
 	"wagtenib/internal/logclient"
 	"wagtenib/internal/loglist"
 	"wagtenib/internal/version"
@@ -98,6 +99,7 @@ type listStatus struct {
 	since   time.Time // when it was read last, or when ctwatch began
 	alerted time.Time // when an alert was stored last
 	fault   error     // why it cannot be read; nil if it can
+	needed  bool      // a list is followed, and it was never read
 }
 
 // report takes what came of a reading of the list.
@@ -106,8 +108,21 @@ func (l *listStatus) report(now time.Time, fault error) {
 	defer l.mutex.Unlock()
 	l.fault = fault
 	if fault == nil {
-		l.since, l.alerted = now, time.Time{}
+		l.since, l.alerted, l.needed = now, time.Time{}, false
 	}
+}
+
+// unread returns why there is no log yet, if there is none.
+func (l *listStatus) unread() string {
+	l.mutex.Lock()
+	defer l.mutex.Unlock()
+	switch {
+	case !l.needed:
+		return "no log was read yet"
+	case l.fault == nil:
+		return "the log list was not read yet"
+	}
+	return "the log list was not read yet: " + alert.Safe(l.fault.Error())
 }
 
 // silence returns the reason for an alert if the list could not be read for so long, and there was no alert for as
@@ -132,14 +147,45 @@ func newFollower(of logSettings, keeper watch.Keeper, lines *web.Lines) (*follow
 	if err != nil {
 		return nil, err
 	}
+	if of.once {
+		client.Retrying = firstOfEach(func(address string, fault error) {
+			lines.Warn("retry", "address", address, "fault", fault, "next", "it is tried again")
+		})
+	}
 	f := &follower{of: of, lines: lines, listed: listStatus{since: time.Now()}}
 	f.group = watch.NewGroup(keeper, watch.Options{FromStart: of.fromStart, Pause: of.pause, Client: client,
 		Policy: policy, Mirror: mirrors(of.mirror, client)})
 	if of.list == "" {
 		return f, nil
 	}
+	f.listed.needed = true
+	if !of.once {
+		client.Retrying = f.retryList
+	}
 	f.list = &loglist.Source{Place: of.list, Key: of.listKey, Client: client}
 	return f, nil
+}
+
+// firstOfEach returns what calls report for the first failed attempt at each host. Several goroutines may call it.
+func firstOfEach(report func(address string, fault error)) func(string, error) {
+	var mutex sync.Mutex
+	seen := map[string]bool{}
+	return func(address string, fault error) {
+		_, host, _ := strings.Cut(address, "://")
+		host, _, _ = strings.Cut(host, "/")
+		mutex.Lock()
+		defer mutex.Unlock()
+		if !seen[host] {
+			seen[host] = true
+			report(address, fault)
+		}
+	}
+}
+
+// retryList reports that an attempt to read the log list failed, and that there will be another one.
+func (f *follower) retryList(address string, fault error) {
+	f.listed.report(time.Now(), fault)
+	f.lines.Error("log-list", "address", address, "fault", fault, "next", "it is tried again")
 }
 
 // run follows the logs until the context ends.
@@ -161,7 +207,7 @@ func (f *follower) run(ctx context.Context) {
 				f.listed.report(time.Now(), err)
 				return
 			}
-			f.lines.Info("log-list", "logs", len(logs), "of", list.Time.Format(time.RFC3339))
+			f.lines.Info("log-list", "logs", len(logs), "list", f.of.list, "of", list.Time.Format(time.RFC3339))
 			f.group.Follow(ctx, logs)
 			f.listed.report(time.Now(), nil)
 		}, func(err error) {

@@ -56,7 +56,7 @@ type pageServer struct {
 }
 
 // listen serves the page at the address of the settings. If there is none, nothing is served.
-func listen(of serveSettings, store *watchstore.Store, lines *web.Lines) (*pageServer, error) {
+func listen(of serveSettings, store *watchstore.Store, listed *listStatus, lines *web.Lines) (*pageServer, error) {
 	if of.listen == "" {
 		return &pageServer{}, nil
 	}
@@ -65,7 +65,7 @@ func listen(of serveSettings, store *watchstore.Store, lines *web.Lines) (*pageS
 		return nil, fmt.Errorf("%w (write another --listen, or --listen '' for no page)", err)
 	}
 	p := &pageServer{listener: listener, failed: make(chan error, 1)}
-	p.server = &http.Server{Handler: pageHandler(store, lines), ReadTimeout: pageTime, WriteTimeout: pageTime,
+	p.server = &http.Server{Handler: pageHandler(store, listed, lines), ReadTimeout: pageTime, WriteTimeout: pageTime,
 		IdleTimeout: pageTime, MaxHeaderBytes: maxHeader}
 	go func() { p.failed <- p.server.Serve(listener) }()
 	return p, nil
@@ -94,8 +94,8 @@ func (p *pageServer) close() error {
 }
 
 // pageHandler returns the handler of the page, of metrics and of health.
-func pageHandler(store *watchstore.Store, lines *web.Lines) http.Handler {
-	h := &pages{store, lines}
+func pageHandler(store *watchstore.Store, listed *listStatus, lines *web.Lines) http.Handler {
+	h := &pages{store, listed, lines}
 	mux := http.NewServeMux()
 	mux.HandleFunc("GET /{$}", h.search)
 	mux.HandleFunc("GET /logs", h.logs)
@@ -121,8 +121,9 @@ func pageHandler(store *watchstore.Store, lines *web.Lines) http.Handler {
 
 // pages are the handlers of the page.
 type pages struct {
-	store *watchstore.Store
-	lines *web.Lines
+	store  *watchstore.Store
+	listed *listStatus
+	lines  *web.Lines
 }
 
 // content is what the template shows.
@@ -221,13 +222,14 @@ func (h *pages) certificate(w http.ResponseWriter, r *http.Request) {
 	h.write(w, pem.EncodeToMemory(&pem.Block{Type: "CERTIFICATE", Bytes: der}))
 }
 
-// health answers a line, and 503 if a log is silent for a day or alerts cannot be sent.
+// health answers a line, and 503 if no log is known yet, a log is silent for a day or alerts cannot be sent.
 func (h *pages) health(w http.ResponseWriter, _ *http.Request) {
 	health, err := h.store.Health(24 * time.Hour)
+	health.Unread = h.listed.unread()
 	switch {
 	case err != nil:
 		http.Error(w, "the store cannot be read", http.StatusInternalServerError)
-	case len(health.Silent) > 0 || len(health.Outputs) > 0:
+	case health.Logs == 0 || len(health.Silent) > 0 || len(health.Outputs) > 0:
 		http.Error(w, health.String(), http.StatusServiceUnavailable)
 	default:
 		h.write(w, []byte(health.String()+"\n"))

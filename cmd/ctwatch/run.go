@@ -162,7 +162,7 @@ func (w *watching) register() error {
 
 // serve follows logs, sends alerts and serves the page until the context ends.
 func (w *watching) serve(ctx context.Context) error {
-	page, err := listen(w.settings.serve, w.store, w.lines)
+	page, err := listen(w.settings.serve, w.store, &w.follower.listed, w.lines)
 	if err != nil {
 		return err
 	}
@@ -181,7 +181,8 @@ func (w *watching) serve(ctx context.Context) error {
 		defer running.Done()
 		w.look(sending)
 	}()
-	w.lines.Info("watching", "names", len(w.settings.names), "folder", w.settings.folder, "page", page.address())
+	w.lines.Info("watching", "names", len(w.settings.names), "logs", len(w.settings.logs.only), "list",
+		w.settings.logs.list, "folder", w.settings.folder, "page", page.address())
 	// Without systemd there is no socket, and nothing is sent.
 	_, _ = daemon.SdNotify(false, daemon.SdNotifyReady)
 	w.follower.run(ctx)
@@ -234,6 +235,7 @@ func (w *watching) look(ctx context.Context) {
 			}
 		}
 		if health, err := w.store.Health(w.settings.silent); err == nil {
+			health.Unread = w.follower.listed.unread()
 			// Without systemd there is no socket, and nothing is sent.
 			_, _ = daemon.SdNotify(false, "STATUS="+health.String())
 		}

@@ -101,6 +101,7 @@ func printEntry(log watch.Log, entry watch.Entry, out io.Writer) error {
 	if fault != nil {
 		shown.Fault = alert.Safe(fault.Error())
 	}
+	names, _ = finding.Once(names)
 	shown.NameCount = len(names)
 	for _, name := range names[:min(len(names), alert.MaxNames)] {
 		shown.Names = append(shown.Names, alert.Safe(finding.Text(name)))

@@ -121,34 +121,34 @@ func (b *bounded) Write(data []byte) (int, error) {
 func Environment(a Alert) []string {
 	found := []string{"CTWATCH_KIND=" + string(a.Kind), "CTWATCH_SUMMARY=" + Line(a), "CTWATCH_ID=" +
 		strconv.FormatInt(a.ID, 10)}
-	add := func(name, value string) { found = append(found, "CTWATCH_"+name+"="+value) }
-	add("AGAIN", map[bool]string{true: "yes", false: "no"}[a.Again])
+	add := func(name, value string) { found = append(found, name+"="+value) }
+	add("CTWATCH_AGAIN", map[bool]string{true: "yes", false: "no"}[a.Again])
 	if a.Log != nil {
-		add("LOG", a.Log.Name)
-		add("VERDICT", a.Log.Verdict)
-		add("TEXT", a.Log.Text)
+		add("CTWATCH_LOG", a.Log.Name)
+		add("CTWATCH_VERDICT", a.Log.Verdict)
+		add("CTWATCH_TEXT", a.Log.Text)
 		return found
 	}
 	c := a.Certificate
 	// (Linux runs no program with a variable of more than 128 KiB)
 	matches := c.Matches[:min(len(c.Matches), MaxNames)]
-	add("WATCHED", strings.Join(watched(matches), " "))
+	add("CTWATCH_WATCHED", strings.Join(watched(matches), " "))
 	hostNames := hosts(c)
-	add("HOSTS", strings.Join(hostNames[:min(len(hostNames), MaxNames)], " "))
-	add("NAMES", strings.Join(c.Names, " "))
-	add("NAME_COUNT", strconv.Itoa(c.NameCount))
-	add("SUBJECT", c.Fields.Subject)
-	add("ISSUER", c.Fields.Issuer)
-	add("SERIAL_NUMBER", c.Fields.SerialNumber)
-	add("NOT_BEFORE", day(c.Fields.NotBefore))
-	add("NOT_AFTER", day(c.Fields.NotAfter))
-	add("KEY_SHA256", c.Fields.KeySHA256)
-	add("CERTIFICATE_SHA256", c.SHA256)
-	add("TBS_SHA256", c.TBSSHA256)
+	add("CTWATCH_HOSTS", strings.Join(hostNames[:min(len(hostNames), MaxNames)], " "))
+	add("CTWATCH_NAMES", strings.Join(c.Names, " "))
+	add("CTWATCH_NAME_COUNT", strconv.Itoa(c.NameCount))
+	add("CTWATCH_SUBJECT", c.Fields.Subject)
+	add("CTWATCH_ISSUER", c.Fields.Issuer)
+	add("CTWATCH_SERIAL_NUMBER", c.Fields.SerialNumber)
+	add("CTWATCH_NOT_BEFORE", day(c.Fields.NotBefore))
+	add("CTWATCH_NOT_AFTER", day(c.Fields.NotAfter))
+	add("CTWATCH_KEY_SHA256", c.Fields.KeySHA256)
+	add("CTWATCH_CERTIFICATE_SHA256", c.SHA256)
+	add("CTWATCH_TBS_SHA256", c.TBSSHA256)
 	for _, sighting := range c.Sightings[:min(len(c.Sightings), 1)] {
-		add("LOG", sighting.Log)
-		add("INDEX", strconv.FormatUint(sighting.Index, 10))
-		add("TYPE", sighting.Type)
+		add("CTWATCH_LOG", sighting.Log)
+		add("CTWATCH_INDEX", strconv.FormatUint(sighting.Index, 10))
+		add("CTWATCH_TYPE", sighting.Type)
 	}
 	return found
 }

@@ -4,7 +4,6 @@ import (
 	"bytes"
 	"crypto/sha256"
 	"crypto/x509"
-	"encoding/csv"
 	"encoding/hex"
 	"encoding/pem"
 	"errors"
@@ -50,14 +49,22 @@ func (l LeftOut) String() string {
 // errRemoved is why a root that the list of RootFiles.Without names isn't taken.
 var errRemoved = errors.New("it is taken out by its fingerprint")
 
+// NoRoots are the roots of a log that takes no submissions.
+func NoRoots() *Roots {
+	return &Roots{byHash: map[[32]byte]bool{}, bySubject: map[string][]*x509.Certificate{}}
+}
+
 // RootFiles say where a log's roots are.
 type RootFiles struct {
 	// Paths are PEM files, files of CCADB (.csv with a column of PEM certificates), and folders with such files (.pem,
-	// .crt and .csv). The roots are the certificates in all of them.
+	// .crt and .csv). The roots are the certificates in all of them. If a file of CCADB has columns of trust bits or of
+	// statuses, only those roots count that are for TLS servers and included.
 	Paths []string
 	// Without is a file with the SHA-256 fingerprint of a root in hexadecimal in each line, and comments after #. These
 	// roots are not accepted. An empty path means no file.
 	Without string
+	// AnyPurpose takes roots of a table of CCADB that are not for TLS servers, too.
+	AnyPurpose bool
 }
 
 // Load reads the roots of all files. A certificate that crypto/x509 doesn't read is left out, and named by LeftOut; a
@@ -68,14 +75,14 @@ func (f RootFiles) Load() (*Roots, error) {
 	if err != nil {
 		return nil, err
 	}
-	roots := &Roots{byHash: map[[32]byte]bool{}, bySubject: map[string][]*x509.Certificate{}}
+	roots := NoRoots()
 	for _, path := range f.Paths {
 		files, err := filesAt(path)
 		if err != nil {
 			return nil, err
 		}
 		for _, file := range files {
-			if err := roots.read(file, removed); err != nil {
+			if err := roots.read(file, f, removed); err != nil {
 				return nil, err
 			}
 		}
@@ -154,26 +161,33 @@ func readBounded(path string) ([]byte, error) {
 }
 
 // read adds the roots of one file.
-func (r *Roots) read(path string, removed map[[32]byte]bool) error {
+func (r *Roots) read(path string, f RootFiles, removed map[[32]byte]bool) error {
 	text, err := readBounded(path)
 	if err != nil {
 		return err
 	}
-	parts := []rootText{{text: text}}
+	table := &Table{Rows: []TableRow{{PEM: text}}}
 	if filepath.Ext(path) == ".csv" {
-		if parts, err = partsOfCSV(text); err != nil {
+		if table, err = ReadTable(text); err != nil {
 			return fmt.Errorf("chains: roots: %s: %w", path, err)
 		}
 	}
 	number := 0
-	for _, part := range parts {
-		blocks, err := certificatesIn(part.text)
+	for _, row := range table.Rows {
+		blocks, err := certificatesIn(row.PEM)
 		if err != nil {
 			return fmt.Errorf("chains: roots: %s: %w", path, err)
 		}
 		for _, der := range blocks {
 			number++
-			if err := r.take(der, removed, LeftOut{From: path, Number: number, Name: part.name}); err != nil {
+			of := LeftOut{From: path, Number: number, Why: row.Why}
+			if row.Name != "" {
+				of.Name = fmt.Sprintf("%.80q, ", row.Name)
+			}
+			if errors.Is(row.Why, ErrPurpose) && f.AnyPurpose {
+				of.Why = nil
+			}
+			if err := r.take(der, removed, of); err != nil {
 				return err
 			}
 		}
@@ -187,6 +201,10 @@ func (r *Roots) read(path string, removed map[[32]byte]bool) error {
 // take adds one root, or says of it why it is left out.
 func (r *Roots) take(der []byte, removed map[[32]byte]bool, of LeftOut) error {
 	of.Fingerprint = sha256.Sum256(der)
+	if of.Why != nil {
+		r.leftOut = append(r.leftOut, of)
+		return nil
+	}
 	if removed[of.Fingerprint] {
 		of.Why = errRemoved
 		r.leftOut = append(r.leftOut, of)
@@ -203,50 +221,6 @@ func (r *Roots) take(der []byte, removed map[[32]byte]bool, of LeftOut) error {
 		return fmt.Errorf("chains: roots: more than %d", MaxRoots)
 	}
 	return nil
-}
-
-// rootText is PEM, and what its file calls the certificate.
-type rootText struct {
-	name string
-	text []byte
-}
-
-// partsOfCSV reads a file of CCADB. Its first line has the names of the columns. The column of certificates has PEM in
-// its name. Its values may be between apostrophes.
-func partsOfCSV(text []byte) ([]rootText, error) {
-	lines := csv.NewReader(bytes.NewReader(text))
-	lines.LazyQuotes = true
-	header, err := lines.Read()
-	if err != nil {
-		return nil, err
-	}
-	pemAt, nameAt := -1, -1
-	for at, column := range header {
-		switch {
-		case pemAt < 0 && strings.Contains(column, "PEM"):
-			pemAt = at
-		case nameAt < 0 && strings.Contains(column, "Certificate Name"):
-			nameAt = at
-		}
-	}
-	if pemAt < 0 {
-		return nil, errors.New("no column has PEM in its name")
-	}
-	var parts []rootText
-	for {
-		row, err := lines.Read()
-		if err == io.EOF {
-			return parts, nil
-		}
-		if err != nil {
-			return nil, err
-		}
-		part := rootText{text: []byte(strings.Trim(row[pemAt], "' \n"))}
-		if nameAt >= 0 {
-			part.name = fmt.Sprintf("%.80q, ", row[nameAt])
-		}
-		parts = append(parts, part)
-	}
 }
 
 // certificatesIn are the bytes of the certificates in PEM, with whatever text between them. A block of another kind, or
@@ -281,7 +255,7 @@ func ParseRoots(text []byte) (*Roots, error) {
 	if err != nil {
 		return nil, fmt.Errorf("chains: roots: %w", err)
 	}
-	roots := &Roots{byHash: map[[32]byte]bool{}, bySubject: map[string][]*x509.Certificate{}}
+	roots := NoRoots()
 	for at, der := range blocks {
 		if err := roots.take(der, nil, LeftOut{Number: at + 1}); err != nil {
 			return nil, err
@@ -333,9 +307,9 @@ func (r *Roots) withSubject(name []byte) []*x509.Certificate { return r.bySubjec
 
 // Certificates are the roots in DER, in the file's order: the answer to get-roots.
 func (r *Roots) Certificates() [][]byte {
-	var certificates [][]byte
-	for _, certificate := range r.certificates {
-		certificates = append(certificates, certificate.Raw)
+	certificates := make([][]byte, len(r.certificates))
+	for i, certificate := range r.certificates {
+		certificates[i] = certificate.Raw
 	}
 	return certificates
 }

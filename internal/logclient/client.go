@@ -55,6 +55,9 @@ type Options struct {
 	Transport http.RoundTripper // of the requests; nil for a pool of connections of this client's own
 	Clock     Clock             // for the waits between attempts; nil for the machine's clock
 	Limits    Limits
+	// Retrying is called if the first attempt of a request failed and there will be another one, with the address and
+	// the reason. Several goroutines may call it at once. It may be nil.
+	Retrying func(address string, fault error)
 }
 
 // Client reads one log. Its methods can be called by several goroutines at once.
@@ -63,6 +66,7 @@ type Client struct {
 	http    *http.Client
 	agent   string
 	clock   Clock
+	retried func(address string, fault error)
 	limits  Limits
 	slots   *slots
 	room    *room
@@ -101,7 +105,7 @@ func New(address string, options Options) (*Client, error) {
 	base.Path = strings.TrimSuffix(base.Path, "/")
 	limits := options.Limits.withDefaults()
 	c := &Client{base: base, agent: options.UserAgent, clock: options.Clock, limits: limits,
-		slots: &slots{free: limits.InFlight}, room: &room{free: limits.Buffer}}
+		retried: options.Retrying, slots: &slots{free: limits.InFlight}, room: &room{free: limits.Buffer}}
 	if c.agent == "" {
 		c.agent = "wagtenib"
 	}

@@ -89,6 +89,9 @@ func (c *Client) get(ctx context.Context, path string, query url.Values, most in
 		if !again || ctx.Err() != nil {
 			return nil, fmt.Errorf("%s: %w", path, err)
 		}
+		if attempt == 1 && c.retried != nil {
+			c.retried(address, err)
+		}
 		if err := c.clock.Wait(ctx, wait); err != nil {
 			return nil, err
 		}

@@ -198,12 +198,12 @@ func (m *Mirror) root(ctx context.Context, size uint64) (root wagtenib.Hash, err
 			return root, err
 		}
 		for i := range of.leaves {
-			if err := tree.push(of.leaves[i].Hash()); err != nil {
+			if err := tree.Push(of.leaves[i].Hash()); err != nil {
 				return root, err
 			}
 		}
 	}
-	return tree.end()
+	return tree.End()
 }
 
 // grow puts the issuers, data tiles and hash tiles of the tree of a size, which was checked.
@@ -227,12 +227,12 @@ func (m *Mirror) grow(ctx context.Context, size uint64) error {
 			return err
 		}
 		for i := range of.leaves {
-			if err := tree.push(of.leaves[i].Hash()); err != nil {
+			if err := tree.Push(of.leaves[i].Hash()); err != nil {
 				return err
 			}
 		}
 	}
-	_, err = tree.end()
+	_, err = tree.End()
 	return err
 }
 
@@ -285,19 +285,12 @@ func (m *Mirror) putIssuers(ctx context.Context, of tile) error {
 	return nil
 }
 
-// dropPartial removes the partial tiles of the tree before, of which a full one is there now. Readers take that one
-// (C2SP tlog-tiles).
+// dropPartial removes the partial tiles of the tree before, of which a full one is there now.
 func (m *Mirror) dropPartial(before, now uint64) error {
-	for level := -1; ; level++ {
-		of, is := before>>(8*max(level, 0)), now>>(8*max(level, 0))
-		if level > 0 && is == 0 {
-			return nil
-		}
-		if of/logclient.TileWidth < is/logclient.TileWidth {
-			name := hashTileName(level, of/logclient.TileWidth, logclient.TileWidth) + ".p"
-			if err := os.RemoveAll(filepath.Join(m.folder, filepath.FromSlash(name))); err != nil {
-				return fmt.Errorf("mirror: %w", err)
-			}
+	for _, name := range datatile.Overtaken(before, now) {
+		if err := os.RemoveAll(filepath.Join(m.folder, filepath.FromSlash(name))); err != nil {
+			return fmt.Errorf("mirror: %w", err)
 		}
 	}
+	return nil
 }

@@ -58,7 +58,7 @@ func TestPageSaysBounds(t *testing.T) {
 		"| the tree | 2^40 entries: `full` |":                                   step.MaxLeaves == 1<<40,
 	})
 	trial.Says(t, trial.Page(t, "../../docs/OPERATING.md"), map[string]bool{
-		"(the last name in heads/ is SIZE-TIMESTAMP)": true,
+		"(the last name in FOLDER/objects/heads is SIZE-TIMESTAMP)": true,
 		"Partial tiles take up to 5 GB at `max-write-rate` (16 MiB a second)": maxWritten == 16<<20 &&
 			partials >= 5e9 && partials < 5.1e9,
 		"off by more than `max-clock-skew` (10 s), either way": maxSkew == 10*time.Second,

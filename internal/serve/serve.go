@@ -20,6 +20,7 @@ import (
 	"wagtenib/internal/signer"
 	"wagtenib/internal/step"
 	"wagtenib/internal/stores"
+	"wagtenib/internal/tile"
 	"wagtenib/internal/witness"
 )
 
@@ -122,7 +123,7 @@ type Log struct {
 	sources  *sources
 	counts   *counts
 	readings readings
-	compared compared
+	comparer *tile.Comparer
 	lookups  chan struct{}
 	running  running
 }
@@ -153,6 +154,7 @@ func Open(ctx context.Context, config Config) (*Log, error) {
 		config.Machine.Of = Machine()
 	}
 	l := &Log{config: config, counts: newCounts(), lookups: make(chan struct{}, maxLookups)}
+	l.comparer = tile.NewComparer(l.read, tile.Leaves)
 	l.running.logID = sha256.Sum256(config.Signer.Key())
 	l.issuers = newIssuers(config.Stores.Objects, l.counts.Repaired)
 	l.sources = newSources(config.Machine.Of, config.Machine.Clock, config.Machine.Files, config.Stores)

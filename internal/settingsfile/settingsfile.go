@@ -10,6 +10,7 @@ import (
 	"io"
 	"os"
 	"strings"
+	"time"
 )
 
 // Rules are those of one program's file, by the names of its flags.
@@ -101,10 +102,25 @@ func (r Rules) read(flags *flag.FlagSet, path string) error {
 			continue
 		}
 		if err := flags.Set(name, strings.TrimSpace(value)); err != nil {
-			return fmt.Errorf("%s, line %d: %s: %v", path, number, name, err)
+			return fmt.Errorf("%s, line %d: %s: %v%s", path, number, name, err, remedy(flags.Lookup(name)))
 		}
 	}
 	return lines.Err()
+}
+
+// remedy returns what to write in the file for a flag whose value is refused, if its type says so, and otherwise nothing.
+func remedy(of *flag.Flag) string {
+	value, isGetter := of.Value.(flag.Getter)
+	if !isGetter {
+		return ""
+	}
+	switch value.Get().(type) {
+	case bool:
+		return fmt.Sprintf(" (write %s true, or %s false)", of.Name, of.Name)
+	case time.Duration:
+		return " (write a duration such as 2s, 5m or 24h)"
+	}
+	return ""
 }
 
 func has(names []string, name string) bool {

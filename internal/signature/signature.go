@@ -10,6 +10,7 @@ import (
 	"crypto/rsa"
 	"crypto/sha256"
 	"crypto/x509"
+	"encoding/base64"
 	"encoding/binary"
 	"encoding/json"
 	"errors"
@@ -155,15 +156,25 @@ type STH struct {
 	Signature []byte `json:"tree_head_signature"`
 }
 
+// ReadSTH reads the answer to get-sth (RFC 6962, section 4.3). It does not verify the signature. The error is nil or
+// wraps ErrForm.
+func ReadSTH(answer []byte) (STH, error) {
+	var sth STH
+	if err := json.Unmarshal(answer, &sth); err != nil {
+		return STH{}, fmt.Errorf("%w: %v", ErrForm, err)
+	}
+	if len(sth.Root) != wagtenib.HashSize || len(sth.Signature) == 0 {
+		return STH{}, fmt.Errorf("%w: get-sth must have a root of 32 bytes and a signature", ErrForm)
+	}
+	return sth, nil
+}
+
 // OpenSTH reads the answer to get-sth (RFC 6962, section 4.3) and verifies its signature. The error is nil, or wraps
 // ErrForm or ErrSigner.
 func OpenSTH(answer, publicKey []byte) (wagtenib.TreeHead, error) {
-	var sth STH
-	if err := json.Unmarshal(answer, &sth); err != nil {
-		return wagtenib.TreeHead{}, fmt.Errorf("%w: %v", ErrForm, err)
-	}
-	if len(sth.Root) != wagtenib.HashSize || len(sth.Signature) == 0 {
-		return wagtenib.TreeHead{}, fmt.Errorf("%w: get-sth must have a root of 32 bytes and a signature", ErrForm)
+	sth, err := ReadSTH(answer)
+	if err != nil {
+		return wagtenib.TreeHead{}, err
 	}
 	head := wagtenib.TreeHead{TreeSize: sth.TreeSize, Timestamp: sth.Timestamp, Root: wagtenib.Hash(sth.Root)}
 	message := wagtenib.TreeHeadSignature(head)
@@ -171,4 +182,31 @@ func OpenSTH(answer, publicKey []byte) (wagtenib.TreeHead, error) {
 		return wagtenib.TreeHead{}, err
 	}
 	return head, nil
+}
+
+// CheckpointOfSTH returns the head of an answer to get-sth, whose signature it verifies, as a checkpoint of a log with
+// this origin. The signature of a checkpoint is over the same bytes (C2SP static-ct-api, "Checkpoints"), so nobody has
+// to sign again. The error is that of OpenSTH, or says that the origin is none.
+func CheckpointOfSTH(answer []byte, origin string, publicKey []byte) ([]byte, error) {
+	head, err := OpenSTH(answer, publicKey)
+	if err != nil {
+		return nil, err
+	}
+	sth, err := ReadSTH(answer)
+	if err != nil {
+		return nil, err
+	}
+	text, err := wagtenib.CheckpointText(wagtenib.Checkpoint{Origin: origin, TreeSize: head.TreeSize, Root: head.Root})
+	if err != nil {
+		return nil, fmt.Errorf("%w: %v", ErrForm, err)
+	}
+	logID := wagtenib.LogID(publicKey)
+	id := wagtenib.NoteKeyID(origin, noteAlgorithm, logID[:])
+	signed := append(binary.BigEndian.AppendUint64(id[:], head.Timestamp), sth.Signature...)
+	line := "— " + origin + " " + base64.StdEncoding.EncodeToString(signed) + "\n"
+	checkpoint := []byte(text + "\n" + line)
+	if again, err := OpenCheckpoint(checkpoint, origin, publicKey); err != nil || again != head {
+		return nil, fmt.Errorf("%w: no checkpoint of %q: %v", ErrForm, origin, err)
+	}
+	return checkpoint, nil
 }

@@ -9,7 +9,7 @@ import (
 
 // Call is what stores of one kind were asked by one of its interface's methods.
 type Call struct {
-	// Store is objects, register or places, and Name the method's, in small letters.
+	// Store is objects, lock or index, and Name the method's, in small letters.
 	Store, Name string
 	// Count is how often it was asked, Failed how often it gave none of the answers that the interface has, and Took
 	// how long all of them took.

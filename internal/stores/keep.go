@@ -52,6 +52,19 @@ func keepFile(path string, content []byte, mode fs.FileMode) error {
 // halfKept is part of the names of temporary files that KeepFile and ShowFile have not renamed yet.
 const halfKept = ".writing-"
 
+// DropHalfKept removes what killed writers of KeepFile and ShowFile left beside a file. The caller must keep other
+// processes from writing the file.
+func DropHalfKept(path string) error {
+	left, err := filepath.Glob(path + halfKept + "*")
+	for _, half := range left {
+		err = errors.Join(err, os.Remove(half))
+	}
+	if err != nil {
+		return fmt.Errorf("stores: keep: %w", err)
+	}
+	return nil
+}
+
 // KeptFile reads what KeepFile or ShowFile wrote; ErrAbsent where there is no such file. It takes away what killed
 // writers left beside it.
 func KeptFile(path string) ([]byte, error) {

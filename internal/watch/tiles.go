@@ -1,10 +1,9 @@
 package watch
 
 import (
-	"bytes"
 	"context"
 	"crypto/sha256"
-	"encoding/binary"
+	"errors"
 	"fmt"
 	"strings"
 
@@ -54,19 +53,16 @@ func (t *tiles) head(ctx context.Context) (Head, error) {
 // entries reads whole data tiles: the first batch may begin before `start`, and what is before it is cut.
 func (t *tiles) entries(ctx context.Context, start, size uint64, use func(b batch, more bool) error) error {
 	return t.client.DataTiles(ctx, start, size, func(tile logclient.DataTile, more bool) error {
-		entries, err := readDataTile(tile)
+		first := tile.Index * logclient.TileWidth
+		entries, otherIndex, err := readDataTile(tile, max(first, start))
 		if err != nil {
 			return err
 		}
-		first := tile.Index * logclient.TileWidth
-		b := batch{start: max(first, start), tiles: []logclient.DataTile{tile}, bytes: len(tile.Bytes)}
+		b := batch{start: max(first, start), otherIndex: otherIndex, tiles: []logclient.DataTile{tile}, bytes: len(tile.Bytes)}
 		for i, of := range entries {
 			index := first + uint64(i)
 			if index < start {
 				continue
-			}
-			if b.otherIndex == nil && !bytes.Equal(of.Extensions, leafIndex(index)) {
-				b.otherIndex = &index
 			}
 			b.entries = append(b.entries, Entry{Index: index, Timestamp: of.Timestamp, Type: of.Type, Leaf: of.Leaf,
 				Certificate: of.Certificate, Precertificate: of.Precertificate, Fingerprints: of.Issuers})
@@ -75,17 +71,23 @@ func (t *tiles) entries(ctx context.Context, start, size uint64, use func(b batc
 	})
 }
 
-// readDataTile reads a data tile, which must have as many entries as its name says at least. Those after them are left
-// out.
-func readDataTile(tile logclient.DataTile) ([]wagtenib.TileEntry, error) {
-	entries, err := wagtenib.DataTileLeaves(firstEntries(tile.Bytes, tile.Width))
-	if err != nil {
-		return nil, fmt.Errorf("%s: %w: %v", tile.Name, errDamaged, err)
+// readDataTile reads a data tile, and returns the first index from next on whose entry names another one in its
+// extensions. A full tile may be in the place of a partial one, so the entries after those of the name are left out.
+func readDataTile(tile logclient.DataTile, next uint64) (entries []wagtenib.TileEntry, otherIndex *uint64, err error) {
+	content := firstEntries(tile.Bytes, tile.Width)
+	index, err := wagtenib.CompareDataTile(tile.Name, next, content)
+	switch {
+	case errors.Is(err, wagtenib.ErrWrongIndex):
+		otherIndex = &index
+	case errors.Is(err, wagtenib.ErrOtherEntries):
+		return nil, nil, fmt.Errorf("%s: %w: %d entries, and %d are expected", tile.Name, errDamaged, index, tile.Width)
+	case err != nil:
+		return nil, nil, fmt.Errorf("%s: %w: %v (%d)", tile.Name, errDamaged, err, index)
 	}
-	if len(entries) < tile.Width {
-		return nil, fmt.Errorf("%s: %w: %d entries, and %d are expected", tile.Name, errDamaged, len(entries), tile.Width)
+	if entries, err = wagtenib.DataTileLeaves(content); err != nil {
+		return nil, nil, fmt.Errorf("%s: %w: %v", tile.Name, errDamaged, err)
 	}
-	return entries[:tile.Width], nil
+	return entries, otherIndex, nil
 }
 
 // firstEntries cuts a data tile after its first entries (C2SP static-ct-api, "Log Entries"). A log can put millions of
@@ -109,11 +111,6 @@ func firstEntries(tile []byte, count int) []byte {
 		}
 	}
 	return tile[:len(tile)-len(rest)]
-}
-
-// leafIndex returns the CtExtensions that name an index and nothing else (C2SP static-ct-api), without their length.
-func leafIndex(index uint64) []byte {
-	return append([]byte{0, 0, 5}, binary.BigEndian.AppendUint64(nil, index)[3:]...)
 }
 
 // read reads tiles by their names.

@@ -129,19 +129,21 @@ func (s *Store) keepIssuance(w *writer, one *found) (int64, error) {
 	}
 	details := one.details
 	// A certificate whose names cannot be read is never expected: nobody can say what it is for.
+	once, repeated := finding.Once(one.result.Names)
 	isExpected := fault == "" && s.options.Expected.has(details)
 	if _, err := w.exec(`insert into issuances (tbs_sha256, found, subject, issuer, serial_number, not_before,
 		not_after, key_sha256,
 		name_count, fault, is_expected) values (?, ?, ?, ?, ?, ?, ?, ?, ?, ?, ?)`,
 		one.issuance[:], s.options.Now().UnixMilli(), details.Subject, details.Issuer, details.SerialNumber,
 		milliseconds(details.NotBefore),
-		milliseconds(details.NotAfter), details.KeySHA256, len(one.result.Names), fault, isExpected); err != nil {
+		milliseconds(details.NotAfter), details.KeySHA256, len(once), fault, isExpected); err != nil {
 		return 0, err
 	}
 	if id, _, err = w.number("select last_insert_rowid()"); err != nil {
 		return 0, err
 	}
-	for position, name := range one.result.Names {
+	// The names that repeat a text come last. They are searched and not shown.
+	for position, name := range append(once, repeated...) {
 		text := finding.Text(name)
 		if _, err := w.exec("insert into names values (?, ?, ?, ?, ?)", id, position, int64(name.Kind), text,
 			hostKey(finding.Host(name))); err != nil {

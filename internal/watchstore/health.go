@@ -16,6 +16,7 @@ type Health struct {
 	Waiting  int64    // alerts that were not sent to an output whose last sending failed
 	Outputs  []string // the names of those outputs
 	Reported time.Time
+	Unread   string // why there is no log yet; empty if that is not known
 }
 
 // Health returns how it goes. A log that was not read for so long is silent. A log that ctwatch follows no longer
@@ -58,6 +59,13 @@ func (s *Store) Health(silentAfter time.Duration) (Health, error) {
 // String returns the health as one line.
 func (h Health) String() string {
 	parts := []string{alert.Count(int64(h.Logs), "log")}
+	if h.Logs == 0 {
+		unread := h.Unread
+		if unread == "" {
+			unread = "the log list was not read yet"
+		}
+		parts[0] += ": " + unread
+	}
 	if len(h.Silent) > 0 {
 		parts = append(parts, fmt.Sprintf("%d SILENT: %s", len(h.Silent), strings.Join(h.Silent, ", ")))
 	}
@@ -67,7 +75,7 @@ func (h Health) String() string {
 	if len(h.Outputs) > 0 {
 		parts = append(parts, fmt.Sprintf("%s NOT SENT: %s", alert.Count(h.Waiting, "alert"), strings.Join(h.Outputs, ", ")))
 	}
-	if len(parts) == 1 {
+	if len(parts) == 1 && h.Logs > 0 {
 		parts = append(parts, "all are read, and all alerts are sent")
 	}
 	return strings.Join(parts, "; ")

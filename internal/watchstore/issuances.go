@@ -6,7 +6,9 @@ import (
 	"encoding/json"
 	"errors"
 	"fmt"
+	"os"
 	"path/filepath"
+	"regexp"
 
 	"wagtenib/bindings/go/wagtenib"
 	"wagtenib/internal/alert"
@@ -14,6 +16,17 @@ import (
 
 // folder returns the folder of the store, as people write it.
 func (s *Store) folder() string { return alert.Safe(filepath.Dir(s.path)) }
+
+// simplePath matches a path that a shell takes as it is.
+var simplePath = regexp.MustCompile(`^[A-Za-z0-9_./-]+$`)
+
+// program returns the path by which this program was called, if it is simple, and otherwise its name.
+func program() string {
+	if len(os.Args) > 0 && simplePath.MatchString(os.Args[0]) {
+		return os.Args[0]
+	}
+	return "ctwatch"
+}
 
 // amongThem is the condition of a query that its first value, a list of numbers in JSON, has the number.
 const amongThem = " in (select value from json_each(?1)) "
@@ -57,16 +70,17 @@ func (s *Store) readFields(list string, found map[int64]*alert.Certificate) erro
 		c.Fields.SerialNumber, c.Fault = alert.Safe(c.Fields.SerialNumber), alert.Safe(c.Fault)
 		c.Fields.NotBefore, c.Fields.NotAfter = timeOf(notBefore), timeOf(notAfter)
 		c.TBSSHA256, c.SHA256 = hex.EncodeToString(tbs), hex.EncodeToString(digest)
-		c.Kept = "ctwatch certificate " + c.SHA256 + " --folder " + s.folder() + " prints it"
+		c.Kept = program() + " certificate " + c.SHA256 + " --folder " + s.folder() + " prints it"
 		found[id] = c
 		return nil
 	})
 }
 
-// readNames reads the first names of each issuance of a list. Their positions count from 0 on.
+// readNames reads the first names of each issuance of a list. Their positions count from 0 on, and those from name_count
+// on repeat a text.
 func (s *Store) readNames(list string, found map[int64]*alert.Certificate) error {
-	return s.each("select issuance, name from names where issuance"+amongThem+"and position < ?2 order by issuance, "+
-		"position", []any{list, alert.MaxNames}, func(rows *sql.Rows) error {
+	return s.each("select issuance, name from names join issuances on id = issuance where issuance"+amongThem+
+		"and position < min(?2, name_count) order by issuance, position", []any{list, alert.MaxNames}, func(rows *sql.Rows) error {
 		var id int64
 		var name string
 		if err := rows.Scan(&id, &name); err != nil {

@@ -14,7 +14,7 @@ type About struct {
 	// notice beside.
 	Entry []byte
 	// MaxMergeDelay is the maximum merge delay that the log publishes. /metrics has it beside the age of the newest
-	// head.
+	// head. It is 0 for an archive, whose head is not made again.
 	MaxMergeDelay time.Duration
 }
 

@@ -137,7 +137,9 @@ func (c figures) Collect(to chan<- prometheus.Metric) {
 	}
 	gauge(descEntries, float64(f.Entries))
 	gauge(descHeadAge, f.HeadAge.Seconds())
-	gauge(descMergeDelay, c.front.options.About.MaxMergeDelay.Seconds())
+	if delay := c.front.options.About.MaxMergeDelay; delay > 0 {
+		gauge(descMergeDelay, delay.Seconds())
+	}
 	gauge(descAhead, float64(f.Unpublished))
 	gauge(descRound, f.SinceRound.Seconds())
 	gauge(descQueue, float64(f.Queue))

@@ -10,12 +10,13 @@ import (
 	"regexp"
 	"strings"
 	"testing"
+	"time"
 )
 
 // figureNames are all metrics in /metrics of a log with a witness, after a request.
 func figureNames(t *testing.T) map[string]bool {
 	t.Helper()
-	f := newFixture(t, 0, nil)
+	f := newFixture(t, 0, func(o *Options) { o.About.MaxMergeDelay = time.Minute })
 	f.get("/ct/v1/get-roots")
 	f.get("/ct/v1/none")
 	f.front.Reloaded("roots", nil)

@@ -1,0 +1,165 @@
+package main
+
+import (
+	"context"
+	"encoding/pem"
+	"errors"
+	"flag"
+	"fmt"
+	"io"
+	"os"
+	"os/signal"
+	"strings"
+	"syscall"
+	"time"
+
+	"wagtenib/internal/archive"
+	"wagtenib/internal/chains"
+	"wagtenib/internal/signature"
+	"wagtenib/internal/stores"
+	"wagtenib/internal/tile"
+)
+
+// archivePage is what `ctserve archive --help` prints before the flags.
+const archivePage = `ctserve archive URL reads the log at URL by the calls of RFC 6962 (get-sth, get-entries, get-sth-consistency), and
+writes its entries as tiles into a folder, up to the newest head that the log signed. Each part is written after the
+log has proved that it belongs to the signed tree. After a stop for any reason, the same command goes on. The exit status
+is 0 if the archive is complete, 1 if it is not, and 2 if the arguments are wrong. ctserve --archive FOLDER serves it.`
+
+// archiveFlags are the flags of `ctserve archive`.
+type archiveFlags struct{ key, folder, origin, ca, contact string }
+
+func (a *archiveFlags) add(to *flag.FlagSet) {
+	to.StringVar(&a.key, "key", "", "`file` in PEM with the log's public key")
+	to.StringVar(&a.folder, "folder", "", "`folder` of the archive. It must be empty, or have an archive of this log")
+	to.StringVar(&a.origin, "origin", "", "`name` of the log in the checkpoint (default URL without its scheme)")
+	to.StringVar(&a.ca, "ca-file", "", "`file` in PEM with the CA of the log's TLS certificate (default: the CAs of the "+
+		"system)")
+	to.StringVar(&a.contact, "contact", "", "`address` at which the operator of the log reaches you, for the header "+
+		"User-Agent")
+}
+
+// tellsEvery is the least time between two lines that say how far an archive is.
+const tellsEvery = 10 * time.Second
+
+// runArchive archives a log.
+func runArchive(words []string, answers, faults io.Writer) error {
+	flags := commandFlags("archive", archivePage, faults)
+	var given archiveFlags
+	given.add(flags)
+	if err := parseFlags(flags, addressLast(words), 1); err != nil {
+		return err
+	}
+	of, options, err := given.log(flags.Arg(0))
+	if err != nil {
+		return fmt.Errorf("%w: %v", errUsage, err)
+	}
+	var told time.Time
+	options.Progress = func(entries, size uint64) {
+		if now := time.Now(); now.Sub(told) >= tellsEvery || entries == size {
+			told = now
+			fmt.Fprintf(answers, "%d of %d entries\n", entries, size)
+		}
+	}
+	ctx, stop := signal.NotifyContext(context.Background(), syscall.SIGTERM, syscall.SIGINT)
+	defer stop()
+	head, err := archive.Make(ctx, given.folder, of, options)
+	if err != nil {
+		return err
+	}
+	fmt.Fprintf(answers, "complete: %d entries, root %x, signed at %s\n", head.TreeSize, head.Root,
+		time.UnixMilli(int64(head.Timestamp)).UTC().Format(time.RFC3339))
+	return nil
+}
+
+// log returns which log is archived, and how it is read. The error says which flag is wrong.
+func (a *archiveFlags) log(address string) (of archive.Log, options archive.Options, err error) {
+	if a.key == "" || a.folder == "" {
+		return of, options, errors.New("archive needs --key and --folder")
+	}
+	_, host, found := strings.Cut(address, "://")
+	if !found {
+		return of, options, fmt.Errorf("URL %q is no address (write https://HOST/PATH)", address)
+	}
+	of = archive.Log{URL: address, Origin: a.origin}
+	if of.Origin == "" {
+		of.Origin = strings.TrimSuffix(host, "/")
+	}
+	if err := checkOrigin(of.Origin); err != nil {
+		return of, options, err
+	}
+	text, err := os.ReadFile(a.key)
+	if err != nil {
+		return of, options, fmt.Errorf("--key: %w", err)
+	}
+	block, _ := pem.Decode(text)
+	if block == nil || block.Type != "PUBLIC KEY" {
+		return of, options, fmt.Errorf("--key: %s has no public key in PEM", a.key)
+	}
+	if _, err := signature.ParseKey(block.Bytes); err != nil {
+		return of, options, fmt.Errorf("--key: %s: %w", a.key, err)
+	}
+	of.PublicKey = block.Bytes
+	options.Client, err = clientOptions("ctserve-archive", a.ca, a.contact)
+	return of, options, err
+}
+
+// openArchive opens an archive as a log that takes no submissions.
+func openArchive(ctx context.Context, n node) (*opened, error) {
+	of, err := archive.Open(ctx, n.archive)
+	if err != nil {
+		return nil, err
+	}
+	return &opened{log: of, proofs: tile.NewProver(of.Object, n.maxProofs), key: of.Key(), calls: &stores.Calls{},
+		close: of.Close}, nil
+}
+
+// archiveNotice is the notice of an archive, unless the operator has another one.
+const archiveNotice = "This is an archive of a log that has ended. It takes no submissions, and its tree head is the last " +
+	"one that the log signed."
+
+// settleArchive fills in the settings of an archive, which has no key, no roots and no other stores.
+func (s *settings) settleArchive() error {
+	n := &s.node
+	if n.archive == "" {
+		return nil
+	}
+	for name, given := range map[string]string{"origin": n.origin, "signing-key": n.signingKey,
+		"signer-socket": n.signerAt, "roots": strings.Join(s.roots.Paths, ""), "store": n.store, "lock": n.register,
+		"index": n.places} {
+		if given != "" {
+			return fmt.Errorf("--archive has everything of the log: remove --%s", name)
+		}
+	}
+	if n.create || n.isPublic || n.peers.isSet() || len(n.witnesses) > 0 {
+		return errors.New("--archive makes no tree heads: remove --create, --public-store, --witnesses and the settings " +
+			"of other nodes")
+	}
+	s.readOnly = true
+	if s.notice == "" {
+		s.notice = archiveNotice
+	}
+	var err error
+	n.origin, err = archive.OriginOf(n.archive)
+	return err
+}
+
+// loadRoots reads the roots of the log. An archive has none.
+func (s *settings) loadRoots() (*chains.Roots, error) {
+	if s.node.archive != "" {
+		return chains.NoRoots(), nil
+	}
+	return s.roots.Load()
+}
+
+// checkArchive opens the archive that settings name, and says what it has.
+func checkArchive(n node) (string, error) {
+	ctx, cancel := context.WithTimeout(context.Background(), n.openWithin)
+	defer cancel()
+	of, err := archive.Open(ctx, n.archive)
+	if err != nil {
+		return "", err
+	}
+	defer of.Close()
+	return fmt.Sprintf("%s, %d entries", n.archive, of.Figures().Entries), nil
+}

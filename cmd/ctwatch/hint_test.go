@@ -1,0 +1,29 @@
+package main
+
+import (
+	"errors"
+	"os/exec"
+	"strings"
+	"testing"
+
+	"wagtenib/internal/testcert"
+	"wagtenib/internal/trial"
+)
+
+// TestHintNamesTheProgramAsItWasCalled: an alert says how to get the certificate by the path of the program, unless the
+// path has characters that a shell reads otherwise.
+func TestHintNamesTheProgramAsItWasCalled(t *testing.T) {
+	authority, log := testcert.NewAuthority(t), serveLog(t, "a.example")
+	log.add(authority, authority.Issue("shop.example.org"))
+	for called, hint := range map[string]string{"cmd/out/ctwatch": "; cmd/out/ctwatch certificate ",
+		"/usr/bin/ctwatch": "; /usr/bin/ctwatch certificate ", "ctwatch": "; ctwatch certificate ",
+		"/a folder/ctwatch": "; ctwatch certificate ", "/a$b/ctwatch": "; ctwatch certificate "} {
+		program := trial.Program(t, "run", "--once", "--from-start", "--name", "example.org", "--folder", t.TempDir(),
+			"--log", log.setting(true))
+		program.Args[0] = called
+		out, err := program.Output()
+		if err != nil && !errors.As(err, new(*exec.ExitError)) || !strings.Contains(string(out), hint) {
+			t.Errorf("called as %s: %v: %s", called, err, out)
+		}
+	}
+}

@@ -1,0 +1,164 @@
+package main
+
+import (
+	"bufio"
+	"crypto/sha256"
+	"encoding/json"
+	"encoding/pem"
+	"errors"
+	"io"
+	"net/http"
+	"net/http/httptest"
+	"os"
+	"os/exec"
+	"path/filepath"
+	"strings"
+	"sync/atomic"
+	"syscall"
+	"testing"
+
+	"wagtenib/internal/testcert"
+	"wagtenib/internal/trial"
+)
+
+// refusingList serves a log list with a log. It refuses every request until it is opened.
+type refusingList struct {
+	address string
+	isOpen  atomic.Bool
+	asked   atomic.Int64
+}
+
+func serveRefusingList(t *testing.T) *refusingList {
+	t.Helper()
+	log, authority := serveLog(t, "a.example"), testcert.NewAuthority(t)
+	log.add(authority, authority.Issue("other.net"))
+	id := sha256.Sum256(log.PublicKey())
+	list, err := json.Marshal(map[string]any{"version": "1", "log_list_timestamp": "2026-11-01T12:00:00Z",
+		"operators": []any{map[string]any{"name": "Operator", "logs": []any{map[string]any{"description": "a log",
+			"key": log.PublicKey(), "log_id": id[:], "mmd": 86400, "url": log.address + "/",
+			"state": map[string]any{"usable": map[string]any{"timestamp": "2026-01-01T00:00:00Z"}}}}}}})
+	must(t, err)
+	one := &refusingList{}
+	server := httptest.NewServer(http.HandlerFunc(func(w http.ResponseWriter, _ *http.Request) {
+		one.asked.Add(1)
+		if !one.isOpen.Load() {
+			w.WriteHeader(http.StatusServiceUnavailable)
+			return
+		}
+		if _, err := w.Write(list); err != nil {
+			t.Error(err)
+		}
+	}))
+	t.Cleanup(server.Close)
+	one.address = server.URL + "/list.json"
+	return one
+}
+
+// event is a line of ctwatch run.
+type event struct {
+	Event, Page, Fault, Next, Address, List string
+	Logs                                    int
+}
+
+// nextEvent returns the next line with this event.
+func nextEvent(t *testing.T, from *bufio.Scanner, name string) event {
+	t.Helper()
+	for from.Scan() {
+		var one event
+		if json.Unmarshal(from.Bytes(), &one) == nil && one.Event == name {
+			return one
+		}
+	}
+	t.Fatalf("no line has the event %s: %v", name, from.Err())
+	return event{}
+}
+
+// started starts the program, and returns the lines of its standard error.
+func started(t *testing.T, words ...string) (*exec.Cmd, *bufio.Scanner) {
+	t.Helper()
+	program := trial.Program(t, words...)
+	lines, err := program.StderrPipe()
+	must(t, err)
+	must(t, program.Start())
+	return program, bufio.NewScanner(lines)
+}
+
+// TestReportsTheFirstFailureAtOnce: a command for people says at once that a server refuses, and that it is tried again.
+// It goes on trying, and the refusals of one server are one line.
+func TestReportsTheFirstFailureAtOnce(t *testing.T) {
+	folder := t.TempDir()
+	certificate := filepath.Join(folder, "certificate")
+	must(t, os.WriteFile(certificate, pem.EncodeToMemory(&pem.Block{Type: "CERTIFICATE",
+		Bytes: testcert.NewAuthority(t).Issue("a.example").Certificate.Raw}), 0o600))
+	for _, words := range [][]string{{"show", "https://a.example", "1"},
+		{"audit", certificate, "--issuer", certificate},
+		{"run", "--once", "--name", "example.org", "--folder", folder}} {
+		list := serveRefusingList(t)
+		program, lines := started(t, append(words, "--log-list", list.address)...)
+		if !lines.Scan() || !strings.Contains(lines.Text(), list.address) ||
+			!strings.Contains(lines.Text(), "status 503") || !strings.Contains(lines.Text(), "it is tried again") {
+			t.Errorf("%s: the first line is %q", words[0], lines.Text())
+		}
+		trial.Eventually(t, "the list is asked for three times", func() bool { return list.asked.Load() >= 3 })
+		list.isOpen.Store(true)
+		for lines.Scan() {
+			if strings.Contains(lines.Text(), "it is tried again") {
+				t.Errorf("%s: one more line: %s", words[0], lines.Text())
+			}
+		}
+		if err := program.Wait(); err != nil && !errors.As(err, new(*exec.ExitError)) {
+			t.Error(err)
+		}
+	}
+}
+
+// healthOf asks /healthz.
+func healthOf(t *testing.T, page string) (status int, line string) {
+	t.Helper()
+	answer, err := http.Get(page + "healthz")
+	must(t, err)
+	defer answer.Body.Close()
+	content, err := io.ReadAll(answer.Body)
+	must(t, err)
+	return answer.StatusCode, string(content)
+}
+
+// TestReportsAListThatWasNeverRead: while the server of the log list refuses, the first refusal is logged at once,
+// /healthz answers 503, and ctwatch health ends with status 5. Both name the list. After the list was read, /healthz
+// answers 200.
+func TestReportsAListThatWasNeverRead(t *testing.T) {
+	list, folder := serveRefusingList(t), t.TempDir()
+	program, lines := started(t, "run", "--name", "example.org", "--folder", folder, "--log-list", list.address,
+		"--listen", "127.0.0.1:0", "--pause", "1s")
+	first := nextEvent(t, lines, "watching")
+	if first.List != list.address || first.Logs != 0 {
+		t.Errorf("the first line is %+v", first)
+	}
+	page := first.Page
+	if one := nextEvent(t, lines, "log-list"); one.Address != list.address || one.Next != "it is tried again" ||
+		!strings.Contains(one.Fault, "status 503") {
+		t.Errorf("the first line is %+v", one)
+	}
+	const due = "0 logs: the log list was not read yet"
+	if status, line := healthOf(t, page); status != http.StatusServiceUnavailable ||
+		!strings.HasPrefix(line, due+": ") || !strings.Contains(line, "status 503") {
+		t.Errorf("/healthz: %d %s", status, line)
+	}
+	if status, out, faults := ctwatch(t, "health", "--folder", folder); status != statusUnread || out != due+"\n" ||
+		!strings.Contains(faults, "no log is watched yet") {
+		t.Errorf("ctwatch health: status %d: %s%s", status, out, faults)
+	}
+	list.isOpen.Store(true)
+	if one := nextEvent(t, lines, "log-list"); one.Logs != 1 || one.Fault != "" || one.List != list.address {
+		t.Errorf("the line of the list that was read is %+v", one)
+	}
+	trial.Eventually(t, "/healthz is well", func() bool {
+		status, line := healthOf(t, page)
+		return status == http.StatusOK && strings.HasPrefix(line, "1 log; all are read")
+	})
+	must(t, program.Process.Signal(syscall.SIGTERM))
+	for lines.Scan() {
+		continue
+	}
+	must(t, program.Wait())
+}
