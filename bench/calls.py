@@ -44,7 +44,7 @@ def shown(nanoseconds):
 
 
 def machine():
-    """What the machine is, and how busy."""
+    """The machine's processor, and its load."""
     found = re.search(r"model name\s*: (.*)", pathlib.Path("/proc/cpuinfo").read_text())
     return f"{found[1] if found else os.uname().machine}, {os.cpu_count()} processors, load {os.getloadavg()[0]:.1f}"
 

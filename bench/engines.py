@@ -1,5 +1,5 @@
 #!/usr/bin/env python3
-"""Times one node of ctserve over engines on loopback, by turns: what it carries, and what a step asks of which store.
+"""Measures one node of ctserve over engines on loopback, by turns: its rate, and the calls of a step to each store.
 
     tests/engines.sh run bench/engines.py [--turns 2] [--seconds 12] [--clients 16,64,256,1024] [--stores etcd,postgres] [--out OUT,..]
 
@@ -38,7 +38,7 @@ def bucket(name):
 
 
 def address(store, name):
-    """Where a log's register is, or its places."""
+    """The engine that has a log's register and its places."""
     if store == "etcd":
         return f"etcd://{os.environ['STORES_MEMBERS']}/{name}"
     at = dict(word.split("=") for word in os.environ["STORES_POSTGRES"].split())
@@ -54,7 +54,7 @@ class Node:
         self.rows, self.steps, self.calls, self.phases = [], 0, {}, {}
 
     def figures(self):
-        """Of each call of a store, and of each part of a step, how often it was made and how many seconds it took."""
+        """For each call of a store and each part of a step: how often it was made, and how many seconds it took."""
         with urllib.request.urlopen(f"http://127.0.0.1:{self.log.operator}/metrics", timeout=60) as answer:
             text = answer.read().decode()
         found = {}
@@ -92,7 +92,7 @@ class Engines:
     def __init__(self):
         missing = [name for name in WANTED if name not in os.environ]
         if missing:
-            stop(f"{', '.join(missing)} isn't told: tests/engines.sh run bench/engines.py (ENGINES=\"members postgres s3\")")
+            stop(f"{', '.join(missing)} isn't set: tests/engines.sh run bench/engines.py (ENGINES=\"members postgres s3\")")
         self.folder = pathlib.Path(os.environ["STORES_AGAIN"].split()[-1])
 
     def spent(self):

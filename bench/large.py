@@ -3,12 +3,12 @@
 
     large.py [--entries 10400,1000000] [--asks 200] [--seconds 10] [--keep FOLDER [--make]]
 
-Nobody submitted these entries: bench/fabricate writes the tiles (a certificate of 60 bytes each), this script the places, in SQLite, and the register's text, of
-a state that is decided and not rolled out yet; so ctserve publishes its head at its first start, and goes on from it. Then, for each size: the seconds until it
-serves, at its second start; a proof by leaf hash, 32 entries and a consistency proof, at places of chance, each checked; a submission alone, a repeat of it, 64
-clients side by side; the memory of ctserve and its signer, and the disk. Last, how many data tiles a second it reads again where it is told to be quick, and
-how long all of them take so. The logs stay in FOLDER,
-and are used again where they are there; --make makes them and times nothing. 10^8 entries take 25 GB. `make service` builds ctserve and ctload.
+Nobody submitted these entries. bench/fabricate writes the tiles (with a certificate of 60 bytes each). This script writes the deduplication index in SQLite,
+and the register's text, with a state that is decided and not published yet. So ctserve publishes its head at its first start, and continues from it. Then it
+measures for each size: the seconds until the log serves, at its second start; a proof by leaf hash, 32 entries and a consistency proof, at random places,
+each checked; one submission, a repeat of it, and 64 clients at the same time; the memory of ctserve and its signer, and the disk. At last it has the log read
+all data tiles again quickly, and measures the tiles a second and the time for all of them. The logs stay in FOLDER, and are used again where they are there;
+--make makes them and times nothing. 10^8 entries take 25 GB. `make service` builds ctserve and ctload.
 """
 import argparse
 import base64
@@ -56,7 +56,7 @@ def fill(places, name, fabricate, folder, entries, moment):
 
 
 def vector(width, content):
-    """Bytes behind their length in so many bytes (RFC 5246, section 4.3)."""
+    """Bytes after their length, which is written in so many bytes (RFC 5246, section 4.3)."""
     return len(content).to_bytes(width, "big") + content
 
 
@@ -107,7 +107,7 @@ def asked(log, call, **words):
 
 
 def leaf(index, moment):
-    """The leaf that stands there (RFC 6962, section 3.4), as fabricate makes it."""
+    """The leaf at this index (RFC 6962, section 3.4), as fabricate makes it."""
     return b"\0\0" + moment.to_bytes(8, "big") + b"\0\0" + vector(3, bytes(52) + index.to_bytes(8, "big")) + vector(2, b"\0" + vector(2, index.to_bytes(5, "big")))
 
 
@@ -116,7 +116,7 @@ def decoded(hashes):
 
 
 def timed(asks, ask, judge):
-    """The median and the largest of the times, in milliseconds, of calls for each of these; what an answer is judged by isn't in them."""
+    """The median and the largest of the times of calls for each of these, in milliseconds, without the time to judge the answers."""
     times = []
     for one in asks:
         began = time.monotonic()
@@ -202,7 +202,7 @@ class Submitter:
 
 
 def read_again(log):
-    """How many data tiles a second ctserve reads again where it is told to read all within a minute, and the milliseconds of a processor that each takes."""
+    """How many data tiles a second ctserve reads again if it must read all within a minute, and the milliseconds of processor time that each takes."""
 
     def count():
         with urllib.request.urlopen(f"http://127.0.0.1:{log.operator}/metrics", timeout=60) as answer:
@@ -254,7 +254,7 @@ def main():
     parser.add_argument("--make", action="store_true")
     words = parser.parse_args()
     if words.make and not words.keep:
-        parser.error("--make wants --keep")
+        parser.error("--make needs --keep")
     with tempfile.TemporaryDirectory(dir=os.environ.get("TMPDIR")) as work:
         work, columns = pathlib.Path(work), {}
         fabricate = work / "fabricate"

@@ -5,8 +5,8 @@
 
 A submission is a chain of one certificate of its own, of 1,536 bytes that look random and are the same in each run: SHAKE-128 of
 its number. Each front submits no more than its ring of 4,096 places holds, and waits for the tree head that covers them
-before it goes on; the operator settles such a block, of 16,384 submissions at most, or of BLOCK, front by front, and publishes. At the
-end stand a shutdown and a question to the frozen log. Nothing but the standard library is used.
+before it goes on; the operator settles such a block, of 16,384 submissions at most, or of BLOCK, front by front, and publishes. The last lines are a shutdown
+and a query of the frozen log. Nothing but the standard library is used.
 """
 
 import base64

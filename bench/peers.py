@@ -4,10 +4,10 @@
     peers.py fetch FOLDER                  has apt fetch what is needed of Debian 13 and of this machine's Debian, and builds it in FOLDER
     peers.py FOLDER [--turns 2] [--seconds 12] [--clients 16,64,256,1024] [--settle 0] [--before OUT]
 
-Nothing is installed: all lies in FOLDER. With FOLDER alone it makes a log of CTFE and one of ctserve, and has ctload submit
+Nothing is installed: everything is put into FOLDER. With only FOLDER it makes a log of CTFE and one of ctserve, and has ctload submit
 to each in turn, in each turn with so many clients for so many seconds. It prints timestamps a second, the median and 99th percentile of the time to one, the processor time of the log's processes an entry
-until a signed head has all of them, and how many processors others had meanwhile; then what each log's files and processes take. With --settle it looks at the
-files once more after so many seconds: what was written for a while is gone then. With --before a log of another build of ctserve is among them, which is in OUT.
+until a signed head has all of them, and how many processors others had meanwhile; then what each log's files and processes take. With --settle it looks at
+the files once more after so many seconds, when temporary files are gone. With --before a log of another build of ctserve is among them, which is in OUT.
 ctload has made its submissions before it sends the first. `make service` builds ctserve and ctload.
 """
 import argparse
@@ -68,7 +68,7 @@ func ParseConfig(string) (any, error) { return nil, errors.New("it isn't here") 
     "github.com/jackc/pgx/v5/stdlib": "package stdlib\n",
     "github.com/jackc/pgerrcode": 'package pgerrcode\n\nconst UniqueViolation = "23505"\n',
 }
-# What is edited in the sources: a storage that Debian lacks a package for, and a chain of interceptors, which gRPC has itself now.
+# The edits of the sources: a storage that Debian lacks a package for, and a chain of interceptors, which gRPC has itself now.
 EDITS = {
     "trillian/cmd/trillian_log_server/main.go": [('\t_ "github.com/google/trillian/storage/cloudspanner"\n', "")],
     "trillian/cmd/trillian_log_signer/main.go": [('\t_ "github.com/google/trillian/storage/cloudspanner"\n', "")],
@@ -184,7 +184,7 @@ class Ctfe:
         return self.processes[-1]
 
     def reload(self):
-        """The command that has it read its roots anew: ct_server does so at a start."""
+        """The command that has it read its roots again: ct_server does so at a start."""
         return f"sh {self.folder}/restart"
 
     def ids(self):

@@ -24,7 +24,7 @@ def rows(path):
 
 
 def numbers(cell):
-    """The numbers that stand in a cell."""
+    """The numbers in a cell."""
     return [float(found.replace(",", "")) for found in NUMBER.findall(cell)]
 
 

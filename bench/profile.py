@@ -3,9 +3,9 @@
 
     profile.py CTLOG PLAIN [--submissions N]
 
-The lines are those of bench/program.sh through one front. An instruction is counted where it stands (none is counted for its callers), so a
-part is what the functions of that part do themselves; valgrind runs one thread at a time, and counts a store of many bytes (`rep stosb`) once
-for each byte. The counts don't depend on what else the machine does.
+The lines are those of bench/program.sh through one front. An instruction counts for the function that contains it, and not for its callers. So a part has
+only the instructions of its own functions. valgrind runs one thread at a time, and counts a store of many bytes (`rep stosb`) once for each byte. The counts
+don't depend on what else the machine does.
 """
 import argparse
 import pathlib

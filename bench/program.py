@@ -3,10 +3,9 @@
 
     program.py CTLOG PLAIN [--submissions 10000,100000] [--fronts 1,4,16] [--block 16384] [--runs 3]
 
-A head is published behind each block of submissions. The two take turns. A time and a processor time are the medians of the runs, a peak of memory the greatest. Lines a second are the
-input's lines over the time from start to end of the program, whose input and output are files. The memory is what GNU time
-says is the greatest resident set; where it isn't there, what the system says of the child, which is never below that of
-this program.
+A head is published after each block of submissions. The two take turns. A time and a processor time are the medians of the runs, a peak of memory the
+greatest. Lines a second are the input's lines over the time from start to end of the program, whose input and output are files. The memory is the greatest
+resident set, by GNU time. If GNU time is not installed, it is the system's figure for the child, which is never below that of this program.
 """
 
 import argparse
@@ -85,7 +84,7 @@ def compare(written, plain, count, fronts):
 
 
 def compare_programs(ctlog, plain, count, fronts, block, runs):
-    """The row of the table for this many submissions and fronts, with a head behind each block of so many."""
+    """The row of the table for this many submissions and fronts, with a head after each block of so many."""
     with tempfile.TemporaryDirectory() as work:
         given = Path(work, "lines")
         with open(given, "wb") as lines:

@@ -1,12 +1,12 @@
 #!/usr/bin/env python3
-"""Times readers of a log of ctserve, straight and behind nginx with the example of its configuration, on loopback.
+"""Measures readers of a log of ctserve, directly and through nginx with the example of its configuration, on loopback.
 
     reads.py [--seconds 10] [--turns 3] [--connections 48] [--entries 600]
 
-The log is filled by ctload with that many entries. Then wrk reads a hash tile, a data tile and the checkpoint, each alone, by turns: straight (HTTP), and
-behind nginx (TLS, connections that are kept), where tiles come out of nginx's cache and a checkpoint out of ctserve.
-It prints of each the median and the least and greatest of the
-turns, the processor time of nginx and ctserve a reading, and how many processors others had meanwhile. It wants wrk, nginx, openssl, and `make service` before.
+The log is filled by ctload with that many entries. Then wrk reads a hash tile, a data tile and the checkpoint, one object at a time and by turns: directly
+(HTTP), and through nginx (TLS, connections that are kept). There nginx's cache answers for tiles, and ctserve for a checkpoint. It prints of each the median
+and the least and greatest of the turns, the processor time of nginx and ctserve a reading, and how many processors others had meanwhile. It needs wrk, nginx,
+openssl, and `make service` before.
 """
 import argparse
 import os

@@ -36,7 +36,7 @@ def run(*words, **more):
 
 
 def until(is_so, what, process=None, log=None):
-    """Waits until something is so; what it is, who it is asked of, and where that says why it ended."""
+    """Waits until a condition holds. The arguments name the condition, the process, and the file in which that process says why it ended."""
     ends = time.monotonic() + PATIENCE
     while not is_so():
         if (process and process.poll() is not None) or time.monotonic() > ends:
@@ -50,7 +50,7 @@ def listens(port):
 
 
 def processes():
-    """Of each process its parent and the processor time, in seconds, of it and of its children that ended."""
+    """The parent of each process, and the processor time of the process and of its children that ended, in seconds."""
     found = {}
     for stat in pathlib.Path("/proc").glob("[0-9]*/stat"):
         try:
@@ -125,7 +125,7 @@ class Log:
         return time.monotonic() - began
 
     def reload(self):
-        """The command that has it read its roots anew."""
+        """The command that has it read its roots again."""
         return f"kill -HUP {self.process.pid}"
 
     def ids(self):
@@ -140,7 +140,7 @@ class Log:
 
 
 def load(log, clients, *words):
-    """What ctload says of a log that it loads: timestamps, over how many seconds, and the median and 99th percentile of the time to one, in seconds."""
+    """The results of ctload for a log: timestamps, over how many seconds, and the median and 99th percentile of the time to one, in seconds."""
     command = [OUT / "ctload", "--nodes", log.url, "--roots", log.roots, "--answers", log.folder / "answers", "--repeats", 0, "--clients", clients, "--reload", log.reload()]
     said = run(*command, *words)
     found = re.search(r"(\d+) answered in ([0-9.]+) s: .* median ([0-9.]+) s, 99th percentile ([0-9.]+) s[^\n]*$", said.strip())

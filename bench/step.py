@@ -4,11 +4,11 @@
     step.py BENCH_WORK [--batches 1,16,256,4096] [--sizes 1000,1000000232] [--entries 4096] [--turns 5]
 
 BENCH_WORK is the built program (`rt run` in crates/bench_work builds it). rustc builds bench/step/plain.rs, and Go bench/step/tiles.go over
-golang.org/x/mod; where Go or that module isn't there (make deps fetches both) it is left out. Each makes steps from one made-up state, of submissions of
+golang.org/x/mod; if Go or that module is missing (make deps fetches both), it is left out. Each makes steps from one made-up state, of submissions of
 1,500 bytes with two fingerprints, and prints the line of the last step: the three have to print the same, and the digests in it
-cover all objects. A run makes so many steps that it takes in at least --entries entries, and at least 32. What is printed is processor time (user and
-system) of the whole program, less that of a run of no steps; each figure is the least of the turns. Where the state has nothing at its edge but
-hashes, as at 2^30 leaves, there is no partial data tile.
+cover all objects. A run makes so many steps that it takes in at least --entries entries, and at least 32. A figure is the processor time (user and system) of
+the whole program, without that of a run of no steps, and the least of the turns. If the state has only hashes at its edge, as at 2^30 leaves, there is no
+partial data tile.
 """
 import argparse
 import os

@@ -4,8 +4,8 @@
     tiles.py BENCH_WORK [--leaves 100000] [--sizes 1000,100000,1000000] [--runs 5]
 
 Each job is a process of its own, and all take turns. A time is the job's processor time, without that of the same job over next to nothing,
-and the median of the runs; a ratio is the median of the turns' ratios, so that what else the machine does falls on both. What the jobs print
-has to be the same. Without Go and that module (make deps fetches both) tlog is left out.
+and the median of the runs; a ratio is the median of the turns' ratios, so that what else the machine does falls on both. The jobs must print the same.
+Without Go and that module (make deps fetches both) tlog is left out.
 """
 import argparse
 import os
@@ -48,7 +48,7 @@ def processor(job, idle=False):
     if process.returncode:
         sys.exit(f"tiles.py: {' '.join(words)} ended with status {process.returncode}")
     if not idle:
-        # Of paths the hashes of one.
+        # For paths: the hashes of one.
         word, number = printed.decode().rsplit(maxsplit=1)
         job.printed = word, number if word == "root" else int(number) / job.count
     return usage.ru_utime + usage.ru_stime

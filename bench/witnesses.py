@@ -132,7 +132,7 @@ class Setup:
             time.sleep(0.05)
 
     def witness(self, number, kind):
-        """Starts a witness, and answers its word for the settings: its address, or that of who stands before it."""
+        """Starts a witness, and answers its word for the settings: its address, or that of the proxy before it."""
         own, port = self.folder / f"w{number}", free_port()
         subprocess.run(["openssl", "genpkey", "-algorithm", "ed25519", "-out", f"{own}.key"], check=True)
         os.chmod(f"{own}.key", 0o600)

@@ -13,7 +13,7 @@ is_new_go() {
   [[ $version =~ ^go1\.([0-9]+) ]] && [ "${BASH_REMATCH[1]}" -ge 24 ]
 }
 
-# Where Debian's libsqlite3-dev is installed, SQLite is linked from there, and otherwise statically from the cache.
+# If Debian's libsqlite3-dev is installed, SQLite is linked from there, and otherwise statically from the cache.
 deps_vendor=$deps_cache/vendor
 [ "$(dpkg-query -W -f '${db:Status-Status}' libsqlite3-dev 2>/dev/null)" = installed ] || deps_vendor+=-static-sqlite
 

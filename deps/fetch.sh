@@ -1,12 +1,12 @@
 #!/usr/bin/env bash
-# Fetches what the Go part is built with: fetch.sh [COMMAND..] (make deps). Where all of it is there, it does nothing.
+# Fetches what the Go part is built with: fetch.sh [COMMAND..] (make deps). If nothing is missing, it does nothing.
 #
 # Go 1.24, the sources of the modules that go.mod requires, SQLite, gopls and staticcheck are those of Debian 13. apt fetches the packages from the mirror in
 # this machine's own apt sources, with lists and folders of its own, and checks Debian's signatures. They are unpacked in a cache (env.sh says where), and none
 # of them is installed. The checkout gets a link to the cache, vendor, by which the go command, gopls and staticcheck find the modules without a setting.
-# Where the modules are at hand otherwise (a module proxy's, with go.sum), no vendor folder is made.
+# If the modules come from a module proxy (with go.sum), no vendor folder is made.
 #
-# Only a C compiler, python3 and each COMMAND are installed, where they are missing. On a terminal fetch.sh asks before. Without one it installs them if that
+# Only a C compiler, python3 and each COMMAND are installed, if they are missing. On a terminal fetch.sh asks before. Without one it installs them if that
 # asks nothing, by root or sudo. It never upgrades or removes what is installed, except with SETUP=yes. With SETUP=no it neither installs nor fetches: it says
 # what is missing, and fails.
 set -eu -o pipefail

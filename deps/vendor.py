@@ -42,7 +42,7 @@ def packaged():
 
 
 def is_of(version, debian):
-    """Reports whether the version of a module is that of a package. A pseudo-version has a date and a commit, and so has Debian's."""
+    """Reports whether the version of a module is that of a package. A pseudo-version has a date and a commit. Debian's version has both too."""
     debian = debian.partition(":")[2] or debian
     if commit := re.search(r"git(\d{8})\.?([0-9a-f]{7})", debian):
         return f"{commit[1]}" in version and f"-{commit[2]}" in version
@@ -64,13 +64,13 @@ def is_left_out(folder, names, root):
 
 
 def packages_of(module, folder):
-    """Returns the import paths of the packages of a module that lies in a folder."""
+    """Returns the import paths of the packages of a module in a folder."""
     below = sorted({path.parent.relative_to(folder) for path in folder.rglob("*.go")})
     return [module if str(path) == "." else f"{module}/{path}" for path in below]
 
 
 def rename_imports(to, moved):
-    """Has all packages import a module by its path, where Debian's sources import it by the name of its folder: moved has the paths by folders."""
+    """Has all packages import a module by its path. Debian's sources may import it by the name of its folder: moved has the paths by folders."""
     imported = re.compile('"(' + "|".join(map(re.escape, moved)) + ')((?:/[^"]*)?)"')
     for at in to.rglob("*.go"):
         text = at.read_text()
@@ -80,7 +80,7 @@ def rename_imports(to, moved):
 
 
 def edit(at, *changes):
-    """Replaces lines of a file in a vendor folder. The file may be the same one in both vendor folders: it is written anew."""
+    """Replaces lines of a file in a vendor folder. The file may be the same one in both vendor folders: it is replaced."""
     text = at.read_text()
     for old, new in changes:
         if text.count(old) != 1:

@@ -50,7 +50,7 @@ def read(line):
 
 
 def fault_of_asker(who, fronts):
-    """What is wrong with `who`, and the ops that it has."""
+    """The fault of `who`, and the ops that it has."""
     if is_number(who):
         return (None if who < fronts else f"there is no front {who}: there are {fronts}, from 0 on"), FRONT_OPS
     if isinstance(who, str) and who in OTHER_OPS:
@@ -59,7 +59,7 @@ def fault_of_asker(who, fronts):
 
 
 def fault_of_value(key, value, is_right):
-    """What is wrong with the value of a key."""
+    """The fault of the value of a key."""
     if is_right(value):
         return None
     if is_right in WANTED:

@@ -1,17 +1,17 @@
 #!/usr/bin/env python3
-"""Proves and builds crates and all below them, and says as it goes what is proved, how much of the rest is, and for how long.
+"""Proves and builds crates and all crates below them, and prints meanwhile which ones are proved, how far the others are, and the time.
 
     build.py CRATE ..
     build.py --show SCRIPT PART=CRATE[,CRATE].. ..
 
-With --show it runs `SCRIPT PART` as soon as the crates of a part are built, and prints what that writes in one piece. The crates with the longest chain
-of crates above them go first. Where there are four processors each of these begins as soon as it can, and the others, those of an earlier part first, get what
-they leave.
+With --show it runs `SCRIPT PART` as soon as the crates of a part are built, and prints the output in one piece. The crates with the longest chain of crates
+above them go first. With four processors or more, each of these begins as soon as it can. The others get the processors that are left, those of an earlier
+part first.
 
-Crates that don't stand on each other are proved side by side, as many as processors and memory allow. Only one rt works in a crate's folder, and in
-those of all crates below it; so each of them works in a copy of the sources, which gets what is built of the crates below. What it builds is put
-here. rt decides what has to be proved: a library that is newer than its sources and those below it is only not asked for. What rt prints is kept, and
-printed where it fails.
+Crates that do not depend on each other are proved in parallel, as many as processors and memory allow. Only one rt may work in the folders of a crate and of
+all crates below it. So each rt works in a copy of the sources, which gets the builds of the crates below. Its own builds are put into this checkout. rt
+decides which crates must be proved; it is not asked about a library that is newer than its sources and those below it. The output of rt is kept, and printed
+if rt fails.
 """
 import concurrent.futures
 import contextlib
@@ -32,20 +32,20 @@ SO_FAR = re.compile(r"so far: (\d+) of (\d+) functions checked")
 PROVED = re.compile(r"logic=proved functions=(\d+)")
 # How often it says where it is, in seconds, while nothing else happens.
 EVERY = 30
-# The signals at which it ends in order, where they aren't ignored already.
+# The signals at which it ends in order, if they aren't ignored already.
 ENDINGS = (signal.SIGTERM, signal.SIGHUP)
 # The memory that a proof is taken to need, in bytes, and the most proofs at a time.
 MEMORY, MOST = 2_000_000_000, 8
 # A chain of crates that is so much of the longest that is left decides how long all of it takes.
 LONG = 0.7
-# What a program takes to be put together, as bytes of a crate whose proof takes as long.
+# The time to link a program, as the bytes of a crate whose proof takes as long.
 TOGETHER = 80_000
 # How much nicer the proofs of crates on no such chain are.
 NICER = 15
 
 
 class Crates:
-    """What crates.txt says."""
+    """The content of crates.txt."""
 
     def __init__(self):
         lines = [line.partition(":") for line in (ROOT / "crates.txt").read_text().splitlines() if line and line[0] != "#"]
@@ -54,7 +54,7 @@ class Crates:
         self.archives = {head.split()[0] for head, _, _ in lines if "staticlib" in head.split()}
 
     def below(self, *names):
-        """These crates and all that they stand on, lowest first."""
+        """These crates and all crates below them, lowest first."""
         found = {}
         for name in names:
             found.update(dict.fromkeys(self.below(*self.uses[name])))
@@ -148,7 +148,7 @@ class Proof:
         return self
 
     def end(self):
-        """Ends rt and what it has begun, where it is at work."""
+        """Ends rt and the processes that it started, if it is at work."""
         for pid in family(self.ran.pid) if self.ran and self.ran.poll() is None else []:
             try:
                 os.kill(pid, signal.SIGTERM)
@@ -160,7 +160,7 @@ class Proof:
 
 
 class Build:
-    """All that is to be proved, in which order, and what is shown of it."""
+    """All crates that must be proved, their order, and the parts that are shown."""
 
     def __init__(self, crates, parts, script):
         self.crates, self.parts, self.script = crates, dict(parts), script
@@ -179,7 +179,7 @@ class Build:
         # How many jobs there may be beside those of chains that decide, and in all.
         self.beside = min(self.places, fit - self.places) if self.places >= 4 else 0
         self.most = fit if self.beside else self.places
-        # The checkout itself is for archives; where proofs don't run side by side, it is for all.
+        # The checkout itself is for archives. If proofs don't run in parallel, it is for all crates.
         self.copies, self.failed = [], None
 
     def say(self, text):
@@ -225,8 +225,8 @@ class Build:
         return free[0]
 
     def is_long(self, name):
-        """Whether a chain of crates that decides begins with this one, or the first of several parts stands on it. It is of use where there are processors for
-        more than a chain."""
+        """Whether a chain of crates that decides the time begins with this one, or the first of several parts depends on it. This is useful if there are
+        processors for more than one chain."""
         left = [*self.left, *(proof.name for proof in self.running)]
         decides = self.behind[name] >= LONG * max(self.behind[it] for it in left)
         return self.places >= 4 and (decides or self.rank[name] == 0 < max(self.rank.values()))

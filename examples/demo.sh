@@ -6,7 +6,7 @@
 #     demo.sh          all parts
 #     demo.sh PART     one of them, whose crates are built: path or log
 #
-# With CTLOG=PATH another program with the same command line is run in place of ctlog, in its part alone.
+# With CTLOG=PATH another program with the same command line is run in place of ctlog, only in its part.
 set -eu
 export PYTHONDONTWRITEBYTECODE=1
 program=${CTLOG:+$(realpath "$CTLOG")}
@@ -27,15 +27,15 @@ fail() {
   exit 1
 }
 
-# Says what is proved, in words and in those of a file of the sources, which stand on standard input. Of another program nothing is.
+# Says what is proved, in words and by a quotation of the sources, which are on standard input. Nothing is proved of another program.
 proved() {
   [ -z "${CTLOG:-}" ] || return 0
   echo "Proved, in $1: $2"
   sed 's/^/    | /'
 }
 
-# Runs the program on the lines of examples/$2.jsonl with $1 fronts. The replies come to $work/$2, and once more
-# to $work/$2.shown, where with several fronts the numbers of tickets, which depend on how the threads ran, are blotted out.
+# Runs the program on the lines of examples/$2.jsonl with $1 fronts. The replies come to $work/$2, and once more to $work/$2.shown. With several fronts, the
+# second file has no numbers of tickets, because these depend on how the threads ran.
 run() {
   "$program" --fronts "$1" --ring "$ring" --open-at "$open_at" --close-at "$close_at" \
     <"examples/$2.jsonl" >"$work/$2" || fail "$program ended with status $?"
@@ -46,7 +46,7 @@ run() {
   fi
 }
 
-# Compares what is shown with what is expected, and the numbers of the tickets with 0, 1, 2 and so on.
+# Compares the shown replies with the expected ones, and the numbers of the tickets with 0, 1, 2 and so on.
 compare() {
   if ! cmp -s "$work/$2.shown" "examples/$2.expected.jsonl"; then
     diff "$work/$2.shown" "examples/$2.expected.jsonl" >&2 || true
@@ -60,7 +60,7 @@ compare() {
 recompute() {
   python3 tests/expected.py "$1" "$ring" "$open_at" "$close_at" <"examples/$2.jsonl" |
     cmp -s - "$work/$2.shown" || fail "tests/expected.py computes other replies"
-  echo "An independent program (tests/expected.py, hashlib alone) computes the same replies."
+  echo "An independent program (tests/expected.py, with only hashlib) computes the same replies."
 }
 
 # Shows the next replies, cut short, equal ones once with their number. $1 names who asked, $2 is how many they are.
@@ -84,7 +84,7 @@ END
     echo "The library over it was proved elsewhere, and is compiled from dist/ (make link proves it here)."
     python3 examples/link/real_path.py "$work/libwagtenib.so" || fail "examples/link/real_path.py finds other answers"
   else
-    echo "It isn't linked and run, for want of a C compiler for a processor of dist/."
+    echo "It isn't linked and run, because there is no C compiler for a processor of dist/."
   fi
 }
 

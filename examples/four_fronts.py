@@ -1,10 +1,10 @@
 #!/usr/bin/env python3
-"""Writes four-fronts.jsonl from the submissions of real-chains.jsonl: what four fronts, the operator and a reader ask.
+"""Writes four-fronts.jsonl from the submissions of real-chains.jsonl: the requests of four fronts, the operator and a reader.
 
     four_fronts.py < real-chains.jsonl > four-fronts.jsonl
 
 The lines are such that only the numbers of tickets depend on how the threads run: the operator settles front by front, and
-each front waits for a head before it asks about it. Leaf hashes and the audited proof are computed here, by hashlib alone.
+each front waits for a head before it asks about it. Leaf hashes and the audited proof are computed here, with only hashlib.
 """
 import base64
 import json
@@ -35,7 +35,7 @@ def say(who, op, **keys):
 
 
 class Script:
-    """Writes the lines, and keeps what the operator is to settle and the leaves that the log is to have."""
+    """Writes the lines, and keeps the submissions that the operator must settle and the leaves that the log must have."""
 
     def __init__(self):
         self.waiting = [[] for _ in range(4)]
@@ -72,7 +72,7 @@ def main():
     website = chains[-1]
     script = Script()
 
-    # front 0 begins alone
+    # only front 0 has begun
     script.submit(0, *signers[:3])
     script.sequence(0, OPEN_AT + 1000)
     say("operator", "publish", now=OPEN_AT + 2000)
@@ -101,7 +101,7 @@ def main():
     for front in range(4):
         say(front, "await-size", tree_size=size)
 
-    # what the fronts ask then
+    # the queries of the fronts
     say(0, "get-sth")
     say(0, "get-sth-consistency", first=3, second=middle)
     say(0, "receipt", ticket=1)
@@ -111,7 +111,7 @@ def main():
     say(3, "add-chain", **signers[0])
     print("this line is no request")
 
-    # what the frozen log is asked
+    # the queries of the frozen log
     say("frozen", "get-sth")
     say("frozen", "get-entries", start=0, end=255)
     say("frozen", "get-sth-consistency", first=middle, second=size)

@@ -1,12 +1,11 @@
 #!/usr/bin/env python3
-"""Makes request lines of PEM files, with Python's standard library alone.
+"""Makes request lines of PEM files, with only Python's standard library.
 
     pem_lines.py [--front N] FILE..
 
-Each file is a chain, the end entity first, as web servers are given it and as `openssl s_client -showcerts` prints it; what stands
-between the certificates is passed over. It gives one line, an add-chain by front N (0 where it isn't given). Nothing is printed where a file has
-no certificate, or one that isn't read, or a precertificate: that is submitted by add-pre-chain, with its issuer's key hash and its
-TBSCertificate, for which a parser of X.509 is needed.
+Each file is a chain, the end entity first, in the form for web servers, which `openssl s_client -showcerts` prints too. Text between the certificates is
+ignored. It gives one line, an add-chain by front N (0 where it isn't given). Nothing is printed where a file has no certificate, or one that isn't read, or a
+precertificate: that is submitted by add-pre-chain, with its issuer's key hash and its TBSCertificate, for which a parser of X.509 is needed.
 
 On standard error it says how large a ring `ctlog` needs for them: a front's lines are done before the operator's settle any of them, so that a
 submission without a place is answered with `full`, and isn't in the log.

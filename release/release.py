@@ -3,10 +3,10 @@
 
     release.py [--built FOLDER] [--service FOLDER] [--to FOLDER] [--quickly]
 
-By default the programs are taken from crates/NAME/out, the service from cmd/out, and all goes to release/out. Nothing is built: what lacks is named,
+By default the programs are taken from crates/NAME/out, the service from cmd/out, and all goes to release/out. Nothing is built: a missing program is named,
 with the command that builds it. Each program has to say at --version that it is of VERSION, those in Go also that they are of this commit. --quickly packs
-less tightly, and asks no program, for trials. The same files give the same bytes each time, whatever the folder and the hour: moments are the commit's, owners
-are root, and names are sorted.
+less tightly, and asks no program, for trials. The same files give the same bytes each time, whatever the folder and the hour: moments are the commit's,
+owners are root, and names are sorted.
 """
 import argparse
 import gzip
@@ -35,10 +35,10 @@ MACHINE, DEBIAN = "x86_64", "amd64"
 LIBRARY = "lib/x86_64-linux-gnu"
 HOMEPAGE = "https://wagtenib.example/"
 
-# What users and operators read, beside the README.
-PAGES = ("OPERATING", "ACCEPTED", "AUDIT", "GUARD", "GROWTH", "TILES", "LINES", "PROMISES", "WATCH", "WITNESS")
+# The pages for users and operators, beside the README.
+PAGES = ("OPERATING", "ACCEPTED", "ARCHIVE", "AUDIT", "GUARD", "GROWTH", "TILES", "LINES", "PROMISES", "WATCH", "WITNESS")
 
-# Each package: what it is, what it needs beside libc6, and what it recommends.
+# Each package: its description, the packages that it needs beside libc6, and those that it recommends.
 PACKAGES = {
     "wagtenib": (
         "Certificate Transparency log with proved steps, guard and proofs",
@@ -61,7 +61,7 @@ PACKAGES = {
 }
 
 
-# What lintian says of the packages that is so on purpose, with the reason.
+# The reports of lintian about the packages that are on purpose, with the reasons.
 UNSTRIPPED = "the bytes are those of the build, which make reproduce compares"
 NO_PAGES = "each program says at --help what it takes; the pages are in /usr/share/doc"
 OVERRIDES = {
@@ -87,7 +87,7 @@ def run(*words, **how):
 
 
 def commit():
-    """The commit's hash, with + behind it where files differ from it, and its moment in seconds."""
+    """The commit's hash, followed by + if files differ from it, and its time in seconds."""
     said = run("git", "log", "-1", "--format=%H %ct").stdout.split()
     if len(said) != 2:
         stop("there is no commit here")
@@ -96,7 +96,7 @@ def commit():
 
 
 class Release:
-    """What goes into it."""
+    """The files of the package."""
 
     def __init__(self, built, service, to, quickly=False):
         self.quickly = quickly
@@ -135,7 +135,7 @@ class Release:
         return {**found, **{name: ROOT / path for name, path in pages.items()}}
 
     def shared(self):
-        """What an operator puts into place: Prometheus' settings, the rules of alarms, the dashboard, and what makes an image of a container."""
+        """The files that an operator installs: Prometheus' settings, the alerts, the dashboard, and the recipe for an image."""
         return {path.name: path for path in (ROOT / "release" / name for name in ("prometheus.yml", "ctserve.rules.yml", "ctserve.dashboard.json", "ctserve.nginx.conf", "ctserve.folder.nginx.conf", "Containerfile"))}
 
     def pkg_config(self, prefix):
@@ -380,7 +380,7 @@ def crates_of_the_kit():
 
 
 def sbom(release):
-    """What the programs are made of, in SPDX 2.3 (JSON)."""
+    """The parts of the programs, in SPDX 2.3 (JSON)."""
     created = time.strftime("%Y-%m-%dT%H:%M:%SZ", time.gmtime(release.moment))
 
     def package(name, version, supplier, comment, **more):
@@ -413,7 +413,7 @@ def sbom(release):
 
 
 def tagging(release):
-    """What is typed to tag the commit of a release: a signed tag, whose text has the sums."""
+    """The command that tags the commit of a release: a signed tag, whose text has the sums."""
     if release.commit.endswith("+"):
         return "No tag: files differ from the commit. A release is made of a commit, with a logic that is known."
     return f"To tag it, once these sums are another machine's, too:\ngit tag --sign v{release.version} --file release/out/SHA256SUMS {release.commit} && git push origin v{release.version}"

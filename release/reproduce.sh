@@ -1,8 +1,8 @@
 #!/usr/bin/env bash
 # Builds the programs twice, in folders of other names and lengths, by other numbers of processors, and compares their bytes: reproduce.sh [CRATE..].
-# Without a crate: the programs in Go, and, where the kit is on the PATH, those whose crates are built here already (make programs): each is linked
-# anew from what is proved, and so is libwagtenib. (What `rt ci` left in crates/*/out has no mark of rt's of what it is made from: rt proves that once more.) Where all of them are, two releases are made of them, whose SHA256SUMS have to be one. Ends with status 1
-# where two builds differ.
+# Without CRATE it builds the programs in Go. If the kit is on the PATH, it also builds the programs whose crates are already built here (make programs) and
+# libwagtenib: it links each of them again from its proofs. (The folders crates/*/out that `rt ci` left have no mark by which rt knows their sources, so rt
+# proves them once more.) If all programs are there, it makes two releases, whose SHA256SUMS must be the same. It ends with status 1 if two builds differ.
 set -eu
 cd "$(dirname "$0")/.."
 export PYTHONDONTWRITEBYTECODE=1
@@ -21,7 +21,7 @@ compare() {
   fi
 }
 
-# What is checked out, but for what was built; git's folder goes along, for the commit.
+# Copies the files of the commit without anything that was built, and git's folder, which has the commit.
 copy() {
   mkdir -p "$1"
   git archive --format=tar HEAD | tar -x -C "$1"
@@ -37,7 +37,7 @@ if [ $# -eq 0 ]; then
   done
   copy "$first"
   copy "$second"
-  # (each compiles all, Go's own library too: what one has compiled the other doesn't take)
+  # (each build compiles everything, Go's own library too, and takes nothing from the other one)
   GOCACHE=$work/go-a PROCESSORS=1 "$first/cmd/build.sh" build
   GOCACHE=$work/go-b PROCESSORS=$(nproc) "$second/cmd/build.sh" build
   for path in "$first"/cmd/out/*; do
@@ -49,8 +49,8 @@ if [ -n "$crates" ] && ! command -v rt >/dev/null; then
   crates=
 fi
 
-# build CRATE: in both folders, in the first on one processor. What is proved of the crates below, and of the program itself, goes along; rt looks whether it
-# is of these sources. No code of machines does: a crate's library has none, and a program's is made of all that it stands on.
+# build CRATE: in both folders, in the first on one processor. The proofs of the crates below, and of the program itself, are copied, and rt checks that they
+# are of these sources. No machine code is copied: a crate's library has none, and a program's code is made of all crates below it.
 one=$(taskset -cp $$ | sed 's/.*: *\([0-9]*\).*/\1/')
 build() {
   local top it on

@@ -6,7 +6,7 @@ set -u
 cd "$(dirname "$0")/.."
 folder=${1:-cmd/out}
 if ! command -v govulncheck >/dev/null; then
-  echo "vulnerabilities.sh: govulncheck isn't on the PATH (install one of version 1.0 or later; release/README.md says what stands in for it)" >&2
+  echo "vulnerabilities.sh: govulncheck isn't on the PATH (install one of version 1.0 or later; release/README.md says what to do without it)" >&2
   exit 2
 fi
 status=0

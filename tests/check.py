@@ -5,7 +5,7 @@
 
 It takes the log at its word in nothing: roots are computed from the entries that `get-entries` returns, proofs are checked
 by the steps of RFC 9162, section 2.1.3, receipts against the entries and the submissions, and the order of the entries
-against the operator's settlements. What it prints doesn't depend on how the threads ran. The input asks the frozen log for
+against the operator's settlements. Its output doesn't depend on how the threads ran. The input asks the frozen log for
 all entries, page by page, and for its tree head at the end.
 """
 import argparse
@@ -90,8 +90,8 @@ class Checker:
         return self.leaves[index][10:-2]
 
     def settlement_order(self):
-        """Settles anew what the operator's replies say was settled: some of a front's, or at a shift's end all that was submitted
-        before it, front by front; and then the rest, front by front."""
+        """Settles again the submissions that the operator's replies say were settled: some of a front's, or at a shift's end all that came before it, front
+        by front; and then the rest, front by front."""
         waiting = collections.defaultdict(collections.deque)
         for request, ticket in self.submissions:
             waiting[request["who"]].append((ticket, entry_of(request), request["line"]))
@@ -231,7 +231,7 @@ def found_by(checker):
 
 
 def checked(fronts, given, written):
-    """What was found to hold of the replies to an input, kind by kind."""
+    """The statements that were found true of the replies to an input, kind by kind."""
     requests = requests_of(given.split("\n"), fronts)
     replies = [json.loads(line) for line in written.splitlines()]
     claim(len(requests) == len(replies), f"{len(requests)} requests, but {len(replies)} replies")

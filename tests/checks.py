@@ -1,10 +1,10 @@
 #!/usr/bin/env python3
-"""Tries what scripts do around proofs, over a made-up repository and an `rt` that is a script: gate.py and build.py where they are ended, and gate.py
-without git; wrong_bodies.py behind a gate that was killed, and where it is ended; architecture.py where a crate stands over one of a later room;
-prove.py where a crate is changed during its proof; which crates build.py begins with; documents.py beside sockets and the folder of a log; definitions.py
+"""Tries the scripts around proofs, over a made-up repository and an `rt` that is a script. It ends gate.py and build.py, and runs gate.py without git. It
+runs wrong_bodies.py after a gate that was killed, and ends it. It gives architecture.py a crate that depends on one of a later room, changes a crate during
+its proof by prove.py, and looks at the crates with which build.py begins. It runs documents.py beside sockets and the folder of a log, and definitions.py
 over statements of collisions.
 
-It prints nothing where all is as it has to be; else it says what isn't, and ends with status 1.
+It prints nothing if everything is right. Otherwise it prints the fault and ends with status 1.
 """
 import fcntl
 import importlib.util
@@ -27,7 +27,7 @@ import documents  # noqa: E402
 import gate  # noqa: E402
 import wrong_bodies  # noqa: E402
 
-# Edits of the made-up crate as rt reads them: one that each gate tries, two of every ninth gate, and one that `make wrong` alone tries. A gate has
+# Edits of the made-up crate as rt reads them: one that each gate tries, two of every ninth gate, and one that only `make wrong` tries. A gate has
 # left one of them whole, and one cut off; and one in must-fail is of another's.
 EDIT = "file: src/lib.rt\nold: one\nnew: {}\n"
 EACH, IN_TURN = {"each.edit": EDIT.format("each")}, {name: EDIT.format(name) for name in ("whole.edit", "cut.edit")}
@@ -75,7 +75,7 @@ class Repository:
         (self.bin / "rt").chmod(0o755)
         place = {**os.environ, "PATH": f"{self.bin}:{path}", "PYTHONDONTWRITEBYTECODE": "1", "TURN": turn, "TMPDIR": str(self.room)}
         how = {"stdout": subprocess.PIPE, "stderr": subprocess.STDOUT, "text": True, "cwd": self.folder, "env": place}
-        # (the signal may be ignored here, as behind nohup)
+        # (the signal may be ignored here, as under nohup)
         how["preexec_fn"] = lambda: signal.signal(signal.SIGHUP, signal.SIG_DFL)
         ran = subprocess.run([sys.executable, self.folder / script, *words], **how)
         return ran.returncode, ran.stdout
@@ -87,8 +87,8 @@ def hold(what, found, due):
 
 
 def try_gate(repository):
-    """The gate has the edits of each gate and of its turn in must-fail while rt runs, without the line that says when, and none behind it: where it
-    ends, where its terminal does, and where one of them goes meanwhile. Git isn't there."""
+    """While rt runs, must-fail has the edits of each gate and of the gate's turn, without the line that says when they are tried. Afterwards it has none:
+    after the gate has ended, after its terminal has ended, and if one of the edits is removed meanwhile. Git isn't there."""
     looks = "cat crates/made_up/must-fail/*.edit | cmp -s - due || exit 3"
     repository.put("must-fail", OWN)
     alone = repository.folder / "alone"
@@ -110,7 +110,7 @@ def try_gate(repository):
 
 
 def try_counted(repository):
-    """The gate's last line counts the Go part's tests with the rest, where they were run."""
+    """The gate's last line counts the Go part's tests with the rest, if they were run."""
     count = repository.folder / "count"
     count.write_text("40 1\n")
     for place, last in ((str(count), "43 passed, 1 failed"), (str(repository.folder / "no-count"), "3 passed, 0 failed"), ("", "3 passed, 0 failed")):
@@ -121,8 +121,8 @@ def try_counted(repository):
 
 
 def try_programs(repository):
-    """Behind a gate whose proofs passed the built programs are given words of their own, and sessions, growths of memory are refused to them, dist/ is
-    compared, and the demo's parts over them are shown: its last line counts all of these, and its status tells."""
+    """After the proofs have passed, the gate gives the built programs arguments of their own and sessions, refuses them allocations, compares dist/, and
+    shows the demo's parts with them. Its last line counts all of these, and its status says whether they passed."""
     words, demo = repository.folder / "tests" / "command_lines.py", repository.folder / "examples" / "demo.sh"
     words.parent.mkdir()
     shown = len(gate.DEMO) + len(gate.BROKEN_OFF) + len(gate.OF_DIST)
@@ -165,7 +165,7 @@ def try_programs(repository):
 
 
 def try_left(repository):
-    """What a gate that was killed has left in must-fail is taken out, whole or cut off, and no other edit; not while a gate is at work."""
+    """The edits that a killed gate has left in must-fail are removed, whole or cut off, and no other edit. While a gate is at work, none is removed."""
     repository.put("must-fail", LEFT)
     with open(repository.folder / "checks" / "gate.py") as lock:
         fcntl.flock(lock, fcntl.LOCK_SH)
@@ -194,7 +194,8 @@ def try_left(repository):
 
 
 def try_rooms(repository):
-    """A crate that stands over one of a room over which its own may not is told by both names; so is one in no room, and a room over a later one."""
+    """If a crate depends on a crate of a room that its own room may not use, the fault names both. A crate in no room, and a room that uses a later one, are
+    faults too."""
     text = "# Room base\nlow:\n{}\n# Room top over base\nfar may_wait=2: low std\n"
     for crate, due in (("high: low", []), ("high: low far", ["crates.txt: high (base) depends on far (top), which the room base may not"])):
         found, faults = architecture.rooms(text.format(crate))
@@ -205,7 +206,7 @@ def try_rooms(repository):
 
 
 def try_ended(repository):
-    """Where wrong_bodies.py is ended, so is rt, which can put things in order before its copy goes."""
+    """If wrong_bodies.py is ended, it ends rt, which can put things in order before its copy is removed."""
     beside = repository.folder / "beside"
     rt = f'sleep 60 & trap "ls >{beside}; kill $!; exit 1" TERM; sleep 1; kill -TERM $PPID; wait'
     ended, said = repository.run("checks/wrong_bodies.py", "made_up", rt=rt)
@@ -236,8 +237,8 @@ def loaded(repository):
 
 
 def try_order(repository):
-    """build.py begins with the longest chain of crates, and with what is shown first. Where processors and memory allow, others run beside it, with the jobs
-    that are left, and are nicer."""
+    """build.py begins with the longest chain of crates, and with what is shown first. If processors and memory allow, others run beside it with the jobs that
+    are left, and are nicer."""
     for name, file in (("low", "lib.rt"), ("top", "main.rt"), ("wide", "lib.rt"), ("thin", "lib.rt")):
         (repository.folder / "crates" / name / "src").mkdir(parents=True)
         (repository.folder / "crates" / name / "src" / file).write_text(name)
@@ -272,7 +273,7 @@ def try_order(repository):
 
 
 def try_build(repository):
-    """Where its terminal ends, build.py ends what it has begun, and leaves no copy; a build takes the place of what was made beside it."""
+    """If its terminal ends, build.py ends the processes that it started, and leaves no copy. A build replaces another one that was made meanwhile."""
     ended, said = repository.run("examples/build.py", "made_up", rt="sleep 0.2; kill -HUP $PPID; exec sleep 60")
     if ended != 1 or "stopped; what was proved is kept" not in said or os.listdir(repository.room):
         fail(f"build.py, whose terminal ended: status {ended}, {said}, and there is left {os.listdir(repository.room)}")
@@ -286,7 +287,7 @@ def try_build(repository):
 
 
 def try_sockets(folder):
-    """The documents are held against files alone, and against no log's, and a copy of the repository needs no more."""
+    """The documents are compared only with files, and not with those of a log. A copy of the repository needs nothing else."""
     for path in ("ct-log/entries", "crates/made_up/out/made", "docs/page.md"):
         (folder / path).parent.mkdir(parents=True)
         (folder / path).write_text("text")

@@ -3,7 +3,7 @@
 # of 50 entries; tests/clients/client.go submits five more by Google's client library, and checks what is answered; and meanwhile ctread
 # follows its tiles, which golang.org/x/mod/sumdb/tlog reads, to the last leaf and head. ctwatch watches it by its tiles and by the API of RFC 6962, at 30
 # entries and at the end. Which certificates certspotter and ctwatch report to an owner is compared (tests/names/beside.py). At the end ctcheck judges the
-# log from its folder. It wants certspotter, openssl and curl; it
+# log from its folder. It needs certspotter, openssl and curl. It
 # says what it leaves out.
 set -eu
 here=$(cd "$(dirname "$0")" && pwd)

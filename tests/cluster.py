@@ -1,8 +1,8 @@
 #!/usr/bin/env python3
-"""Tries tests/cluster.sh over programs that stand in for its own and for the engines: it starts in an empty folder without a loader, a first start that failed
-is made again, and what was made isn't made anew.
+"""Tries tests/cluster.sh with programs in place of its own and of the engines. It starts in an empty folder without a loader. A first start that failed is
+repeated, and objects that exist are not made again.
 
-It ends with status 1, and says why, where one of these isn't so.
+If one of these is not true, it ends with status 1 and says why.
 """
 import contextlib
 import http.server
@@ -18,8 +18,8 @@ import threading
 
 ROOT = pathlib.Path(__file__).resolve().parent.parent
 
-# In the place of ctserve: a signer listens at its socket. A node wants its roots, makes the log's register where it is told to create one and there is none,
-# and is refused where there is none otherwise; it answers until it is ended. Where a file `fails` is there the first one fails before all that.
+# In the place of ctserve: a signer listens at its socket. A node needs its roots. It makes the log's register if it must create one and there is none, and
+# refuses to start if there is none otherwise. It answers until it is ended. If there is a file `fails`, the first one fails before all that.
 CTSERVE = '''#!/usr/bin/env python3
 import http.server, os, pathlib, signal, socket, sys
 words = sys.argv[1:]
@@ -128,7 +128,7 @@ def main():
                 fail("it isn't stopped")
             ran = does("start", log, str(port))
             if ran.returncode or (log / "register").read_text() != "1":
-                fail(f"a start of a log that was made: {ran.stderr}; it was told to make it {(log / 'register').read_text()} times")
+                fail(f"a start of a log that was made: {ran.stderr}; it was asked to make it {(log / 'register').read_text()} times")
         finally:
             does("stop", log)
             bucket.shutdown()

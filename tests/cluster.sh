@@ -47,7 +47,7 @@ end() {
   kill -KILL "$id"
 }
 
-# addresses: where the engines are, and with which words a node is given them.
+# addresses: the addresses of the engines, and the arguments by which a node gets them.
 addresses() {
   # shellcheck source=/dev/null
   . "$folder/engines/addresses"
@@ -108,8 +108,8 @@ END_OF_CONF
 # (the message is after two lines, and its checkpoint after two more: docs/WITNESS.md)
 last_of() { cat "$folder/witness-$1"/*/text | sed -n '3s/^none yet$/0 none/p;6{h;n;H;g;s/\n/ /p;}'; }
 
-# judge: says who cosigned the last head that is published, and which trees the witnesses cosigned last. It fails where fewer than the half and one of them
-# cosigned it, or stand at it, or one stands elsewhere at its size or above it.
+# judge: prints which witnesses cosigned the newest published head, and which trees the witnesses cosigned last. It fails if fewer than half of them and one
+# cosigned it, if for fewer it is the last tree, or if one of them cosigned another tree of its size or a larger one.
 judge() {
   local i head size root at=0 due=$(($(wc -l <"$folder/witnesses") / 2 + 1)) last status=0
   head=$folder/checkpoint
@@ -121,11 +121,11 @@ judge() {
     if [ "$last" = "$size $root" ]; then
       at=$((at + 1))
     elif [ "${last% *}" -ge "$size" ]; then
-      echo "cluster.sh: witness-$i stands at $last, and the log at $size $root" >&2
+      echo "cluster.sh: the last tree of witness-$i is $last, and that of the log is $size $root" >&2
       status=1
     fi
   done
-  [ "$at" -ge "$due" ] || { echo "cluster.sh: $at witnesses stand at the log's last head, and $due are due" >&2 && status=1; }
+  [ "$at" -ge "$due" ] || { echo "cluster.sh: the last tree of $at witnesses is that of the log's last head, and it must be so for $due" >&2 && status=1; }
   return "$status"
 }
 

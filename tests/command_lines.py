@@ -1,12 +1,12 @@
 #!/usr/bin/env python3
-"""Gives the built programs words of their own: command_lines.py [FOLDER]
+"""Gives the built programs command lines: command_lines.py [FOLDER]
 
-Std's contracts don't say which words a process has, and what its standard streams hold, so no clause sees a program that passes over its words, or
-reads where it is asked for help. FOLDER has the built programs, each as NAME/out/NAME (crates, where it isn't given; `rt run -- --help` in
-crates/NAME builds one). Each that is there is given its stored lines, and then the same lines under words that ask for help, for the version, and for
-nothing that there is; a word that isn't UTF-8; an input that can't be read, and outputs that can't be written. What is due is what the program's page
-says, and its stored run. Where no lines are asked for, none are read. Those that aren't built are named. The status is 1 where something isn't so, and
-where none is built. What ctlog does over lines, sessions.py has.
+Std's contracts don't say which arguments a process has, or what its standard streams contain. So no clause excludes a program that ignores its arguments, or
+that reads its input although it was asked for help. FOLDER has the built programs, each as NAME/out/NAME (by default crates; `rt run -- --help` in
+crates/NAME builds one). Each one gets its stored lines, and then the same lines with arguments that ask for help, for the version, and for something that
+does not exist; an argument that isn't UTF-8; an input that can't be read, and outputs that can't be written. The expected output is that of the program's
+page and of its stored run. If no lines are asked for, none may be read. Programs that aren't built are named. The status is 1 if something is wrong, and if
+none is built. sessions.py has the tests of ctlog over lines.
 """
 import os
 import pathlib
@@ -19,17 +19,17 @@ from sweep import CRATES
 VERSION = (CRATES.parent / "VERSION").read_text().strip()
 UNREADABLE = b"\xff"
 LIMIT = 60
-# Of each program: its page, its exit statuses, words that its options take (5,000, so that one which stops before these is seen), and words that
-# ask for nothing that there is.
+# For each program: its page, its exit statuses, arguments that its options accept (5,000, so that a program that stops before these is found), and arguments
+# that ask for something that does not exist.
 NO_LOG = ["--fronts 17 --ring 4", "--fronts 0 --ring 4", "--fronts 1 --ring 0", "--fronts 1 --ring 4097", "--fronts 1 --ring 4 --close-at 9007199254740992", "--fronts 1"]
 PROGRAMS = {
     "ctlog": ("docs/LINES.md", None, ["--fronts", "1", "--ring", "4"], [*map(str.split, NO_LOG), ["lines"], [""], ["a" * 3000]]),
 }
-# What help is, of those whose help tells no exit statuses. Any text may stand for `...`.
+# The help of the programs whose help names no exit statuses. Any text may be in place of `...`.
 HELP = {
     "ctlog": "Usage: ctlog [OPTIONS] --fronts <N> --ring <K>\n...The input is read whole before the log opens.\n",
 }
-# What is told of words that ask for nothing that there is. A word that isn't UTF-8 is such a word.
+# The messages about arguments that ask for something that does not exist. An argument that isn't UTF-8 is one of them.
 REFUSED = "error: ...\n\nRequests come on standard input, a line of JSON each.\n"
 TOLD = {"ctlog": REFUSED}
 NOT_UTF_8 = "error: an argument isn't UTF-8\n..."
@@ -40,7 +40,7 @@ class Other(Exception):
 
 
 def ran(program, words, source, sink=subprocess.PIPE):
-    """The status of a run over a file, what it wrote, what it told, and how many bytes of the file it read."""
+    """The status of a run over a file, its output, its messages, and how many bytes of the file it read."""
     with open(source, "rb") as lines:
         run = subprocess.run([program, *words], stdin=lines, stdout=sink, stderr=subprocess.PIPE, timeout=LIMIT)
         read = os.lseek(lines.fileno(), 0, os.SEEK_CUR)
@@ -53,7 +53,7 @@ def due(what, found, wanted):
 
 
 def fits(text, wanted):
-    """Whether a text is the one that is wanted, in which any text may stand for `...`."""
+    """Whether a text is the expected one, in which any text may be in place of `...`."""
     start, middle, end = (part.encode() for part in wanted.partition("..."))
     return text.startswith(start) and text.endswith(end) and (len(text) >= len(start + end) if middle else text == start)
 
@@ -64,7 +64,7 @@ def due_text(what, text, wanted):
 
 
 def judge_help(name, page, statuses, text):
-    """Whether help says how the program is called, where its page is, and what its exit statuses are."""
+    """Whether the help has the program's usage, its page and its exit statuses."""
     lines = text.decode().splitlines()
     due("help begins", lines[0].lower().startswith(f"usage: {name}"), True)
     due(f"help names {page}", page in text.decode(), True)
@@ -75,7 +75,7 @@ def judge_help(name, page, statuses, text):
 
 
 def judge_words(name, program, lines):
-    """Judges what a program does by its words alone, and answers how many runs that are."""
+    """Judges the runs of a program that depend only on its arguments, and returns how many these are."""
     page, statuses, options, refused = PROGRAMS[name]
     (status, usage, told, read), runs = ran(program, ["--help"], lines), 1
     due("--help", (status, told, read), (0, b"", 0))

@@ -4,10 +4,10 @@
 #
 #   cosignatures.sh WITNESSES K < heads
 #
-# A line of the file WITNESSES is a witness's verifier key of Ed25519, NAME+ID+KEY (ctwitness --verifier-key prints it); one that is empty or
-# begins with # isn't. It prints a line for each checkpoint with who cosigned it, each once, and ends with status 1 at the first that fewer than K of
-# them did, and where there is no checkpoint; with 2 where the words or WITNESSES are wrong, or more than its witnesses are wanted. Of a checkpoint's
-# lines of signatures 100 are looked at.
+# A line of the file WITNESSES is a witness's verifier key of Ed25519, NAME+ID+KEY (ctwitness --verifier-key prints it); empty lines and lines that begin with
+# # are ignored. It prints a line for each checkpoint with the witnesses that cosigned it, each once. It ends with status 1 at the first checkpoint that fewer
+# than K of them cosigned, or if there is no checkpoint; with 2 if the arguments or WITNESSES are wrong, or K is above their number. It reads at most 100
+# lines of signatures of a checkpoint.
 set -u
 usage() {
   sed -n '2,11s/^# \{0,1\}//p' "$0" >&2
@@ -26,7 +26,7 @@ work=$(mktemp -d) && trap 'rm -rf "$work"' EXIT && trap 'exit 1' HUP INT TERM ||
 cat <"$1" >"$work/witnesses" || fault "the witnesses can't be read"
 cd "$work" || exit 1
 
-# Puts a witness's name and id into the files `names` and `ids`, and its key into key-N, where N is the line that its name has.
+# Puts a witness's name and id into the files `names` and `ids`, and its key into key-N. N is the number of the line with its name.
 take() {
   name=${1%%+*} key=${1#*+}
   id=${key%%+*} key=${key#*+}
@@ -75,7 +75,7 @@ check() {
 # (of bytes of 0 a shell reads nothing)
 cat >given
 [ "$(wc -c <given)" = "$(tr -d '\000' <given | wc -c)" ] || { echo "no checkpoint" && exit 1; }
-# A checkpoint's text ends with an empty line, and so do its signatures, or with the input.
+# A checkpoint's text ends with an empty line. Its signatures end with one too, or with the input.
 checked=0 part=text
 : >text && : >signatures
 while IFS= read -r line || [ -n "$line" ]; do

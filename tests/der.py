@@ -1,16 +1,14 @@
-"""What add-pre-chain needs of X.509: the TBSCertificate without the poison extension, and the issuer's key hash (RFC 6962,
+"""The parts of X.509 that add-pre-chain needs: the TBSCertificate without the poison extension, and the issuer's key hash (RFC 6962,
 section 3.2).
 
-This parser stands outside of what is proved: the log takes both as they are given, and its entry is what this file made of
-the precertificate. It reads DER with definite lengths, knows the places of a certificate's fields, and checks no signature
-and no date. It goes as deep as a certificate's extensions, five values, whatever lies below; each byte is copied once a level,
-and of values that follow one another there may be MOST_VALUES.
+This parser is not proved. The log takes both results as they are given, so its entry has what this file made of the precertificate. It reads DER with
+definite lengths, knows the places of a certificate's fields, and checks no signature and no date. It reads to the depth of a certificate's extensions, five
+values, and nothing below. Each byte is copied once a level. The number of values that follow one another is at most MOST_VALUES.
 """
 import hashlib
 
 SEQUENCE, BOOLEAN, OCTETS, NAME, VERSION, EXTENSIONS = 0x30, 0x01, 0x04, 0x06, 0xA0, 0xA3
-# 1.3.6.1.4.1.11129.2.4.3, the poison extension, and .4, the purpose of a certificate that signs
-# precertificates alone (section 3.1).
+# 1.3.6.1.4.1.11129.2.4.3, the poison extension, and .4, the purpose of a certificate that signs only precertificates (section 3.1).
 POISON = bytes.fromhex("060a2b06010401d679020403")
 SIGNS_PRECERTIFICATES = bytes.fromhex("060a2b06010401d679020404")
 # 2.5.29.37, the extended key usage.
@@ -103,9 +101,8 @@ class Certificate:
 
 
 def precertificate(chain, roots):
-    """The issuer's key hash and the TBSCertificate of a chain whose first is a precertificate. Where the issuer isn't in
-    the chain, it is looked for among the roots. A precertificate that a certificate for precertificates alone signed isn't
-    taken: its issuer would have to be replaced."""
+    """The issuer's key hash and the TBSCertificate of a chain whose first is a precertificate. If the issuer isn't in the chain, it is looked up among the
+    roots. A precertificate that a precertificate signing certificate signed is refused, because its issuer would have to be replaced."""
     first = Certificate(chain[0])
     tbs = first.without_poison()
     issuers = [Certificate(der) for der in (chain[1:2] or roots)]

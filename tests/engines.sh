@@ -1,24 +1,24 @@
 #!/usr/bin/env bash
-# Engines of one's own, on loopback and in a folder:
-#   engines.sh run COMMAND..        starts them, tells the command where they are, and stops them behind it; it ends with its status
-#   engines.sh start FOLDER         starts them in a folder, or those that were stopped there, and writes where they are to FOLDER/addresses
-#   engines.sh stop FOLDER          stops them; what they keep stays
-#   engines.sh again FOLDER NAME    kills a process of theirs (-9), and starts it once more
+# Runs engines of its own, on loopback and in a folder:
+#   engines.sh run COMMAND..        starts them, runs the command with their addresses, and stops them; it ends with the command's status
+#   engines.sh start FOLDER         starts them in a folder, or those that were stopped there, and writes their addresses to FOLDER/addresses
+#   engines.sh stop FOLDER          stops them; their data stays
+#   engines.sh again FOLDER NAME    kills one of their processes (-9), and starts it again
 #   engines.sh pause FOLDER NAME SECONDS
-# ENGINES says which, of: etcd, a member of etcd; members, three of them (Debian's etcd-server and etcd-client); postgres (postgresql);
-# s3, Ceph with its S3 (radosgw, ceph-mon, ceph-osd, ceph-mgr). Without it "etcd members postgres s3", each where it is installed: one line is
-# said of each that isn't. Where they are is told by STORES_ETCD, STORES_MEMBERS, STORES_POSTGRES and STORES_S3; STORES_AGAIN and
-# STORES_PAUSE are this script's calls but for the last words. PORT is where ports that are free are looked for; elsewhere by chance.
+# ENGINES names those to start: etcd, a member of etcd; members, three of them (Debian's etcd-server and etcd-client); postgres (postgresql);
+# s3, Ceph with its S3 (radosgw, ceph-mon, ceph-osd, ceph-mgr). Without it, it is "etcd members postgres s3", each if it is installed. The script prints a line
+# for each engine that isn't. STORES_ETCD, STORES_MEMBERS, STORES_POSTGRES and STORES_S3 have their addresses. STORES_AGAIN and STORES_PAUSE are calls of
+# this script without the last arguments. It looks for free ports from PORT on, or from a random one.
 # (start_etcd and the like are called by their names)
 # shellcheck disable=SC2317
 set -eu
 what=${1:-}
 shift || true
 
-# since ID: when a process began; nothing where it is gone, or dead and not yet waited for.
+# since ID: when a process began; nothing if it has ended, even if no process has waited for it yet.
 since() { sed -n 's/^.*) [^Z] //p' "/proc/$1/stat" 2>/dev/null | cut -d ' ' -f 19; }
 
-# process NAME: its number, where it runs and no other has that.
+# process NAME: its number, if it runs and no other process has that number.
 process() {
   local id began
   read -r id began 2>/dev/null <"$work/$1.id" && [ -n "$began" ] && [ "$began" = "$(since "$id")" ] && echo "$id"
@@ -53,7 +53,7 @@ begin() {
   launch "$name"
 }
 
-# tell NAME VALUE: where an engine is.
+# tell NAME VALUE: exports the address of an engine.
 tell() {
   export "$1=$2"
   printf 'export %s=%q\n' "$1" "$2" >>"$work/addresses"
@@ -77,16 +77,16 @@ stop() {
   for id in $ids; do kill -KILL "$id" 2>/dev/null || true; done
 }
 
-# Ports that nobody listens at, from a place of chance on.
+# Finds ports at which no process listens, from a random one on.
 port=$((${PORT:-$((20000 + RANDOM % 8000))} - 1))
 next_port() {
   while port=$((port + 1)); (exec 3<>"/dev/tcp/127.0.0.1/$port") 2>/dev/null; do :; done
 }
 
-# What has etcd forget the revisions that the register leaves behind: without it the quota of its storage fills.
+# These settings have etcd forget old revisions of the register. Without them the quota of its storage fills.
 compacting=(--auto-compaction-mode periodic --auto-compaction-retention 1h)
 
-# has NAME PACKAGE PROGRAM..: whether the programs are there.
+# has NAME PACKAGE PROGRAM..: reports whether the programs are installed.
 has() {
   local name=$1 package=$2
   shift 2
@@ -105,7 +105,7 @@ start_etcd() {
   tell STORES_ETCD "${here#http://}"
 }
 
-# Three members of one etcd, as processes member-1 to member-3. A member alone has no majority: the last one is asked.
+# Three members of one etcd, as processes member-1 to member-3. One member has no majority, so only the last one is asked.
 start_members() {
   has members "etcd-server etcd-client" etcd etcdctl || return 0
   local i all="" clients=() peers=() ready

@@ -1,13 +1,12 @@
 #!/usr/bin/env python3
-"""Computes, with hashlib alone, what ctlog has to answer to the lines on standard input.
+"""Computes, with only hashlib, the replies of ctlog to the lines on standard input.
 
     expected.py FRONTS RING OPEN_AT CLOSE_AT < real-chains.jsonl
 
-An independent program: it shares no code with ctlog. The fronts and the operator take turns, shift by shift, each doing its
-lines until it has to wait, which is one of the schedules that threads may take. Tickets are written as `_` where there are several fronts: all else
-has to come from any schedule, if the input is made so that it can. Waits that nothing ends and collisions aren't known to it.
-Where the clock refuses the closing it prints what ctlog has written by then, and where it refuses the end of a shift
-nothing; it names the fault, and ends with status 1.
+An independent program: it shares no code with ctlog. The fronts and the operator take turns, shift by shift. Each one does its lines until it must wait,
+which is one of the schedules that threads may take. If there are several fronts, tickets are written as `_`. Everything else must be the same in each
+schedule, if the input is made for that. It does not know waits that nothing ends, and no collisions. If the clock refuses the closing, it prints the output
+of ctlog until then; if the clock refuses the end of a shift, it prints nothing. In both cases it names the fault and ends with status 1.
 """
 import base64
 import json
@@ -36,7 +35,7 @@ class WaitsInVain(Exception):
 
 
 def check_submission(precert, chain):
-    """Refuses what stands against a chain; of a precertificate first what stands against the TBSCertificate."""
+    """Refuses the faults of a chain; of a precertificate first the faults of the TBSCertificate."""
     if not chain:
         raise Refused("empty-chain")
     for certificate in [precert[1], *chain] if precert else chain:
@@ -49,7 +48,7 @@ def check_submission(precert, chain):
 
 
 def signed_entry(precert, chain):
-    """The entry type and the signed entry, by which submissions are told apart (RFC 6962, section 3.1)."""
+    """The entry type and the signed entry, which are the identity of a submission (RFC 6962, section 3.1)."""
     if precert is None:
         return b"\x00\x00" + vector(chain[0])
     issuer_key_hash, tbs = precert
@@ -63,7 +62,7 @@ def extra_data(precert, chain):
 
 
 class Log:
-    """The log: what was accepted, settled and published."""
+    """The log: the accepted, settled and published submissions."""
 
     def __init__(self, fronts, ring, now):
         self.rings = [[] for _ in range(fronts)]
@@ -79,7 +78,7 @@ class Log:
         return [leaf for _, leaf, _ in self.entries[:size]]
 
     def submit(self, front, chain, precert=None):
-        """Submits a chain. Of a precertificate, the first of the chain, there is the issuer's key hash and the TBSCertificate."""
+        """Submits a chain. For a precertificate, which is the first of the chain, it takes the issuer's key hash and the TBSCertificate."""
         check_submission(precert, chain)
         if self.shut:
             raise Refused("shutdown")
@@ -222,7 +221,7 @@ def do_lines(do, lines, replies):
         replies.append(reply)
 
 
-# The keys of each op, and what has to stand under them.
+# The keys of each op, and the types of their values.
 QUERIES = {
     "get-sth": {},
     "get-sth-consistency": {"first": is_number, "second": is_number},
@@ -256,7 +255,7 @@ OTHER_OPS = {
 
 
 def read_line(line, fronts):
-    """Who does the line, and the request. What is no request is the operator's, as None."""
+    """The party that does the line, and the request. A line that is no request belongs to the operator, as None."""
     try:
         value = json_of(line)
         who = value["who"]
@@ -270,8 +269,8 @@ def read_line(line, fronts):
 
 
 def give_out(lines, fronts):
-    """The shifts, and the frozen log's requests. A shift is the requests of each front and of the operator, who is the last of them,
-    and the moment at which it ends, which the last shift hasn't."""
+    """The shifts, and the frozen log's requests. A shift has the requests of each front and, at last, of the operator, and the timestamp at which it ends.
+    The last shift has no such timestamp."""
     shifts, frozen = [], []
     parties = [[] for _ in range(fronts + 1)]
     for line in lines:

@@ -3,9 +3,9 @@
 
     fuzz.py [PROGRAM] [--seconds S] [--seed SEED] [--from N] [--inputs N]
 
-Input n of a seed always has the same lines. Many are damaged (mutations.py), and each stands where its reply doesn't depend on how
-the threads run. Standard output, standard error and the status are compared. At the first difference, abort or hang it keeps the
-input, says how to repeat it, and ends with status 1; else it ends with counts.
+Input n of a seed always has the same lines. Many are damaged (mutations.py). Each is at a place at which its reply doesn't depend on how the threads run.
+Standard output, standard error and the status are compared. At the first difference, abort or hang it keeps the input, says how to repeat it, and ends with
+status 1. Otherwise it prints counts.
 """
 import argparse
 import collections
@@ -124,7 +124,7 @@ class Alone(Woven):
 
 
 class Difference(Exception):
-    """What the program did otherwise."""
+    """The differences of the program's run."""
 
 
 def first_difference(written, lines):

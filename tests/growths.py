@@ -1,13 +1,13 @@
 #!/usr/bin/env python3
-"""Adds up the memory that ctlog asks for, over logs of 64 and of 4,096 entries: what a line costs hangs on its reply, and not on the log.
+"""Adds up the memory that ctlog asks for, over logs of 64 and of 4,096 entries: the cost of a line depends on its reply, and not on the log.
 
     growths.py [PROGRAM]
 
-PROGRAM is the built program (`rt run -- --help` in crates/ctlog builds it). What a line costs is told by runs over the same lines with one and with
-21 of it, whose difference in bytes asked for (`sweep/asked.c`) is twenty times that. No clause says what a call costs. So of these, for the larger log
-no more may be asked for than for the smaller one, but for MORE or UNSHARED: a question for a head, a receipt, one entry, an entry with its path, an index by
-hash, a consistency proof, and an audit of the log's own leaf and path, by the closed log; and a publication with nothing new. It prints each cost,
-and ends with status 1 where one is higher.
+PROGRAM is the built program (`rt run -- --help` in crates/ctlog builds it). The script runs the same lines with one and with 21 of a line. The difference in
+the bytes asked for (`sweep/asked.c`) is twenty times the cost of the line. No clause states the cost of a call. So the script checks that none of these lines
+asks for more in the larger log than in the smaller one, except for MORE or UNSHARED: a query for a head, a receipt, one entry, an entry with its path, an
+index by hash, a consistency proof, and an audit of the log's own leaf and path, by the closed log; and a publication with nothing new. It prints each cost,
+and ends with status 1 if one is higher.
 """
 import base64
 import hashlib
@@ -46,7 +46,7 @@ class Counted:
         subprocess.run(["cc", "-shared", "-fPIC", "-O2", "-o", self.shim, HERE / "sweep" / "asked.c"], check=True)
 
     def run(self, lines):
-        """What it wrote, and how many bytes it asked for."""
+        """The output, and how many bytes the run asked for."""
         self.asked.unlink(missing_ok=True)
         place = dict(os.environ, LD_PRELOAD=str(self.shim), ASKED=str(self.asked))
         words = [self.program, "--fronts", "1", "--ring", "4096"]
@@ -59,13 +59,13 @@ class Counted:
         return ended.stdout.decode().splitlines(), asked
 
     def cost(self, before, text):
-        """What one of a last line costs, in bytes, and its reply."""
+        """The cost of one of a last line, in bytes, and its reply."""
         replies, once = self.run([*before, text])
         return (self.run([*before, *[text] * (TIMES + 1)])[1] - once) // TIMES, replies[-1]
 
 
 def publications(counted, size):
-    """What a publication with nothing new costs."""
+    """The cost of a publication with nothing new."""
     before, behind = list(head_and_entries(size)), [line("operator", "shutdown")]
     once = [line("operator", "publish", now=10)]
     often = [line("operator", "publish", now=moment) for moment in range(10, 11 + TIMES)]

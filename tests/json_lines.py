@@ -1,4 +1,4 @@
-"""Lines of JSON, as docs/LINES.md has them: how they are read and written, and the types of what stands in them.
+"""Lines of JSON, as docs/LINES.md has them: how they are read and written, and the types of their values.
 
 For the programs of examples/ that answer such lines. Nothing of ctlog's code is used.
 """
@@ -35,7 +35,7 @@ def is_list_of(is_element):
 
 
 def fraction(digits):
-    """A number with a fraction or an exponent. Where it is too large for a float, the line is no request."""
+    """A number with a fraction or an exponent. If it is too large for a float, the line is no request."""
     if math.isinf(float(digits)):
         raise ValueError("a number that is too large")
     return float(digits)
@@ -89,8 +89,8 @@ def json_line(value):
 
 
 def lines_of(stream, longest=LONGEST_LINE):
-    """The lines of a stream without their ends, each as soon as it is read. Of one that is too long a beginning is answered, which is too
-    long as well, and the rest passed over."""
+    """The lines of a stream without their ends, each as soon as it is read. If a line is too long, only a beginning of it is returned, which is too long as
+    well. The rest is skipped."""
     while line := stream.readline(longest + 2):
         rest = line
         while len(rest) == longest + 2 and not rest.endswith(b"\n"):

@@ -41,7 +41,7 @@ FAULTS = {"_front": "Retired", "_sequencer": "Sequencer"}
 
 
 def crates_below(name, below):
-    """The crate of that name and all those that it stands on, in a set."""
+    """The crate of that name and all crates below it, in a set."""
     return {name}.union(*(crates_below(each, below) for each in below.get(name, [])))
 
 

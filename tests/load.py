@@ -6,10 +6,10 @@
 Each front has so many lines, nine in ten of them submissions of some 250 certificates and 500 precertificates, the others questions for
 tree heads and receipts, and they fall into so many shifts of the same length.
 In the last shift the operator settles a random number of submissions, in small batches of some fronts by turns, publishes now and then, shuts
-the log twice and publishes once more; in the others it publishes once, and what the fronts submit settles as the shift ends. Nothing orders
-the fronts' lines of a shift and the shutdown, so it falls where the threads have come to: before all submissions of the last shift, behind
-all, or in the middle. check.py judges the tickets, the order of the settlement and of the entries, the receipts, and each
-root. At the first output that it refuses, and at a run that doesn't end, the lines and the output are kept, and the status is 1.
+the log twice and publishes once more; in the others it publishes once, and what the fronts submit settles as the shift ends. Nothing orders the fronts' lines
+of a shift and the shutdown. So it may come before all submissions of the last shift, after all of them, or in the middle. check.py judges the tickets, the
+order of the settlement and of the entries, the receipts, and each root. At the first output that it refuses, and at a run that doesn't end, the lines and the
+output are kept, and the status is 1.
 """
 import argparse
 import base64
@@ -76,7 +76,7 @@ def submissions_of(text):
 
 
 def input_of(seed, fronts, lines, shifts):
-    """The lines of a run, and how many submissions stand in its last shift."""
+    """The lines of a run, and how many submissions its last shift has."""
     source = random.Random(seed)
     given, now = [], OPEN_AT
     for shift in range(1, shifts + 1):
@@ -93,7 +93,7 @@ def input_of(seed, fronts, lines, shifts):
 
 
 def told(written):
-    """How many submissions were accepted, and how many were told the shutdown. The operator is told it once."""
+    """How many submissions were accepted, and how many got the reply `shutdown`. The operator gets it once."""
     replies = collections.Counter(line[:10] for line in written.splitlines())
     shutdowns = written.count('{"error":"shutdown"}') - 1
     return replies['{"ticket":'], shutdowns
@@ -118,7 +118,7 @@ def kept(prefix, given, written):
 
 
 def judge(program, seed, fronts, lines, shifts):
-    """Runs the program once, and answers what its submissions were told, and how many of the last shift were accepted."""
+    """Runs the program once, and returns the replies to its submissions, and how many of the last shift were accepted."""
     given, last = input_of(seed, fronts, lines, shifts)
     words = ["--fronts", str(fronts), "--ring", str(RING), "--open-at", str(OPEN_AT), "--close-at", str(CLOSE_AT)]
     written, wrong = ran([program, *words], given, LONGEST_RUN)
@@ -128,7 +128,7 @@ def judge(program, seed, fronts, lines, shifts):
         checked(fronts, given, written)
         accepted, shut = told(written)
         if accepted + shut != given.count(SUBMISSION):
-            raise Wrong("a submission was told neither a ticket nor the shutdown")
+            raise Wrong("a submission got neither a ticket nor the reply shutdown")
     except (Wrong, KeyError, IndexError, ValueError) as fault:
         sys.exit(f"load.py: seed {seed}: {fault!r}\n{kept(f'load-{seed}-', given, written)}")
     return accepted, shut, last - shut
@@ -149,7 +149,7 @@ def main():
     for run in range(given.runs):
         accepted, shut, late = judge(given.program, given.seed + run, given.fronts, given.lines, given.shifts)
         fell["in the middle" if late and shut else "before all" if shut else "behind all"] += 1
-        print(f"seed {given.seed + run}: {accepted:,} submissions accepted, {shut:,} told the shutdown", flush=True)
+        print(f"seed {given.seed + run}: {accepted:,} submissions accepted, {shut:,} refused after the shutdown", flush=True)
     places = ", ".join(f"{place} of the submissions {count} times" for place, count in sorted(fell.items()))
     print(f"{given.runs} runs of {given.fronts} fronts with {given.lines:,} lines each, in {given.shifts} shifts: check.py refuses none. The last shift's shutdown fell {places}.")
 

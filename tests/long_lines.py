@@ -1,8 +1,8 @@
 #!/usr/bin/env python3
 """Gives ctlog a line of 400 MB, and checks that it keeps little of it in memory: long_lines.py
 
-A client may never end its line. ctlog gets such a line, and a good one after it. It must reply `bad-line` to the first, and to the second as if it were alone. It must take
-at most 64 MB of memory, this script's included. The status is 1 if something else happens, or if ctlog is not built.
+A client may never end its line. ctlog gets such a line, and a good one after it. It must reply `bad-line` to the first, and to the second as if there were no
+other. It must take at most 64 MB of memory, this script's included. The status is 1 if something else happens, or if ctlog is not built.
 """
 import os
 import subprocess
@@ -18,7 +18,7 @@ REPLIES = f'{{"error":"bad-line"}}\n{{"sha256_root_hash":"{ROOT}","timestamp":7,
 
 
 def written(program, words, good):
-    """What it writes, its status, and how much memory it took, in KB."""
+    """The output, the status, and how much memory it took, in KB."""
     running = subprocess.Popen([program, *words], stdin=subprocess.PIPE, stdout=subprocess.PIPE)
     for _ in range(PIECES):
         running.stdin.write(PIECE)

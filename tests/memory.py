@@ -1,5 +1,5 @@
 #!/usr/bin/env python3
-"""Refuses each growth of the calls of the library in turn, over the tests of crates/house_tests in which one may be refused.
+"""Refuses each allocation of the calls of the library in turn, over the tests of crates/house_tests in which one may be refused.
 
     memory.py [PROGRAM] [--from N] [--test NAME]
 
@@ -7,10 +7,9 @@ PROGRAM is the built tests (`rt test` in crates/house_tests builds them). Each t
 refused, the second, and so on, until a run makes fewer growths than that. `sweep/refuse.c`, which cc builds and the loader puts before the C
 library, refuses them, as for `sweep.py`.
 
-A test makes a refused call again, and compares each answer with the one that it has to be. So each run has to end by itself with status 0, and
-to say which call was refused: one of those in CALLS. It may say that none was, and then all was as with ample memory, only in the
-batch of forty leaves, where the start of a worker that hashes was refused.
-The counts are printed, and the status is 1 at the first run that isn't as asked, and where no growth was refused.
+A test repeats a refused call, and compares each answer with the expected one. So each run must end by itself with status 0, and must name the call that was
+refused: one of those in CALLS. It may say that none was refused, with everything as with enough memory, only in the batch of forty leaves, if the start of a
+worker that hashes was refused. The script prints the counts. The status is 1 at the first run that is wrong, and if no allocation was refused.
 """
 import argparse
 import collections
@@ -30,14 +29,14 @@ CALLS = [
     *("open", "take", "succeed", "publish", "ask", "settle", "answer", "serve_frozen"),
     *("observe", "explain_inclusion", "explain_consistency", "decode_leaf", "decode_chain", "read_line"),
 ]
-# Where the tests stand whose growths may be refused.
+# The file with the tests whose allocations may be refused.
 ROOM = "refused_growths::"
 # The test in which workers hash a batch: the start of one may be refused, and its part is hashed all the same.
 WITH_WORKERS = f"{ROOM}large_batch::a_large_batch"
 
 
 class Wrong(Exception):
-    """What isn't as asked."""
+    """The fault of a run."""
 
 
 class Sweep:
@@ -67,7 +66,7 @@ class Sweep:
         return told[0], growths
 
     def judge(self, test, refused):
-        """What was refused, or None where the run makes fewer growths than that."""
+        """The call that was refused, or None if the run makes fewer allocations than that."""
         call, made = self.run(test, refused)
         if call == NOTHING and made < refused:
             return None

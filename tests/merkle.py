@@ -151,7 +151,7 @@ def proof_length(m, n, whole=True):
 
 
 def roots_by_proof(m, n, known, hashes, whole=True):
-    """MTH of the first m and of all n leaves, of which SUBPROOF is these hashes, and the first root, where the whole is asked for, the known one."""
+    """MTH of the first m and of all n leaves, for which SUBPROOF gives these hashes. If the whole tree is asked for, the first root is the known one."""
     if m == n:
         return (known, known) if whole else (hashes[-1], hashes[-1])
     k = split(n)

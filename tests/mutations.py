@@ -13,7 +13,7 @@ NUMBERS = [
     *[b"0." + b"0" * 400 + b"1", b"1" + b"0" * 400 + b"e-400"],
 ]
 VALUES = NUMBERS + [b"null", b"true", b"false", b'"1"', b'""', b"[]", b"{}", b"[[]]", b'["QQ=="]', b'"QQ=="', b'"operator"', b'"frozen"', b"[", b"tru", b""]
-# What may be put into a string: escapes, halves of characters, signs that need an escape, and bytes that aren't UTF-8.
+# The texts that may be put into a string: escapes, halves of characters, signs that need an escape, and bytes that aren't UTF-8.
 PIECES = [
     *[rb"\n", rb"\/", rb"\b", rb"\"", rb"\\", rb"\u0000", rb"\u0041", rb"\ud83d\ude00", rb"\x41", rb"\u12", rb"\u12g4", rb"\U0041", b"\\"],
     *[rb"\ud800", rb"\udc00", rb"\ud800\ud800", rb"\udc00\ud800", rb"\ud800\u0041", rb"\uD83Dx", rb"\u003d", rb"\u003D"],
@@ -26,7 +26,7 @@ TOKEN = re.compile(rb'"(?:[^"\\]|\\.)*"|-?\d+|[][{}:,]|\w+', re.DOTALL)
 
 
 def tokens(line, begin):
-    """Where tokens with such a beginning stand: the places of the first and behind the last byte of each."""
+    """The places of the tokens with such a beginning: those of the first byte of each, and after its last one."""
     return [match.span() for match in TOKEN.finditer(line) if match[0][:1] in begin]
 
 

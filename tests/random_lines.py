@@ -198,7 +198,7 @@ class Script:
 
 
 def is_written(written, fronts, lines):
-    """Whether a program wrote these lines, in which `_` stands for a ticket where there are several fronts."""
+    """Whether a program wrote these lines. If there are several fronts, they have `_` in place of tickets."""
     tickets = sorted(int(number) for number in re.findall(rb'"ticket":(\d+)', written))
     if fronts > 1:
         written = re.sub(rb'"ticket":\d+', b'"ticket":_', written)

@@ -1,14 +1,14 @@
 #!/usr/bin/env python3
-"""Runs the commands of README.md in the order of the page, in a copy of the repository in which nothing is built, without the kit; and says of each
-command of the other pages what runs it.
+"""Runs the commands of README.md in the order of the page, in a copy of the repository in which nothing is built, without the kit. For each command of the
+other pages, it has the name of the script that runs it.
 
-`make serve` runs until the end, at a port that is free. The script looks at what each command prints. It also runs the first session of docs/LINES.md, by
-ctlog if that is built and otherwise by expected.py. A command of README.md that this script doesn't know is a fault. It prints one line, and ends with status 1 at the first thing
-that isn't as README.md has it. Where Go or one of its packages isn't installed, it says so, and runs none that needs them.
+`make serve` runs until the end, at a free port. The script checks the output of each command. It also runs the first session of docs/LINES.md, by ctlog if
+that is built and otherwise by expected.py. A command of README.md that this script doesn't know is a fault. It prints one line, and ends with status 1 at the
+first command that does something else than README.md says. If Go or one of its packages isn't installed, it says so, and runs no command that needs them.
 
-A command of another page stands in ELSEWHERE, and a target of the Makefile that a page names in its text in TARGETS, each with what runs it: this
-script, in that copy; bare/bare.py, on a bare Debian with the packages of a release; or pages.py, in a fresh clone with the kit.
-One that doesn't is a fault, and so is one that stands there and on no page.
+ELSEWHERE has the commands of the other pages, and TARGETS the targets of the Makefile that a page names in its text. Each has the name of what runs it: this
+script, in that copy; bare/bare.py, on a bare Debian with the packages of a release; or pages.py, in a fresh clone with the kit. A command that is missing
+there is a fault, and one that is on no page is a fault too.
 """
 import contextlib
 import json
@@ -106,7 +106,7 @@ class Page:
         """Runs it, and sees that it ends with that status and prints text of this form."""
         ran = subprocess.run(["sh", "-c", command.replace("8618", str(self.port))], capture_output=True, **self.how)
         if ran.returncode != status or not re.fullmatch(form, ran.stdout, re.S):
-            fail(f"{command} ends with status {ran.returncode} where {status} is due, and prints {ran.stdout}{ran.stderr}")
+            fail(f"{command} ends with status {ran.returncode} instead of {status}, and prints {ran.stdout}{ran.stderr}")
 
     def first_session(self, command):
         """Runs the session of docs/LINES.md by ctlog if it is built, and otherwise by expected.py."""
@@ -120,7 +120,7 @@ class Page:
 
     def end(self):
         if self.log:
-            # (if the log has ended already, what failed must be told, and not this)
+            # (if the log has ended already, the failure must be reported, and not this)
             with contextlib.suppress(ProcessLookupError):
                 os.killpg(self.log.pid, signal.SIGTERM)
             self.log.communicate()
@@ -130,17 +130,20 @@ HERE, BARE, PAGES, LONG, GATE = "readme.py", "make bare", "make pages", "pages.p
 # The commands of the other pages, each by how it begins, and what runs it.
 ELSEWHERE = {
     "docs/ACCEPTED.md": {"make serve": HERE, "cmd/out/ctserve audit": HERE, "openssl ecparam": BARE, "openssl req -x509 -new": BARE, "systemctl reload": BARE, "ctserve list-entry": BARE,
-                           "ctserve audit https": BARE},
+                           "ctserve audit https": BARE, "ctserve roots": BARE},
+    "docs/ARCHIVE.md": {"": BARE},
+    "docs/AUDIT.md": {"cat ct-log/leaf.pem": HERE, "curl -s -d @ct-log/chain.json": HERE, "cmd/out/ctwatch audit": HERE},
     "docs/LINES.md": {"crates/ctlog/out/ctlog": HERE},
     "docs/OPERATING.md": {"": BARE},
-    "docs/WATCH.md": {"make serve": HERE, "curl -s -d @ct-log/chain.json": HERE, "cmd/out/ctwatch run --once": HERE},
+    "docs/WATCH.md": {"make serve": HERE, "curl -s -d @ct-log/chain.json": HERE, "cmd/out/ctwatch run --once": HERE, "openssl req": HERE, "openssl x509": HERE, "printf": HERE,
+                      "curl -s -d @own.json": HERE},
     "examples/README.md": {"examples/pem_lines.py": HERE, "examples/bad_lines.py": HERE},
     "examples/link/README.md": {"make link": PAGES, "make install": PAGES, "ldconfig": PAGES, "cc program.c": PAGES},
     "release/README.md": {"make programs release": PAGES, "cd release/out && sha256sum": PAGES, "apt-get install": BARE},
     "docs/SERVICE.md": {"make deps": PAGES, "make service-engines": PAGES, "make service-test": GATE, "make service": HERE, "openssl genpkey": BARE, "cp 2027h1.pem": BARE, "cat > /etc/ctwitness/a.conf": BARE,
-                          "runuser -u ctwitness": BARE, "systemctl": BARE, "ctwatch cosign": BARE},
+                          "runuser -u ctwitness": BARE, "systemctl": BARE, "ctwatch cosign": BARE, "apt-get install": BARE},
 }
-# What the pages name in their text, README.md's tables too.
+# The targets that the pages name in their text, also in README.md's tables.
 TARGETS = {
     "make test": GATE, "make test TURN=0": GATE, "make sources": GATE, "make service-test": GATE, "make link-emulated": GATE, "make bare": "itself", "make container": "itself", "make pages": "itself",
     **dict.fromkeys(("make check", "make wrong CRATE=ct_guard", "make service-race", "make service-soak", "make load", "make sweep", "make fuzz SECONDS=180", "make service-audit", "make service-audit MINUTES=60", "make dist"), LONG),
@@ -150,13 +153,13 @@ TARGETS = {
 
 
 def targets(page):
-    """What a page's text names of the Makefile, with its words, in order, each once."""
+    """The targets of the Makefile that a page's text names, with their arguments, in order, each once."""
     text = BLOCK.sub("", re.sub(r"<!-- Made by .*?<!-- Made until here. -->", "", page.read_text(), flags=re.S))
     return list(dict.fromkeys(span for span in SPAN.findall(re.sub(r"\s*\n(?:> )?\s*", " ", text)) if span.startswith("make ")))
 
 
 def run_by(page, command):
-    """What runs a command of another page."""
+    """Returns the name of the script that runs a command of another page."""
     known = ELSEWHERE.get(str(page.relative_to(ROOT)), {})
     return next((runs for beginning, runs in known.items() if command.startswith(beginning)), None)
 
@@ -176,7 +179,7 @@ def elsewhere():
 def bare_commands():
     """Those that bare.py runs, in the order of the pages below."""
     found = elsewhere()
-    pages_in_order = ("docs/OPERATING.md", "docs/SERVICE.md", "docs/ACCEPTED.md")
+    pages_in_order = ("docs/OPERATING.md", "docs/SERVICE.md", "docs/ACCEPTED.md", "docs/ARCHIVE.md")
     return [command for name in pages_in_order for command in found[ROOT / name] if run_by(ROOT / name, command) == BARE]
 
 
@@ -203,7 +206,8 @@ SIGNED = r'\{"sct_version":0,.*"signature":"[A-Za-z0-9+/=]+"\}\s*'
 CHECKPOINT = "ct-log.example\n1\n[A-Za-z0-9+/=]{44}\n\n\u2014 ct-log.example [A-Za-z0-9+/=]+\n"
 ALERT = r"FOUND example\.org: shop\.example\.org \(1 name\); issued by .*; certificate 0 of 127\.0\.0\.1:[0-9]+; .*\n"
 AUDITED = r"ct-log\.example: passed\n.*"
-# The commands by how they begin: what has to run before them, and what they are to do.
+INCLUDED = r"127\.0\.0\.1:[0-9]+: INCLUDED: the leaf is at 0 of [0-9]+\n"
+# The commands by their first words, with the test of each.
 KNOWN = [
     ("make serve", lambda page, command: page.serve(command)),
     ("curl -s -d @ct-log/chain.json", lambda page, command: page.run(command, 0, SIGNED)),
@@ -239,6 +243,10 @@ def main():
                 audits = next(command for command in commands(ROOT / "docs" / "ACCEPTED.md") if command.startswith("cmd/out/ctserve audit"))
                 page.run(audits, 0, AUDITED)
                 page.run(watches.replace("ctwatch run", "ctwatch run --folder another-store"), 8, ALERT)
+                for command in watching[watching.index(watches) + 1 :]:
+                    page.run(command, 0, SIGNED if command.startswith("curl") else "")
+                for command in commands(ROOT / "docs" / "AUDIT.md"):
+                    page.run(command, 0, INCLUDED if "ctwatch audit" in command else "")
                 pem_lines(page)
         finally:
             page.end()

@@ -3,10 +3,10 @@
 
     repeat.py [PROGRAM] [--times N]
 
-PROGRAM is the built tests (`rt test` in crates/house_tests builds them). Each test has three parts: the shutdown before the first submission, in
-the middle and behind the last. In the middle part the house's test (`sixteen_fronts`) fails unless at least 6,000 of the 16,000 submissions were
-accepted, and not all: so in each of its runs that holds the shutdown fell in the middle. The gate's (`shutdown_under_load`) fails unless at least 100
-were. The threads run as they come, so no two runs are alike. The status is 1 at the first run that fails.
+PROGRAM is the built tests (`rt test` in crates/house_tests builds them). Each test has three parts: the shutdown before the first submission, in the middle
+and after the last. In the middle part the house's test (`sixteen_fronts`) fails unless at least 6,000 of the 16,000 submissions were accepted, and not all:
+so in each of its runs that holds the shutdown fell in the middle. The gate's (`shutdown_under_load`) fails unless at least 100 were. The threads run as they
+come, so no two runs are alike. The status is 1 at the first run that fails.
 """
 import argparse
 import pathlib

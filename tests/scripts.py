@@ -1,9 +1,9 @@
 #!/usr/bin/env python3
-"""Tries the scripts of examples/ and of this folder: bad_lines.py, pem_lines.py, expected.py, check.py and those of tiles/ on
-stored input, sessions.py on its sessions, on damaged ones and on a program that stands in for ctlog, tiles/step.py and node/explore.py on random histories, those of checks/ on a made-up repository, README.md's commands, release.py on
-made-up builds, and tests/cluster.sh over programs in the place of its own.
+"""Tries the scripts of examples/ and of this folder. It runs bad_lines.py, pem_lines.py, expected.py, check.py and the scripts of tiles/ on stored input;
+sessions.py on its sessions, on damaged ones and on a program in place of ctlog; tiles/step.py and node/explore.py on random histories; the scripts of checks/
+on a made-up repository; README.md's commands; release.py on made-up builds; and tests/cluster.sh with programs in place of its own.
 
-It prints one line where all is as expected; else it says what isn't, and ends with status 1.
+It prints one line if everything is as expected. Otherwise it names the fault, and ends with status 1.
 """
 import argparse
 import contextlib
@@ -59,7 +59,7 @@ def try_reasons():
     """The reasons, line by line, and the status."""
     ran = run("bad_lines.py", "--fronts", 2, EXAMPLES / "bad-lines.jsonl")
     if ran.returncode != 1:
-        fail(f"bad_lines.py ends with status {ran.returncode} where lines are no request: {ran.stderr.decode()}")
+        fail(f"bad_lines.py ends with status {ran.returncode} although some lines are no requests: {ran.stderr.decode()}")
     wanted = (EXAMPLES / "bad-lines.expected.txt").read_bytes().splitlines()
     if ran.stdout.splitlines() != wanted:
         fail(f"bad_lines.py gives other reasons than bad-lines.expected.txt: {set(ran.stdout.splitlines()) ^ set(wanted)}")
@@ -70,7 +70,7 @@ def try_reasons():
 
 
 def try_agreement():
-    """The lines that it tells are those that expected.py replies bad-line to, also where lines are damaged."""
+    """bad_lines.py names the lines to which expected.py replies bad-line, also if lines are damaged."""
     chance = random.Random(1)
     lines = [line for name in ("first-session", "four-fronts", "bad-lines") for line in lines_of(name) if 0 < len(line) < 2000]
     damaged = [mutated(chance, chance.choice(lines), chance.choice(lines))[1] for _ in range(DAMAGED)]
@@ -92,7 +92,7 @@ def try_refusal(file, what, why):
 
 
 def try_pem(folder):
-    """The chains of the demo, written as PEM files, give the demo's lines again; what is no certificate's file is refused."""
+    """The chains of the demo, written as PEM files, give the demo's lines again. A file without a certificate is refused."""
     requests = [(line, json.loads(line)) for line in lines_of("real-chains") if line != NO_REQUEST]
     chains = {line: request["chain"] for line, request in requests if request["op"] == "add-chain" and request["chain"]}
     files = [folder / f"{number:02}.pem" for number in range(len(chains))]
@@ -164,8 +164,8 @@ def installed(folder):
 
 
 def try_waits():
-    """What expected.py can't compute it refuses in a sentence: a wait that nothing ends, as behind a ring that is too small, and words that
-    aren't its own."""
+    """expected.py refuses in a sentence what it can't compute: a wait that nothing ends, for example with a ring that is too small, and arguments that it
+    doesn't know."""
     submissions = [json.dumps({"who": 0, "op": "add-chain", "chain": ["QQ=="]})] * 10
     lines = "\n".join([*submissions, '{"who":"operator","op":"sequence","from":0,"count":10,"now":3}']).encode()
     waits = "nothing ends the wait of the operator at sequence from 0 count 10 now 3; what meets a full ring is refused"
@@ -204,8 +204,8 @@ BAD_LINES = "\n".join(['{"error":"bad-line"}'] * 3)
 
 
 def try_sessions(folder):
-    """What is due of the sessions of ctlog is what expected.py computes. Damaged sessions are refused. Of a program that replies with three bad lines to
-    each, those of this reply are as due, and each other one is named."""
+    """The expected output of the sessions of ctlog is that of expected.py. Damaged sessions are refused. If a program replies with three bad lines to each
+    session, sessions.py names every session that expects something else."""
     options = argparse.ArgumentParser()
     for name, value in (("--fronts", None), ("--ring", None), ("--open-at", 0), ("--close-at", (1 << 53) - 1)):
         options.add_argument(name, type=int, default=value)
@@ -216,7 +216,7 @@ def try_sessions(folder):
         told = (1, f"ctlog: {fault}\n") if fault else (0, "")
         output = re.sub(r'(?<={"ticket":)\d+', "_", session.output.decode()) if words.fronts > 1 else session.output.decode()
         if (output, session.status, session.told.decode()) != ("".join(f"{line}\n" for line in lines), *told):
-            fail(f"of the session {session.name} in {session.file} another reply is due than expected.py computes: {lines}, {told}")
+            fail(f"the session {session.name} in {session.file} expects another reply than expected.py computes: {lines}, {told}")
     (session,) = sessions_of("made up", SESSION)
     if session[1:] != ("What it shows.", ["ctlog", "--fronts", "1"], b"{}\n\nx\r\n        x\ny", ["*", "*", ""], b"b\na\n\n", b"c\n", 2):
         fail(f"sessions.py reads a session otherwise: {session}")
@@ -224,7 +224,7 @@ def try_sessions(folder):
         fail("sessions.py takes lines in another order than they may come in")
     for part, other in DAMAGES:
         try:
-            fail(f"sessions.py reads {sessions_of('made up', SESSION.replace(part, other))} where {part!r} is {other!r}")
+            fail(f"sessions.py reads {sessions_of('made up', SESSION.replace(part, other))} although {part!r} is replaced by {other!r}")
         except Unreadable:
             continue
     ran = run("sessions.py", folder)
@@ -244,7 +244,7 @@ def try_sessions(folder):
 
 
 def try_install(folder):
-    """What is built is installed, byte for byte, and what isn't is named. Builds are made up: files of some words."""
+    """The builds are installed, byte for byte, and a missing one is named. Builds are made up: files of some words."""
     ran = make_install(folder, folder / "nothing")
     if not ran.returncode or installed(folder):
         fail(f"make install, with nothing built: status {ran.returncode}, {installed(folder)}")
@@ -279,10 +279,10 @@ def try_install(folder):
 
 
 def try_release(folder):
-    """A release holds what is built, byte for byte; what isn't built is named, and nothing is made; the same files give the same bytes twice. Builds
+    """A release has the builds, byte for byte. If one is missing, it is named and nothing is made. The same files give the same bytes twice. Builds
     are made up, as for try_install. Without dpkg-deb it isn't tried, and says so."""
     if not shutil.which("dpkg-deb") or not shutil.which("objdump"):
-        return "it isn't tried, for want of dpkg-deb or objdump"
+        return "it is left out, because dpkg-deb or objdump is missing"
 
     def make(to, built="built", service="service"):
         words = [HERE.parent / "release" / "release.py", "--built", folder / built, "--service", folder / service, "--to", folder / to]
@@ -416,8 +416,8 @@ def answered(words, answer, **how):
 
 
 def try_deps(folder):
-    """fetch.sh installs a C compiler that is missing where nothing is asked for that, and after a question on a terminal. It neither upgrades nor removes
-    anything, except with SETUP=yes. With SETUP=no it does nothing, and says what is missing. What make test runs fails then, except with GO=no."""
+    """fetch.sh installs a missing C compiler if that needs no question, and after a question on a terminal. It neither upgrades nor removes
+    anything, except with SETUP=yes. With SETUP=no it does nothing, and says what is missing. Then `make test` fails, except with GO=no."""
     top, log, planned = folder / "checkout", folder / "log", folder / "planned"
     shutil.copytree(HERE.parent / "deps", top / "deps")
     shutil.copy(HERE.parent / "go.mod", top)
@@ -486,8 +486,8 @@ def two_ports():
 
 
 def try_serve(folder):
-    """serve.sh refuses a port that is taken, and a folder that it did not make, before it does anything. A first start that fails leaves nothing behind, and
-    the next one makes the log, once."""
+    """serve.sh refuses a port that is taken, and a folder that it did not make, before it does anything. A first start that fails leaves no files, and the
+    next one makes the log, once."""
     programs, log, fails, calls = folder / "cmd", folder / "a log", folder / "fails", folder / "calls"
     ctserve = f"""echo "$*" >>'{calls}'
 [ ! -e '{fails}' ] || {{ echo 'it fails' >&2; exit 1; }}
@@ -561,11 +561,13 @@ def try_serve_witness(folder):
 
 
 def try_count(folder):
-    """Go's tests are counted with their parts as one; a test within which the program ended failed; what failed is said."""
+    """count.py counts the parts of a test as one. A test within which the program ended failed. It prints the output of failed tests, and the reason why a
+    test was left out."""
     count = folder / "made" / "count"
     for what, output, status, counted, says in (
         ("TestGood", [("output", "TestGood/a", "part\n"), ("pass", "TestGood/a", None), ("pass", "TestGood", None), ("output", None, "ok a\n")], 0, "1 0\n", "ok a\n"),
-        ("TestBad", [("output", "TestBad", "why\n"), ("fail", "TestBad", None), ("pass", "TestGood", None), ("skip", "TestLeft", None)], 1, "1 1\n", "why\n"),
+        ("TestBad", [("output", "TestBad", "why\n"), ("fail", "TestBad", None), ("pass", "TestGood", None), ("skip", "TestLeft", None)], 1, "1 1\n", "why\nleft out: a TestLeft: no reason\n"),
+        ("TestLeft", [("output", "TestLeft", "    a_test.go:7: no engine\n"), ("skip", "TestLeft", None), ("pass", "TestGood", None)], 0, "1 0\n", "left out: a TestLeft: no engine\n"),
         ("TestEnded", [("pass", "TestGood", None), ("output", "TestEnded", "panic\n")], 1, "1 1\n", "panic\n"),
         ("no test", [("output", None, "?  a\n")], 1, "0 0\n", "?  a\n"),
     ):
@@ -598,7 +600,7 @@ QUOTED = re.compile(r"^  proved (\S+) \"[^\"]+\" <<'END'\n(.*?)^END$", re.M | re
 
 
 def misquoted(text):
-    """The quotations in a text of demo.sh that don't stand in the file that they name, line by line."""
+    """The quotations in a text of demo.sh that are not in the file that they name, line by line."""
     for file, quoted in QUOTED.findall(text):
         lines = [line.strip() for line in (HERE.parent / file).read_text().splitlines()]
         words = [line.strip() for line in quoted.splitlines()]
@@ -607,7 +609,7 @@ def misquoted(text):
 
 
 def try_quotations():
-    """Each part of demo.sh quotes a clause of the sources; of a wrong quotation it is told."""
+    """Each part of demo.sh quotes a clause of the sources, and a wrong quotation is found."""
     text = (EXAMPLES / "demo.sh").read_text()
     count, parts = len(QUOTED.findall(text)), re.findall(r"^show_\w+\(\)", text, re.M)
     if not count or not count == text.count("  proved ") == len(parts):

@@ -93,7 +93,7 @@ class Served:
         sys.exit(f"served_page.py: serve.sh ended with status {self.log.wait()}")
 
     def size(self):
-        """How many entries the log has, once no more come: what ctload left unanswered still does."""
+        """How many entries the log has after no more come. Submissions that ctload left unanswered still become entries."""
         found = None
         while (now := json.load(urllib.request.urlopen(self.base + "ct/v1/get-sth"))["tree_size"]) != found:
             found = now
@@ -172,7 +172,7 @@ class Look:
         hold(re.fullmatch(rf"\d+(\.\d)? entries a (second|minute|hour), by the newest {min(size, 256)}" if size <= 64 else r"\d+(\.\d)? entries a second, by the newest \d+", rate), f"the rate is told as {rate}")
 
     def roots(self, names):
-        """Each root is told by its name."""
+        """The page has each root by its name."""
         self.run("document.getElementById('name').click()")
         told = self.until("document.querySelectorAll('#roots li').length && document.getElementById('roots').innerText", "no root is named")
         hold("a root to try a log with, until 20" in told and "not read" not in told and "without a name" not in told, f"the roots are told as {told}")
@@ -197,7 +197,7 @@ class Look:
         self.browser.call("Page.enable")
         self.browser.call("Page.reload")
         for _ in range(600):
-            # (no expression has a value then: what is laid out is read)
+            # (no expression has a value then, so the layout is read)
             shot = self.browser.call("DOMSnapshot.captureSnapshot", computedStyles=[])
             said = " ".join(shot["strings"][at] for at in shot["documents"][0]["layout"]["text"] if at >= 0)
             if "needs JavaScript" in said:
@@ -251,7 +251,7 @@ def main():
             if look:
                 look.browser.end()
             served.end()
-    print(f"The page of ctserve told of {size} entries; paths and heads were checked, forged ones refused, on a phone too, and without JavaScript it says so.")
+    print(f"The page of ctserve showed {size} entries. It checked paths and heads, and refused forged ones, on a phone too. Without JavaScript it says so.")
 
 
 if __name__ == "__main__":

@@ -1,24 +1,24 @@
 #!/usr/bin/env python3
-"""Runs the sessions of tests/sessions over the built programs: sessions.py [FOLDER]
+"""Runs the sessions of tests/sessions with the built programs: sessions.py [FOLDER]
 
-FOLDER has the built programs, each as NAME/out/NAME (crates, where it isn't given; `rt run -- --help` in crates/NAME builds one). A session is the words of
-a command line and standard input, and what is due: standard output, standard error and the status, which are compared byte for byte. Each file of
-tests/sessions is text, and an empty line parts one session from the next:
+FOLDER has the built programs, each as NAME/out/NAME (by default crates; `rt run -- --help` in crates/NAME builds one). A session has the arguments of a
+command line, standard input, and the expected standard output, standard error and status, which are compared byte for byte. Each file of tests/sessions is
+text. An empty line separates one session from the next:
 
-    What it shows, which is its name.
-    Further lines say why that is due.
+    Its purpose, which is its name.
+    Further lines say why that is expected.
     $ ctlog --fronts 1 --ring 4
     > a line of standard input
     < a line of standard output
     ! a line of standard error
     = 1
 
-The lines stand in this order. Where there is no `=` the status is 0, and where there are no lines of a stream it is empty. A mark alone is an empty line.
-Of an input `>| text` is a last line without an end, `>\\r text` ends with a carriage return before its end, and `>9 text`, or `>9| text`, has
-blanks in front, so that it has 9 bytes. Lines `<* text` that stand together come in any order. Words are parted by one blank, and no line ends with one.
+The lines are in this order. If there is no `=`, the status is 0. If there are no lines of a stream, it is empty. A line with only a mark is an empty line. In
+an input, `>| text` is a last line without an end, and `>\\r text` ends with a carriage return before its end. `>9 text` and `>9| text` have spaces in front,
+so that they have 9 bytes. Adjacent lines `<* text` come in any order. One space separates arguments, and no line ends with one.
 
-For each program a line says how many sessions were as due, and how many were not: each of these is named before, with what was found and wanted. The status
-is 1 where one wasn't, where a program isn't built, and where a file has anything else in it: then no session is run.
+For each program, a line says how many sessions passed, and how many did not. It names each failed session before that, with the found and the expected
+output. The status is 1 if a session failed, if a program isn't built, or if a file has anything else in it. In the last case no session is run.
 """
 import itertools
 import pathlib
@@ -33,7 +33,7 @@ SESSIONS = HERE / "sessions"
 LIMIT = 60
 # How much of a stream is shown that isn't as due.
 SHOWN = 2000
-# What lines there are, in their order.
+# The kinds of lines, in their order.
 FORMS = {"$": r"\$ ([a-z]+(?: \S+)*)", ">": r">(\d*)(\||\\r)?(?: (.+))?", "<": r"<(\*?)(?: (.+))?", "!": r"!(?: (.+))?", "=": r"= (\d+)"}
 MARKS = "".join(FORMS)
 ENDS = {None: b"\n", "\\r": b"\r\n", "|": b""}
@@ -44,7 +44,7 @@ class Unreadable(Exception):
 
 
 class Session(typing.NamedTuple):
-    """A session, and what is due. A line of the output whose mark isn't empty may come in any order among such lines that stand with it."""
+    """A session, with the expected output. A line of the output whose mark isn't empty may come in any order among adjacent lines with a mark."""
 
     file: str
     name: str
@@ -74,7 +74,7 @@ def input_of(lines):
 
 
 def parts_of(file, lines):
-    """The parts of such lines, by their marks; those of the name and of what stands behind it have none."""
+    """The parts of such lines, by their marks. The name and the lines after it have none."""
     parts, order = {mark: [] for mark in ["", *MARKS]}, ["", *MARKS]
     last = ""
     for number, line in lines:
@@ -130,7 +130,7 @@ def read_sessions(folder=SESSIONS):
 
 
 def faults_of(session, program):
-    """What of a session isn't as due."""
+    """The differences of a session from the expected one."""
     _, *words = session.words
     try:
         run = subprocess.run([program, *words], input=session.given, capture_output=True, timeout=LIMIT)

@@ -1,12 +1,12 @@
 #!/usr/bin/env python3
-"""Runs the programs where each write moves one byte and each read at most three (`sweep/short.c`), and looks that what they write is the same, and
-how they end too: no program gives a reader or a writer up that goes on.
+"""Runs the programs so that each write moves one byte and each read at most three (`sweep/short.c`). Their output and their end must be the same: no program
+gives up a reader or a writer that goes on.
 
     short_calls.py [FOLDER]
 
-FOLDER has the built programs, each as NAME/out/NAME (crates, where it isn't given; `rt run -- --help` in crates/NAME builds one). Of each that is
-there the lines are those of its stored run, and for ctlog a chain of 100,000 bytes and the entry that it becomes, too, whose reply is one text.
-The status is 1 at the first difference, and where no read or no write was shortened.
+FOLDER has the built programs, each as NAME/out/NAME (by default crates; `rt run -- --help` in crates/NAME builds one). Each one gets the lines of its stored
+run. ctlog also gets a chain of 100,000 bytes and a query for its entry, whose reply is one text. The status is 1 at the first difference, and if no read or
+no write was shortened.
 """
 import base64
 import os

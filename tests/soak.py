@@ -4,9 +4,9 @@
     soak.py [--hours 2 | --minutes M] [--seed N] [--on engines,folder] [--judge-every 12] [--rate 10] [--logs FOLDER]
 
 `engines`: three nodes of ctserve over three members of etcd, each in a network namespace of its own, Ceph's S3 behind a proxy that misbehaves, and PostgreSQL
-with the places, by the seed. `folder`: two nodes over one folder on a small file system, which is filled, locked and not to be written at times. It runs as root. SIGTERM ends
-it sooner: it is judged all the same. Its choices come from the seed, which it says; what a choice meets depends on the moment. What the processes said is kept in
-the folder of --logs, and else where a judgement fails alone.
+with the places, by the seed. `folder`: two nodes over one folder on a small file system, which is filled, locked and not to be written at times. It runs as
+root. SIGTERM ends it sooner, and it is judged all the same. Its choices come from the seed, which it prints. The effect of a choice depends on the time. The
+output of the processes is kept in the folder of --logs, or otherwise only if a judgement fails.
 """
 import argparse
 import base64
@@ -107,7 +107,7 @@ def wait_for(is_so, what, within=AGAIN_WITHIN):
 
 
 class Process:
-    """A process of the soak's own, that is known by its id alone."""
+    """A process of the soak itself, of which only the id is known."""
 
     def __init__(self, name, log):
         self.name, self.log, self.process, self.wanted, self.held = name, log, None, False, 0
@@ -153,7 +153,7 @@ def below(root):
 
 
 def kind_of(process):
-    """What a process of a node is, by its command line; None where it is gone."""
+    """The kind of a node's process, by its command line; None if it has ended."""
     try:
         words = pathlib.Path(f"/proc/{process}/cmdline").read_bytes().split(b"\0")
     except OSError:
@@ -186,7 +186,7 @@ def refusal_of(status, text):
 
 
 class Authority:
-    """A root whose certificates differ by their number alone: one that openssl made is signed again with another number."""
+    """A root whose certificates differ only by their number. The script signs a certificate of openssl again with another number."""
 
     MARK = bytes([0x41]) * 16
 
@@ -429,7 +429,7 @@ class Fault:
 
 
 class Soak:
-    """What both setups have."""
+    """The common parts of both setups."""
 
     count = 0
 
@@ -714,7 +714,7 @@ class Soak:
         name, removes = chance.choice(names), chance.random() < 0.4
         content = self.stored(lambda: self.store.get(name))
         self.note(f"{name} {'removed' if removes else 'bent'}")
-        # (of a data tile's entry the precertificate and the fingerprints behind its leaf are in no hash, and nobody tells of them)
+        # (no hash covers the precertificate and the fingerprints after the leaf in a data tile, so no judge reports them)
         bent, precertificate = bytearray(content), content[9] == 1
         hashed = len(bent) if "data" not in name else 10 + 32 * precertificate + 3 + int.from_bytes(content[10 + 32 * precertificate:13 + 32 * precertificate], "big")
         bent[chance.randrange(hashed)] ^= 1 << chance.randrange(8)
@@ -831,7 +831,7 @@ class Soak:
                     except (OSError, RuntimeError, Waited, sqlite3.Error, http.client.HTTPException) as why:
                         self.counts[f"{fault.name}: {type(why).__name__}"] += 1
                         self.say(f"{fault.name}: {type(why).__name__}: {why}")
-                    except Exception as why:  # (an error of the soak's own is told, and fails it)
+                    except Exception as why:  # (an error of the soak itself is reported, and fails it)
                         self.fail(f"{fault.name}: {why!r}: {traceback.format_exc()}")
                     if name != "clients":
                         self.faults.append((began, time.monotonic(), fault.name))
@@ -868,7 +868,7 @@ class Soak:
             to.write(json.dumps(line, separators=(",", ":")) + "\n")
 
     def probe(self):
-        """Submits new certificates one after the other; where none is taken, the same again."""
+        """Submits new certificates one after the other, and one that is not accepted again."""
         chance = random.Random(1)
         while not ENDING.wait(0.7):
             if self.resting.is_set():
@@ -883,7 +883,8 @@ class Soak:
                     break
 
     def follow_heads(self):
-        """Reads heads one after the other, from node after node. None may be behind one that the same process gave, nor another where all is well."""
+        """Reads heads one after the other, from node after node. No head may be older than one of the same process, or than one of another process while
+        nothing fails."""
         largest, of_node, turn = (0, 0), {}, 0
         while not ENDING.wait(0.25):
             turn += 1
@@ -983,7 +984,7 @@ class Soak:
         self.reader.start(OUT / "ctread", "--nodes", urls, "--origin", ORIGIN, "--key", self.work / "log.pem", "--keep", self.work / "mirror", *words)
 
     def keep_clients(self):
-        """Starts the mirror anew where it ended: at a head that is behind another node's it does."""
+        """Starts the mirror again after it ended. It ends at a head that is older than another node's."""
         while not ENDING.wait(2):
             if self.resting.is_set():
                 continue
@@ -1032,7 +1033,7 @@ class Soak:
                 self.sample()
 
     def add_figures(self, i):
-        """Adds what a node counted since it was asked last; what it counted before it was killed is lost."""
+        """Adds the counts of a node since the last reading. Counts before a kill are lost."""
         try:
             _, text = asked(self.operators[i], "GET", "/metrics", within=15)
         except (OSError, http.client.HTTPException):
@@ -1080,7 +1081,7 @@ class Soak:
 
     @staticmethod
     def left_behind(names, size):
-        """What shouldn't be there any more, once all is swept."""
+        """The objects that should be gone after all garbage was collected."""
         left = [name for name in names if (found := re.fullmatch(r"tile/(data|\d)/((?:x\d{3}/)*\d{3})\.p/\d+", name))
                 and int(re.sub(r"[x/]", "", found[2])) < size >> (8 if found[1] == "data" else 8 * (int(found[1]) + 1))]  # fmt: skip
         for prefix, most in (("staging/", 1), ("heads/", 3), ("swept/", 1)):
@@ -1102,7 +1103,7 @@ class Soak:
             self.judge_at_rest(last, began)
         except Waited as why:
             self.fail(str(why))
-        except Exception as why:  # (an error of the soak's own is told, and fails it)
+        except Exception as why:  # (an error of the soak itself is reported, and fails it)
             self.fail(f"{why!r}: {traceback.format_exc()}")
         finally:
             if not last:
@@ -1113,7 +1114,7 @@ class Soak:
                 self.resting.clear()
 
     def go_on(self):
-        """Has nodes and clients go on behind a judgement."""
+        """Has nodes and clients go on after a judgement."""
         for i, node in enumerate(self.nodes):
             self.start_node(i)
             node.held, node.kills = 0, 0
@@ -1147,7 +1148,7 @@ class Soak:
             wait_for(taken, f"node-{i} takes nothing again")
         again = time.monotonic() - began
         assert self.own.stat().st_size > answered
-        # (what it is answered meanwhile it reads behind that, or sends again)
+        # (it reads the answers that come meanwhile later, or sends again)
         self.loader.signal(signal.SIGSTOP)
         self.reader.held = 1
         status = self.reader.end()
@@ -1170,7 +1171,7 @@ class Soak:
         try:
             wait_for(swept, "it isn't swept", within=600)
         except Waited:
-            self.fail(f"left behind at rest: {len(state['left'])}: {state['left'][:20]}; damaged tiles: {state['damaged']}")
+            self.fail(f"not deleted at rest: {len(state['left'])}: {state['left'][:20]}; damaged tiles: {state['damaged']}")
         lost = [self.figure(i, "ctserve_lost_swaps_total") for i in range(len(self.nodes))]
         mended = [self.figure(i, "ctserve_repaired_objects_total") for i in range(len(self.nodes))]
         for node in self.nodes:
@@ -1201,7 +1202,7 @@ class Soak:
         return self.is_ready(i)
 
     def one_head(self):
-        """The newest head, where all nodes give that one and nothing waits for one."""
+        """The newest head, if all nodes give that one and no request waits for one."""
         found = [self.head_of(i) for i in range(len(self.nodes))]
         waiting = sum(self.figure(i, "ctserve_unpublished_entries") + self.figure(i, "ctserve_queue") for i in range(len(self.nodes)))
         return found[0] if found[0] and len(set(found)) == 1 and not waiting else None
@@ -1242,10 +1243,10 @@ class Soak:
             if not path.is_file() or not name.startswith(("tile/", "issuer/")):
                 continue
             if not (copy / name).exists():
-                # (the log may have swept a partial tile that the mirror keeps)
+                # (the log may have deleted a partial tile that the mirror keeps)
                 full = copy / re.sub(r"\.p/\d+$", "", name)
                 if not full.exists() or not full.read_bytes().startswith(path.read_bytes()):
-                    # (of a tile that isn't full yet the mirror may have a width that was swept)
+                    # (if a tile isn't full yet, the mirror may have a width that the log deleted)
                     wrong.append(f"the mirror's {name}")
             elif (copy / name).read_bytes() != path.read_bytes():
                 wrong.append(f"the mirror's {name}")
@@ -1395,7 +1396,7 @@ class Engines(Soak):
         self.spawn(self.keep_ceph)
 
     def keep_ceph(self):
-        """Has Ceph's OSD start anew where its leases to read don't come back behind a stop of all: then nothing is answered for ever."""
+        """Starts Ceph's OSD again if its leases for reading don't come back after all processes were stopped. Otherwise no request would ever be answered."""
         seen = 0
         while not ENDING.wait(10):
             try:
@@ -1521,7 +1522,7 @@ class Folder(Soak):
         self.store = FolderStore(self.disk / "objects")
 
     def make(self):
-        # (SQLite's files are open to be written, with which a file system isn't made one to be read alone: they have another one)
+        # (a file system with files that are open for writing can't be made read-only, and SQLite's are: they are on another one)
         image = self.work / "disk.image"
         with image.open("wb") as file:
             file.truncate(400 << 20)

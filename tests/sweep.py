@@ -1,25 +1,25 @@
 #!/usr/bin/env python3
-"""Refuses each growth of ctlog in turn, and judges what it then does.
+"""Refuses each allocation of ctlog in turn, and judges the run.
 
     sweep.py [PROGRAM] [--from N] [--most N] [--step N]
 
-The script of lines has two fronts and three shifts: A, B, A on front 0 and A on front 1, each kind of question and two publications; B and C on
-front 0, which settle as the second shift ends; then a question of each front, a shutdown, and the closed log's answers with an audit. It is run once with ample memory, and then with the first growth refused, the second, and so on, until a run makes
-fewer growths than that. `sweep/refuse.c`, which cc builds and the loader puts before the C library, refuses them, so the swept program is
-the built one as it is.
+The lines have two fronts and three shifts: A, B, A on front 0 and A on front 1, each kind of query and two publications; B and C on front 0, which settle
+when the second shift ends; then a query of each front, a shutdown, and the closed log's answers with an audit. The script runs them once with enough memory,
+then with the first allocation refused, the second, and so on, until a run makes fewer allocations than that. `sweep/refuse.c`, which cc builds and the loader
+puts before the C library, refuses them. So the program under test is the built one, unchanged.
 
-Each run has to end by itself within a minute, and in one of these ways:
+Each run must end by itself within a minute, in one of these ways:
 
-- status 1, with `ctlog: memory` or `ctlog: threads` on standard error, or a beginning of that line, and a beginning of the ample output on standard output;
-- status 0, with the ample output, where what was refused could be done without;
-- status 0, where one line has the reply `memory`: what its party was told before is the ample run's, and the whole output is judged by
-  tests/check.py, which recomputes tickets, settlement, entries, heads, proofs and receipts from what the replies say was done. (A line that then waits in
-  vain is told `late`.)
+- status 1, with `ctlog: memory` or `ctlog: threads` on standard error, or a beginning of that line, and a beginning of the full output on standard output;
+- status 0, with the full output, if the program could do without the refused memory;
+- status 0, if one line has the reply `memory`. The earlier replies to its party are those of the full run. tests/check.py judges the whole output: it
+  computes tickets, settlement, entries, heads, proofs and receipts from the work that the replies report. (A line that then waits in vain gets the reply
+  `late`.)
 
 --step refuses each N-th of them, and otherwise every one.
 
-Never a signal, an abort, a hang, or another wrong reply. The counts are printed, and the status is 1 at the first run that isn't as asked, and where no
-growth was refused.
+A signal, an abort, a hang or another wrong reply is a fault. The counts are printed. The status is 1 at the first run with a fault, and if no allocation was
+refused.
 """
 import argparse
 import base64
@@ -131,7 +131,7 @@ class Sweep:
         return ended.returncode, ended.stdout.decode(), ended.stderr.decode(), growths
 
     def judge(self, refused):
-        """What came of it, or Wrong."""
+        """The outcome, or Wrong."""
         status, output, said, growths = self.run(refused)
         if status == 1:
             names = [name for name in FAULTS if f"{self.NAME}: {name}\n".startswith(said)]

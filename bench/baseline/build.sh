@@ -1,5 +1,5 @@
 #!/usr/bin/env bash
-# Builds the plain Rust program and prints where it lies: in bench/baseline/out, or at the path that is given.
+# Builds the plain Rust program and prints its path: in bench/baseline/out, or at the path that is given.
 set -euo pipefail
 here=$(cd "$(dirname "$0")" && pwd)
 program=${1:-$here/out/baseline}

@@ -5,7 +5,7 @@
 //	fabricate rows TABLE FOLDER ENTRIES MOMENT > rows   the rows of TABLE, places or leaves, in their order: 32 bytes and an index of 8, each;
 //	                                                    FOLDER has for a while what they are sorted by
 //
-// The certificate at index i is i in 8 bytes behind 52 bytes that are zero. All entries have the moment MOMENT, in milliseconds.
+// The certificate at index i is 52 zero bytes, followed by i in 8 bytes. All entries have the moment MOMENT, in milliseconds.
 package main
 
 import (
@@ -70,7 +70,7 @@ func node(left, right hash) hash {
 	return sha256.Sum256(b)
 }
 
-// root is that of subtrees of one size, but for the last, which may be smaller.
+// root is that of subtrees of one size, except the last, which may be smaller.
 func root(hashes []hash) hash {
 	if len(hashes) == 0 {
 		return sha256.Sum256(nil)

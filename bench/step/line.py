@@ -1,5 +1,5 @@
 #!/usr/bin/env python3
-"""The line that bench_work prints of steps, by hashlib alone (tests/tiles/step.py): the last of crates/bench_work/stdout is that of 1000 30 2.
+"""The line that bench_work prints of steps, with only hashlib (tests/tiles/step.py): the last of crates/bench_work/stdout is that of 1000 30 2.
 
     line.py SIZE COUNT STEPS
 """

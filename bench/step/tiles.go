@@ -1,4 +1,4 @@
-// Steps of a tiled log by golang.org/x/mod/sumdb/tlog, from a made-up state: what bench_work does by take_step.
+// Steps of a tiled log by golang.org/x/mod/sumdb/tlog, from a made-up state. bench_work does the same by take_step.
 //
 //	tiles SIZE COUNT STEPS
 //
@@ -86,7 +86,7 @@ func (t tiles) ReadHashes(indexes []int64) ([]tlog.Hash, error) {
 	return hashes, nil
 }
 
-// believed is the tiles, where their widths are those of the size and the root comes of them.
+// believed returns the tiles if their widths are those of the size and the root is computed from them.
 func believed(l line, edge [][]byte) (tiles, error) {
 	t := tiles{map[int]tlog.Tile{}, map[int][]byte{}, map[int64]tlog.Hash{}}
 	count := l.size

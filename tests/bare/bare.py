@@ -1,20 +1,22 @@
 #!/usr/bin/env python3
-"""Runs the lines of docs/OPERATING.md, in the order of the page and as they stand there, on a bare Debian: a folder with Debian's base alone, into which
-change-root leads, and the packages of a release. Neither the kit nor this checkout is in it. Then those of docs/SERVICE.md that tests/readme.py leaves to it: the
-log is watched by ctwatch, and has a witness.
+"""Runs the lines of docs/OPERATING.md, in the order of the page and as they are written, on a bare Debian: a folder with only Debian's base system, which
+chroot enters, and the packages of a release. Neither the kit nor this checkout is in it. Then it runs the lines of other pages that tests/readme.py leaves
+to it: ctwatch watches the log, which has a witness (docs/SERVICE.md); the log takes the roots of a table of CCADB and passes the probe (docs/ACCEPTED.md); and it
+is archived, and the archive is served (docs/ARCHIVE.md).
 
     bare.py [--built FOLDER] [--keep]
 
-As root, with mmdebstrap (Debian's package of that name). The release is made here, out of what is built (crates/NAME/out, cmd/out). If ctlog is not
+It needs root and mmdebstrap (Debian's package of that name). The release is made here, from the builds (crates/NAME/out, cmd/out). If ctlog is not
 built, a program in Python replaces it, and the script says so. The release that the page upgrades to is this one with another VERSION.
 
 Debian's packages come from its mirror. Everything else happens in a network of its own, which has only loopback. No systemd runs there: tests/bare/systemctl does
-what the units' files say, and systemd-analyze looks at these. Beside the page's lines the log is read by certspotter, by tlog (x/mod, in ctread) and by
-curl, through nginx over TLS; Prometheus has its figures and rules; an older copy of the log is put back, and refused; and ctcheck judges it from its folder,
-with all that was answered. It prints what it saw, and ends with status 1 where something isn't as the page has it.
+what the units' files say, and systemd-analyze looks at these. Beside the page's lines, certspotter, tlog (x/mod, in ctread) and curl read the log through
+nginx over TLS. Prometheus has its metrics and alerts. An older copy of the log is restored, and refused. ctcheck judges the log from its folder, with all
+answers. The script prints what it saw, and ends with status 1 if something differs from the page.
 """
 import argparse
 import base64
+import csv
 import ctypes
 import fcntl
 import hashlib
@@ -44,7 +46,7 @@ LOG, SITE = "http://127.0.0.1:8618", f"https://{HOST}"
 # How long one line, or a wait, may take, in seconds.
 WITHIN = 900
 MADE = "# Ctrl-C once it says serving"
-# The programs in Python that stand in for one that isn't built.
+# The programs in Python that replace one that isn't built.
 MODELS = {"ctlog": "expected.py"}
 NEW_NETWORK = 0x40000000
 
@@ -54,13 +56,13 @@ def fail(why):
 
 
 class Network:
-    """A network of this process and of what it starts, with loopback alone; and the one from before."""
+    """A network of this process and its children, which has only loopback, and the network from before."""
 
     def __init__(self):
         self.libc = ctypes.CDLL(None, use_errno=True)
         self.outside = os.open("/proc/self/ns/net", os.O_RDONLY)
         if self.libc.unshare(NEW_NETWORK):
-            fail(f"no network of its own: {os.strerror(ctypes.get_errno())} (it wants root)")
+            fail(f"no network of its own: {os.strerror(ctypes.get_errno())} (it needs root)")
         with socket.socket() as one:
             fcntl.ioctl(one, 0x8914, struct.pack("16sh14x", b"lo", 1))
 
@@ -70,7 +72,7 @@ class Network:
 
 
 class Releases:
-    """The release of this checkout, and the one behind it."""
+    """The release of this checkout, and the next one."""
 
     def __init__(self, work, built):
         self.work, self.built, self.lacking = work, work / "built", []
@@ -144,12 +146,12 @@ class Bare:
                 "DEBIAN_FRONTEND=noninteractive", "bash", "-c", f"cd /root && {line}"]
 
     def run(self, line, status=0, quiet=False):
-        """Runs a line, where that is one of apt's in the network outside, and gives what it prints."""
+        """Runs a line, and returns its output. A line with apt-get runs in the network outside."""
         if not quiet:
             print(f"$ {line.splitlines()[0]}", flush=True)
         leave = self.network.leave if "apt-get" in line else None
         with tempfile.TemporaryFile("w+") as out, tempfile.TemporaryFile("w+") as told:
-            # (files, and no pipes: what a line leaves running would keep these open)
+            # (files and not pipes: a process that a line leaves running would keep a pipe open)
             ended = subprocess.run(self.words(line), stdin=subprocess.DEVNULL, stdout=out, stderr=told, timeout=WITHIN, preexec_fn=leave).returncode
             out.seek(0)
             told.seek(0)
@@ -178,7 +180,7 @@ class Bare:
 
 
 def lintian(debs):
-    """What lintian says of the packages but that of the library, which may be made up: nothing that they don't override with a reason."""
+    """Runs lintian on the packages except that of the library, which may be made up. It must report nothing except items that they override with a reason."""
     if not shutil.which("lintian"):
         print("lintian isn't installed, and wasn't asked.")
         return
@@ -198,7 +200,7 @@ def is_serving(path):
 
 
 def until(holds, otherwise):
-    """Waits until something holds. Who doesn't listen yet may do so later."""
+    """Waits until a condition holds. A server that doesn't listen yet may do so later."""
     last = time.monotonic() + WITHIN
     while True:
         try:
@@ -227,16 +229,17 @@ def prometheus(query):
 
 
 class Trial:
-    """The page's lines, and what is to be seen between and behind them."""
+    """The page's lines, and the checks between and after them."""
 
     def __init__(self, bare):
         self.bare, self.seen = bare, {}
-        # What is done before a line, and what is seen behind it, by how the line begins.
-        self.before = {"cp -an /root/backup": self.lose_an_issuer, "ctwatch cosign": self.watch}
+        # The work before a line and the checks after it, by the line's first words.
+        self.before = {"cp -an /root/backup": self.lose_an_issuer, "ctwatch cosign": self.watch, "ctserve roots": self.make_table}
         self.behind = {
             "nginx -t": lambda said: bare.run(f"echo 127.0.0.1 {HOST} >> /etc/hosts", quiet=True), "promtool": self.figures, "ctload": self.submitted, "rm /etc/ctserve/roots": self.root_went,
             "curl -s --cacert": self.checkpoint, "systemctl start": self.goes_on, "cp -an /root/backup": self.issuer_is_back, "systemctl restart ctserve": self.upgraded,
             "ctread": self.mirrored, "ctcheck": self.judged, "systemctl enable --now ctwitness": self.witnessed, "ctwatch cosign": self.cosigned,
+            "ctserve roots": self.roots_came, "ctserve audit": self.passed, "runuser -u ctserve -- ctserve archive": self.archived, "curl -s --fail http://127.0.0.1:8628": self.archive_served,
         }
 
     def run(self, lines):
@@ -293,7 +296,7 @@ class Trial:
 
     def goes_on(self, said):
         if not self.bare.log_runs() or head()[0] != self.size:
-            fail("behind a backup the log doesn't run, or is another one")
+            fail("after a backup the log doesn't run, or is another one")
 
     def lose_an_issuer(self):
         issuers = self.bare.folder / f"var/lib/ctserve/{NAME}/objects/issuer"
@@ -309,7 +312,7 @@ class Trial:
         said = self.bare.run("ctserve --version", quiet=True)
         figures = get("http://127.0.0.1:8619/metrics").decode()
         if "0.1.1" not in said or 'version="0.1.1"' not in figures or head()[0] != self.size:
-            fail(f"behind an upgrade it is {said}, with {head()}")
+            fail(f"after an upgrade it is {said}, with {head()}")
 
     def mirrored(self, said):
         own, mirror = self.bare.folder / f"var/lib/ctserve/{NAME}/objects", self.bare.folder / "root/mirror"
@@ -324,6 +327,36 @@ class Trial:
     def judged(self, said):
         if f" {self.size} leaves " not in said or not said.endswith(": all as they have to be\n"):
             fail(f"ctcheck says of the backup {said}")
+
+    def make_table(self):
+        """A table as CCADB has them, of Debian's roots: the first is for mail only, and the second was removed."""
+        text = (self.bare.folder / "etc/ssl/certs/ca-certificates.crt").read_text()
+        roots = re.findall("-----BEGIN CERTIFICATE-----.*?-----END CERTIFICATE-----", text, re.S)
+        with open(self.bare.folder / "root/ccadb.csv", "w", newline="") as to:
+            table = csv.writer(to)
+            table.writerow(["CA Owner", "Certificate Name", "Trust Bits", "Status of Root Cert", "X.509 Certificate (PEM)"])
+            for number, root in enumerate(roots):
+                status = "Mozilla: Removed" if number == 1 else "Apple: Included; Mozilla: Included"
+                table.writerow(["an owner", f"root {number}", "Email" if number == 0 else "Email;Websites", status, f"'{root}'"])
+        self.due_roots = len(roots) - 2
+
+    def roots_came(self, said):
+        due = f"left out: 1 not for TLS servers, 1 not included\n/etc/ctserve/roots/ccadb.pem: {self.due_roots} roots, {self.due_roots} added, 0 removed\n"
+        if not said.endswith(due):
+            fail(f"ctserve roots says {said[-500:]}")
+
+    def passed(self, said):
+        if not said.startswith(f"{HOST}: passed\n"):
+            fail(f"the probe says {said}")
+
+    def archived(self, said):
+        size, _ = head()
+        if f"complete: {size} entries, root " not in said:
+            fail(f"the archive of {size} entries says {said}")
+
+    def archive_served(self, said):
+        if (json.loads(said)["tree_size"], json.loads(said)["sha256_root_hash"]) != head():
+            fail(f"the archive has the head {said}, and the log {head()}")
 
     def certspotter(self):
         """certspotter follows the log by RFC 6962's calls, through nginx over TLS, to a verified head."""
@@ -353,7 +386,7 @@ class Trial:
         names = set(re.findall(r"DNS Name = (host-\d+\.example)", told.read_text()))
         # (each of ctload's entries has a name of its own)
         if len(names) != self.size:
-            fail(f"certspotter tells of {len(names)} names of {self.size}")
+            fail(f"certspotter reports {len(names)} names of {self.size}")
 
     def readers(self):
         """tlog of x/mod, in ctread, and curl read the log through nginx over TLS."""
@@ -366,7 +399,7 @@ class Trial:
             fail(f"curl gets {len(entries)} entries, and a tile by {version}")
 
     def put_back(self):
-        """The backup, behind which the log went on, is refused by a status of its own; what was there goes on."""
+        """The backup, after which the log continued, is refused by a status of its own. The log itself continues."""
         run = self.bare.run
         run(f'ctload --roots /etc/ctserve/roots/trial.pem --reload "systemctl reload ctserve@{NAME}" --not-after 2027-03-01 --answers answers --most 9', quiet=True)
         size, root = head()
@@ -398,14 +431,14 @@ def main():
     words.add_argument("--keep", action="store_true", help="leave the folder")
     given = words.parse_args()
     if os.geteuid() or not shutil.which("mmdebstrap"):
-        fail("it wants root, and mmdebstrap (Debian's package of that name)")
+        fail("it needs root, and mmdebstrap (Debian's package of that name)")
     own, lines, network = commands(PAGE), bare_commands(), Network()
     work = pathlib.Path(tempfile.mkdtemp(prefix="bare-"))
     bare = Bare(work / "debian", network)
     try:
         releases = Releases(work, given.built)
         if releases.lacking:
-            print(f"In place of {', '.join(releases.lacking)}, which {'is' if len(releases.lacking) == 1 else 'are'}n't built here, programs in Python stand.", flush=True)
+            print(f"In place of {', '.join(releases.lacking)}, which {'is' if len(releases.lacking) == 1 else 'are'}n't built here, there are programs in Python.", flush=True)
         debs = releases.make(work / "first")
         bare.make(debs + releases.make(work / "second", "0.1.1"), releases.lacking)
         trial = Trial(bare)
@@ -418,7 +451,7 @@ def main():
         trial.judge()
         lintian(debs)
         print(f"bare.py: {len(lines)} lines, {len(own)} of them of {PAGE.name}, as typed: the log serves through nginx to certspotter, tlog and curl, is watched by Prometheus, reloads,"
-              " is backed up, put back where that may be, and upgraded.")
+              " is backed up, put back where that may be, and upgraded; it takes the roots of a table, passes the probe, and is archived.")
     finally:
         bare.close()
         if given.keep:

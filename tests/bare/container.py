@@ -39,7 +39,7 @@ def limits():
     return [word for name, which in of.items() for word in ("--ulimit", "{}={}:{}".format(name, *(min(one, most) if name == "nproc" and one >= 0 else one for one in resource.getrlimit(which))))]
 
 
-# Where both versions of cgroups are mounted crun, which podman takes, starts nothing, and runc does; runc doesn't start without any.
+# If both versions of cgroups are mounted, crun, which podman takes, starts nothing, and runc does. runc starts nothing without cgroups.
 BOTH = pathlib.Path("/sys/fs/cgroup/unified").exists()
 
 
@@ -142,7 +142,7 @@ def trial(tool, work, given):
     again = json.loads(log.ask("/ct/v1/add-chain", (at / "chain.json").read_bytes()))
     size = int(run("curl", "--silent", "--fail", f"http://127.0.0.1:{port}/checkpoint").splitlines()[1])
     if number == "0" or size != 1 or again["timestamp"] != first["timestamp"]:
-        fail(f"as user {number}, behind a second start: {size} entries, {again['timestamp']}, and {first['timestamp']} before")
+        fail(f"as user {number}, after a second start: {size} entries, {again['timestamp']}, and {first['timestamp']} before")
     log.end()
     print("container.py: the image is built, and its log serves its head to curl, takes a submission, ends in order, and goes on.")
 
@@ -154,7 +154,7 @@ def main():
     given = words.parse_args()
     lacking = [tool for tool in ("buildah", "podman", "mmdebstrap", "openssl", "curl", *(["runc"] if BOTH else [])) if not shutil.which(tool)]
     if os.geteuid() or lacking:
-        fail(f"the container's trial wants root, and lacks {', '.join(lacking) or 'nothing else'}")
+        fail(f"the container's trial needs root, and lacks {', '.join(lacking) or 'nothing else'}")
     work = pathlib.Path(tempfile.mkdtemp(prefix="container-"))
     tool = Tool(work / "store")
     try:

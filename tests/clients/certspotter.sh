@@ -28,12 +28,12 @@ follow() {
   python3 "$verified" "$work/certspotter" "$base" "$1" || fail "certspotter has verified no head of $1 entries"
 }
 
-# Sees that certspotter has told of the 49 certificates and the precertificate that it watched for, and says so.
+# Checks that certspotter has reported the 49 certificates and the precertificate for which it watched, and says so.
 told() {
   local names version
   names=$(sed -n 's/.*DNS Name = \(host-[0-9]*\.example\.org\)$/\1/p' "$work"/watched.*.told | sort -u | wc -l)
-  [ "$names" = 49 ] || fail "certspotter tells of $names certificates of the 49 that it watched for"
-  grep -q 'DNS Name = cryptography.io' "$work/watched.30.told" || fail "certspotter doesn't tell of the precertificate"
+  [ "$names" = 49 ] || fail "certspotter reports $names certificates of the 49 for which it watched"
+  grep -q 'DNS Name = cryptography.io' "$work/watched.30.told" || fail "certspotter doesn't report the precertificate"
   version=$(certspotter -version 2>&1 | grep -o '[0-9][0-9.]*' | head -n 1)
-  echo "certspotter $version verified the heads of 30 and, from there, of 50 entries, and told of all 49 certificates and the precertificate that it watched for."
+  echo "certspotter $version verified the heads of 30 and, from there, of 50 entries, and reported all 49 certificates and the precertificate for which it watched."
 }

@@ -96,7 +96,7 @@ func (c checker) submit(certificate []byte) []byte {
 	other := *timestamp
 	other.Timestamp++
 	hold(c.signature.VerifySCTSignature(other, entry) != nil, "a timestamp's signature holds for another moment")
-	// What is signed has the bytes of the leaf: version 0, then 0 for the type of both (RFC 6962, sections 3.2 and 3.4).
+	// The signed bytes are those of the leaf: version 0, then 0 for the type of both (RFC 6962, sections 3.2 and 3.4).
 	leaf, err := ct.SerializeSCTSignatureInput(*timestamp, entry)
 	ok(err)
 	return leaf

@@ -1,4 +1,4 @@
-"""A made-up log and its forks, with their proofs, over hashlib alone (tests/merkle.py).
+"""A made-up log and its forks, with their proofs, with only hashlib (tests/merkle.py).
 
 `Log` keeps each subtree's hash, so that many proofs take milliseconds.
 """

@@ -1,4 +1,4 @@
-"""What a log's guard approves (docs/GUARD.md), as the page says it: a second program beside the proved guard, plain and slow, over hashlib alone.
+"""A model of a log's guard, written from docs/GUARD.md: a second program beside the proved guard, plain and slow, with only hashlib.
 
 A head is its number of leaves, its timestamp and its root.
 """

@@ -159,7 +159,7 @@ def spot(program, lists, folder, names, sizes):
 
 
 def watch(program, folder, names, logs, urls):
-    """What ctwatch reports: its alerts."""
+    """The reports of ctwatch: its alerts."""
     (folder / "names").write_text("".join(f"{name}\n" for name in names))
     words = [program, "run", "--once", "--from-start", "--quiet", "--folder", folder / "ctwatch", "--json", folder / "alerts", "--certspotter-watchlist", folder / "names"]
     for log, url in zip(logs, urls):
@@ -171,7 +171,7 @@ def watch(program, folder, names, logs, urls):
 
 
 def place_of(index, alerts_by_index, name):
-    """Where ctwatch found a watched name in an entry; a dot if it did not. `unread` says that the names cannot be read."""
+    """The place in which ctwatch found a watched name in an entry; a dot if it did not. `unread` says that the names cannot be read."""
     alert = alerts_by_index.get(index) or {"kind": "", "certificate": {"matches": []}}
     if alert["kind"] == "unread":
         return "unread"
@@ -239,7 +239,7 @@ def compare_rows(given, folder, rows):
     log = table.Log([*made, (latin(), False)])
     url = log.serve()
     rows = [*rows, host(LATIN, "")]
-    # (the rows that openssl made too stand behind those of `cryptography`, and must be as those)
+    # (the rows that openssl made too come after those of `cryptography`, and must be equal to them)
     places = {i: i for i in range(len(made))} | {len(rows) - 1: len(made)}
     alerts = by_index(watch(given.ctwatch, folder, WATCHED, [log], [url]), [url])
     cells, only_ours = [[] for _ in rows], set()

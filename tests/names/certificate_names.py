@@ -55,7 +55,7 @@ def only(tag, data, field):
 
 
 def past(tag, data, field):
-    """What follows the element of this tag, where bytes begin with one."""
+    """The bytes after the element of this tag, if the bytes begin with one."""
     return expected(tag, data, field)[1] if data[:1] == bytes([tag]) else data
 
 
@@ -92,7 +92,7 @@ def alt_names(extensions):
 
 
 def names_of(data, bare):
-    """The names of subjectAltName, each with its kind, and the common names of a certificate, or of a TBSCertificate alone (RFC 5280, section 4.1)."""
+    """The names of subjectAltName, each with its kind, and the common names of a certificate, or of only a TBSCertificate (RFC 5280, section 4.1)."""
     if bare:
         rest = only(48, data, "tbs")
     else:
@@ -110,7 +110,7 @@ def names_of(data, bare):
 
 
 def holds_for(name, watched):
-    """Whether a certificate's name is told for a watched one, which has no dot at its end (RFC 9525, section 6.3)."""
+    """Whether a certificate's name is reported for a watched one, which has no dot at its end (RFC 9525, section 6.3)."""
     name, below = name.lower().removesuffix(b"."), watched.startswith(b".")
     watched = watched[below:].lower()
     if name == watched or below and name.endswith(b"." + watched):
@@ -119,7 +119,7 @@ def holds_for(name, watched):
 
 
 def host_of(kind, name):
-    """The host in a name of subjectAltName, where it has one."""
+    """The host in a name of subjectAltName, if it has one."""
     if kind == "dns":
         return name
     if kind == "mail":
@@ -129,14 +129,14 @@ def host_of(kind, name):
 
 
 def address_text(name):
-    """An address's text (RFC 5952), where it has four octets or sixteen."""
+    """An address's text (RFC 5952), if it has four octets or sixteen."""
     if len(name) == 16 and name[:12] == bytes(10) + b"\xff\xff":
         return "::ffff:" + str(ipaddress.IPv4Address(name[12:]))
     return str(ipaddress.ip_address(name)) if len(name) in (4, 16) else None
 
 
 def is_told(kind, name, watched):
-    """Whether a name of subjectAltName is told for a watched one, which has no dot at its end."""
+    """Whether a name of subjectAltName is reported for a watched one, which has no dot at its end."""
     if kind == "address":
         text = address_text(name)
         return text is not None and text.encode() == watched

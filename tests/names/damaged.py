@@ -24,7 +24,7 @@ import compare  # noqa: E402
 from compare import kinds, x509  # noqa: E402
 
 DEPS = compare.ROOT / "deps"
-# What a byte of DER is set to besides: tags and lengths that are near to others, 0x80 (indefinite), and 31 (a tag of more bytes).
+# More values of a byte of DER: tags and lengths that are near to others, 0x80 (indefinite), and 31 (a tag of more bytes).
 SET = [0x00, 0x01, 0x1F, 0x30, 0x31, 0x7F, 0x80, 0x81, 0x82, 0x84, 0x85, 0xA2, 0xA6, 0xFF]
 
 
@@ -46,7 +46,7 @@ def damaged(data, every):
 
 
 def read_by_go(program, all_data):
-    """What names.go reads of each."""
+    """The names that names.go reads from each."""
     given = b"".join(base64.b64encode(data) + b"\n" for data in all_data)
     ran = subprocess.run([program], input=given, capture_output=True, check=True)
     for text in ran.stdout.splitlines():
@@ -67,14 +67,14 @@ def main():
         theirs = compare.read_by_cryptography(one)
         others += theirs is not None
         if theirs is not None and theirs != names:
-            compare.fail(f"other names are read: {names}, where cryptography reads {theirs}: {base64.b64encode(one).decode()}")
+            compare.fail(f"other names are read: {names}, and cryptography reads {theirs}: {base64.b64encode(one).decode()}")
     gos = "Go or x/crypto isn't here (make deps): cryptobyte hasn't read them"
     if not subprocess.run([DEPS / "fetch.sh"], env={**os.environ, "SETUP": "no"}, capture_output=True).returncode:
         with tempfile.TemporaryDirectory() as work:
             subprocess.run([DEPS / "go", "-C", compare.ROOT, "build", "-o", f"{work}/names", "./tests/names"], check=True)
             for one, names, theirs in zip(everything, ours, read_by_go(f"{work}/names", everything), strict=True):
                 if names != theirs:
-                    compare.fail(f"other names are read: {names}, where cryptobyte reads {theirs}: {base64.b64encode(one).decode()}")
+                    compare.fail(f"other names are read: {names}, and cryptobyte reads {theirs}: {base64.b64encode(one).decode()}")
         gos = "Go's cryptobyte reads the same names, and refuses the same"
     print(f"tests/names: of {len(everything) - 1} damaged certificates (each beginning, each byte) {sum(names is not None for names in ours) - 1} are read by the library and by certificate_names.py, with the same names; {gos};")
     print(f"cryptography reads {others - 1} of them, with the same names.")

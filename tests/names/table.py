@@ -31,7 +31,7 @@ from compare import kinds, x509  # noqa: E402
 from cryptography.hazmat.primitives import hashes, serialization  # noqa: E402
 from cryptography.hazmat.primitives.asymmetric import ec  # noqa: E402
 
-# What is watched: a name with what is below it, a name alone, and one with other letters than ASCII's.
+# The watched names: a name with all names below it, only a name, and one with letters that are not in ASCII.
 BELOW, ALONE, OTHER_LETTERS = ".example.org", "www.example.org", "bücher.example"
 WATCHED = BELOW, ALONE, OTHER_LETTERS
 # ASN.1's string types: python's name, openssl's mask for names (ASN1_STRING_set_default_mask_asc), and its word for a made element (ASN1_generate_nconf).
@@ -208,7 +208,7 @@ class Log:
                 "tree_head_signature": text(b"\4\3" + len(signature).to_bytes(2, "big") + signature)}
 
     def answer(self, path):
-        """What is answered to a call; None where it is none."""
+        """The answer to a call; None if there is no such call."""
         call, _, query = path.partition("?")
         words = {name: int(values[0]) for name, values in urllib.parse.parse_qs(query).items()}
         if call == "/ct/v1/get-sth":
@@ -239,7 +239,7 @@ class Log:
         return f"http://127.0.0.1:{server.server_port}/"
 
     def listed(self, url):
-        """A log list (v3) with this log alone."""
+        """A log list (v3) with only this log."""
         log = {"key": text(self.public), "log_id": text(merkle.sha256(self.public)), "description": "a log", "mmd": 86400, "url": url,
                "state": {"usable": {"timestamp": "2026-01-01T00:00:00Z"}}}
         return {"version": "1.0.0", "log_list_timestamp": "2026-01-01T00:00:00Z", "operators": [{"name": "an operator", "email": [], "logs": [log]}]}

@@ -1,4 +1,4 @@
-"""What a step of a tiled log has to refuse, each with the name of its refusal. For histories.py."""
+"""The requests that a step of a tiled log must refuse, each with the name of its refusal, for histories.py."""
 import base64
 import json
 
@@ -17,7 +17,7 @@ def bent(chance, content):
     return content[: at // 8] + bytes([content[at // 8] ^ 1 << at % 8]) + content[at // 8 + 1 :]
 
 
-# Where the fields of a line stand among its 144 bytes.
+# The positions of a line's fields among its 144 bytes.
 FIELDS = {"size": (0, 8), "moment": (8, 16), "root": (16, 48), "bundle": (48, 80), "data": (80, 112), "before": (112, 144)}
 
 
@@ -53,7 +53,7 @@ def edges(chance, judge, request):
 
 
 def data_tiles(chance, judge, request):
-    """Edges whose partial data tile alone is another."""
+    """Edges in which only the partial data tile is another one."""
     if judge.size % 256:
         *edge, data = request["edge"]
         data = base64.b64decode(data)
@@ -79,7 +79,7 @@ def lines(chance, judge, request, older):
 
 
 def bundles(chance, judge, reply, older):
-    """What is no bundle of the line, and a line."""
+    """Bytes that are no bundle of the line, and a line."""
     bundle, line = base64.b64decode(reply["bundle"]), reply["state"]
     yield bundle + b"\0", line
     yield bundle, with_bent(chance, line, "bundle")
@@ -96,7 +96,7 @@ def bundles(chance, judge, reply, older):
 
 
 def both(chance, judge, request):
-    """Two at once: the first by the order of the checks is the one that is told."""
+    """Two faults at once: the refusal is that of the first by the order of the checks."""
     line, edge = request["state"], request["edge"]
     root, data = with_bent(chance, line, "root"), with_bent(chance, line, "data")
     early = {"now": judge.moment - 1} if judge.moment else {}

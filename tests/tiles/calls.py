@@ -24,7 +24,7 @@ import step  # noqa: E402
 from json_lines import text  # noqa: E402
 from leaves import vector  # noqa: E402
 
-# What step.py names the refusals of the calls.
+# The names that step.py has for the refusals of the calls.
 NAMES = {"TIMESTAMP_TOO_FAR": "timestamp-too-far", "LOG_FULL": "full", "DATA_TILE_TOO_LONG": "too-long", "BAD_BATCH": "bad-line"}
 CODES = {int(code): name for name, code in re.findall(r"WAGTENIB_(\w+) = (\d+)", (ROOT / "include" / "wagtenib.h").read_text())}
 NO_ROOM, FILL, BEHIND, UNTOLD = 9, 0x5A, 8, (1 << 64) - 1
@@ -57,7 +57,7 @@ class Calls:
                 yield ctypes.c_uint64(word)
 
     def once(self, function, given, room):
-        """The code of one call with so much room, the length that it tells, and the bytes of its reply. Nothing else is written."""
+        """The code of one call with so much room, the length that it writes, and the bytes of its reply. Nothing else is written."""
         length, out = ctypes.c_uint64(UNTOLD), (ctypes.c_uint8 * (room + BEHIND))(*[FILL] * (room + BEHIND))
         code = getattr(self.functions, function)(*self.words(given), out, ctypes.c_size_t(room), ctypes.byref(length))
         written = length.value if code == 0 else 0
@@ -137,7 +137,7 @@ def object_in(fields):
 
 
 def published_in(fields, origin):
-    """What is published of a step, as step.py replies it."""
+    """The published part of a step, in the form of step.py."""
     sign = fields.bytes(50)
     checkpoint, objects = fields.vector().decode(), Fields(fields.vector())
     head = {"sha256_root_hash": text(sign[18:]), "timestamp": int.from_bytes(sign[2:10], "big"), "tree_size": int.from_bytes(sign[10:18], "big")}

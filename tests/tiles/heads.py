@@ -1,11 +1,11 @@
 #!/usr/bin/env python3
-"""Judges the heads of a tiled log from the folder that it published (C2SP static-ct-api), by hashlib alone.
+"""Judges the heads of a tiled log from the folder that it published (C2SP static-ct-api), with only hashlib.
 
     heads.py FOLDER
 
-Each checkpoint below FOLDER/heads, named by its size and moment, has the root of the first leaves that the data tiles have (RFC 6962, section 2.1), and a
-later one has a later moment and no fewer leaves; what is signed isn't looked at. It prints how many heads and leaves there are, and ends with status 1 at
-the first that isn't so.
+The name of each checkpoint below FOLDER/heads has its size and timestamp. The checkpoint must have the root of the first leaves of the data tiles (RFC 6962,
+section 2.1), and a later one must have a later timestamp and no fewer leaves. Signatures are not checked. The script prints how many heads and leaves there
+are, and ends with status 1 at the first fault.
 """
 import base64
 import pathlib
@@ -19,7 +19,7 @@ WIDTH = 256
 
 
 def leaves_of(data):
-    """The leaves of a data tile (TileLeaf): what stands before each one's own certificate and chain, behind version and type of a leaf."""
+    """The leaves of a data tile (TileLeaf): a leaf's version and type, followed by the bytes of each entry before its own certificate and chain."""
     place = 0
 
     def past(size):
@@ -47,7 +47,7 @@ def leaves_of(data):
 
 
 def data_tiles(folder):
-    """The leaves of the full data tiles, and of the widest partial one behind them."""
+    """The leaves of the full data tiles, and of the widest partial one after them."""
     index = 0
     while True:
         name = f"tile/data/{index:03}"
@@ -84,7 +84,7 @@ def main():
     for name, lines in sorted(heads.items()):
         size, moment = map(int, name.split("-"))
         if lines[1] != str(size) or moment <= last[1] or size < last[0] or size > len(hashes):
-            sys.exit(f"heads.py: {name} behind {last} of {len(hashes)} leaves has {lines[1]} leaves")
+            sys.exit(f"heads.py: {name} has {lines[1]} leaves, after {last} of {len(hashes)} leaves")
         if base64.b64decode(lines[2]) != (root(hashes, known, 0, size) if size else sha256(b"")):
             sys.exit(f"heads.py: {name} has another root than its leaves")
         last = size, moment

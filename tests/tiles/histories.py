@@ -4,11 +4,11 @@ judged from the leaves by judge.py.
 
     histories.py [--histories 20] [--seed 1] [--lengths] [PROGRAM WORD ..]
 
-Some histories begin without leaves, others behind a made-up edge of any size, up to the largest. Between the steps stand claims about entries
-that are there, each with its audit path, and attacks: claims that aren't true, bent, cut and exchanged tiles and bundles, older lines, lines with other digests or sizes, moments not later than the last, a log that is full, two of these at
-once, and lines that are no request; with --lengths lines and certificates of the largest length, too. The program is started with and
-without --origin, and has to hand on each reply before it is given the next line. Without PROGRAM step.py itself is judged. It prints one
-line, and ends with status 1 at the first thing that isn't so.
+Some histories begin without leaves, others after a made-up edge of any size, up to the largest. Between the steps there are claims about existing entries,
+each with its audit path, and attacks: false claims; changed, cut and exchanged tiles and bundles; older lines, and lines with other digests or sizes;
+timestamps that are not later than the last; a log that is full; two of these at once; and lines that are no requests. With --lengths there are lines and
+certificates of the largest length too. The program runs with and without --origin, and must write each reply before it gets the next line. Without PROGRAM,
+step.py itself is judged. The script prints one line, and ends with status 1 at the first fault.
 """
 import argparse
 import base64
@@ -58,7 +58,7 @@ class Running:
         return reply
 
     def end(self):
-        """The status, and what stands behind the last reply."""
+        """The status, and the output after the last reply."""
         self.process.stdin.close()
         rest = self.rest + self.process.stdout.read()
         return self.process.wait(PATIENCE), rest
@@ -104,7 +104,7 @@ def submission(chance):
 
 
 def identity(entry):
-    """What tells a submission from others: all but the chain and the precertificate, which belongs to it."""
+    """The parts that distinguish a submission from others: all except the chain and the precertificate, which belongs to it."""
     return {key: value for key, value in entry.items() if key not in ("chain", "pre_certificate")}
 
 
@@ -116,7 +116,7 @@ def line_of(chance, value):
 
 
 def made_up(chance, size, moment, origin):
-    """A log of so many leaves of which the edge alone is there, and the edge's contents."""
+    """A log of so many leaves of which only the edge exists, and the edge's contents."""
     judge, contents = Judge("", size, moment, origin=origin), []
     for level, index, width in judge.edge():
         content = chance.randbytes(32 * width)
@@ -152,7 +152,7 @@ class History:
         return self.pair.ask(line_of(self.chance, value))
 
     def needs(self):
-        """The names of the edge's objects, as the program tells them."""
+        """The names of the edge's objects, as the program replies them."""
         names = self.ask({"needs": self.judge.line})["names"]
         hold(list(map(tile_named, names)) == self.judge.edge(), "the edge is", names)
         return names
@@ -177,7 +177,7 @@ class History:
         return {"batch": self.batch(), "edge": edge, "now": self.judge.moment + ahead, "state": self.judge.line, **bound}
 
     def step(self, request):
-        """Asks for a step, which is done, and has its objects told again."""
+        """Asks for a step, which is done, and asks for its objects again."""
         self.before.append((self.judge.copy(), request))
         reply = self.ask(request)
         hold("refused" not in reply, "a step is refused:", reply)
@@ -251,7 +251,7 @@ def run(program, chance, histories):
 
 
 def try_lengths(program):
-    """A line as long as may be is answered, one that is a byte longer is bad-line, and what stands behind it is answered; and so of a
+    """A line of the largest length is answered. A line with one byte more is bad-line, and the line after it is answered. The same holds for a
     certificate."""
     pair = Pair(program, None)
     try:

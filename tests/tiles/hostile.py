@@ -1,14 +1,13 @@
 #!/usr/bin/env python3
-"""What the readers of a tiled log have to answer to hostile input, by hashlib and the grammars alone: writes crates/tile_tests/src/hostile.rt.
+"""Computes the answers of the readers of a tiled log to hostile input, with only hashlib and the grammars, and writes crates/tile_tests/src/hostile.rt.
 
     hostile.py
 
-A reading is what a reader answers as bytes, and each number among the readings is the first four bytes of SHA-256 of one byte 0 and some
-readings, one behind the other. Of a data tile (C2SP static-ct-api, "Log Entries") a reading is the number of leaves in decimal and a line
-end, and then of each leaf the moment in 8 bytes, the entry's type in one, and the issuer key hash where there is one, what is signed, the
-extensions, the precertificate and the fingerprints, each behind its length in 8 bytes; or, of what is none, the text of the first fault
-and a line end, twice. Of a checkpoint (C2SP tlog-checkpoint, "Note text") it is the origin, the size in 8 bytes and the root, each behind
-its length, or the fault's text and a line end.
+A reading is the answer of a reader, as bytes. Each number among the readings is the first four bytes of SHA-256 of a byte 0 and some readings in a row. A
+reading of a data tile (C2SP static-ct-api, "Log Entries") is the number of leaves in decimal and a line end, followed by each leaf: the timestamp in 8 bytes,
+the entry's type in one, and the issuer key hash if there is one, the signed entry, the extensions, the precertificate and the fingerprints, each after its
+length in 8 bytes. For bytes that are no data tile, it is the text of the first fault and a line end, twice. A reading of a checkpoint (C2SP tlog-checkpoint,
+"Note text") is the origin, the size in 8 bytes and the root, each after its length, or the fault's text and a line end.
 """
 import base64
 import pathlib
@@ -87,7 +86,7 @@ def decoded(text):
 
 
 def checkpoint_parts(text):
-    """The origin, the size and the root. A size that isn't written as numbers are is told last, and so is another end than a line's."""
+    """The origin, the size and the root. A size that isn't written as a number, and an end that isn't a line's, are reported last."""
     origin, line_end, text = text.partition(b"\n")
     if not origin or not line_end:
         raise Fault("BadOrigin")

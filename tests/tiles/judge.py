@@ -1,5 +1,5 @@
-"""What the steps of a tiled log have to answer, judged from its leaves: roots by the recursion of RFC 6962, section 2.1, hash tiles by their
-definition (C2SP tlog-tiles, "Merkle Tree"), and what is signed and what data tiles hold read field by field. Nothing of step.py is used.
+"""Judges the answers of the steps of a tiled log from its leaves: roots by the recursion of RFC 6962, section 2.1, hash tiles by their definition (C2SP
+tlog-tiles, "Merkle Tree"), and signed bytes and data tiles field by field. It uses nothing of step.py.
 """
 import base64
 import re
@@ -10,7 +10,7 @@ GROUPS = re.compile(r"(?:x\d{3}/)*\d{3}")
 
 
 class Wrong(Exception):
-    """What isn't as it has to be."""
+    """A fault in an answer."""
 
 
 def hold(right, *what):
@@ -50,7 +50,7 @@ class Fields:
 
 
 def entry_at(fields):
-    """What a TimestampedEntry says (RFC 6962, section 3.4): moment, issuer key hash or none, what is signed, and the index of its leaf_index
+    """The content of a TimestampedEntry (RFC 6962, section 3.4): timestamp, issuer key hash or none, what is signed, and the index of its leaf_index
     extension (C2SP static-ct-api, "SCT Extension")."""
     moment, kind = fields.number(8), fields.number(2)
     hold(kind in (0, 1), "an entry is of type", kind)
@@ -64,7 +64,7 @@ def entry_at(fields):
 
 
 def entry_of(submission, moment, index):
-    """What the TimestampedEntry of a submission has to say."""
+    """The content that the TimestampedEntry of a submission must have."""
     under = {key: base64.b64decode(value) for key, value in submission.items() if key != "chain"}
     if "leaf_certificate" in under:
         return moment, None, under["leaf_certificate"], index
@@ -156,7 +156,7 @@ class Judge:
         return leaf
 
     def hold_receipts(self, receipts, batch, now):
-        """Holds receipts, and takes up the leaves that they name."""
+        """Checks receipts, and adds the leaves that they name."""
         hold(len(receipts) == len(batch), len(receipts), "receipts for a batch of", len(batch))
         for receipt, submission, place in zip(receipts, batch, firsts_of(batch)[1]):
             index = self.size + place
@@ -187,7 +187,7 @@ class Judge:
         return data if not tiles else b"" if last % 256 == 0 else tiles[-1][1]
 
     def hold_step(self, reply, batch, now):
-        """Holds the reply to a step, and goes on to the state behind it. Answers the objects, by their names."""
+        """Checks the reply to a step, and continues with the next state. Returns the objects, by their names."""
         before, hashes = self.size, sha256(self.line.encode())
         self.hold_receipts(reply["receipts"], batch, now)
         batch = firsts_of(batch)[0]
@@ -211,7 +211,7 @@ class Judge:
 
 
 def hold_places(reply, bundle):
-    """Holds where a reply says that a bundle's objects stand in it."""
+    """Checks the positions of the objects in a bundle that a reply names."""
     told = [(one["name"], bundle[one["at"] : one["at"] + one["length"]], base64.b64decode(one["sha256"])) for one in reply["objects"]]
     hold(told == [(called, content, sha256(content)) for called, content in bundled(bundle)], "the objects stand elsewhere than", reply["objects"])
     hold(all(one["at"] + one["length"] <= len(bundle) for one in reply["objects"]), "an object ends behind its bundle")

@@ -4,24 +4,24 @@ from typing import NamedTuple, Optional
 
 
 class Submission(NamedTuple):
-    """What stands in the log of a certificate, or of a precertificate."""
+    """The bytes of a certificate, or of a precertificate, in the log."""
 
     # The certificate, or of a precertificate its TBSCertificate without the poison extension.
     signed: bytes
-    # SHA-256 of the issuer's SubjectPublicKeyInfo, where it is a precertificate.
+    # SHA-256 of the issuer's SubjectPublicKeyInfo, if it is a precertificate.
     issuer_key_hash: Optional[bytes] = None
-    # The precertificate, where it is one.
+    # The precertificate, if it is one.
     precertificate: bytes = b""
     # SHA-256 of the certificate of each issuer of the chain, in order.
     fingerprints: tuple = ()
 
     def identity(self):
-        """What the log tells entries apart by: the entry type and the signed entry."""
+        """The identity of an entry: the entry type and the signed entry."""
         return self.issuer_key_hash, self.signed
 
 
 def vector(width, content):
-    """Bytes behind their number in that many bytes, the highest first."""
+    """Bytes after their number, which has that many bytes, the highest first."""
     return len(content).to_bytes(width, "big") + content
 
 
@@ -33,7 +33,7 @@ def timestamped_entry(submission, moment, index):
 
 
 def signed_bytes(submission, moment, index):
-    """What stands under a timestamp's signature (RFC 6962, section 3.2). It is the tree's leaf, too (section 3.4)."""
+    """The bytes under a timestamp's signature (RFC 6962, section 3.2). It is the tree's leaf, too (section 3.4)."""
     return b"\0\0" + timestamped_entry(submission, moment, index)
 
 

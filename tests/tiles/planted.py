@@ -1,10 +1,10 @@
 #!/usr/bin/env python3
-"""Plants faults in copies of step.py, and has histories.py see each: once by the judge alone, where the damaged program is compared with
-itself, and once by the comparison with step.py. In a copy without a fault nothing may be seen.
+"""Plants faults in copies of step.py, and has histories.py find each: once only by the judge, with the damaged program compared with itself, and once by the
+comparison with step.py. In a copy without a fault nothing may be found.
 
     planted.py [WORD]
 
-With WORD only those faults are planted whose name has it. It prints what was seen of each, and ends with status 1 where one wasn't.
+With WORD it plants only the faults whose name contains it. It prints the result for each, and ends with status 1 if one was not found.
 """
 import pathlib
 import random
@@ -15,10 +15,10 @@ import tempfile
 import histories
 
 HERE = pathlib.Path(__file__).resolve().parent
-# In how many runs of four histories a fault has to be seen.
+# The number of runs of four histories in which a fault must be found.
 RUNS = 12
 MODEL = histories.MODEL
-# What is wrong, the file, the text there, and the text in its place.
+# The fault, the file, the text there, and the text in its place.
 FAULTS = (
     (
         "index in the batch",
@@ -99,7 +99,7 @@ def copied(folder):
     for path in [*HERE.glob("*.py"), *HERE.parent.glob("*.py")]:
         (folder / path.relative_to(HERE.parent)).parent.mkdir(parents=True, exist_ok=True)
         shutil.copy(path, folder / path.relative_to(HERE.parent))
-    # (a Python that is told not to keep what is written would hand each reply on)
+    # (with Python's option for unbuffered output, each reply would be written at once)
     return ["env", "-u", "PYTHONUNBUFFERED", sys.executable, str(folder / "tiles" / "step.py")]
 
 
@@ -114,7 +114,7 @@ def planted(folder, file, old, new):
 
 
 def seen(program, model):
-    """What histories.py says of a program that is compared with another, and in which run; None where it sees nothing."""
+    """The message of histories.py about a program that is compared with another, and its run; None if it finds nothing."""
     histories.MODEL = model
     for number in range(RUNS):
         try:
@@ -141,7 +141,7 @@ def main():
         for by, what in found.items():
             missed += what is None
             print(f"{name}: {by} sees " + (what or "NOTHING")[:160], flush=True)
-    sys.exit(f"planted.py: {missed} times nothing is seen" if missed else 0)
+    sys.exit(f"planted.py: {missed} times no fault is found" if missed else 0)
 
 
 if __name__ == "__main__":

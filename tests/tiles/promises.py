@@ -1,6 +1,6 @@
 """The promise of a log about a certificate (RFC 6962, sections 3.1 to 3.4), by hashlib: the model of the calls of libwagtenib over certificates.
 
-entry_of gives the TBSCertificate of a precertificate without the poison, and leaf_of the leaf that a timestamp within a certificate stands for. Each raises
+entry_of returns the TBSCertificate of a precertificate without the poison, and leaf_of the leaf that a timestamp within a certificate promises. Each raises
 Unfit if a certificate gives nothing, with the reason: no-extension, second-extension, bad-poison, too-long, or a fault of DER with its field. The document is
 the certificate (or precertificate) or its issuer's.
 """
@@ -73,7 +73,7 @@ def only(tag, der, place):
 
 
 def after(fields, der):
-    """What follows these fields."""
+    """The bytes after these fields."""
     for tag, has_to, place in fields:
         if has_to or der[:1] == bytes([tag]):
             der = expected(tag, der, place)[2]
@@ -126,7 +126,7 @@ def key_of(tbs):
 
 
 def of(document, call, *words):
-    """What a call gives of a document, whose name a fault gets."""
+    """The result of a call over a document, whose name a fault gets."""
     try:
         return call(*words)
     except Unfit as unfit:
@@ -146,7 +146,7 @@ def vector(size, content):
 
 
 def with_timestamps(tbs, *timestamps):
-    """The TBSCertificate with a list of signed certificate timestamps behind its extensions (section 3.3)."""
+    """The TBSCertificate with a list of signed certificate timestamps after its extensions (section 3.3)."""
     fields = only(SEQUENCE, tbs, "tbs")
     rest = after(FIELDS, fields)
     listed = only(SEQUENCE, only(EXTENSIONS, rest, "extensions"), "extensions") if rest else b""
@@ -156,7 +156,7 @@ def with_timestamps(tbs, *timestamps):
 
 
 def leaf_of(certificate, issuer, moment, extensions):
-    """The leaf that a timestamp within a certificate stands for."""
+    """The leaf that a timestamp within a certificate promises."""
     entry = of("certificate", cut, of("certificate", tbs_of, certificate), LIST_NAME)[0]
     key_hash = hashlib.sha256(of("issuer", key_of, of("issuer", tbs_of, issuer))).digest()
     if len(entry) >= 1 << 24:

@@ -14,7 +14,7 @@ class BadTile(Exception):
 
 
 def level_tiles(level, first, own, last, size):
-    """Of one level with so many hashes (level_tiles in ct_tile_reader/specs/Needed.antt)."""
+    """The tiles of one level with so many hashes (level_tiles in ct_tile_reader/specs/Needed.antt)."""
     indexes = [own // 256] if own // 256 < last // 256 and first // 256 == own // 256 else []
     if last % 256 or level == 0:
         indexes.append(last // 256)
@@ -52,7 +52,7 @@ class Tree(Ranges):
                 self.hashes[level, 256 * index + place] = contents[at][32 * place : 32 * place + 32]
 
     def root(self, begin, end):
-        """MTH(D[begin : end]), of a subtree of this tree: a tile's hash, where it has as many leaves and ends before the last one."""
+        """MTH(D[begin : end]) of a subtree of this tree. It is a tile's hash if the subtree has as many leaves as the tile and ends before the last leaf."""
         level, over = divmod((end - begin).bit_length() - 1, 8)
         if over == 0 and end - begin == 1 << 8 * level and (end < self.size or level == 0):
             return self.hashes[level, begin >> 8 * level]

@@ -1,4 +1,4 @@
-"""The state of a tiled log as one line of text (docs/GROWTH.md): what a register holds."""
+"""The state of a tiled log as one line of text (docs/GROWTH.md), the content of a register."""
 import re
 from typing import NamedTuple
 
@@ -6,7 +6,7 @@ LINE = re.compile(r"growth [0-9a-f]{288}")
 
 
 class State(NamedTuple):
-    """A head without its signature, and the digests of what stands beside it."""
+    """A head without its signature, and the digests beside it."""
 
     tree_size: int
     # In milliseconds.

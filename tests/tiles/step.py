@@ -1,14 +1,14 @@
 #!/usr/bin/env python3
-"""One step of a tiled log (docs/GROWTH.md), a line of JSON for each request, by hashlib alone: a second program beside the proved one, plain,
-slow and proved nowhere.
+"""One step of a tiled log (docs/GROWTH.md), a line of JSON for each request, with only hashlib: a second program beside the proved one, plain, slow and not
+proved.
 
     step.py [--origin TEXT] < lines > replies
 
-A request is told apart by its keys: begin (a moment); needs (a state's line); batch, edge, now and state, most_ahead beside them or not; bundle and
+The keys of a request name its kind: begin (a moment); needs (a state's line); batch, edge, now and state, most_ahead beside them or not; bundle and
 resume (a state's line); and claim, path, state and submission. Each reply is handed on before the next line is read, and nothing is
 kept between lines. TEXT is the log's origin in checkpoints (C2SP tlog-checkpoint).
 
-It ends with status 0; 1 where memory was refused, or reading or writing failed; 2 for its command line; 4 where a line was no request.
+It ends with status 0; 1 if memory was refused, or reading or writing failed; 2 for its command line; 4 if a line was no request.
 """
 import argparse
 import base64
@@ -55,7 +55,7 @@ def edge_names(size):
 
 
 def edge_root(rows):
-    """The root of the tree whose levels have these hashes behind their full tiles."""
+    """The root of the tree whose levels have these hashes after their full tiles."""
     carried = []
     for row in rows:
         carried = [mth(row + carried)] if row + carried else []
@@ -63,7 +63,7 @@ def edge_root(rows):
 
 
 def believed(state, contents):
-    """The hashes of each level behind its full tiles, and the partial data tile, where they are those of the state."""
+    """The hashes of each level after its full tiles, and the partial data tile, if they are those of the state."""
     tiles, contents = partial_tiles(state.tree_size), list(contents)
     if len(contents) != len(edge_names(state.tree_size)):
         raise Refused("edge")
@@ -82,7 +82,7 @@ def believed(state, contents):
 # ---- the step
 
 def hash_tiles(rows, size, new):
-    """The rows behind so many leaves and the hashes of new ones, and the tiles that are new or change, by level and index."""
+    """The rows after so many leaves and the hashes of new ones, and the tiles that are new or change, by level and index."""
     after, objects = [], []
     for level, row in enumerate(rows):
         hashes, first = row + new, size >> 8 * level + 8
@@ -95,7 +95,7 @@ def hash_tiles(rows, size, new):
 
 
 def data_tiles(data, size, leaves):
-    """The partial data tile behind so many leaves and these new ones, and the data tiles that are new or change, by index."""
+    """The partial data tile after so many leaves and these new ones, and the data tiles that are new or change, by index."""
     objects = []
     for index, leaf in enumerate(leaves, size):
         data += leaf
@@ -131,7 +131,7 @@ def stepped(line, edge, now, most, batch):
 # ---- bundles
 
 def bundle_of(objects):
-    """The objects, one behind the other."""
+    """The objects, one after the other."""
     return b"".join(vector(2, called.encode()) + vector(4, content) for called, content in objects)
 
 
@@ -146,7 +146,7 @@ def is_name(called):
 
 
 def places_in(bundle):
-    """Where the objects of a bundle stand in it: each one's name, and where its content begins and ends."""
+    """The positions of the objects in a bundle: each one's name, and the beginning and the end of its content."""
     objects, parts, at = [], [], 0
     while at < len(bundle):
         width = 4 if parts else 2
@@ -173,7 +173,7 @@ def references(bundle):
 # ---- requests and replies
 
 def has(value, keys):
-    """Whether an object has these keys, and what has to stand under each."""
+    """Whether an object has these keys, with values of these types."""
     return isinstance(value, dict) and all(key in value and is_right(value[key]) for key, is_right in keys.items())
 
 
@@ -220,7 +220,7 @@ def is_text(value):
 
 
 def head_reply(state, origin):
-    """What is said of the head of a state."""
+    """The part of a reply about the head of a state."""
     root, size, moment = text(state.root), state.tree_size, state.timestamp
     sign = b"\0\1" + moment.to_bytes(8, "big") + size.to_bytes(8, "big") + state.root
     reply = {"head": {"sha256_root_hash": root, "timestamp": moment, "tree_size": size}, "sign": text(sign)}
@@ -234,7 +234,7 @@ def begin(moment, origin):
 
 
 def needs(line, origin):
-    """The names of the objects that a step behind a state has to be given."""
+    """The names of the objects that a step from a state needs."""
     state = state_of(line)
     if state is None:
         raise Refused("bad-state")
@@ -251,7 +251,7 @@ def split(batch):
 
 
 def step(batch, edge, now, line, most, origin):
-    """A step: a receipt for each submission, its objects as a bundle, where they stand in it, its head, and the state behind it."""
+    """A step: a receipt for each submission, its objects as a bundle, their positions in it, its head, and the next state."""
     if len(batch) > MOST_SUBMISSIONS:
         raise Refused("too-many")
     entries, places = split(list(map(submission_of, batch)))
@@ -263,7 +263,7 @@ def step(batch, edge, now, line, most, origin):
 
 
 def resume(bundle, line, origin):
-    """Where the objects of a step that was decided stand in its bundle, and its head."""
+    """The positions of the objects of a decided step in its bundle, and its head."""
     state, bundle = state_of(line), base64.b64decode(bundle)
     if state is None:
         raise Refused("bad-state")
@@ -273,7 +273,7 @@ def resume(bundle, line, origin):
 
 
 def claim(place, path, line, submission, origin):
-    """The receipt of a submission's entry at a claimed place, where the path leads from its leaf to the state's root."""
+    """The receipt of a submission's entry at a claimed place, if the path leads from its leaf to the state's root."""
     state = state_of(line)
     if state is None:
         raise Refused("bad-state")
@@ -286,7 +286,7 @@ def claim(place, path, line, submission, origin):
     return {"receipt": {"leaf_index": index, "sign": text(signed), "timestamp": moment}}
 
 
-# What each request does, and what has to stand under its keys.
+# The requests, each with its function and the types of its keys.
 REQUESTS = (
     (begin, {"begin": is_number}),
     (needs, {"needs": is_text}),
