@@ -60,6 +60,7 @@ service-engines: ## the same with engines on loopback: those of etcd, PostgreSQL
 service-race: ## the same as service-test, built to tell of data races (go test -race)
 	@cmd/test.sh race
 
+# NODES=2 has two nodes on Ceph's S3 and PostgreSQL behind nginx, which are killed in turn.
 service-audit: ## has ctserve audit look for MINUTES=60 at a log on a folder that is killed each minute
 	@checks/needs.sh service
 	@cmd/build.sh build
@@ -140,10 +141,10 @@ container: ## builds the image of release/Containerfile out of a release's packa
 	@checks/needs.sh service
 	@PYTHONDONTWRITEBYTECODE=1 tests/bare/container.py --built "$(BUILT)"
 
-# As root, with the kit. It lists what others run.
-pages: ## runs the commands of README.md and of the other pages in a fresh clone, as they stand and in their order: what is quick without the kit, the gate runs
+# As root, with the kit. It names the commands that others run, and those that it leaves out. PROOFS=no leaves out those that need a proof.
+pages: ## runs the commands of README.md and of the other pages in a fresh clone, as they are written and in their order (the gate runs the quick ones, without the kit)
 	@checks/needs.sh test
-	@PYTHONDONTWRITEBYTECODE=1 tests/pages.py
+	@PYTHONDONTWRITEBYTECODE=1 tests/pages.py $(if $(filter no,$(PROOFS)),--without-proofs)
 
 reproduce: ## builds the programs of the Go part, and those of the crates that are proved here, twice in folders of other names, and compares their bytes
 	@release/reproduce.sh
@@ -170,7 +171,7 @@ wrong: ## has the prover refuse the wrong bodies of CRATE=ct_core (crates/*/wron
 	@PYTHONDONTWRITEBYTECODE=1 python3 checks/wrong_bodies.py $(or $(CRATE),ct_core)
 
 # What no contract can say of the sources, what docs/CHECKING.md is made from, and what the documents name.
-sources: ## looks through the sources, the documents and the scripts of examples/ and tests/, in seconds and without a proof
+sources: ## looks through the sources, the documents and the scripts of examples/ and tests/, in three to five minutes, without a proof
 	@PYTHONDONTWRITEBYTECODE=1 python3 checks/want_of_memory.py
 	@PYTHONDONTWRITEBYTECODE=1 python3 checks/told_faults.py
 	@PYTHONDONTWRITEBYTECODE=1 python3 checks/definitions.py

@@ -9,7 +9,8 @@ It reads README.md, docs/**/*.md (except the parts that checking.py generates) a
 - `make help` lists each target, except the parts of `make install`;
 - a block below a comment `<!-- from FILE -->` has only text of that file, in its order (a line of `..` marks omitted text, and lines may be wrapped
   differently);
-- the programs, the library and CHANGELOG.md state the version in VERSION.
+- the programs, the library and CHANGELOG.md state the version in VERSION;
+- docs/README.md, the index, links to each page.
 
 It prints each violation, and ends with status 1 if there is one. Before that it tests itself on a page where each of the first five is wrong.
 """
@@ -206,6 +207,13 @@ def version_faults():
     return [f"VERSION is {version}, and {path.relative_to(ROOT)} says {found}" for path, found in said.items() if found != version]
 
 
+def missing_in_index():
+    """Returns a message for each page that the index, docs/README.md, does not link to."""
+    index = ROOT / "docs" / "README.md"
+    linked = {(index.parent / link.partition("#")[0]).resolve() for link in LINK.findall(index.read_text())}
+    return [f"docs/README.md: the index has no link to {page.relative_to(ROOT)}" for page in pages() if page != index and page not in linked]
+
+
 def main():
     repository = Repository()
     told = "\n".join(repository.faults(WRONG, ROOT / "README.md"))
@@ -213,6 +221,7 @@ def main():
     if missed:
         sys.exit(f"checks/documents.py does not find these faults on its own test page: {', '.join(missed)}")
     found = version_faults()
+    found += missing_in_index()
     found += [f"make help does not list {name} (add a comment ## to the target)" for name in sorted(repository.targets - repository.told) if not name.startswith("install-")]
     for page in pages():
         text = re.sub(r"<!-- Made by .*?<!-- Made until here. -->", "", page.read_text(), flags=re.S)

@@ -7,7 +7,8 @@
 - a comparison of dist/ with a new build (checks/dist.py);
 - comparisons of the library in dist/ with models (tests/library/guard.py, step.py, witness.py, monitor.py, node.py, names.py, data_tiles.py, texts.py), and
   of the Rust crate with some of these (tests/library/rust.py);
-- calls of the library without memory (tests/library/refusals.py), and with NULL and in many threads (tests/library/replays.py);
+- calls of the library without memory (tests/library/refusals.py), with NULL and in many threads (tests/library/replays.py), and over large inputs
+  (tests/library/cost.py);
 - a comparison of its build option with the proved code (tests/library/sha_instructions.py);
 - a comparison of the Python package with models (bindings/python/tests/compare.py);
 - the programs in C and the Go, Python and Rust packages for arm64 (tests/library/arm64.py);
@@ -68,6 +69,7 @@ OF_DIST = (
     "tests/library/data_tiles.py",
     "tests/library/texts.py",
     "tests/library/refusals.py",
+    "tests/library/cost.py",
     "tests/library/replays.py",
     "tests/library/rust.py",
     "tests/library/sha_instructions.py",
