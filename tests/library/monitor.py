@@ -5,7 +5,10 @@
 
 The model is written from RFC 6962 and include/wagtenib.h. It keeps all leaves. Each call is made over the state that the call before it wrote, or over a damaged one.
 The code, the verdict, the report on entries, the bytes that are written and the length must be the model's. Each verdict, each fault of an entry and each code
-that a call can return must come at least once. Without gcc for this processor it says so.
+that a call can return must come at least once.
+
+After that, wagtenib_monitor_entry judges no bytes and each leaf that the logs handed out, beside head timestamps around the leaf's. Its code and the timestamp that it
+writes must be the model's, and each of its codes must come at least once. Without gcc for this processor it says so.
 """
 import argparse
 import collections
@@ -230,6 +233,31 @@ class Monitor:
         )
         return code, told, (report.later_index, report.later_timestamp, report.faulty_index, report.fault), memory.raw[:room], length.value
 
+    def entry(self, head_timestamp, leaf):
+        """The code of wagtenib_monitor_entry, and the timestamp after the call."""
+        timestamp = ctypes.c_uint64(UNTOUCHED)
+        code = self.functions.wagtenib_monitor_entry(ctypes.c_uint64(head_timestamp), leaf, ctypes.c_size_t(len(leaf)), ctypes.byref(timestamp))
+        return code, timestamp.value
+
+
+def entry_by_model(head_timestamp, leaf):
+    """The code and the timestamp that are due of wagtenib_monitor_entry."""
+    timestamp, fault = fault_of_leaf(leaf)
+    if fault:
+        return CODES[fault], UNTOUCHED
+    return CODES["LATER_ENTRY" if timestamp > head_timestamp else "OK"], timestamp
+
+
+def compare_entries(monitor, leaves):
+    """Compares the verdicts on these leaves and on no bytes with the model. Yields the code, the head's timestamp, the leaf, and whether they differ."""
+    for given in (b"", *leaves):
+        forms = [given] if fault_of_leaf(given)[1] else [given, *(given[:2] + number(other) + given[10:] for other in (0, MOST))]
+        for leaf in forms:
+            timestamp = fault_of_leaf(leaf)[0] or 0
+            for head_timestamp in sorted({0, max(timestamp - 1, 0), timestamp, min(timestamp + 1, MOST), MOST}):
+                code, written = monitor.entry(head_timestamp, leaf)
+                yield code, head_timestamp, leaf, (code, written) != entry_by_model(head_timestamp, leaf)
+
 
 NOTHING_TOLD = ((7, 0, 0), NO_HEAD, bytes(32), 0, 0)
 NOTHING_REPORTED = (7, 0, 0, 0)
@@ -245,6 +273,8 @@ class History:
         self.roots = [[root(log[:n]) for n in range(SIZES + 1)] for log in self.logs]
         self.began = False
         self.model, self.bytes = Model(), b""
+        # The leaves that were handed out, in the order of their first time.
+        self.given = {}
 
     def leaf(self, at):
         """A leaf with about the timestamp 10 times its index, or bytes that are none."""
@@ -277,6 +307,7 @@ class History:
         if how < 8:
             start = read if chance.random() < 0.9 else chance.choice((0, read + 1, MOST))
             leaves = log[min(start, SIZES) : min(start, SIZES) + chance.choice((0, 1, 2, 9, 99))]
+            self.given.update(dict.fromkeys(leaves))
             return "entries", start, leaves, self.lengths(leaves)
         first, second = (model.accepted or NO_HEAD)[0], (model.waiting or NO_HEAD)[0]
         hashes = proof(first, log[:second]) if 0 < first < second <= SIZES else []
@@ -403,6 +434,7 @@ def main():
         print("tests/library/monitor.py: nothing was compared: there is no gcc for a processor of dist/")
         return 0
     history, came, verdicts, faults, wrong = History(asked.seed), collections.Counter(), collections.Counter(), collections.Counter(), []
+    entries = collections.Counter()
     with tempfile.TemporaryDirectory(prefix="wagtenib-monitor-") as folder:
         monitor = Monitor(folder)
         for _ in range(asked.calls):
@@ -413,13 +445,19 @@ def main():
             if differs:
                 wrong.append(differs)
                 history.began = False
+        for code, head_timestamp, leaf, differs in compare_entries(monitor, history.given):
+            entries[code] += 1
+            if differs:
+                wrong.append(("entry", head_timestamp, leaf.hex(), code))
     for differs in wrong[:5]:
         print(f"tests/library/monitor.py: a call differs from the model (seed {asked.seed}): {differs}")
     absent = [name for name in ("OK", "NO_ROOM", "BAD_STATE", "ROOT_MISMATCH", "OTHER_COUNT", "OTHER_LENGTHS") if not came[CODES[name]]] + [name for name in VERDICTS if not verdicts[name]]
     absent += [name for name in FAULTS if not faults[CODES[name]]]
+    absent += [f"{name} of wagtenib_monitor_entry" for name in ("OK", "LATER_ENTRY", *FAULTS) if not entries[CODES[name]]]
     if absent:
         print(f"tests/library/monitor.py: no call of the seed {asked.seed} comes to {', '.join(absent)} (try more --calls)")
-    print(f"tests/library/monitor.py: {asked.calls} calls of the monitor were compared, {came[0]} of which returned 0; {len(wrong)} differ")
+    print(f"tests/library/monitor.py: {asked.calls} calls of the monitor were compared, {came[0]} of which returned 0, "
+          f"and {sum(entries.values())} verdicts on {len(history.given)} leaves; {len(wrong)} differ")
     return 1 if wrong or absent else 0
 
 
