@@ -235,7 +235,7 @@ def compare_name(source, tried):
     code = _library.load().wagtenib_compare_data_tile(text, len(text), after, tile, len(tile), ctypes.byref(position))
     if (code, position.value) != (0 if due[0] == "OK" else Code[due[0]], UNTOUCHED if due[1] is None else due[1]):
         sys.exit(f"tests/library/data_tiles.py: {name} from {after} on with {tile.hex()} gave {code} and {position.value}, and is to give {due}")
-    tried[due[0]] += 1
+    tried[f"{due[0]} of a name"] += 1
 
 
 def main():
@@ -250,7 +250,7 @@ def main():
     for _ in range(words.calls):
         compare(source, tried)
         compare_name(source, tried)
-    if missing := (FAULTS | ANSWERS) - set(tried):
+    if missing := (FAULTS | {f"{answer} of a name" for answer in FAULTS | ANSWERS}) - set(tried):
         sys.exit(f"tests/library/data_tiles.py: {words.calls} tiles had none of {sorted(missing)}")
     print(f"tests/library/data_tiles.py: {words.calls} tiles with {tried['read']} entries, and {sum(tried[one] for one in FAULTS)} faults, and as many names, as the model has them")
 

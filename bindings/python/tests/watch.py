@@ -1,8 +1,9 @@
-"""The monitor and the data tiles of the Python package, over the reference tree of eight leaves and over tiles that are written out by hand. For compare.py."""
+"""The monitor, the data tiles and the search of bytes of the Python package, over the reference tree of eight leaves and over bytes that are written out by hand.
+For compare.py."""
 import merkle
 import promises
 import wagtenib
-from wagtenib import Code, EntryReport, Verdict
+from wagtenib import Code, EntryReport, Place, Verdict
 
 
 def try_monitor(leaves, same, outcome):
@@ -40,6 +41,14 @@ def try_monitor(leaves, same, outcome):
     same("subtrees in another order", outcome(lambda: wagtenib.monitor_start(heads[6], subtrees[::-1])), "ROOT_MISMATCH")
 
 
+def try_entry(same, outcome):
+    """One leaf beside heads that are earlier, of the same time and later, and a leaf that is cut off."""
+    leaf = b"\0\0" + (7).to_bytes(8, "big") + b"\0\0" + promises.vector(3, b"DER") + promises.vector(2, b"")
+    for head_timestamp, is_later in ((0, True), (6, True), (7, False), (8, False), ((1 << 64) - 1, False)):
+        same(f"a leaf of 7 ms beside a head of {head_timestamp} ms", wagtenib.monitor_entry(head_timestamp, leaf), (7, is_later))
+    same("a leaf that is cut off", outcome(lambda: wagtenib.monitor_entry(0, leaf[:-1])), "TRUNCATED")
+
+
 def try_data_tiles(same):
     """The entries of a tile, and each fault with the index of its entry."""
     certificate = (7).to_bytes(8, "big") + b"\0\0" + promises.vector(3, b"DER") + promises.vector(2, b"xy")
@@ -59,3 +68,34 @@ def try_data_tiles(same):
             same(f"a tile that is {fault}", wagtenib.data_tile_leaves(tile), None)
         except wagtenib.TileError as found:
             same(f"a tile that is {fault}", (found.name, found.entry), (fault, entry))
+
+
+def try_named_tiles(same, outcome):
+    """A data tile with its name, and each way of not being that tile."""
+
+    def of(*indexes):
+        return b"".join((7).to_bytes(8, "big") + b"\0\0" + promises.vector(3, b"DER") + promises.vector(2, b"\0\0\5" + index.to_bytes(5, "big")) + bytes(2) for index in indexes)
+
+    name, tile = "tile/data/001.p/3", of(256, 257, 258)
+    same("a tile of its name", wagtenib.compare_data_tile(name, 256, tile), None)
+    same("a tile whose first entry was read", wagtenib.compare_data_tile(name, 257, of(0, 257, 258)), None)
+    for due, called, after, content in (
+        ("NO_DATA_TILE", "tile/0/001.p/3", 256, tile),
+        ("TILE_AFTER", name, 255, tile),
+        ("TILE_BEFORE", name, 259, tile),
+    ):
+        same(f"a tile that is {due}", outcome(lambda called=called, after=after, content=content: wagtenib.compare_data_tile(called, after, content)), due)
+    for due, content, index in (("TRUNCATED", tile[:-1], 2), ("OTHER_ENTRIES", of(256, 257), 2), ("WRONG_INDEX", of(256, 258, 258), 257)):
+        try:
+            same(f"a tile that is {due}", wagtenib.compare_data_tile(name, 256, content), due)
+        except wagtenib.TileError as found:
+            same(f"a tile that is {due}", (found.name, found.entry), (due, index))
+
+
+def try_search(same, outcome):
+    """Watched names in bytes that are no certificate, whatever the case of their letters."""
+    listed = wagtenib.watch_list([b"other.example", b"CN.Example", b"*.n.EXAMPLE", b".example."])
+    same("a search", wagtenib.names_in_bytes(b"\x30\x82 cn.example \xff", listed), dict.fromkeys((1, 2, 3), Place.IN_BYTES))
+    same("a search of no bytes", wagtenib.names_in_bytes(b"", listed), {})
+    same("a search for no name", wagtenib.names_in_bytes(b"cn.example", b""), {})
+    same("a list that is cut off", outcome(lambda: wagtenib.names_in_bytes(b"cn.example", listed[:-1])), "BAD_WATCHED")

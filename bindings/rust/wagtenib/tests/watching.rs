@@ -83,6 +83,38 @@ fn a_data_tile_has_its_entries() {
     assert_eq!(data_tiles::leaves(&tile[..9]).unwrap_err().to_string(), "wagtenib: the leaf ends before a field is whole (entry 0 of the data tile, counted from 0)");
 }
 
+#[test]
+fn an_entry_is_judged_beside_a_head() {
+    let leaf = joined(&["0000", CERTIFICATE]);
+    for head_timestamp in [7, 8, u64::MAX] {
+        assert_eq!(monitor::entry(head_timestamp, &leaf), Ok(7));
+    }
+    for head_timestamp in [0, 6] {
+        assert_eq!(monitor::entry(head_timestamp, &leaf), Err(Error::LaterEntry));
+    }
+    assert_eq!(monitor::entry(0, &leaf[..leaf.len() - 1]), Err(Error::Truncated));
+    assert_eq!(monitor::entry(0, &[]), Err(Error::Truncated));
+}
+
+/// A data tile of certificates whose extensions name these indexes (C2SP static-ct-api).
+fn tile_of(indexes: &[u64]) -> Vec<u8> {
+    indexes.iter().flat_map(|index| joined(&["0000000000000007 0000 000003444552 0008 000005", &format!("{index:010x}"), "0000"])).collect()
+}
+
+#[test]
+fn a_data_tile_is_compared_with_its_name() {
+    let (name, tile) = ("tile/data/001.p/3", tile_of(&[256, 257, 258]));
+    assert_eq!(data_tiles::compare(name, 256, &tile), Ok(()));
+    assert_eq!(data_tiles::compare(name, 257, &tile_of(&[0, 257, 258])), Ok(()));
+    let refused = |name, next, tile: &[u8], error, entry| assert_eq!(data_tiles::compare(name, next, tile), Err(TileError { error, entry }));
+    refused("tile/0/001.p/3", 256, &tile, Error::NoDataTile, None);
+    refused(name, 255, &tile, Error::TileAfter, None);
+    refused(name, 259, &tile, Error::TileBefore, None);
+    refused(name, 256, &tile[..tile.len() - 1], Error::Truncated, Some(2));
+    refused(name, 256, &tile_of(&[256, 257]), Error::OtherEntries, Some(2));
+    refused(name, 256, &tile_of(&[256, 258, 258]), Error::WrongIndex, Some(257));
+}
+
 /// An element of DER with a content of fewer than 128 bytes.
 fn element(tag: &str, content: &str) -> String {
     format!("{tag}{:02x}{content}", content.len() / 2)
