@@ -195,11 +195,11 @@ class Requests:
 
 def main():
     options = argparse.ArgumentParser(description="The step of a tiled log by calls.", allow_abbrev=False)
-    options.add_argument("library")
+    options.add_argument("built", metavar="library")
     options.add_argument("--origin", type=step.origin_of)
     words = options.parse_args()
     with tempfile.TemporaryDirectory() as folder:
-        requests = Requests(Calls(library_of(words.library, folder)))
+        requests = Requests(Calls(library_of(words.built, folder)))
         step.REQUESTS = tuple((getattr(requests, answer.__name__, answer), keys) for answer, keys in step.REQUESTS)
         sys.exit(step.answer_all(words.origin))
 
