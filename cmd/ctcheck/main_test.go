@@ -155,10 +155,12 @@ func TestRefusesOtherAnswers(t *testing.T) {
 		}
 	}
 	in := base64.StdEncoding.EncodeToString
-	refused("an answer of add-chain", fmt.Sprintf(`{"sct_version":0,"id":%q,"timestamp":%d,"extensions":%q,"signature":%q}`,
-		in(l.answer.LogID), l.answer.Timestamp, in(l.answer.Extensions), in(l.answer.Signature)), "log_id")
+	refused("an answer of add-chain",
+		fmt.Sprintf(`{"sct_version":0,"id":%q,"timestamp":%d,"extensions":%q,"signature":%q}`,
+			in(l.answer.LogID), l.answer.Timestamp, in(l.answer.Extensions), in(l.answer.Signature)), "log_id")
 	precertificate := l.answer
-	precertificate.Certificate, precertificate.IssuerKeyHash, precertificate.TBSCertificate = nil, make([]byte, 32), []byte{1}
+	precertificate.Certificate, precertificate.IssuerKeyHash = nil, make([]byte, 32)
+	precertificate.TBSCertificate = []byte{1}
 	for _, of := range []struct {
 		answer check.Answer
 		names  []string

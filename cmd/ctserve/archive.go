@@ -21,10 +21,11 @@ import (
 )
 
 // archivePage is what `ctserve archive --help` prints before the flags.
-const archivePage = `ctserve archive URL reads the log at URL by the calls of RFC 6962 (get-sth, get-entries, get-sth-consistency), and
-writes its entries as tiles into a folder, up to the newest head that the log signed. Each part is written after the
-log has proved that it belongs to the signed tree. After a stop for any reason, the same command goes on. The exit status
-is 0 if the archive is complete, 1 if it is not, and 2 if the arguments are wrong. ctserve --archive FOLDER serves it.`
+const archivePage = `ctserve archive URL reads the log at URL by the calls of RFC 6962 (get-sth, get-entries,
+get-sth-consistency), and writes its entries as tiles into a folder, up to the newest head that the log signed. Each
+part is written after the log has proved that it belongs to the signed tree. After a stop for any reason, the same
+command goes on. The exit status is 0 if the archive is complete, 1 if it is not, and 2 if the arguments are wrong.
+ctserve --archive FOLDER serves it.`
 
 // archiveFlags are the flags of `ctserve archive`.
 type archiveFlags struct{ key, folder, origin, ca, contact string }
@@ -115,8 +116,8 @@ func openArchive(ctx context.Context, n node) (*opened, error) {
 }
 
 // archiveNotice is the notice of an archive, unless the operator has another one.
-const archiveNotice = "This is an archive of a log that has ended. It takes no submissions, and its tree head is the last " +
-	"one that the log signed."
+const archiveNotice = "This is an archive of a log that has ended. " +
+	"It takes no submissions, and its tree head is the last one that the log signed."
 
 // settleArchive fills in the settings of an archive, which has no key, no roots and no other stores.
 func (s *settings) settleArchive() error {

@@ -112,8 +112,8 @@ func archived(t *testing.T, entries int, words ...string) string {
 	return string(said)
 }
 
-// TestArchive: the archive of a log by its own calls of RFC 6962 has the signed root. It is served with the head that the
-// log signed, with the same entries, and with proofs that tlog verifies.
+// TestArchive: the archive of a log by its own calls of RFC 6962 has the signed root. It is served with the head that
+// the log signed, with the same entries, and with proofs that tlog verifies.
 func TestArchive(t *testing.T) {
 	t.Parallel()
 	size := int64(300)

@@ -39,7 +39,8 @@ var commands = map[string]func(words []string, answers, faults io.Writer) error{
 	"roots":      runRoots,
 }
 
-// runCommand does one of the commands, and gives the status: 0 where it is done, 1 where it isn't, 2 where the words aren't ones.
+// runCommand does one of the commands, and gives the status: 0 where it is done, 1 where it isn't, 2 where the words
+// aren't ones.
 func runCommand(name string, words []string, answers, faults io.Writer) int {
 	err := commands[name](words, answers, faults)
 	switch {
@@ -73,9 +74,12 @@ func parseFlags(flags *flag.FlagSet, words []string, others int) error {
 	return nil
 }
 
-// runKey makes a log's key in a file that isn't there yet, or shows the one that is: the log's id (RFC 6962, section 3.2) and its public key.
+// runKey makes a log's key in a file that isn't there yet, or shows the one that is: the log's id (RFC 6962, section
+// 3.2) and its public key.
 func runKey(words []string, answers, faults io.Writer) error {
-	flags := commandFlags("key", "ctserve key FILE creates a log's P-256 key, and prints the log's id and public key. FILE must not exist yet. Only its owner may read it.", faults)
+	flags := commandFlags("key",
+		"ctserve key FILE creates a log's P-256 key, and prints the log's id and public key. FILE must not exist yet. "+
+			"Only its owner may read it.", faults)
 	show := flags.Bool("show", false, "show those of the key in FILE, and make none")
 	if err := parseFlags(flags, words, 1); err != nil {
 		return err
@@ -93,7 +97,8 @@ func runKey(words []string, answers, faults io.Writer) error {
 	defer key.Close()
 	public := key.Key()
 	id := sha256.Sum256(public)
-	fmt.Fprintf(answers, "log id      %s\npublic key  %s\n%s", base64.StdEncoding.EncodeToString(id[:]), base64.StdEncoding.EncodeToString(public),
+	fmt.Fprintf(answers, "log id      %s\npublic key  %s\n%s",
+		base64.StdEncoding.EncodeToString(id[:]), base64.StdEncoding.EncodeToString(public),
 		pem.EncodeToMemory(&pem.Block{Type: "PUBLIC KEY", Bytes: public}))
 	return nil
 }
@@ -163,7 +168,8 @@ type operator struct {
 
 // runListEntry prints what a log list has of a log, out of the log's settings.
 func runListEntry(words []string, answers, faults io.Writer) error {
-	flags := commandFlags("list-entry", "ctserve list-entry --config FILE prints a log's entry for a log list (v3, JSON), out of its settings.", faults)
+	flags := commandFlags("list-entry",
+		"ctserve list-entry --config FILE prints a log's entry for a log list (v3, JSON), out of its settings.", faults)
 	config := flags.String("config", "", "the log's `file` of settings")
 	name := flags.String("operator", "", "the operator's `name`")
 	email := flags.String("email", "", "the operator's `addresses` of mail, with commas between them")
@@ -188,12 +194,17 @@ func runListEntry(words []string, answers, faults io.Writer) error {
 	return out.Encode(map[string][]operator{"operators": {{*name, strings.Split(*email, ","), []string{}, []listed{one}}}})
 }
 
-// entryOf returns what a log list has of a log. The origin is the submission prefix without its scheme (C2SP static-ct-api, "Parameters").
+// entryOf returns what a log list has of a log. The origin is the submission prefix without its scheme (C2SP
+// static-ct-api, "Parameters").
 func entryOf(s *settings, public []byte) listed {
 	id := sha256.Sum256(public)
 	one := listed{
-		Description: s.node.origin, LogID: base64.StdEncoding.EncodeToString(id[:]), Key: base64.StdEncoding.EncodeToString(public),
-		SubmissionURL: "https://" + s.node.origin + "/", MonitoringURL: s.monitoringURL, MMD: int(s.node.maxMergeDelay / time.Second),
+		Description:   s.node.origin,
+		LogID:         base64.StdEncoding.EncodeToString(id[:]),
+		Key:           base64.StdEncoding.EncodeToString(public),
+		SubmissionURL: "https://" + s.node.origin + "/",
+		MonitoringURL: s.monitoringURL,
+		MMD:           int(s.node.maxMergeDelay / time.Second),
 	}
 	if from, to := s.rules.Window.From, s.rules.Window.To; !from.IsZero() && !to.IsZero() {
 		one.Interval = &interval{from.UTC().Format(time.RFC3339), to.UTC().Format(time.RFC3339)}
@@ -297,7 +308,8 @@ func runCheck(words []string, answers, faults io.Writer) error {
 			look("roots", "left out: "+each.String(), nil)
 		}
 	}
-	look("max-merge-delay", fmt.Sprintf("%v, so a head is made at least each %v", s.node.maxMergeDelay, s.node.refresh), nil)
+	look("max-merge-delay",
+		fmt.Sprintf("%v, so a head is made at least each %v", s.node.maxMergeDelay, s.node.refresh), nil)
 	if s.certificate != "" {
 		_, err := web.LoadCertificate(s.certificate, s.key)
 		look("tls-certificate", s.certificate, err)
@@ -312,7 +324,12 @@ func runCheck(words []string, answers, faults io.Writer) error {
 	for _, address := range []struct {
 		of, text string
 		check    func(string) error
-	}{{"store", s.node.store, stores.CheckObjects}, {"lock", s.node.register, stores.CheckRegister}, {"index", s.node.places, stores.CheckPlaces}, {"guard-state", s.node.guardState, stores.CheckRegister}} {
+	}{
+		{"store", s.node.store, stores.CheckObjects},
+		{"lock", s.node.register, stores.CheckRegister},
+		{"index", s.node.places, stores.CheckPlaces},
+		{"guard-state", s.node.guardState, stores.CheckRegister},
+	} {
 		if address.text == "" {
 			continue
 		}
@@ -367,7 +384,11 @@ func runIndex(words []string, answers, faults io.Writer) (err error) {
 // runClock confirms the day for a log that was stopped for more than one day, on a machine with no other source of
 // time. The log may run in the meantime.
 func runClock(words []string, answers, faults io.Writer) error {
-	flags := commandFlags("clock", "ctserve clock FILE DAY confirms the day (2026-11-27) for the log with the settings FILE. Read the day from another clock than this machine's. On that day the log continues, although its newest head is older than a day and neither the kernel nor another machine confirms the time.", faults)
+	flags := commandFlags("clock",
+		"ctserve clock FILE DAY confirms the day (2026-11-27) for the log with the settings FILE. "+
+			"Read the day from another clock than this machine's. "+
+			"On that day the log continues, although its newest head is older than a day "+
+			"and neither the kernel nor another machine confirms the time.", faults)
 	if err := parseFlags(flags, words, 2); err != nil {
 		return err
 	}
@@ -379,6 +400,7 @@ func runClock(words []string, answers, faults io.Writer) error {
 	if err := serve.NameDay(s.node.namedDay, flags.Arg(1), now); err != nil {
 		return err
 	}
-	fmt.Fprintf(answers, "%s: on %s the log continues. This machine's clock says %s\n", s.node.origin, flags.Arg(1), now.UTC().Format(time.RFC3339))
+	fmt.Fprintf(answers, "%s: on %s the log continues. This machine's clock says %s\n", s.node.origin, flags.Arg(1),
+		now.UTC().Format(time.RFC3339))
 	return nil
 }

@@ -4,8 +4,8 @@
 // submissions, publishes, answers the waiting requests, and exits with status 0, or with 1 if this takes too long. A
 // second signal ends it at once. A process of its own has the key: `ctserve signer`, which ctserve starts, or finds at
 // a socket. `ctserve key`, `check` and `list-entry` create a key, check settings, and write the entry of a log list.
-// `index` builds a log's deduplication index again from its tiles, `clock` confirms the day, `audit` looks at a log from
-// outside, `roots` writes the roots of CCADB's tables, and `archive` makes an archive of another log.
+// `index` builds a log's deduplication index again from its tiles, `clock` confirms the day, `audit` looks at a log
+// from outside, `roots` writes the roots of CCADB's tables, and `archive` makes an archive of another log.
 package main
 
 import (
@@ -38,7 +38,8 @@ type opened struct {
 	// proofs makes proofs from its tiles, and cutter a precertificate's entry.
 	proofs *tile.Prover
 	cutter chains.Cutter
-	// nodes returns the handler of what other nodes forward, forward forwards to them, and secured has the certificates for both. All are nil if the log has one node.
+	// nodes returns the handler of what other nodes forward, forward forwards to them, and secured has the certificates
+	// for both. All are nil if the log has one node.
 	nodes   func(front http.Handler) http.Handler
 	forward web.Forwarder
 	secured *secured
@@ -64,8 +65,8 @@ func main() {
 // statusSetBack is the status of a start that is refused, and will be until an operator has looked at the log's stores.
 const statusSetBack = 3
 
-// run serves until a signal ends it, and gives the status: 0 at an end in order, 1 at another, 2 where the words aren't ones, statusSetBack
-// where the log, or its guard's state, is gone or older than it was, or the places aren't its.
+// run serves until a signal ends it, and gives the status: 0 at an end in order, 1 at another, 2 where the words aren't
+// ones, statusSetBack where the log, or its guard's state, is gone or older than it was, or the places aren't its.
 func run(words []string, to io.Writer, open opener) int {
 	switch {
 	case version.Asked(words):
@@ -97,8 +98,9 @@ func run(words []string, to io.Writer, open opener) int {
 	return 0
 }
 
-// surviveReader has a write to standard error fail once nobody reads it any more, instead of ending this process by SIGPIPE: the log must go on without its lines.
-// The signal is caught and not ignored, since what is ignored would be so in the programs that this process starts.
+// surviveReader has a write to standard error fail once nobody reads it any more, instead of ending this process by
+// SIGPIPE: the log must go on without its lines. The signal is caught and not ignored, since what is ignored would be
+// so in the programs that this process starts.
 func surviveReader() { signal.Notify(make(chan os.Signal, 1), syscall.SIGPIPE) }
 
 // served is one listener with its server.
@@ -141,11 +143,16 @@ func serveLog(s *settings, lines *web.Lines, signals <-chan os.Signal, open open
 	if err := putEntry(s, of, about.Entry); err != nil {
 		return err
 	}
-	front := web.New(of.log, of.proofs, checker, web.Options{Limits: s.limits, Proxies: s.proxies, Lines: lines, LogRequests: s.logRequests, ReadOnly: s.readOnly, About: about, Stores: of.calls, Forward: of.forward})
+	front := web.New(of.log, of.proofs, checker, web.Options{
+		Limits: s.limits, Proxies: s.proxies, Lines: lines, LogRequests: s.logRequests, ReadOnly: s.readOnly, About: about,
+		Stores: of.calls, Forward: of.forward,
+	})
 
 	servers := []*served{{of: "clients", address: s.listen, over: over, handler: front}}
 	if of.secured != nil {
-		servers = append(servers, &served{of: "nodes", address: s.node.peers.listen, over: of.secured.listens, handler: of.nodes(front.Nodes())})
+		servers = append(servers, &served{
+			of: "nodes", address: s.node.peers.listen, over: of.secured.listens, handler: of.nodes(front.Nodes()),
+		})
 	}
 	if s.operator != "" {
 		servers = append(servers, &served{of: "operator", address: s.operator, handler: front.Operator()})
@@ -180,7 +187,8 @@ func serveLog(s *settings, lines *web.Lines, signals <-chan os.Signal, open open
 		telling, stop := context.WithCancel(context.Background())
 		defer stop()
 		go front.Tell(telling, looksEvery)
-		ending, err = wait(func() { reload(s, front, checker, []*web.Certificate{certificate, of.secured.its()}, lines) }, signals, failed)
+		ending, err = wait(func() { reload(s, front, checker, []*web.Certificate{certificate, of.secured.its()}, lines) },
+			signals, failed)
 	}
 	// From now on another signal ends the process. The end is logged after that.
 	signal.Reset(syscall.SIGTERM, syscall.SIGINT)
@@ -201,8 +209,8 @@ func putEntry(s *settings, of *opened, entry []byte) error {
 	return of.putEntry(ctx, entry)
 }
 
-// lookForHead is how often awaitHead looks. Each look is a request to the store, and a node makes its first round a second
-// after its start at the latest.
+// lookForHead is how often awaitHead looks. Each look is a request to the store, and a node makes its first round a
+// second after its start at the latest.
 const lookForHead = 100 * time.Millisecond
 
 // awaitHead waits for the first head of a log, for as long as a reading may take.
@@ -237,11 +245,13 @@ func tellHead(s *settings, of log.Log, lines *web.Lines) {
 		lines.Warn("serving", "origin", s.node.origin, "fault", err)
 		return
 	}
-	lines.Info("serving", "origin", s.node.origin, "entries", head.TreeSize, "root_hash", hex.EncodeToString(head.RootHash[:]), "head_of", time.UnixMilli(int64(head.Timestamp)).UTC().Format(time.RFC3339))
+	lines.Info("serving", "origin", s.node.origin, "entries", head.TreeSize,
+		"root_hash", hex.EncodeToString(head.RootHash[:]),
+		"head_of", time.UnixMilli(int64(head.Timestamp)).UTC().Format(time.RFC3339))
 }
 
-// wait has everything reloaded at SIGHUP, and returns at a signal that ends, which it gives, or if a server fails. A file that can't be read for long, as on a
-// network's disk, must not keep it from ending.
+// wait has everything reloaded at SIGHUP, and returns at a signal that ends, which it gives, or if a server fails. A
+// file that can't be read for long, as on a network's disk, must not keep it from ending.
 func wait(reload func(), signals <-chan os.Signal, failed <-chan error) (os.Signal, error) {
 	reloaded, reloads, again := make(chan struct{}, 1), false, false
 	for {
@@ -290,8 +300,8 @@ func reload(s *settings, front *web.Front, checker *chains.Checker, certificates
 	}
 }
 
-// ended has the log, which takes no more, publish and answer who waits, and then ends the servers, within the time for it. Reading goes on until the log
-// has ended.
+// ended has the log, which takes no more, publish and answer who waits, and then ends the servers, within the time for
+// it. Reading goes on until the log has ended.
 func ended(s *settings, of log.Log, servers []*served, why error) error {
 	ctx, cancel := context.WithTimeout(context.Background(), s.endWithin)
 	defer cancel()

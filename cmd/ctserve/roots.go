@@ -16,10 +16,10 @@ import (
 )
 
 // rootsPage is what `ctserve roots --help` prints before the flags.
-const rootsPage = `ctserve roots --into FOLDER TABLE.. writes the roots of tables of CCADB (CSV, each a file or an address that begins
-with https://) into the file ccadb.pem of a log's folder of roots: those whose trust bits are for TLS servers and whose status is
-Included. Other files in the folder stay as they are. It prints what changed. The exit status is 0 if the file has the
-roots of the tables now, 1 if it stays as it was, and 2 if the arguments are wrong.`
+const rootsPage = `ctserve roots --into FOLDER TABLE.. writes the roots of tables of CCADB (CSV, each a file or an
+address that begins with https://) into the file ccadb.pem of a log's folder of roots: those whose trust bits are for
+TLS servers and whose status is Included. Other files in the folder stay as they are. It prints what changed. The exit
+status is 0 if the file has the roots of the tables now, 1 if it stays as it was, and 2 if the arguments are wrong.`
 
 // rootsFlags are the flags of `ctserve roots`.
 type rootsFlags struct {
@@ -107,12 +107,13 @@ func (r *rootsFlags) table(from string) ([]byte, error) {
 		return nil, err
 	}
 	request.Header.Set("User-Agent", options.UserAgent)
-	client := http.Client{Transport: options.Transport, CheckRedirect: func(next *http.Request, before []*http.Request) error {
+	checkRedirect := func(next *http.Request, before []*http.Request) error {
 		if next.URL.Scheme != "https" || len(before) > 3 {
 			return fmt.Errorf("it redirects to %s", next.URL)
 		}
 		return nil
-	}}
+	}
+	client := http.Client{Transport: options.Transport, CheckRedirect: checkRedirect}
 	answer, err := client.Do(request)
 	if err != nil {
 		return nil, err

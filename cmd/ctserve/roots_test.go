@@ -61,7 +61,8 @@ func TestRootsOfCCADB(t *testing.T) {
 		strings.Contains(string(content), string(mail.authority.PEM())) {
 		t.Errorf("%s", content)
 	}
-	servers.write("other.csv", []byte(strings.Replace(strings.Replace(table, "Websites", "Mail", 1), "Email", "Websites", 1)))
+	other := strings.Replace(strings.Replace(table, "Websites", "Mail", 1), "Email", "Websites", 1)
+	servers.write("other.csv", []byte(other))
 	for words, due := range map[string]int{server.URL + "/none.csv": 1, "http" + strings.TrimPrefix(server.URL, "https") +
 		"/all.csv": 1, servers.path("none.csv"): 1, servers.path("other.csv"): 1, "": 2} {
 		if status, said := update(strings.Fields(words)...); status != due {

@@ -67,14 +67,16 @@ func (n *node) isGuarded() bool { return n.guard == nil || *n.guard }
 
 // isAway reports whether a store is not a folder or file of this machine.
 func (n *node) isAway() bool {
-	return !strings.HasPrefix(n.store, "folder:") || !strings.HasPrefix(n.register, "file:") || !strings.HasPrefix(n.places, "sqlite:")
+	return !strings.HasPrefix(n.store, "folder:") || !strings.HasPrefix(n.register, "file:") ||
+		!strings.HasPrefix(n.places, "sqlite:")
 }
 
 // errUsage reports a command line or a file of settings that is refused.
 var errUsage = errors.New("ctserve")
 
 // page is what --help prints before the settings.
-const page = `ctserve serves a Certificate Transparency log over HTTP. Each setting is a flag, or a line 'name value' in the file that --config names.
+const page = `ctserve serves a Certificate Transparency log over HTTP. Each setting is a flag, or a line 'name value' in
+the file that --config names.
 
 Other commands, each with --help:
   ctserve signer            runs the process that has the log's key
@@ -107,46 +109,75 @@ func parse(words []string, help io.Writer) (*settings, error) {
 // frontFlags defines the settings of the HTTP server and of the certificates that the log accepts.
 func (s *settings) frontFlags(flags *flag.FlagSet) {
 	flags.StringVar(&s.listen, "listen", "127.0.0.1:8618", "`address` for clients")
-	flags.StringVar(&s.operator, "operator-listen", "127.0.0.1:8619", "`address` for /metrics, /healthz and /readyz. If it is empty, they are not served")
-	flags.StringVar(&s.monitoringURL, "monitoring-url", "", "`URL` below which the log is read, if it differs from the one for submissions. /log.v3.json and list-entry have it (default https://ORIGIN/)")
+	flags.StringVar(&s.operator, "operator-listen", "127.0.0.1:8619",
+		"`address` for /metrics, /healthz and /readyz. If it is empty, they are not served")
+	flags.StringVar(&s.monitoringURL, "monitoring-url", "",
+		"`URL` below which the log is read, if it differs from the one for submissions. "+
+			"/log.v3.json and list-entry have it (default https://ORIGIN/)")
 	flags.StringVar(&s.notice, "notice", "", "`text` that the log's page and /log.v3.json show")
-	flags.StringVar(&s.certificate, "tls-certificate", "", "`file` with the TLS certificate chain in PEM. It is read again at SIGHUP. Without it, the log serves plain HTTP")
+	flags.StringVar(&s.certificate, "tls-certificate", "",
+		"`file` with the TLS certificate chain in PEM. It is read again at SIGHUP. Without it, the log serves plain HTTP")
 	flags.StringVar(&s.key, "tls-key", "", "`file` with the key of the TLS certificate in PEM")
-	flags.Func("trusted-proxies", "comma-separated `prefixes` of the proxies whose X-Forwarded-For header is trusted", func(text string) (err error) {
-		s.proxies, err = prefixes(text)
-		return err
-	})
-	flags.Func("roots", "comma-separated `files` with the log's roots: PEM, CSV of CCADB, or folders with such files. They are read again at SIGHUP", func(text string) error {
-		s.roots.Paths = strings.Split(text, ",")
-		return nil
-	})
-	flags.StringVar(&s.roots.Without, "excluded-roots", "", "`file` with the SHA-256 fingerprint of one root on each line. These roots are not accepted")
-	flags.Func("not-after-start", "`time` (2026-07-01 or 2026-07-01T00:00:00Z). Certificates that expire before it are refused", timestamp(&s.rules.Window.From))
-	flags.Func("not-after-limit", "`time`. Certificates that expire at this time or later are refused", timestamp(&s.rules.Window.To))
-	flags.BoolVar(&s.anyPurpose, "any-purpose", false, "accept certificates of any purpose. Without it, those whose extended key usage excludes TLS servers are refused")
+	flags.Func("trusted-proxies", "comma-separated `prefixes` of the proxies whose X-Forwarded-For header is trusted",
+		func(text string) (err error) {
+			s.proxies, err = prefixes(text)
+			return err
+		})
+	flags.Func("roots", "comma-separated `files` with the log's roots: PEM, CSV of CCADB, or folders with such files. "+
+		"They are read again at SIGHUP",
+		func(text string) error {
+			s.roots.Paths = strings.Split(text, ",")
+			return nil
+		})
+	flags.StringVar(&s.roots.Without, "excluded-roots", "",
+		"`file` with the SHA-256 fingerprint of one root on each line. These roots are not accepted")
+	flags.Func("not-after-start",
+		"`time` (2026-07-01 or 2026-07-01T00:00:00Z). Certificates that expire before it are refused",
+		timestamp(&s.rules.Window.From))
+	flags.Func("not-after-limit", "`time`. Certificates that expire at this time or later are refused",
+		timestamp(&s.rules.Window.To))
+	flags.BoolVar(&s.anyPurpose, "any-purpose", false,
+		"accept certificates of any purpose. Without it, those whose extended key usage excludes TLS servers are refused")
 	flags.BoolVar(&s.rules.RefuseExpired, "refuse-expired", false, "refuse certificates that have expired")
-	flags.BoolVar(&s.rules.RefuseNotYetValid, "refuse-not-yet-valid", false, "refuse certificates whose validity has not begun")
-	flags.DurationVar(&s.endWithin, "shutdown-timeout", 30*time.Second, "time after SIGTERM within which waiting clients are still answered")
-	flags.BoolVar(&s.readOnly, "read-only", false, "refuse submissions with 403 read-only. Heads are still made, and reads continue")
-	flags.BoolVar(&s.logRequests, "log-requests", false, "log every request, and not only those that fail because of the log")
+	flags.BoolVar(&s.rules.RefuseNotYetValid, "refuse-not-yet-valid", false,
+		"refuse certificates whose validity has not begun")
+	flags.DurationVar(&s.endWithin, "shutdown-timeout", 30*time.Second,
+		"time after SIGTERM within which waiting clients are still answered")
+	flags.BoolVar(&s.readOnly, "read-only", false,
+		"refuse submissions with 403 read-only. Heads are still made, and reads continue")
+	flags.BoolVar(&s.logRequests, "log-requests", false,
+		"log every request, and not only those that fail because of the log")
 }
 
 // limitFlags defines the bounds of what clients may use.
 func limitFlags(flags *flag.FlagSet, l *web.Limits) {
 	flags.IntVar(&l.Connections, "max-connections", l.Connections, "maximum number of connections at the same time")
-	flags.IntVar(&l.ConnectionsByAddress, "max-connections-per-address", l.ConnectionsByAddress, "maximum number of connections of one address or one /64 at the same time. For a client behind a trusted proxy it bounds requests")
-	flags.Func("submitters", "comma-separated `prefixes`, each with the number of connections (behind a proxy: requests) that its addresses may have together, instead of max-connections-per-address: 203.0.113.0/24=512,2001:db8::/32=512", func(text string) (err error) {
-		l.Submitters, err = submitters(text)
-		return err
-	})
-	flags.IntVar(&l.SubmissionRate, "submission-rate-per-address", 0, "maximum number of submissions of one address or one /64 in a second, with a burst of ten seconds. 0: no bound. Submitters have none")
+	flags.IntVar(&l.ConnectionsByAddress, "max-connections-per-address", l.ConnectionsByAddress,
+		"maximum number of connections of one address or one /64 at the same time. "+
+			"For a client behind a trusted proxy it bounds requests")
+	flags.Func("submitters",
+		"comma-separated `prefixes`, each with the number of connections (behind a proxy: requests) "+
+			"that its addresses may have together, instead of max-connections-per-address: "+
+			"203.0.113.0/24=512,2001:db8::/32=512",
+		func(text string) (err error) {
+			l.Submitters, err = submitters(text)
+			return err
+		})
+	flags.IntVar(&l.SubmissionRate, "submission-rate-per-address", 0,
+		"maximum number of submissions of one address or one /64 in a second, with a burst of ten seconds. "+
+			"0: no bound. Submitters have none")
 	flags.IntVar(&l.ReadRate, "read-rate-per-address", 0, "the same for proofs and get-entries")
 	flags.IntVar(&l.Checks, "max-checks", l.Checks, "maximum number of chains that are checked at the same time")
-	flags.Int64Var(&l.WaitingBytes, "max-queued-bytes", l.WaitingBytes, "maximum number of bytes of all submissions that are being read or are waiting. One address may have an eighth of it, and at least 1 MiB")
-	flags.Int64Var(&l.AnswerBytes, "max-response-bytes", l.AnswerBytes, "maximum number of bytes of all objects that are being read for responses or sent. One address may have an eighth of it, and at least 65 MiB")
+	flags.Int64Var(&l.WaitingBytes, "max-queued-bytes", l.WaitingBytes,
+		"maximum number of bytes of all submissions that are being read or are waiting. "+
+			"One address may have an eighth of it, and at least 1 MiB")
+	flags.Int64Var(&l.AnswerBytes, "max-response-bytes", l.AnswerBytes,
+		"maximum number of bytes of all objects that are being read for responses or sent. "+
+			"One address may have an eighth of it, and at least 65 MiB")
 	flags.DurationVar(&l.Headers, "header-timeout", l.Headers, "time within which the headers of a request must arrive")
 	flags.DurationVar(&l.Request, "request-timeout", l.Request, "time within which a request must arrive with its body")
-	flags.DurationVar(&l.Submission, "submission-timeout", l.Submission, "time after which a waiting submission is answered with 503")
+	flags.DurationVar(&l.Submission, "submission-timeout", l.Submission,
+		"time after which a waiting submission is answered with 503")
 	flags.DurationVar(&l.Answer, "response-timeout", l.Answer, "time within which a client must read a response")
 	flags.DurationVar(&l.Idle, "idle-timeout", l.Idle, "time after which an idle connection is closed")
 }
@@ -154,54 +185,97 @@ func limitFlags(flags *flag.FlagSet, l *web.Limits) {
 // storeFlags defines the log's name, its key and its stores.
 func (n *node) storeFlags(flags *flag.FlagSet) {
 	flags.StringVar(&n.origin, "origin", "", "`name` of the log in checkpoints, for example log.example/2027h1")
-	flags.StringVar(&n.signingKey, "signing-key", "", "`file` with the log's P-256 key in PEM, which only its owner may have the permission to read, or a PKCS#11 URI: pkcs11:token=LABEL;object=LABEL?module-path=PATH&pin-source=file:PATH")
-	flags.BoolFunc("guard", "have the guard, which is proved code, approve what is signed (default true). Without it, the signer signs everything that it is asked to sign", isOn(&n.guard))
-	flags.StringVar(&n.guardState, "guard-state", "", "`address` of the guard's state: file:PATH, etcd://HOST:PORT/PREFIX, postgres://HOST/DATABASE?log=NAME (default FOLDER.guard, beside the folder)")
-	flags.StringVar(&n.signerAt, "signer-socket", "", "`socket` of a running signer (ctserve signer --help), instead of signing-key, guard and guard-state")
-	flags.StringVar(&n.folder, "folder", "ct-log", "`folder` for the objects, the lock and the index, if no other addresses are given")
+	flags.StringVar(&n.signingKey, "signing-key", "",
+		"`file` with the log's P-256 key in PEM, which only its owner may have the permission to read, or a PKCS#11 URI: "+
+			"pkcs11:token=LABEL;object=LABEL?module-path=PATH&pin-source=file:PATH")
+	flags.BoolFunc("guard",
+		"have the guard, which is proved code, approve what is signed (default true). "+
+			"Without it, the signer signs everything that it is asked to sign",
+		isOn(&n.guard))
+	flags.StringVar(&n.guardState, "guard-state", "",
+		"`address` of the guard's state: file:PATH, etcd://HOST:PORT/PREFIX, postgres://HOST/DATABASE?log=NAME "+
+			"(default FOLDER.guard, beside the folder)")
+	flags.StringVar(&n.signerAt, "signer-socket", "",
+		"`socket` of a running signer (ctserve signer --help), instead of signing-key, guard and guard-state")
+	flags.StringVar(&n.folder, "folder", "ct-log",
+		"`folder` for the objects, the lock and the index, if no other addresses are given")
 	flags.StringVar(&n.store, "store", "", "`address` of the objects: folder:PATH, s3://HOST/BUCKET")
-	flags.StringVar(&n.register, "lock", "", "`address` of the lock, which has the log's newest state: file:PATH, etcd://HOST:PORT/PREFIX, postgres://HOST/DATABASE?log=NAME")
-	flags.StringVar(&n.places, "index", "", "`address` of the deduplication index: sqlite:PATH, postgres://HOST/DATABASE?log=NAME")
-	flags.StringVar(&n.archive, "archive", "", "`folder` of an archive of another log (ctserve archive --help), which is served read-only. The archive has the log's key, origin and last head, so it replaces these settings and the stores")
-	flags.StringVar(&n.latestHead, "latest-head", "", "`file` with the latest tree head that this node saw. A log that is older is refused. It must be on this machine, and in no backup of the stores (default FOLDER.latest-head, beside the folder)")
-	flags.BoolVar(&n.isPublic, "public-store", false, "have the log read from the store itself (a bucket or folder behind a web server or CDN): also write checkpoint and log.v3.json there, and compress data tiles in S3. All nodes must have the same value")
-	flags.BoolVar(&n.create, "create", false, "create the log if there is none. Without it, ctserve does not start with an empty lock")
+	flags.StringVar(&n.register, "lock", "",
+		"`address` of the lock, which has the log's newest state: "+
+			"file:PATH, etcd://HOST:PORT/PREFIX, postgres://HOST/DATABASE?log=NAME")
+	flags.StringVar(&n.places, "index", "",
+		"`address` of the deduplication index: sqlite:PATH, postgres://HOST/DATABASE?log=NAME")
+	flags.StringVar(&n.archive, "archive", "",
+		"`folder` of an archive of another log (ctserve archive --help), which is served read-only. "+
+			"The archive has the log's key, origin and last head, so it replaces these settings and the stores")
+	flags.StringVar(&n.latestHead, "latest-head", "",
+		"`file` with the latest tree head that this node saw. A log that is older is refused. "+
+			"It must be on this machine, and in no backup of the stores (default FOLDER.latest-head, beside the folder)")
+	flags.BoolVar(&n.isPublic, "public-store", false,
+		"have the log read from the store itself (a bucket or folder behind a web server or CDN): "+
+			"also write checkpoint and log.v3.json there, and compress data tiles in S3. All nodes must have the same value")
+	flags.BoolVar(&n.create, "create", false,
+		"create the log if there is none. Without it, ctserve does not start with an empty lock")
 	flags.DurationVar(&n.openWithin, "open-timeout", 30*time.Second, "time within which the stores must open")
 }
 
 // paceFlags defines when a node acts, and how much it does at once.
 func (n *node) paceFlags(flags *flag.FlagSet) {
-	flags.DurationVar(&n.maxSkew, "max-clock-skew", 10*time.Second, "maximum difference of the machine's clock from the newest head, the stores' machines, the other nodes and the elapsed time. Beyond it, submissions are refused")
-	flags.BoolVar(&n.synchronized, "require-synchronized-clock", false, "refuse submissions until the kernel reports that its clock is synchronized (timedatectl)")
-	flags.Func("interval", "minimum `duration` between two heads. 50ms means at most twenty a second. By default, 50ms with witnesses and with stores on other machines, and 5ms for a folder", above0(&n.interval))
-	flags.DurationVar(&n.maxMergeDelay, "max-merge-delay", time.Minute, "maximum merge delay (MMD) that the log publishes, in whole seconds. No head that the log serves is older")
-	flags.Func("refresh-interval", "`age` of the newest head at which a head without new entries is made. It must be below max-merge-delay (default half of it)", above0(&n.refresh))
-	flags.DurationVar(&n.sweepAfter, "delete-heads-after", time.Hour, "age of a head at which older heads are deleted. After ten seconds, one head in each five seconds is kept")
-	flags.DurationVar(&n.sweepTilesAfter, "delete-tiles-after", 5*time.Minute, "age of a full tile at which its partial tiles are deleted. A longer time than delete-heads-after counts as delete-heads-after")
+	flags.DurationVar(&n.maxSkew, "max-clock-skew", 10*time.Second,
+		"maximum difference of the machine's clock from the newest head, the stores' machines, "+
+			"the other nodes and the elapsed time. Beyond it, submissions are refused")
+	flags.BoolVar(&n.synchronized, "require-synchronized-clock", false,
+		"refuse submissions until the kernel reports that its clock is synchronized (timedatectl)")
+	flags.Func("interval",
+		"minimum `duration` between two heads. 50ms means at most twenty a second. "+
+			"By default, 50ms with witnesses and with stores on other machines, and 5ms for a folder",
+		above0(&n.interval))
+	flags.DurationVar(&n.maxMergeDelay, "max-merge-delay", time.Minute,
+		"maximum merge delay (MMD) that the log publishes, in whole seconds. No head that the log serves is older")
+	flags.Func("refresh-interval",
+		"`age` of the newest head at which a head without new entries is made. "+
+			"It must be below max-merge-delay (default half of it)",
+		above0(&n.refresh))
+	flags.DurationVar(&n.sweepAfter, "delete-heads-after", time.Hour,
+		"age of a head at which older heads are deleted. After ten seconds, one head in each five seconds is kept")
+	flags.DurationVar(&n.sweepTilesAfter, "delete-tiles-after", 5*time.Minute,
+		"age of a full tile at which its partial tiles are deleted. "+
+			"A longer time than delete-heads-after counts as delete-heads-after")
 	flags.DurationVar(&n.readEvery, "scrub-interval", time.Second, "time between two checks of old tiles")
-	flags.DurationVar(&n.readAllWithin, "scrub-period", 7*24*time.Hour, "time within which every old tile is checked. In a larger log, more tiles are checked each time, up to 16")
+	flags.DurationVar(&n.readAllWithin, "scrub-period", 7*24*time.Hour,
+		"time within which every old tile is checked. In a larger log, more tiles are checked each time, up to 16")
 	flags.IntVar(&n.maxQueue, "max-queue", 4096, "maximum number of waiting submissions")
-	flags.IntVar(&n.maxWritten, "max-write-rate", 16<<20, "maximum number of bytes that steps write in a second, on average. If large certificates must be written again, heads are made less often")
+	flags.IntVar(&n.maxWritten, "max-write-rate", 16<<20,
+		"maximum number of bytes that steps write in a second, on average. "+
+			"If large certificates must be written again, heads are made less often")
 	flags.IntVar(&n.maxBatch, "max-batch", 1024, "maximum number of entries of one step")
 	flags.IntVar(&n.maxProofs, "max-proofs", 64, "maximum number of proofs that are made at the same time")
 }
 
 // witnessFlags defines the witnesses, and how many must cosign.
 func (n *node) witnessFlags(flags *flag.FlagSet) {
-	flags.Func("witnesses", "space-separated `witnesses` that cosign the log's heads. Each is a URL, a comma, and a verifier key", func(text string) error {
-		n.witnesses = nil
-		for _, word := range strings.Fields(text) {
-			one, err := witness.ReadOne(word)
-			if err != nil {
-				return err
+	flags.Func("witnesses",
+		"space-separated `witnesses` that cosign the log's heads. Each is a URL, a comma, and a verifier key",
+		func(text string) error {
+			n.witnesses = nil
+			for _, word := range strings.Fields(text) {
+				one, err := witness.ReadOne(word)
+				if err != nil {
+					return err
+				}
+				n.witnesses = append(n.witnesses, one)
 			}
-			n.witnesses = append(n.witnesses, one)
-		}
-		return nil
-	})
-	flags.IntVar(&n.quorums.Publish, "publish-quorum", 0, "number of witnesses that must cosign a head before it is published (default more than half of the witnesses and the faulty ones)")
-	flags.IntVar(&n.quorums.Start, "start-quorum", 0, "number of witnesses that must cosign the newest head again before submissions are accepted after a start (default the same)")
-	flags.IntVar(&n.quorums.Faults, "faulty-witnesses", 0, "number of witnesses that may be rolled back or may lie. With n witnesses, n + faulty-witnesses must be below publish-quorum + start-quorum")
+			return nil
+		})
+	flags.IntVar(&n.quorums.Publish, "publish-quorum", 0,
+		"number of witnesses that must cosign a head before it is published "+
+			"(default more than half of the witnesses and the faulty ones)")
+	flags.IntVar(&n.quorums.Start, "start-quorum", 0,
+		"number of witnesses that must cosign the newest head again before submissions are accepted after a start "+
+			"(default the same)")
+	flags.IntVar(&n.quorums.Faults, "faulty-witnesses", 0,
+		"number of witnesses that may be rolled back or may lie. "+
+			"With n witnesses, n + faulty-witnesses must be below publish-quorum + start-quorum")
 }
 
 // settle checks which settings need one another, and fills in the defaults that follow from others.
@@ -210,7 +284,11 @@ func (s *settings) settle() error {
 	if err := s.settleArchive(); err != nil {
 		return err
 	}
-	for _, needed := range []struct{ name, value string }{{"roots", strings.Join(s.roots.Paths, "")}, {"origin", n.origin}, {"signing-key or --signer-socket", n.signingKey + n.signerAt}} {
+	for _, needed := range []struct{ name, value string }{
+		{"roots", strings.Join(s.roots.Paths, "")},
+		{"origin", n.origin},
+		{"signing-key or --signer-socket", n.signingKey + n.signerAt},
+	} {
 		if needed.value == "" && n.archive == "" {
 			return fmt.Errorf("--%s is missing", needed.name)
 		}
@@ -237,7 +315,8 @@ func (s *settings) settle() error {
 	if window := s.rules.Window; !window.From.IsZero() && !window.To.IsZero() && !window.From.Before(window.To) {
 		return errors.New("--not-after-start must be before --not-after-limit")
 	}
-	for _, time := range []time.Duration{s.endWithin, l.Headers, l.Request, l.Submission, l.Answer, l.Idle, n.maxMergeDelay, n.openWithin, n.sweepAfter, n.sweepTilesAfter, n.readEvery, n.readAllWithin, n.maxSkew} {
+	for _, time := range []time.Duration{s.endWithin, l.Headers, l.Request, l.Submission, l.Answer, l.Idle,
+		n.maxMergeDelay, n.openWithin, n.sweepAfter, n.sweepTilesAfter, n.readEvery, n.readAllWithin, n.maxSkew} {
 		if time <= 0 {
 			return errors.New("a duration must be above 0")
 		}
@@ -249,8 +328,10 @@ func (s *settings) settle() error {
 	if l.ProofsByAddress = n.maxProofs / 4; l.ProofsByAddress < 1 {
 		l.ProofsByAddress = 1
 	}
-	if l.Connections < 1 || l.ConnectionsByAddress < 1 || l.Checks < 1 || l.WaitingBytes < web.MaxBody || l.AnswerBytes < stores.MaxObject || n.maxQueue < 1 || n.maxBatch < 1 || n.maxWritten < 1 || n.maxProofs < 1 {
-		return fmt.Errorf("a bound must be above 0, --max-queued-bytes at least %d, and --max-response-bytes at least %d", web.MaxBody, stores.MaxObject)
+	if l.Connections < 1 || l.ConnectionsByAddress < 1 || l.Checks < 1 || l.WaitingBytes < web.MaxBody ||
+		l.AnswerBytes < stores.MaxObject || n.maxQueue < 1 || n.maxBatch < 1 || n.maxWritten < 1 || n.maxProofs < 1 {
+		return fmt.Errorf("a bound must be above 0, --max-queued-bytes at least %d, and --max-response-bytes at least %d",
+			web.MaxBody, stores.MaxObject)
 	}
 	if l.SubmissionRate < 0 || l.ReadRate < 0 {
 		return errors.New("a rate must be 0 (no bound) or above")
@@ -258,7 +339,11 @@ func (s *settings) settle() error {
 	for _, address := range []struct {
 		of   *string
 		text string
-	}{{&n.store, "folder:" + filepath.Join(n.folder, "objects")}, {&n.register, "file:" + filepath.Join(n.folder, "register")}, {&n.places, "sqlite:" + filepath.Join(n.folder, "places")}} {
+	}{
+		{&n.store, "folder:" + filepath.Join(n.folder, "objects")},
+		{&n.register, "file:" + filepath.Join(n.folder, "register")},
+		{&n.places, "sqlite:" + filepath.Join(n.folder, "places")},
+	} {
 		if *address.of == "" {
 			*address.of, n.makesFolder = address.text, true
 		}
@@ -274,37 +359,45 @@ func (s *settings) settle() error {
 		return err
 	}
 	if n.peers.isSet() && strings.HasPrefix(n.places, "sqlite:") && !strings.HasPrefix(n.register, "file:") {
-		return errors.New("--nodes-address: nodes on several machines must share one index: use PostgreSQL (--index postgres://HOST/DATABASE?log=NAME) instead of a file on each machine")
+		return errors.New("--nodes-address: nodes on several machines must share one index: " +
+			"use PostgreSQL (--index postgres://HOST/DATABASE?log=NAME) instead of a file on each machine")
 	}
 	return n.settleWitnesses()
 }
 
-// checkMonitoringURL refuses what is no monitoring prefix (C2SP static-ct-api, "Parameters"): readers append paths to it.
+// checkMonitoringURL refuses what is no monitoring prefix (C2SP static-ct-api, "Parameters"): readers append paths to
+// it.
 func checkMonitoringURL(text string) error {
 	at, err := url.Parse(text)
-	if err != nil || at.Scheme != "https" || at.Host == "" || at.User != nil || at.RawQuery != "" || at.Fragment != "" || !strings.HasSuffix(at.Path, "/") {
-		return fmt.Errorf("--monitoring-url %q is no https URL that ends with a slash (write for example https://read.log.example/2027h1/)", text)
+	if err != nil || at.Scheme != "https" || at.Host == "" || at.User != nil || at.RawQuery != "" || at.Fragment != "" ||
+		!strings.HasSuffix(at.Path, "/") {
+		return fmt.Errorf("--monitoring-url %q is no https URL that ends with a slash "+
+			"(write for example https://read.log.example/2027h1/)", text)
 	}
 	return nil
 }
 
-// settleMergeDelay refuses a merge delay that a log list cannot have, and an age of heads with which an idle log would not keep it (RFC 6962, section 3.5).
+// settleMergeDelay refuses a merge delay that a log list cannot have, and an age of heads with which an idle log would
+// not keep it (RFC 6962, section 3.5).
 func (n *node) settleMergeDelay() error {
 	if n.maxMergeDelay%time.Second != 0 {
-		return fmt.Errorf("--max-merge-delay %v is no whole number of seconds, as a log list needs it (write for example 1m)", n.maxMergeDelay)
+		return fmt.Errorf("--max-merge-delay %v is no whole number of seconds, as a log list needs it (write for example 1m)",
+			n.maxMergeDelay)
 	}
 	if n.refresh == 0 {
 		n.refresh = n.maxMergeDelay / 2
 	}
 	if n.refresh >= n.maxMergeDelay {
-		return fmt.Errorf("--refresh-interval %v is not below --max-merge-delay %v, so an idle log would serve heads that are older than it publishes (leave refresh-interval out)",
+		return fmt.Errorf("--refresh-interval %v is not below --max-merge-delay %v, "+
+			"so an idle log would serve heads that are older than it publishes (leave refresh-interval out)",
 			n.refresh, n.maxMergeDelay)
 	}
 	return nil
 }
 
-// checkOrigin refuses a name that cannot be a log's origin. An origin is the submission prefix as a URL, without the scheme and without a slash at the end (C2SP
-// static-ct-api). It is signed with each head, and so cannot be changed later.
+// checkOrigin refuses a name that cannot be a log's origin. An origin is the submission prefix as a URL, without the
+// scheme and without a slash at the end (C2SP static-ct-api). It is signed with each head, and so cannot be changed
+// later.
 func checkOrigin(origin string) error {
 	wrong := func(why, remedy string) error { return fmt.Errorf("--origin %q: %s (%s)", origin, why, remedy) }
 	switch {
@@ -339,7 +432,8 @@ func checkListeners(addresses ...string) error {
 			return fmt.Errorf("%q is not an address to listen at: %w (a port is 0 to 65535)", address, err)
 		}
 		if number != 0 && taken[address] {
-			return fmt.Errorf("two listeners have the address %s (--listen, --operator-listen and --nodes-listen must differ)", address)
+			return fmt.Errorf("two listeners have the address %s (--listen, --operator-listen and --nodes-listen must differ)",
+				address)
 		}
 		taken[address] = true
 	}
@@ -366,7 +460,8 @@ func (n *node) settleWitnesses() error {
 	return q.Check(len(n.witnesses))
 }
 
-// beside returns the name of a file that belongs to a log's folder and is not in it, so that a copy of the folder does not have it and an older copy does not restore it.
+// beside returns the name of a file that belongs to a log's folder and is not in it, so that a copy of the folder does
+// not have it and an older copy does not restore it.
 func beside(folder, kind string) string {
 	if whole, err := filepath.Abs(folder); err == nil && filepath.Base(filepath.Clean(folder)) != filepath.Base(whole) {
 		// (. and .. have no name of their own)

@@ -83,8 +83,8 @@ func started(t *testing.T, words ...string) (*exec.Cmd, *bufio.Scanner) {
 	return program, bufio.NewScanner(lines)
 }
 
-// TestReportsTheFirstFailureAtOnce: a command for people says at once that a server refuses, and that it is tried again.
-// It goes on trying, and the refusals of one server are one line.
+// TestReportsTheFirstFailureAtOnce: a command for people says at once that a server refuses, and that it is tried
+// again. It goes on trying, and the refusals of one server are one line.
 func TestReportsTheFirstFailureAtOnce(t *testing.T) {
 	folder := t.TempDir()
 	certificate := filepath.Join(folder, "certificate")

@@ -48,7 +48,8 @@ func TestShowsRepeatedNamesOnce(t *testing.T) {
 		}
 	}
 	status, out, faults = ctwatch(t, "show", log.address, "1", "--log", log.setting(true))
-	if status != 0 || strings.Count(out, "Name:                  shop.example.org\n") != 1 || strings.Contains(out, "More names") {
+	if status != 0 || strings.Count(out, "Name:                  shop.example.org\n") != 1 ||
+		strings.Contains(out, "More names") {
 		t.Errorf("show: status %d: %s%s", status, out, faults)
 	}
 	store, err := watchstore.OpenToRead(folder)

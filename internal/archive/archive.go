@@ -1,10 +1,10 @@
-// Package archive keeps a log of RFC 6962 that ends as tiles in a folder (C2SP tlog-tiles, static-ct-api), with the last
-// head that the log signed, and serves them.
+// Package archive keeps a log of RFC 6962 that ends as tiles in a folder (C2SP tlog-tiles, static-ct-api), with the
+// last head that the log signed, and serves them.
 //
-// The entries are those of the log, byte by byte: their leaves are not made again, so the tree has the root that the log
-// signed. The proved library reads each leaf and each data tile, computes the roots, and checks the consistency proofs.
-// Entries are only written after the log has proved that they are the beginning of the signed tree. So the folder has
-// nothing that would have to be taken back, and whatever stops a run, the next one goes on.
+// The entries are those of the log, byte by byte: their leaves are not made again, so the tree has the root that the
+// log signed. The proved library reads each leaf and each data tile, computes the roots, and checks the consistency
+// proofs. Entries are only written after the log has proved that they are the beginning of the signed tree. So the
+// folder has nothing that would have to be taken back, and whatever stops a run, the next one goes on.
 package archive
 
 import (

@@ -320,8 +320,8 @@ func (w *world) begin(files map[string]string) {
 	}
 }
 
-// A process that is killed before any of its writes leaves a folder with which the next one goes on, and which ends with
-// the same bytes. Nothing is served before all is there.
+// A process that is killed before any of its writes leaves a folder with which the next one goes on, and which ends
+// with the same bytes. Nothing is served before all is there.
 func TestContinuesAfterAKillAtEachWrite(t *testing.T) {
 	w := newWorld(t, 300)
 	trial.Must(t, w.make())

@@ -122,8 +122,8 @@ func (c *chunk) write(ctx context.Context, f *folder, edge *tile.Edge) error {
 	return nil
 }
 
-// write puts a data tile. No hash covers its precertificates and fingerprints. If the log answers others than those that
-// a run which was stopped has written, those stay.
+// write puts a data tile. No hash covers its precertificates and fingerprints. If the log answers others than those
+// that a run which was stopped has written, those stay.
 func (d dataTile) write(ctx context.Context, f *folder, name string) error {
 	err := f.put(ctx, name, d.content)
 	if !errors.Is(err, ErrDamaged) {

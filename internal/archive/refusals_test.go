@@ -223,7 +223,8 @@ func TestRefusesAnotherFolder(t *testing.T) {
 	}
 	of := w.of()
 	of.Origin = "elsewhere.example"
-	if _, err := archive.Make(trial.Limited(t, trial.Longest), w.folder, of, options()); !errors.Is(err, archive.ErrFolder) {
+	if _, err := archive.Make(trial.Limited(t, trial.Longest), w.folder, of,
+		options()); !errors.Is(err, archive.ErrFolder) {
 		t.Errorf("another origin: %v", err)
 	}
 	wantsSame(t, before, filesIn(t, w.folder))

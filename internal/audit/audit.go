@@ -101,9 +101,9 @@ func (a *Auditor) SCTs(ctx context.Context, scts []SCT, certificate, issuer []by
 	return a.each(ctx, scts, func(sct SCT) ([]byte, error) { return Leaf(sct, header, content) }), nil
 }
 
-// Leaf returns the MerkleTreeLeaf of an entry (RFC 6962, section 3.4), which is also what its timestamp signs. The header
-// has the entry's type, and the hash of its issuer's key if it is of a precertificate. The error says which of the
-// parts is too long.
+// Leaf returns the MerkleTreeLeaf of an entry (RFC 6962, section 3.4), which is also what its timestamp signs. The
+// header has the entry's type, and the hash of its issuer's key if it is of a precertificate. The error says which of
+// the parts is too long.
 func Leaf(sct SCT, header, content []byte) ([]byte, error) {
 	leaf := cryptobyte.NewBuilder([]byte{0, 0})
 	leaf.AddUint64(sct.Timestamp)

@@ -42,8 +42,8 @@ type Table struct {
 	Columns []string
 }
 
-// The columns of CCADB's reports, by their names. The reports differ: that of Mozilla has "Trust Bits", that of Microsoft
-// "Microsoft EKUs", and the one over all programs "Status of Root Cert" and a status for each program.
+// The columns of CCADB's reports, by their names. The reports differ: that of Mozilla has "Trust Bits", that of
+// Microsoft "Microsoft EKUs", and the one over all programs "Status of Root Cert" and a status for each program.
 var (
 	purposeColumn = regexp.MustCompile(`(?i)trust bits|\bekus?\b|use case`)
 	statusColumn  = regexp.MustCompile(`(?i)^(status of root cert|(mozilla|microsoft|apple|google chrome|chrome) status)$`)
@@ -100,8 +100,8 @@ func hasServers(value string) bool {
 	return false
 }
 
-// isIncluded reports whether a status is that of a root that a program includes. The status over all programs names each
-// of them: "Apple: Included; Mozilla: Removed".
+// isIncluded reports whether a status is that of a root that a program includes. The status over all programs names
+// each of them: "Apple: Included; Mozilla: Removed".
 func isIncluded(value string) bool {
 	for _, item := range items(value) {
 		if _, status, named := strings.Cut(item, ":"); named {

@@ -214,8 +214,8 @@ func TestReportsUnreadNames(t *testing.T) {
 	}
 }
 
-// TestSearchesBytesForEachWord: of a certificate that cannot be read, the bytes are searched for an address, for an exact
-// name, and for both spellings of a name with letters beyond ASCII.
+// TestSearchesBytesForEachWord: of a certificate that cannot be read, the bytes are searched for an address, for an
+// exact name, and for both spellings of a name with letters beyond ASCII.
 func TestSearchesBytesForEachWord(t *testing.T) {
 	watched := parseAll(t, "192.0.2.7", "=www.example.org", "bücher.example", "absent.example")
 	for text, want := range map[string][]finding.Match{

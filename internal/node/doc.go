@@ -18,8 +18,8 @@
 // # How to use it
 //
 // Start returns a Node and a Loop, or refuses. Run of the Loop must be called once, in one goroutine. A request calls
-// Request, then Find and Claim (or Lookup, which calls both), and if these return nothing Enqueue; after an Answer that is Known it calls Lookup again.
-// Readers call Snapshot.
+// Request, then Find and Claim (or Lookup, which calls both), and if these return nothing Enqueue; after an Answer that
+// is Known it calls Lookup again. Readers call Snapshot.
 //
 // # In which order to read it
 //

@@ -97,8 +97,8 @@ func matches(head Head, k *state) error {
 	return nil
 }
 
-// raise says that a head is published, all of which is in the store, and shows it to readers. The checkpoint comes first: a head that is published is
-// one that readers without a node can fetch.
+// raise says that a head is published, all of which is in the store, and shows it to readers. The checkpoint comes
+// first: a head that is published is one that readers without a node can fetch.
 func (l *Loop) raise(ctx context.Context, published stores.Published, head Head, line string) error {
 	if err := l.putCheckpoint(ctx, head); err != nil {
 		return err

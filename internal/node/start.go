@@ -124,8 +124,8 @@ func rootless(size, timestamp uint64) *decider.Rooted {
 	return &decider.Rooted{Point: decider.Point{Size: size, Timestamp: timestamp}}
 }
 
-// addRoots adds the root of the stored head to the published and to the listed head that have the size and the timestamp
-// of the lock's head. The decider compares no other root.
+// addRoots adds the root of the stored head to the published and to the listed head that have the size and the
+// timestamp of the lock's head. The decider compares no other root.
 func (l *Loop) addRoots(ctx context.Context, f found) error {
 	if f.k == nil {
 		return nil
@@ -246,8 +246,8 @@ func refused(refusal decider.Refusal, f found) error {
 		return fmt.Errorf("%w: %s, and this machine accepted %d at %d ms, or another root", ErrRolledBack, of,
 			f.Seen.Size, f.Seen.Timestamp)
 	case decider.BehindListed:
-		return fmt.Errorf("%w: %s, and the store has a head of %d at %d ms, or another root", ErrRolledBack, of, f.Listed.Size,
-			f.Listed.Timestamp)
+		return fmt.Errorf("%w: %s, and the store has a head of %d at %d ms, or another root", ErrRolledBack, of,
+			f.Listed.Size, f.Listed.Timestamp)
 	case decider.BehindPublished:
 		return fmt.Errorf("%w: %s, and %d at %d ms are published, or another root", ErrRolledBack, of, f.published.Size,
 			f.published.Timestamp)

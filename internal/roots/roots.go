@@ -1,4 +1,5 @@
-// Package roots keeps a file with the roots of tables of CCADB, which a log accepts beside those that its operator added.
+// Package roots keeps a file with the roots of tables of CCADB, which a log accepts beside those that its operator
+// added.
 //
 // It replaces its own file only, whole, and not if too many roots would go: a table that was cut off, or a column that
 // has another meaning, must not take roots from a log.
@@ -85,8 +86,8 @@ const (
 // File returns the path of the file in a folder of roots.
 func File(folder string) string { return filepath.Join(folder, fileName) }
 
-// Update replaces the file of a folder by the roots of tables that are for TLS servers and included. At most so many per
-// cent of the roots in it may go. If it fails, the file stays, and the change says what would have become of it.
+// Update replaces the file of a folder by the roots of tables that are for TLS servers and included. At most so many
+// per cent of the roots in it may go. If it fails, the file stays, and the change says what would have become of it.
 func Update(folder string, from []Source, maxFall float64) (Change, error) {
 	w := &wanted{roots: map[[sha256.Size]byte]Root{}}
 	for _, source := range from {

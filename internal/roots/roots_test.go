@@ -127,7 +127,8 @@ func TestKeepsTheRootsOfServers(t *testing.T) {
 	// The same table again changes nothing, and writes nothing.
 	before, err := os.Stat(roots.File(w.folder))
 	trial.Must(t, err)
-	change, err = w.update(5, header, w.row("b", "Websites", "Mozilla: Included"), w.row("a", "Websites", "Mozilla: Included"))
+	change, err = w.update(5, header, w.row("b", "Websites", "Mozilla: Included"),
+		w.row("a", "Websites", "Mozilla: Included"))
 	trial.Must(t, err)
 	if after, err := os.Stat(roots.File(w.folder)); err != nil || !os.SameFile(before, after) ||
 		len(change.Added)+len(change.Removed) != 0 {
@@ -225,7 +226,8 @@ func replaced(rows [][]string, from, to string) (other [][]string) {
 	return other
 }
 
-// A row whose certificate is damaged, or is another one than its fingerprint says, takes no root away that the file has.
+// A row whose certificate is damaged, or is another one than its fingerprint says, takes no root away that the file
+// has.
 func TestDamagedRowKeepsItsRoot(t *testing.T) {
 	w := newWorld(t, "a", "b", "stranger")
 	_, err := w.update(5, header, w.row("a", "Websites", "Mozilla: Included"), w.row("b", "Websites", "Mozilla: Included"))

@@ -30,17 +30,20 @@ func TestPageSaysBounds(t *testing.T) {
 	// 16 is the maximum number of tiles that one pass of the janitor reads again.
 	const again = 16
 	trial.Says(t, trial.Page(t, "../../docs/SERVICE.md"), map[string]bool{
-		"no more than 16 MiB a second are written (`max-write-rate`)":                                               maxWritten == 16<<20,
-		"| a partial tile | five minutes after its full tile came, if the full tile is whole |":                     keepTiles == 5*time.Minute,
-		"| a tree head less than five seconds after another one that stays | ten seconds after a later head came |": thinAfter == 10*time.Second && thinApart == 5*time.Second,
-		"does not answer within ten seconds, or answers with 500 or more, and for two seconds after that":           forwardWithin == 10*time.Second && awayFor == 2*time.Second,
-		"half as long as the step took, at most 8 ms":                                                               node.MaxBack == 8*time.Millisecond,
-		"- The tiles of 32 duplicates are read at once.":                                                            maxLookups == 32,
+		"no more than 16 MiB a second are written (`max-write-rate`)":                           maxWritten == 16<<20,
+		"| a partial tile | five minutes after its full tile came, if the full tile is whole |": keepTiles == 5*time.Minute,
+		"| a tree head less than five seconds after another one that stays | " +
+			"ten seconds after a later head came |": thinAfter == 10*time.Second && thinApart == 5*time.Second,
+		"does not answer within ten seconds, or answers with 500 or " +
+			"more, and for two seconds after that": forwardWithin == 10*time.Second && awayFor == 2*time.Second,
+		"half as long as the step took, at most 8 ms":     node.MaxBack == 8*time.Millisecond,
+		"- The tiles of 32 duplicates are read at once.":  maxLookups == 32,
 		"- an entry above 128 KiB.":                       MaxEntry == 128<<10,
 		"Waiting clients get an error after five seconds": patience == 5*time.Second,
 		"If too few witnesses answer (5 s each)":          cosignWithin == 5*time.Second,
-		"one data tile a second is enough for 1.5 x 10^8 entries, and 16 (the maximum) for 2.5 x 10^9": scrub == time.Second &&
-			week/time.Second*tile.Width/1e7 == 15 && week/time.Second*tile.Width*again/1e8 == 24,
+		"one data tile a second is enough for 1.5 x 10^8 entries, and " +
+			"16 (the maximum) for 2.5 x 10^9": scrub == time.Second && week/time.Second*tile.Width/1e7 == 15 &&
+			week/time.Second*tile.Width*again/1e8 == 24,
 	})
 	// 255 of the largest entries and a step's new ones, with what a tile and a line have beside them, and a tile of the
 	// largest.
@@ -52,7 +55,8 @@ func TestPageSaysBounds(t *testing.T) {
 	trial.Says(t, trial.Page(t, "../../docs/SERVICE.md"), map[string]bool{
 		"An entry has at most 128 KiB because a step holds 255 of them, in the partial data tile, beside 12 MiB of " +
 			"new ones": MaxEntry == 128<<10 && tile.Width-1 == 255 && MaxBatchBytes == 12<<20,
-		"So a data tile has at most 34 MB. Answers hold at most 15 of these at once, and two for one address": math.Round(float64(largest)/1e6) == 34 && largest < stores.MaxObject &&
+		"So a data tile has at most 34 MB. Answers hold at most 15 of " +
+			"these at once, and two for one address": math.Round(float64(largest)/1e6) == 34 && largest < stores.MaxObject &&
 			answers/largest == 15 && ofOne/largest == 2,
 		"which stay for five to ten minutes until they are deleted: up to 5 GB": partials >= 5e9 && partials < 5.1e9,
 		"| the tree | 2^40 entries: `full` |":                                   step.MaxLeaves == 1<<40,

@@ -108,7 +108,8 @@ func (r Rules) read(flags *flag.FlagSet, path string) error {
 	return lines.Err()
 }
 
-// remedy returns what to write in the file for a flag whose value is refused, if its type says so, and otherwise nothing.
+// remedy returns what to write in the file for a flag whose value is refused, if its type says so, and otherwise
+// nothing.
 func remedy(of *flag.Flag) string {
 	value, isGetter := of.Value.(flag.Getter)
 	if !isGetter {

@@ -134,7 +134,8 @@ func (j *judge) putHead(name, note string) {
 	j.stats.Heads++
 }
 
-// putCheckpoint judges a checkpoint that is put: it is a signed head of the list, all of its tree is in the store, and it is later than any before it.
+// putCheckpoint judges a checkpoint that is put: it is a signed head of the list, all of its tree is in the store, and
+// it is later than any before it.
 func (j *judge) putCheckpoint(name string, content []byte) {
 	j.stats.Checkpoints++
 	head, err := readNote(string(content))
@@ -144,10 +145,12 @@ func (j *judge) putCheckpoint(name string, content []byte) {
 	}
 	before := j.checkpoint
 	if !j.w.excuses.missing && (head.Size < before.Size || head.Timestamp <= before.Timestamp) {
-		j.breaks("the checkpoint does not go back", "it gets the head of %d entries at %d ms after that of %d at %d ms", head.Size, head.Timestamp, before.Size, before.Timestamp)
+		j.breaks("the checkpoint does not go back", "it gets the head of %d entries at %d ms after that of %d at %d ms",
+			head.Size, head.Timestamp, before.Size, before.Timestamp)
 	}
 	j.checkpoint = head
-	j.isLists(head, fmt.Sprintf("the checkpoint of %d entries at %d ms", head.Size, head.Timestamp), "a checkpoint is the list's")
+	j.isLists(head, fmt.Sprintf("the checkpoint of %d entries at %d ms", head.Size, head.Timestamp),
+		"a checkpoint is the list's")
 }
 
 // judgeTime judges a head's timestamp by the true time.

@@ -128,8 +128,8 @@ type Plan struct {
 
 func (p Plan) String() string {
 	var text strings.Builder
-	fmt.Fprintf(&text, "seed %d, %d nodes, %d witnesses %+v, janitors: %v, public: %v", p.Seed, p.Machines, p.Witnesses.Count,
-		p.Witnesses.Quorums, p.Janitors, p.Public)
+	fmt.Fprintf(&text, "seed %d, %d nodes, %d witnesses %+v, janitors: %v, public: %v", p.Seed, p.Machines,
+		p.Witnesses.Count, p.Witnesses.Quorums, p.Janitors, p.Public)
 	for _, f := range p.Faults {
 		fmt.Fprintf(&text, "\n  fault: %v", f)
 	}

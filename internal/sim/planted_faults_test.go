@@ -409,8 +409,17 @@ var all = []planted{
 		{"seen.go", "	if l.isAccepted(k) {", "	if true {"},
 		{"pass.go", "	if err := p.descends(ctx, k, p.made.objects); err != nil {", "	if false {"},
 	}},
-	{"an older checkpoint wins", []edit{{"checkpoint.go", "		if stored.Note != nil && !stored.before(head) {", "		if false {"}}},
-	{"the checkpoint is put before the tiles", []edit{{"pass.go", "	if err := errors.Join(p.isFrom(), p.hasObjects()); err != nil {", "	if head, err := p.signedHead(ctx, p.from, p.made.head, p.made.objects); err == nil {\n		if err := p.putCheckpoint(ctx, head); err != nil {\n			return nil, err\n		}\n	}\n	if err := errors.Join(p.isFrom(), p.hasObjects()); err != nil {"}}},
+	{"an older checkpoint wins", []edit{
+		{"checkpoint.go", "		if stored.Note != nil && !stored.before(head) {", "		if false {"},
+	}},
+	{"the checkpoint is put before the tiles", []edit{
+		{"pass.go",
+			"	if err := errors.Join(p.isFrom(), p.hasObjects()); err != nil {",
+			"	if head, err := p.signedHead(ctx, p.from, p.made.head, p.made.objects); err == nil {\n" +
+				"		if err := p.putCheckpoint(ctx, head); err != nil {\n			return nil, err\n		}\n	}\n" +
+				"	if err := errors.Join(p.isFrom(), p.hasObjects()); err != nil {",
+		},
+	}},
 	{"a restored object is not put", []edit{
 		{"staged.go",
 			"	if err := l.config.Stores.Objects.Put(ctx, name, content); err != nil {",
@@ -419,8 +428,8 @@ var all = []planted{
 	}},
 }
 
-// missed are the planted faults that the histories do not find, with the check that hides each, or with what finds it instead. all has pairs of faults in which
-// the hiding check is taken out as well.
+// missed are the planted faults that the histories do not find, with the check that hides each, or with what finds it
+// instead. all has pairs of faults in which the hiding check is taken out as well.
 var missed = map[string]string{
 	"a lost swap counts as won":                    "the text is read again after each swap",
 	"a swap of unknown outcome counts as won":      "the text is read again after each swap",
@@ -432,7 +441,8 @@ var missed = map[string]string{
 	"a state need not go on from the accepted one": "the guard refuses the head",
 	"the guard approves each head":                 "the state must go on from the accepted one",
 	"a node that was away does not look back":      "the state is compared after the swap",
-	"readers see an older head again":              "an older text than the last one is refused, and so is a state behind the accepted one",
-	"a head is not compared with its state":        "",
-	"a restored object is not put":                 "",
+	"readers see an older head again": "an older text than the last one is refused, " +
+		"and so is a state behind the accepted one",
+	"a head is not compared with its state": "",
+	"a restored object is not put":          "",
 }

@@ -11,7 +11,8 @@ import (
 	"go.etcd.io/etcd/client/v3"
 )
 
-// ErrAddress: a text isn't an address of a store of this kind. It is wrapped with why, and without what may be secret in it.
+// ErrAddress: a text isn't an address of a store of this kind. It is wrapped with why, and without what may be secret
+// in it.
 var ErrAddress = errors.New("stores: invalid address")
 
 // The environment's names of S3's credentials, for an address that has none.
@@ -25,8 +26,8 @@ const (
 //	folder:PATH
 //	s3://[KEY:SECRET@]HOST[:PORT]/BUCKET[?tls=no][&region=REGION][&conditional=no]
 //
-// Without KEY and SECRET, AWS_ACCESS_KEY_ID and AWS_SECRET_ACCESS_KEY of the environment are taken. Over S3 the endpoint is asked
-// over TLS and conditional puts are used, unless the address says no.
+// Without KEY and SECRET, AWS_ACCESS_KEY_ID and AWS_SECRET_ACCESS_KEY of the environment are taken. Over S3 the
+// endpoint is asked over TLS and conditional puts are used, unless the address says no.
 func ObjectsAt(ctx context.Context, address string) (Objects, error) {
 	kind, rest, _ := strings.Cut(address, ":")
 	switch kind {
@@ -112,14 +113,17 @@ func PlacesAt(ctx context.Context, address string) (Places, error) {
 
 // CheckObjects returns the reason why an address is not one of objects, and nil if it is. It opens nothing.
 func CheckObjects(address string) error {
-	return checked(address, "objects", map[string]func() error{"folder": nil, "s3": func() error { _, err := parseS3(address); return err }})
+	s3 := func() error { _, err := parseS3(address); return err }
+	return checked(address, "objects", map[string]func() error{"folder": nil, "s3": s3})
 }
 
 // CheckRegister is CheckObjects of a register.
 func CheckRegister(address string) error {
 	postgres := func() error { _, err := parsePostgres(address); return err }
 	etcd := func() error { _, err := parseEtcd(address); return err }
-	return checked(address, "a register", map[string]func() error{"file": nil, "etcd": etcd, "postgres": postgres, "postgresql": postgres})
+	return checked(address, "a register", map[string]func() error{
+		"file": nil, "etcd": etcd, "postgres": postgres, "postgresql": postgres,
+	})
 }
 
 // CheckPlaces is CheckObjects of places.
@@ -208,7 +212,8 @@ func parseS3(address string) (at S3, err error) {
 		at.Secret, _ = u.User.Password()
 	}
 	if at.Key == "" || at.Secret == "" {
-		return S3{}, fmt.Errorf("%w: s3 needs a key and a secret, in the address or as %s and %s", ErrAddress, environmentKey, environmentSecret)
+		return S3{}, fmt.Errorf("%w: s3 needs a key and a secret, in the address or as %s and %s", ErrAddress, environmentKey,
+			environmentSecret)
 	}
 	if at.Region, err = word(query, "region"); err != nil {
 		return S3{}, err

@@ -69,7 +69,8 @@ func (givenTime) Time(context.Context) (time.Time, time.Duration, error) {
 }
 
 // asksAll makes each call once, in the order of All, and gives what came of each.
-func asksAll(ctx context.Context, objects Objects, current Current, register Register, places Places) (errs []error, values []any) {
+func asksAll(ctx context.Context, objects Objects, current Current, register Register,
+	places Places) (errs []error, values []any) {
 	add := func(err error, more ...any) { errs, values = append(errs, err), append(values, more...) }
 	add(objects.Put(ctx, "name", nil))
 	content, err := objects.Get(ctx, "name", 1)
@@ -100,9 +101,12 @@ func TestCallsAreCounted(t *testing.T) {
 	cancel()
 	late, stop := context.WithDeadline(context.Background(), time.Now().Add(-time.Second))
 	defer stop()
-	want := [][2]string{{"objects", "put"}, {"objects", "get"}, {"objects", "list"}, {"objects", "delete"}, {"objects", "swap"},
-		{"lock", "create"}, {"lock", "read"}, {"lock", "swap"}, {"lock", "published"},
-		{"lock", "raise"}, {"index", "find"}, {"index", "add"}, {"index", "replace"}}
+	want := [][2]string{
+		{"objects", "put"}, {"objects", "get"}, {"objects", "list"}, {"objects", "delete"},
+		{"objects", "swap"},
+		{"lock", "create"}, {"lock", "read"}, {"lock", "swap"}, {"lock", "published"}, {"lock", "raise"},
+		{"index", "find"}, {"index", "add"}, {"index", "replace"},
+	}
 	for what, test := range map[string]struct {
 		ctx    context.Context
 		err    error

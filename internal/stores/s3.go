@@ -29,8 +29,8 @@ type S3 struct {
 	Key, Secret string
 	// TLS reports whether the endpoint is asked over TLS.
 	TLS bool
-	// Conditional says that the engine has conditional puts (If-None-Match: *), so that of two calls at once one wins. It is
-	// tried when the bucket is opened. Without it each Put reads before it puts.
+	// Conditional says that the engine has conditional puts (If-None-Match: *), so that of two calls at once one wins. It
+	// is tried when the bucket is opened. Without it each Put reads before it puts.
 	Conditional bool
 }
 
@@ -64,7 +64,8 @@ func (c condition) RoundTrip(request *http.Request) (*http.Response, error) {
 // date marks the context of a request whose answer's Date is wanted.
 type date struct{}
 
-// Time is Timed's: by the Date of an answer (RFC 9110, section 6.6.1), also of one that refuses a request whose own date is far off.
+// Time is Timed's: by the Date of an answer (RFC 9110, section 6.6.1), also of one that refuses a request whose own
+// date is far off.
 func (b *bucket) Time(ctx context.Context) (time.Time, time.Duration, error) {
 	said, elsewhere := "", false
 	ctx = httptrace.WithClientTrace(ctx, &httptrace.ClientTrace{GotConn: func(got httptrace.GotConnInfo) {
@@ -83,21 +84,27 @@ func (b *bucket) Time(ctx context.Context) (time.Time, time.Duration, error) {
 	return time.Time{}, 0, fmt.Errorf("stores: S3: time: %w", err)
 }
 
-// prompt is a connection that acknowledges at once what it has read. Linux puts that off by 40 ms, for which a gateway waits that sends an answer's
-// headers and its body apart (Nagle's algorithm; radosgw has it on unless its settings say tcp_nodelay=1).
+// prompt is a connection that acknowledges at once what it has read. Linux puts that off by 40 ms, for which a gateway
+// waits that sends an answer's headers and its body apart (Nagle's algorithm; radosgw has it on unless its settings say
+// tcp_nodelay=1).
 type prompt struct{ *net.TCPConn }
 
 func (p prompt) Read(into []byte) (int, error) {
 	n, err := p.TCPConn.Read(into)
 	if raw, failed := p.TCPConn.SyscallConn(); failed == nil && n > 0 {
 		// Without this option the connection is slower, and no less correct.
-		_ = raw.Control(func(file uintptr) { _ = syscall.SetsockoptInt(int(file), syscall.IPPROTO_TCP, syscall.TCP_QUICKACK, 1) })
+		_ = raw.Control(func(file uintptr) {
+			_ = syscall.SetsockoptInt(int(file), syscall.IPPROTO_TCP, syscall.TCP_QUICKACK, 1)
+		})
 	}
 	return n, err
 }
 
+// dialer opens a connection, as net.Dialer does.
+type dialer = func(ctx context.Context, network, address string) (net.Conn, error)
+
 // promptly dials such connections.
-func promptly(dial func(ctx context.Context, network, address string) (net.Conn, error)) func(ctx context.Context, network, address string) (net.Conn, error) {
+func promptly(dial dialer) dialer {
 	return func(ctx context.Context, network, address string) (net.Conn, error) {
 		connection, err := dial(ctx, network, address)
 		if over, ok := connection.(*net.TCPConn); ok && err == nil {
@@ -107,8 +114,8 @@ func promptly(dial func(ctx context.Context, network, address string) (net.Conn,
 	}
 }
 
-// OpenS3 opens the objects in a bucket; ErrAbsent where there is no such bucket, ErrUnsafe where conditional puts are said to
-// be there and aren't.
+// OpenS3 opens the objects in a bucket; ErrAbsent where there is no such bucket, ErrUnsafe where conditional puts are
+// said to be there and aren't.
 func OpenS3(ctx context.Context, at S3) (Objects, error) {
 	b, err := openS3(ctx, at, false)
 	if b == nil {
@@ -179,7 +186,8 @@ func (b *bucket) put(ctx context.Context, name string, content []byte) (tag stri
 		return "", err
 	}
 	sum := sha256.Sum256(content)
-	put, err := b.core.PutObject(ctx, b.name, name, bytes.NewReader(content), int64(len(content)), "", hex.EncodeToString(sum[:]), options)
+	put, err := b.core.PutObject(ctx, b.name, name, bytes.NewReader(content), int64(len(content)), "",
+		hex.EncodeToString(sum[:]), options)
 	return put.ETag, err
 }
 

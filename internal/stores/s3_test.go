@@ -25,7 +25,8 @@ func serve(t *testing.T, of *testbucket.Bucket) S3 {
 	server := httptest.NewServer(of)
 	t.Cleanup(server.Close)
 	at := strings.TrimPrefix(server.URL, "http://")
-	return S3{Endpoint: at, Bucket: testbucket.Name, Key: "key", Secret: "secret", Region: "us-east-1", Conditional: of.Conditional}
+	return S3{Endpoint: at, Bucket: testbucket.Name, Key: "key", Secret: "secret", Region: "us-east-1",
+		Conditional: of.Conditional}
 }
 
 func TestS3SaysWhatABucketCant(t *testing.T) {
@@ -70,7 +71,8 @@ func TestS3IsBrokenOff(t *testing.T) {
 		w.Write(make([]byte, 50))
 	}))
 	defer server.Close()
-	at := S3{Endpoint: strings.TrimPrefix(server.URL, "http://"), Bucket: testbucket.Name, Key: "key", Secret: "secret", Region: "us-east-1"}
+	at := S3{Endpoint: strings.TrimPrefix(server.URL, "http://"), Bucket: testbucket.Name, Key: "key", Secret: "secret",
+		Region: "us-east-1"}
 	store, err := OpenS3(limited(t), at)
 	must(t, err)
 	if got, err := store.Get(limited(t), "a", manyBytes); !errors.Is(err, io.ErrUnexpectedEOF) {
@@ -86,7 +88,8 @@ func TestS3SaysNoLength(t *testing.T) {
 		w.Write(make([]byte, 50))
 	}))
 	defer server.Close()
-	at := S3{Endpoint: strings.TrimPrefix(server.URL, "http://"), Bucket: testbucket.Name, Key: "key", Secret: "secret", Region: "us-east-1"}
+	at := S3{Endpoint: strings.TrimPrefix(server.URL, "http://"), Bucket: testbucket.Name, Key: "key", Secret: "secret",
+		Region: "us-east-1"}
 	store, err := OpenS3(limited(t), at)
 	must(t, err)
 	for _, most := range []int64{10, 50, manyBytes} {
@@ -134,7 +137,8 @@ func TestS3AcknowledgesAtOnce(t *testing.T) {
 			}()
 		}
 	}()
-	store, err := OpenS3(limited(t), S3{Endpoint: listener.Addr().String(), Bucket: testbucket.Name, Key: "key", Secret: "secret", Region: "us-east-1"})
+	store, err := OpenS3(limited(t), S3{Endpoint: listener.Addr().String(), Bucket: testbucket.Name, Key: "key",
+		Secret: "secret", Region: "us-east-1"})
 	must(t, err)
 	least := time.Hour
 	for i := 0; i < many; i++ {
@@ -166,7 +170,8 @@ func TestS3SaysTheTime(t *testing.T) {
 		w.WriteHeader(status)
 	}))
 	defer server.Close()
-	store, err := OpenS3(limited(t), S3{Endpoint: strings.TrimPrefix(server.URL, "http://"), Bucket: testbucket.Name, Key: "key", Secret: "secret", Region: "us-east-1"})
+	store, err := OpenS3(limited(t), S3{Endpoint: strings.TrimPrefix(server.URL, "http://"), Bucket: testbucket.Name,
+		Key: "key", Secret: "secret", Region: "us-east-1"})
 	must(t, err)
 	date = said
 	for _, status = range []int{http.StatusOK, http.StatusForbidden} {
@@ -315,8 +320,8 @@ func openFake(ctx context.Context, place string, conditional bool) (Objects, err
 	made, _ := memoryS3.LoadOrStore(place, testbucket.New(conditional))
 	transport := made.(*testbucket.Bucket)
 	server := httptest.NewServer(transport)
-	store, err := OpenS3(ctx, S3{Endpoint: strings.TrimPrefix(server.URL, "http://"), Bucket: testbucket.Name, Key: "key", Secret: "secret",
-		Region: "us-east-1", Conditional: conditional})
+	store, err := OpenS3(ctx, S3{Endpoint: strings.TrimPrefix(server.URL, "http://"), Bucket: testbucket.Name, Key: "key",
+		Secret: "secret", Region: "us-east-1", Conditional: conditional})
 	return closing{store, server}, err
 }
 

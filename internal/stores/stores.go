@@ -91,7 +91,8 @@ type Objects interface {
 // persists, even if processes are killed or power fails. The register must never be rolled back: a register from an
 // older copy lets a log fork.
 type Register interface {
-	// Create sets the first text, and published to zero; ErrExists where the register was created before, whatever its text.
+	// Create sets the first text, and published to zero; ErrExists where the register was created before, whatever its
+	// text.
 	Create(ctx context.Context, text string) error
 	// Read returns the text. It returns ErrAbsent if the register was not created, or was lost.
 	Read(ctx context.Context) (string, error)
@@ -143,8 +144,8 @@ type Places interface {
 	// Replace sets the places of at most MaxPlaces identities, whatever they were. If an identity occurs twice in the
 	// list, its first place counts. After an error some may have been set, and the call may be repeated.
 	Replace(ctx context.Context, placed []Placed) error
-	// Leaves are the places of leaves by their hashes (RFC 6962, section 2.1), apart from those of identities. They close with
-	// these.
+	// Leaves are the places of leaves by their hashes (RFC 6962, section 2.1), apart from those of identities. They close
+	// with these.
 	Leaves() Places
 	Close() error
 }

@@ -8,8 +8,8 @@ import (
 	"wagtenib/bindings/go/wagtenib"
 )
 
-// Edge is the right edge of a tree that grows leaf by leaf: the last tile of each level of hash tiles. It hands out each
-// tile as soon as that is full.
+// Edge is the right edge of a tree that grows leaf by leaf: the last tile of each level of hash tiles. It hands out
+// each tile as soon as that is full.
 type Edge struct {
 	levels []lastTile
 	put    Put

@@ -58,7 +58,8 @@ func (t *tiles) entries(ctx context.Context, start, size uint64, use func(b batc
 		if err != nil {
 			return err
 		}
-		b := batch{start: max(first, start), otherIndex: otherIndex, tiles: []logclient.DataTile{tile}, bytes: len(tile.Bytes)}
+		b := batch{start: max(first, start), otherIndex: otherIndex, tiles: []logclient.DataTile{tile},
+			bytes: len(tile.Bytes)}
 		for i, of := range entries {
 			index := first + uint64(i)
 			if index < start {

@@ -76,19 +76,20 @@ func (s *Store) readFields(list string, found map[int64]*alert.Certificate) erro
 	})
 }
 
-// readNames reads the first names of each issuance of a list. Their positions count from 0 on, and those from name_count
-// on repeat a text.
+// readNames reads the first names of each issuance of a list. Their positions count from 0 on, and those from
+// name_count on repeat a text.
 func (s *Store) readNames(list string, found map[int64]*alert.Certificate) error {
 	return s.each("select issuance, name from names join issuances on id = issuance where issuance"+amongThem+
-		"and position < min(?2, name_count) order by issuance, position", []any{list, alert.MaxNames}, func(rows *sql.Rows) error {
-		var id int64
-		var name string
-		if err := rows.Scan(&id, &name); err != nil {
-			return err
-		}
-		found[id].Names = append(found[id].Names, alert.Safe(name))
-		return nil
-	})
+		"and position < min(?2, name_count) order by issuance, position", []any{list, alert.MaxNames},
+		func(rows *sql.Rows) error {
+			var id int64
+			var name string
+			if err := rows.Scan(&id, &name); err != nil {
+				return err
+			}
+			found[id].Names = append(found[id].Names, alert.Safe(name))
+			return nil
+		})
 }
 
 // readMatches reads the watched names that each issuance of a list has.

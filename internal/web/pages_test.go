@@ -37,8 +37,11 @@ func TestPageSaysBounds(t *testing.T) {
 		"At most 50 lines a second are logged for one event, except for lines of level `error`": maxLines == 50,
 	})
 	trial.Says(t, trial.Page(t, "../../docs/OPERATING.md"), map[string]bool{
-		"64 connections at once, or 64 requests at once through nginx (`max-connections-per-address`)": limits.ConnectionsByAddress == 64,
-		"at most 64 SCTs for each tree head: 128 a second at `interval 500ms`":                         limits.ConnectionsByAddress == 64 && limits.ConnectionsByAddress*int(time.Second/(500*time.Millisecond)) == 128,
+		"64 connections at once, or 64 requests at once through nginx " +
+			"(`max-connections-per-address`)": limits.ConnectionsByAddress == 64,
+		"at most 64 SCTs for each tree head: 128 a " +
+			"second at `interval 500ms`": limits.ConnectionsByAddress == 64 &&
+			limits.ConnectionsByAddress*int(time.Second/(500*time.Millisecond)) == 128,
 		"tiles have no rate. An address may use ten seconds of its rate at once. A request above the rate gets 429 " +
 			"`too-often`. `submitters` have no rate": burst == 10*time.Second && tileCall.costs == 0 &&
 			tooOften.status == 429 && tooOften.name == "too-often",

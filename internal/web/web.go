@@ -46,23 +46,23 @@ type Limits struct {
 	Answer time.Duration
 	// Idle is how long a connection is kept between two requests.
 	Idle time.Duration
-	// Connections is how many there are at once, and ConnectionsByAddress how many of one address (of IPv6, of one /64), or
-	// requests at once where a proxy says for whom it asks.
+	// Connections is how many there are at once, and ConnectionsByAddress how many of one address (of IPv6, of one /64),
+	// or requests at once where a proxy says for whom it asks.
 	Connections, ConnectionsByAddress int
 	// Submitters have a bound of their own in its place.
 	Submitters []Submitter
 	// ProofsByAddress is how many proofs are made at once for one address.
 	ProofsByAddress int
-	// SubmissionRate is how many submissions of one address are taken a second, and ReadRate how many of what is made of tiles, proofs and
-	// get-entries; 0 bounds none. Submitters have no rate.
+	// SubmissionRate is how many submissions of one address are taken a second, and ReadRate how many of what is made of
+	// tiles, proofs and get-entries; 0 bounds none. Submitters have no rate.
 	SubmissionRate, ReadRate int
 	// Checks is how many chains are checked at once.
 	Checks int
-	// WaitingBytes is how many bytes the bodies of all submissions have that are read, checked or wait. Those of one address have an eighth
-	// of it, and at least as many as one body may have.
+	// WaitingBytes is how many bytes the bodies of all submissions have that are read, checked or wait. Those of one
+	// address have an eighth of it, and at least as many as one body may have.
 	WaitingBytes int64
-	// AnswerBytes is how many bytes the objects have that are read for answers, or sent. Those of one address have an eighth of it, and at
-	// least as many as one object may have and those count that are read beside it.
+	// AnswerBytes is how many bytes the objects have that are read for answers, or sent. Those of one address have an
+	// eighth of it, and at least as many as one object may have and those count that are read beside it.
 	AnswerBytes int64
 }
 

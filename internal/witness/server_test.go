@@ -509,7 +509,8 @@ func TestWrongDecisions(t *testing.T) {
 func TestJSONState(t *testing.T) {
 	by, one := headKey(t, origin), grown(t, "a", "b", "c", "d", "e")
 	of := func(n int64, root tlog.Hash, time uint64) string {
-		return fmt.Sprintf(`{"last_root":"%s","last_size":%d,"origin":"%s","salt":"AAECAwQFBgcICQoLDA0ODw==","time":%d}`, base64.StdEncoding.EncodeToString(root[:]), n, origin, time)
+		return fmt.Sprintf(`{"last_root":"%s","last_size":%d,"origin":"%s","salt":"AAECAwQFBgcICQoLDA0ODw==","time":%d}`,
+			base64.StdEncoding.EncodeToString(root[:]), n, origin, time)
 	}
 	for name, test := range map[string]struct {
 		text   string

@@ -20,8 +20,9 @@ type Field uint32
 const issuerField = 16
 
 var fieldNames = [...]string{
-	1: "certificate", 2: "tbsCertificate", 3: "signatureAlgorithm", 4: "signatureValue", 5: "version", 6: "serialNumber", 7: "signature", 8: "issuer",
-	9: "validity", 10: "subject", 11: "subjectPublicKeyInfo", 12: "issuerUniqueID", 13: "subjectUniqueID", 14: "extensions", 15: "subjectAltName",
+	1: "certificate", 2: "tbsCertificate", 3: "signatureAlgorithm", 4: "signatureValue", 5: "version",
+	6: "serialNumber", 7: "signature", 8: "issuer", 9: "validity", 10: "subject",
+	11: "subjectPublicKeyInfo", 12: "issuerUniqueID", 13: "subjectUniqueID", 14: "extensions", 15: "subjectAltName",
 }
 
 // String returns the name of the field, and whose certificate it is of.
@@ -36,8 +37,8 @@ func (f Field) String() string {
 	return fmt.Sprintf("%s of %s", fieldNames[number], of)
 }
 
-// CertificateError is the error of a certificate that gives no entry and no leaf: the first reason that reading meets, and the field in which it is. It
-// wraps the Code, so errors.Is finds the reason.
+// CertificateError is the error of a certificate that gives no entry and no leaf: the first reason that reading meets,
+// and the field in which it is. It wraps the Code, so errors.Is finds the reason.
 type CertificateError struct {
 	Code  Code
 	Field Field
@@ -60,7 +61,8 @@ func certificateResult(code C.uint32_t, field C.uint32_t) error {
 	return result(code)
 }
 
-// output makes a call that writes bytes of a length that only the call knows, with so much room at first. If they have no room, it calls once more.
+// output makes a call that writes bytes of a length that only the call knows, with so much room at first. If they have
+// no room, it calls once more.
 func output(room int, call func(out *C.uint8_t, room C.size_t, length *C.uint64_t) C.uint32_t) ([]byte, C.uint32_t) {
 	out := make([]byte, room)
 	var length C.uint64_t
@@ -75,11 +77,12 @@ func output(room int, call func(out *C.uint8_t, room C.size_t, length *C.uint64_
 	return out[:length:length], code
 }
 
-// PrecertificateEntry returns the entry of the precertificate with this TBSCertificate (DER): the same without the poison extension (RFC 6962, section
-// 3.2). If a precertificate signing certificate issued it, the caller must replace the issuer and its key identifier first.
+// PrecertificateEntry returns the entry of the precertificate with this TBSCertificate (DER): the same without the
+// poison extension (RFC 6962, section 3.2). If a precertificate signing certificate issued it, the caller must replace
+// the issuer and its key identifier first.
 //
-// The error is nil, a *CertificateError, or ErrMemory. A *CertificateError is one of ErrDERTruncated to ErrDERTrailing, ErrNoExtension, ErrSecondExtension
-// and ErrBadPoison.
+// The error is nil, a *CertificateError, or ErrMemory. A *CertificateError is one of ErrDERTruncated to ErrDERTrailing,
+// ErrNoExtension, ErrSecondExtension and ErrBadPoison.
 func PrecertificateEntry(tbs []byte) ([]byte, error) {
 	var field C.uint32_t
 	entry, code := output(len(tbs), func(out *C.uint8_t, room C.size_t, length *C.uint64_t) C.uint32_t {
@@ -96,27 +99,31 @@ type Promise struct {
 	Extensions  []byte // the CtExtensions, without their length
 }
 
-// PromisedLeaf returns the leaf (MerkleTreeLeaf, RFC 6962, section 3.4) that the timestamp promises: of the certificate without its list of timestamps, and
-// of SHA-256 of its issuer's key. The log signs these bytes (section 3.2).
+// PromisedLeaf returns the leaf (MerkleTreeLeaf, RFC 6962, section 3.4) that the timestamp promises: of the certificate
+// without its list of timestamps, and of SHA-256 of its issuer's key. The log signs these bytes (section 3.2).
 //
-// The error is nil, a *CertificateError, ErrExtensionsTooLong or ErrMemory. A *CertificateError is one of ErrDERTruncated to ErrDERTrailing,
-// ErrNoExtension, ErrSecondExtension and ErrTBSTooLong.
+// The error is nil, a *CertificateError, ErrExtensionsTooLong or ErrMemory. A *CertificateError is one of
+// ErrDERTruncated to ErrDERTrailing, ErrNoExtension, ErrSecondExtension and ErrTBSTooLong.
 func PromisedLeaf(p Promise) ([]byte, error) {
 	var field C.uint32_t
-	leaf, code := output(len(p.Certificate)+len(p.Extensions)+headerBytes+issuerHashBytes+lengthBytes+2, func(out *C.uint8_t, room C.size_t, length *C.uint64_t) C.uint32_t {
-		return C.wagtenib_promised_leaf(ofBytes(p.Certificate), C.size_t(len(p.Certificate)), ofBytes(p.Issuer), C.size_t(len(p.Issuer)), C.uint64_t(p.Timestamp),
-			ofBytes(p.Extensions), C.size_t(len(p.Extensions)), out, room, length, &field)
-	})
+	leaf, code := output(len(p.Certificate)+len(p.Extensions)+headerBytes+issuerHashBytes+lengthBytes+2,
+		func(out *C.uint8_t, room C.size_t, length *C.uint64_t) C.uint32_t {
+			return C.wagtenib_promised_leaf(ofBytes(p.Certificate), C.size_t(len(p.Certificate)), ofBytes(p.Issuer),
+				C.size_t(len(p.Issuer)), C.uint64_t(p.Timestamp), ofBytes(p.Extensions), C.size_t(len(p.Extensions)), out, room,
+				length, &field)
+		})
 	return leaf, certificateResult(code, field)
 }
 
-// CheckPromise checks that the leaf that the timestamp promises is in a tree. It returns nil exactly if the audit path leads from that leaf at index to the
-// root of a tree of size leaves. So the leaf is in every list of leaves with this root (assuming no SHA-256 collision).
+// CheckPromise checks that the leaf that the timestamp promises is in a tree. It returns nil exactly if the audit path
+// leads from that leaf at index to the root of a tree of size leaves. So the leaf is in every list of leaves with this
+// root (assuming no SHA-256 collision).
 //
 // Otherwise it returns an error of PromisedLeaf, or the first fault of the path, as VerifyInclusion does.
 func CheckPromise(p Promise, index, size uint64, path []Hash, root Hash) error {
 	var field C.uint32_t
-	code := C.wagtenib_check_promise(ofBytes(p.Certificate), C.size_t(len(p.Certificate)), ofBytes(p.Issuer), C.size_t(len(p.Issuer)), C.uint64_t(p.Timestamp),
-		ofBytes(p.Extensions), C.size_t(len(p.Extensions)), C.uint64_t(index), C.uint64_t(size), ofHashes(path), C.size_t(len(path)), ofHash(&root), &field)
+	code := C.wagtenib_check_promise(ofBytes(p.Certificate), C.size_t(len(p.Certificate)), ofBytes(p.Issuer),
+		C.size_t(len(p.Issuer)), C.uint64_t(p.Timestamp), ofBytes(p.Extensions), C.size_t(len(p.Extensions)),
+		C.uint64_t(index), C.uint64_t(size), ofHashes(path), C.size_t(len(path)), ofHash(&root), &field)
 	return certificateResult(code, field)
 }

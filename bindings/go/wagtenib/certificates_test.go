@@ -36,7 +36,8 @@ func newAuthority(t testing.TB) *authority {
 	if err != nil {
 		t.Fatal(err)
 	}
-	template := &x509.Certificate{SerialNumber: big.NewInt(1), Subject: pkix.Name{CommonName: "a root"}, IsCA: true, BasicConstraintsValid: true, NotAfter: time.Unix(1<<32, 0)}
+	template := &x509.Certificate{SerialNumber: big.NewInt(1), Subject: pkix.Name{CommonName: "a root"}, IsCA: true,
+		BasicConstraintsValid: true, NotAfter: time.Unix(1<<32, 0)}
 	made, err := x509.CreateCertificate(rand.Reader, template, template, &key.PublicKey, key)
 	if err != nil {
 		t.Fatal(err)
@@ -50,7 +51,8 @@ func newAuthority(t testing.TB) *authority {
 
 func (a *authority) issue(t testing.TB, extensions ...pkix.Extension) *x509.Certificate {
 	t.Helper()
-	template := &x509.Certificate{SerialNumber: big.NewInt(7), Subject: pkix.Name{CommonName: "www.example"}, DNSNames: []string{"www.example"}, NotAfter: time.Unix(1<<31, 0), ExtraExtensions: extensions}
+	template := &x509.Certificate{SerialNumber: big.NewInt(7), Subject: pkix.Name{CommonName: "www.example"},
+		DNSNames: []string{"www.example"}, NotAfter: time.Unix(1<<31, 0), ExtraExtensions: extensions}
 	made, err := x509.CreateCertificate(rand.Reader, template, a.root, &a.key.PublicKey, a.key)
 	if err != nil {
 		t.Fatal(err)
@@ -62,7 +64,8 @@ func (a *authority) issue(t testing.TB, extensions ...pkix.Extension) *x509.Cert
 	return certificate
 }
 
-// TestEntriesAreTheFinalCertificates: crypto/x509 issues a precertificate and, otherwise the same, the certificate. The entry is the certificate's TBSCertificate.
+// TestEntriesAreTheFinalCertificates: crypto/x509 issues a precertificate and, otherwise the same, the certificate. The
+// entry is the certificate's TBSCertificate.
 func TestEntriesAreTheFinalCertificates(t *testing.T) {
 	a := newAuthority(t)
 	other := pkix.Extension{Id: asn1.ObjectIdentifier{1, 2, 3}, Value: bytes.Repeat([]byte{9}, 300)}
@@ -81,7 +84,8 @@ func TestRefusesPrecertificates(t *testing.T) {
 	precertificate := a.issue(t, poison).RawTBSCertificate
 	wrong := poison
 	wrong.Critical = false
-	twice := bytes.Replace(a.issue(t, pkix.Extension{Id: asn1.ObjectIdentifier{1, 3, 6, 1, 4, 1, 11129, 2, 4, 9}, Critical: true, Value: []byte{5, 0}}, poison).RawTBSCertificate,
+	twice := bytes.Replace(a.issue(t, pkix.Extension{Id: asn1.ObjectIdentifier{1, 3, 6, 1, 4, 1, 11129, 2, 4, 9},
+		Critical: true, Value: []byte{5, 0}}, poison).RawTBSCertificate,
 		[]byte{0xd6, 0x79, 2, 4, 9}, []byte{0xd6, 0x79, 2, 4, 3}, 1)
 	for _, test := range []struct {
 		tbs   []byte
@@ -103,7 +107,8 @@ func TestRefusesPrecertificates(t *testing.T) {
 	} {
 		entry, err := wagtenib.PrecertificateEntry(test.tbs)
 		var unfit *wagtenib.CertificateError
-		if entry != nil || !errors.Is(err, test.want) || !errors.As(err, &unfit) || unfit.Field.String() != test.field || !strings.Contains(err.Error(), test.field) {
+		if entry != nil || !errors.Is(err, test.want) || !errors.As(err, &unfit) || unfit.Field.String() != test.field ||
+			!strings.Contains(err.Error(), test.field) {
 			t.Errorf("%x: %x, %v (not %v)", test.tbs, entry, err, test.want)
 		}
 	}
@@ -115,11 +120,13 @@ func promisedOf(issuer *x509.Certificate, tbs []byte, timestamp uint64, extensio
 	return leafOf(timestamp, 1, append(hash[:], opaque(3, tbs)...), extensions)
 }
 
-// TestPromisedLeaves: the leaf of a certificate with a list of timestamps is that of the certificate without it, and is found in a tree of tlog's.
+// TestPromisedLeaves: the leaf of a certificate with a list of timestamps is that of the certificate without it, and is
+// found in a tree of tlog's.
 func TestPromisedLeaves(t *testing.T) {
 	a := newAuthority(t)
 	without := a.issue(t).RawTBSCertificate
-	promise := wagtenib.Promise{Certificate: a.issue(t, pkix.Extension{Id: oidList, Value: []byte{4, 3, 0, 1, 0}}).Raw, Issuer: a.root.Raw, Timestamp: 1_700_000_000_123}
+	promise := wagtenib.Promise{Certificate: a.issue(t, pkix.Extension{Id: oidList, Value: []byte{4, 3, 0, 1, 0}}).Raw,
+		Issuer: a.root.Raw, Timestamp: 1_700_000_000_123}
 	var log madeLog
 	for index, extensions := range [][]byte{nil, {0, 0, 5, 0, 0, 0, 0, 1}, bytes.Repeat([]byte{1}, 65_535)} {
 		promise.Extensions = extensions
@@ -134,10 +141,12 @@ func TestPromisedLeaves(t *testing.T) {
 	if err := wagtenib.CheckPromise(promise, 2, size, log.path(t, 2, size), log.root(t, size)); err != nil {
 		t.Error(err)
 	}
-	if err := wagtenib.CheckPromise(promise, 1, size, log.path(t, 1, size), log.root(t, size)); !errors.Is(err, wagtenib.ErrRootMismatch) {
+	if err := wagtenib.CheckPromise(promise, 1, size, log.path(t, 1, size),
+		log.root(t, size)); !errors.Is(err, wagtenib.ErrRootMismatch) {
 		t.Error(err)
 	}
-	if err := wagtenib.CheckPromise(promise, size, size, nil, log.root(t, size)); !errors.Is(err, wagtenib.ErrIndexOutOfRange) {
+	if err := wagtenib.CheckPromise(promise, size, size, nil,
+		log.root(t, size)); !errors.Is(err, wagtenib.ErrIndexOutOfRange) {
 		t.Error(err)
 	}
 	refused := func(change func(p *wagtenib.Promise), want wagtenib.Code, field wagtenib.Field) {
@@ -147,7 +156,8 @@ func TestPromisedLeaves(t *testing.T) {
 		_, err := wagtenib.PromisedLeaf(wrong)
 		also := wagtenib.CheckPromise(wrong, 2, size, log.path(t, 2, size), log.root(t, size))
 		var unfit *wagtenib.CertificateError
-		if !errors.Is(err, want) || !errors.Is(also, want) || errors.As(err, &unfit) != (field > 0) || field > 0 && unfit.Field != field {
+		if !errors.Is(err, want) || !errors.Is(also, want) || errors.As(err, &unfit) != (field > 0) ||
+			field > 0 && unfit.Field != field {
 			t.Errorf("%v, %v (not %v)", err, also, want)
 		}
 	}

@@ -86,8 +86,9 @@ func DataTileLeaves(tile []byte) ([]TileEntry, error) {
 // static-ct-api).
 //
 // Otherwise the error is the first of these: ErrNoDataTile, ErrTileAfter, ErrTileBefore; ErrTruncated, ErrBadEntryType,
-// ErrEmptyVector or ErrPartialFingerprint, and index is the index in the tile of the entry that is none; ErrOtherEntries,
-// and index is the number of entries; ErrWrongIndex, and index is the first wrong one in the log. Or it is ErrMemory.
+// ErrEmptyVector or ErrPartialFingerprint, and index is the index in the tile of the entry that is none;
+// ErrOtherEntries, and index is the number of entries; ErrWrongIndex, and index is the first wrong one in the log. Or
+// it is ErrMemory.
 func CompareDataTile(name string, next uint64, tile []byte) (index uint64, err error) {
 	bytes, found := []byte(name), C.uint64_t(0)
 	err = result(C.wagtenib_compare_data_tile(ofBytes(bytes), C.size_t(len(bytes)), C.uint64_t(next), ofBytes(tile),

@@ -6,7 +6,8 @@ import (
 	"wagtenib/bindings/go/wagtenib"
 )
 
-// A client has a leaf, its audit path and the root of a signed tree head. It checks that the tree has the leaf at that index.
+// A client has a leaf, its audit path and the root of a signed tree head. It checks that the tree has the leaf at that
+// index.
 func ExampleVerifyInclusion() {
 	first, second := wagtenib.LeafHash([]byte("first")), wagtenib.LeafHash([]byte("second"))
 	root, err := wagtenib.Root([]wagtenib.Hash{first, second})

@@ -27,7 +27,8 @@ var (
 	listName   = append(bytes.Clone(poisonName[:9]), 2)
 )
 
-// tbsRead holds a TBSCertificate (RFC 5280, section 4.1): its fields before the extensions, its subjectPublicKeyInfo, and its extensions.
+// tbsRead holds a TBSCertificate (RFC 5280, section 4.1): its fields before the extensions, its subjectPublicKeyInfo,
+// and its extensions.
 type tbsRead struct {
 	before, key []byte
 	extensions  [][2][]byte // the name of each, and all its bytes
@@ -52,7 +53,8 @@ func readExtensions(der []byte) (found [][2][]byte, ok bool) {
 			return nil, false
 		}
 		fields, _ := onlyElement(whole, asn1.SEQUENCE)
-		if !fields.ReadASN1(&name, asn1.OBJECT_IDENTIFIER) || !fields.SkipOptionalASN1(asn1.BOOLEAN) || !fields.ReadASN1(&value, asn1.OCTET_STRING) || !fields.Empty() {
+		if !fields.ReadASN1(&name, asn1.OBJECT_IDENTIFIER) || !fields.SkipOptionalASN1(asn1.BOOLEAN) ||
+			!fields.ReadASN1(&value, asn1.OCTET_STRING) || !fields.Empty() {
 			return nil, false
 		}
 		found = append(found, [2][]byte{name, whole})
@@ -86,7 +88,8 @@ func readTBS(der []byte, whole bool) (tbs tbsRead, ok bool) {
 func readCertificate(der []byte) (tbs []byte, ok bool) {
 	fields, ok := onlyElement(der, asn1.SEQUENCE)
 	var element, signature cryptobyte.String
-	ok = ok && fields.ReadASN1Element(&element, asn1.SEQUENCE) && fields.SkipASN1(asn1.SEQUENCE) && fields.ReadASN1(&signature, asn1.BIT_STRING) && fields.Empty()
+	ok = ok && fields.ReadASN1Element(&element, asn1.SEQUENCE) && fields.SkipASN1(asn1.SEQUENCE) &&
+		fields.ReadASN1(&signature, asn1.BIT_STRING) && fields.Empty()
 	return element, ok
 }
 
@@ -128,7 +131,8 @@ func extensionsFault(count int) error {
 func isUnread(t *testing.T, err error, ofIssuer bool) {
 	t.Helper()
 	var unfit *wagtenib.CertificateError
-	if !errors.As(err, &unfit) || !unfit.IsDER() && !errors.Is(err, wagtenib.ErrSecondExtension) || (unfit.Field > 16) != ofIssuer || unfit.Field%16 == 0 || unfit.Field%16 > 14 {
+	if !errors.As(err, &unfit) || !unfit.IsDER() && !errors.Is(err, wagtenib.ErrSecondExtension) ||
+		(unfit.Field > 16) != ofIssuer || unfit.Field%16 == 0 || unfit.Field%16 > 14 {
 		t.Fatalf("what cannot be read gives %v", err)
 	}
 }
@@ -141,7 +145,8 @@ func FuzzPrecertificateEntry(f *testing.F) {
 	for _, extensions := range [][]pkix.Extension{nil, {poison}, {other, poison}, {poison, other}, {plain}} {
 		f.Add(a.issue(f, extensions...).RawTBSCertificate)
 	}
-	for _, seed := range [][]byte{nil, {0x30, 0x80, 0, 0}, {0x30, 0x81, 0}, {0x3f, 0}, {0x30, 3, 2, 1, 7}, element(asn1.SEQUENCE, tinyFields(), element(extensionsTag, element(asn1.SEQUENCE, poisonBytes))),
+	for _, seed := range [][]byte{nil, {0x30, 0x80, 0, 0}, {0x30, 0x81, 0}, {0x3f, 0}, {0x30, 3, 2, 1, 7},
+		element(asn1.SEQUENCE, tinyFields(), element(extensionsTag, element(asn1.SEQUENCE, poisonBytes))),
 		element(asn1.SEQUENCE, tinyFields(), element(extensionsTag, element(asn1.SEQUENCE, poisonBytes, poisonBytes)))} {
 		f.Add(seed)
 	}
@@ -178,10 +183,13 @@ func tinyCertificate(extensions ...[]byte) []byte {
 }
 
 func FuzzPromisedLeaf(f *testing.F) {
-	list := element(asn1.SEQUENCE, element(asn1.OBJECT_IDENTIFIER, listName), element(asn1.OCTET_STRING, []byte("timestamps")))
+	list := element(asn1.SEQUENCE, element(asn1.OBJECT_IDENTIFIER, listName),
+		element(asn1.OCTET_STRING, []byte("timestamps")))
 	a := newAuthority(f)
-	f.Add(a.issue(f, pkix.Extension{Id: oidList, Value: []byte{4, 3, 0, 1, 0}}).Raw, a.root.Raw, uint64(7), []byte("extensions"))
-	for _, certificate := range [][]byte{nil, tinyCertificate(), tinyCertificate(list), tinyCertificate(list, list), tinyCertificate(list, poisonBytes), tinyCertificate(list)[1:], append(tinyCertificate(list), 0)} {
+	f.Add(a.issue(f, pkix.Extension{Id: oidList, Value: []byte{4, 3, 0, 1, 0}}).Raw, a.root.Raw, uint64(7),
+		[]byte("extensions"))
+	for _, certificate := range [][]byte{nil, tinyCertificate(), tinyCertificate(list), tinyCertificate(list, list),
+		tinyCertificate(list, poisonBytes), tinyCertificate(list)[1:], append(tinyCertificate(list), 0)} {
 		f.Add(certificate, tinyCertificate(list), uint64(1<<64-1), []byte(nil))
 		f.Add(tinyCertificate(list), certificate, uint64(0), make([]byte, 65_535))
 	}
@@ -189,7 +197,8 @@ func FuzzPromisedLeaf(f *testing.F) {
 	f.Fuzz(func(t *testing.T, certificate, issuer []byte, timestamp uint64, extensions []byte) {
 		promise := wagtenib.Promise{Certificate: certificate, Issuer: issuer, Timestamp: timestamp, Extensions: extensions}
 		leaf, err := wagtenib.PromisedLeaf(promise)
-		if also := wagtenib.CheckPromise(promise, 0, 1, nil, wagtenib.LeafHash(leaf)); (err == nil) != (also == nil) || err != nil && (leaf != nil || err.Error() != also.Error()) {
+		if also := wagtenib.CheckPromise(promise, 0, 1, nil, wagtenib.LeafHash(leaf)); (err == nil) != (also == nil) ||
+			err != nil && (leaf != nil || err.Error() != also.Error()) {
 			t.Fatalf("%v, but CheckPromise gives %v", err, also)
 		}
 		if len(extensions) > 65_535 {
@@ -218,7 +227,8 @@ func FuzzPromisedLeaf(f *testing.F) {
 			return
 		}
 		hash := sha256.Sum256(of.key)
-		if want := leafOf(timestamp, 1, append(hash[:], opaque(3, entry)...), extensions); err != nil || !bytes.Equal(leaf, want) {
+		if want := leafOf(timestamp, 1, append(hash[:], opaque(3, entry)...), extensions); err != nil ||
+			!bytes.Equal(leaf, want) {
 			t.Fatalf("%x, %v, but %x is due", leaf, err, want)
 		}
 	})

@@ -20,9 +20,11 @@ func readSubmission(s *cryptobyte.String) (found wagtenib.Submission, ok bool) {
 	var entryType uint16
 	var keyHash []byte
 	var signed, extensions, whole, chain cryptobyte.String
-	ok = s.ReadUint64(&timestamp) && timestamp == 0 && s.ReadUint16(&entryType) && entryType <= 1 && (entryType == 0 || s.ReadBytes(&keyHash, 32)) &&
-		s.ReadUint24LengthPrefixed(&signed) && len(signed) > 0 && s.ReadUint16LengthPrefixed(&extensions) && extensions.Empty() &&
-		(entryType == 0 || s.ReadUint24LengthPrefixed(&whole) && len(whole) > 0) && s.ReadUint16LengthPrefixed(&chain) && len(chain)%32 == 0
+	ok = s.ReadUint64(&timestamp) && timestamp == 0 && s.ReadUint16(&entryType) && entryType <= 1 &&
+		(entryType == 0 || s.ReadBytes(&keyHash, 32)) && s.ReadUint24LengthPrefixed(&signed) && len(signed) > 0 &&
+		s.ReadUint16LengthPrefixed(&extensions) && extensions.Empty() &&
+		(entryType == 0 || s.ReadUint24LengthPrefixed(&whole) && len(whole) > 0) && s.ReadUint16LengthPrefixed(&chain) &&
+		len(chain)%32 == 0
 	if !ok {
 		return found, false
 	}
@@ -104,8 +106,10 @@ func FuzzStep(f *testing.F) {
 		of[(at+len(of))%len(of)] ^= 1
 		return of
 	}
-	for _, seed := range [][2][]byte{{edge, nil}, {edge, one}, {edge, pre}, {edge, one[1:]}, {edge, append(bytes.Clone(one), 0)}, {edge, bent(one, 7)}, {edge, bent(one, 9)}, {edge, bent(one, -1)},
-		{nil, one}, {edge[:9], one}, {bent(edge, 0), one}, {bent(edge, 8), one}, {bent(edge, -1), one}, {append(bytes.Clone(edge), make([]byte, 8)...), one}} {
+	for _, seed := range [][2][]byte{{edge, nil}, {edge, one}, {edge, pre}, {edge, one[1:]},
+		{edge, append(bytes.Clone(one), 0)}, {edge, bent(one, 7)}, {edge, bent(one, 9)}, {edge, bent(one, -1)},
+		{nil, one}, {edge[:9], one}, {bent(edge, 0), one}, {bent(edge, 8), one}, {bent(edge, -1), one},
+		{append(bytes.Clone(edge), make([]byte, 8)...), one}} {
 		f.Add(seed[0], seed[1])
 	}
 	f.Fuzz(func(t *testing.T, edge, batch []byte) {
@@ -132,7 +136,8 @@ func FuzzStep(f *testing.F) {
 	})
 }
 
-// stepIsOf fails the test unless the step has a receipt and a leaf for each submission, one for those that are equal, and the root that tlog makes.
+// stepIsOf fails the test unless the step has a receipt and a leaf for each submission, one for those that are equal,
+// and the root that tlog makes.
 func stepIsOf(t *testing.T, log *steppedLog, step *wagtenib.Step, submissions []wagtenib.Submission) {
 	t.Helper()
 	grown := madeLog{append([][]byte{}, log.leaves...), append(storedHashes{}, log.stored...)}

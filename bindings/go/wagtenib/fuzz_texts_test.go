@@ -17,8 +17,8 @@ import (
 	"wagtenib/bindings/go/wagtenib"
 )
 
-// These targets compare each call that reads bytes with a reader that is written here from the standard. `cmd/build.sh fuzz` runs them on random bytes, and
-// `go test` on their seeds only.
+// These targets compare each call that reads bytes with a reader that is written here from the standard. `cmd/build.sh
+// fuzz` runs them on random bytes, and `go test` on their seeds only.
 
 // leafRead reads a MerkleTreeLeaf as RFC 6962, section 3.4, has it, and returns the first fault from the left.
 func leafRead(text []byte) (leaf wagtenib.Leaf, err error) {
@@ -70,11 +70,13 @@ func FuzzDecodeLeaf(f *testing.F) {
 			}
 			return
 		}
-		if got.Timestamp != want.Timestamp || got.EntryType != want.EntryType || !bytes.Equal(got.Certificate, want.Certificate) || !bytes.Equal(got.Extensions, want.Extensions) ||
+		if got.Timestamp != want.Timestamp || got.EntryType != want.EntryType ||
+			!bytes.Equal(got.Certificate, want.Certificate) || !bytes.Equal(got.Extensions, want.Extensions) ||
 			!bytes.Equal(got.IssuerKeyHash, want.IssuerKeyHash) {
 			t.Fatalf("%x: %+v, but %+v is due", text, got, want)
 		}
-		if again := leafOf(got.Timestamp, uint16(got.EntryType), append(bytes.Clone(got.IssuerKeyHash), opaque(3, got.Certificate)...), got.Extensions); !bytes.Equal(again, text) {
+		if again := leafOf(got.Timestamp, uint16(got.EntryType),
+			append(bytes.Clone(got.IssuerKeyHash), opaque(3, got.Certificate)...), got.Extensions); !bytes.Equal(again, text) {
 			t.Fatalf("%x is read, and its fields are %x", text, again)
 		}
 	})
@@ -115,8 +117,10 @@ func addTexts(add func(text string)) {
 	text := checkpointOf(witnessed, 12, wagtenib.Hash{7})
 	add(text)
 	add(checkpointOf("l\u00f6g", 1<<64-1, wagtenib.Hash{}))
-	for _, wrong := range []string{"", text[1:], text + "more\n", text[:len(text)-1], strings.Replace(text, "12", "012", 1), strings.Replace(text, "12", "+12", 1), strings.Replace(text, "=", "", 1), "\xff" + text,
-		strings.Replace(text, "12", "18446744073709551616", 1), strings.ReplaceAll(text, "\n", "\r\n"), strings.Replace(text, "AA=", "AB=", 1)} {
+	for _, wrong := range []string{"", text[1:], text + "more\n", text[:len(text)-1],
+		strings.Replace(text, "12", "012", 1), strings.Replace(text, "12", "+12", 1), strings.Replace(text, "=", "", 1),
+		"\xff" + text, strings.Replace(text, "12", "18446744073709551616", 1), strings.ReplaceAll(text, "\n", "\r\n"),
+		strings.Replace(text, "AA=", "AB=", 1)} {
 		add(wrong)
 	}
 }
@@ -127,7 +131,8 @@ func FuzzCheckpoint(f *testing.F) {
 		origin, tree, ok := checkpointRead(text)
 		if !ok {
 			for _, name := range []string{witnessed, strings.Split(text, "\n")[0]} {
-				if message, err := wagtenib.WitnessFirst(name, text, 0, nil, 7); !errors.Is(err, wagtenib.ErrNoCheckpoint) || message != nil {
+				if message, err := wagtenib.WitnessFirst(name, text, 0, nil, 7); !errors.Is(err, wagtenib.ErrNoCheckpoint) ||
+					message != nil {
 					t.Fatalf("%q: %q, %v", text, message, err)
 				}
 			}
@@ -163,7 +168,8 @@ func FuzzWitnessState(f *testing.F) {
 		switch {
 		case !isSeen || !isState:
 			due, tree = wagtenib.ErrState, wagtenib.WitnessedTree{}
-		case origin != seenOrigin || tree.Time < old.Time || tree.TreeSize < old.TreeSize || tree.TreeSize == old.TreeSize && tree.Root != old.Root:
+		case origin != seenOrigin || tree.Time < old.Time || tree.TreeSize < old.TreeSize ||
+			tree.TreeSize == old.TreeSize && tree.Root != old.Root:
 			due, tree = wagtenib.ErrStateRolledBack, wagtenib.WitnessedTree{}
 		}
 		if got, err := wagtenib.WitnessState(seen, state); !errors.Is(err, due) || got != tree {
@@ -177,7 +183,8 @@ func signedRead(state []byte) (head wagtenib.TreeHead, ok bool) {
 	s := cryptobyte.String(state)
 	var version, kind uint8
 	var root []byte
-	ok = s.ReadUint8(&version) && version == 0 && s.ReadUint8(&kind) && kind == 1 && s.ReadUint64(&head.Timestamp) && s.ReadUint64(&head.TreeSize) && s.ReadBytes(&root, 32) && s.Empty()
+	ok = s.ReadUint8(&version) && version == 0 && s.ReadUint8(&kind) && kind == 1 && s.ReadUint64(&head.Timestamp) &&
+		s.ReadUint64(&head.TreeSize) && s.ReadBytes(&root, 32) && s.Empty()
 	if !ok {
 		return wagtenib.TreeHead{}, false
 	}
@@ -190,7 +197,9 @@ func FuzzGuardState(f *testing.F) {
 		signed := signedBytes(wagtenib.TreeHead{TreeSize: size, Timestamp: timestamp, Root: wagtenib.Hash{1}})
 		return signed[:]
 	}
-	for _, pair := range [][2][]byte{{nil, nil}, {at(3, 9), at(3, 9)}, {at(3, 9), at(3, 10)}, {at(3, 9), at(2, 10)}, {at(3, 9), at(4, 9)}, {at(3, 9), at(3, 9)[:49]}, {append(at(3, 9), 0), at(4, 10)}, {at(3, 9), append([]byte{1}, at(3, 9)[1:]...)}} {
+	for _, pair := range [][2][]byte{{nil, nil}, {at(3, 9), at(3, 9)}, {at(3, 9), at(3, 10)}, {at(3, 9), at(2, 10)},
+		{at(3, 9), at(4, 9)}, {at(3, 9), at(3, 9)[:49]}, {append(at(3, 9), 0), at(4, 10)},
+		{at(3, 9), append([]byte{1}, at(3, 9)[1:]...)}} {
 		f.Add(pair[0], pair[1])
 	}
 	f.Fuzz(func(t *testing.T, seen, state []byte) {
@@ -233,7 +242,9 @@ func neededOf(size uint64) (names []string) {
 
 func FuzzStepState(f *testing.F) {
 	line := lineOf(70_000, 9, wagtenib.Hash{1})
-	for _, state := range []string{"", line, line[1:], line + "\n", strings.ToUpper(line), "growth " + strings.ToUpper(line[7:]), lineOf(256, 9, wagtenib.Hash{1}), lineOf(1<<40, 1<<64-1, wagtenib.Hash{}), lineOf(1<<64-1, 0, wagtenib.Hash{}), lineOf(0, 0, wagtenib.Hash{})} {
+	for _, state := range []string{"", line, line[1:], line + "\n", strings.ToUpper(line),
+		"growth " + strings.ToUpper(line[7:]), lineOf(256, 9, wagtenib.Hash{1}), lineOf(1<<40, 1<<64-1, wagtenib.Hash{}),
+		lineOf(1<<64-1, 0, wagtenib.Hash{}), lineOf(0, 0, wagtenib.Hash{})} {
 		f.Add(state)
 	}
 	f.Fuzz(func(t *testing.T, state string) {
@@ -261,7 +272,8 @@ func lockRead(text []byte) (size uint64, state wagtenib.NodeState, ok bool) {
 	end := text[len(text)-behind:]
 	digits := string(text[7:39]) + string(end[6:38])
 	numbers, err := hex.DecodeString(digits)
-	if err != nil || !bytes.HasPrefix(text, []byte("growth ")) || !bytes.HasPrefix(text[line:], []byte("\nnode ")) || !bytes.HasPrefix(end, []byte("\nsalt ")) || end[38] != '\n' {
+	if err != nil || !bytes.HasPrefix(text, []byte("growth ")) || !bytes.HasPrefix(text[line:], []byte("\nnode ")) ||
+		!bytes.HasPrefix(end, []byte("\nsalt ")) || end[38] != '\n' {
 		return 0, state, false
 	}
 	at := func(i int) uint64 { return binary.BigEndian.Uint64(numbers[8*i:]) }
@@ -277,7 +289,9 @@ func FuzzLockText(f *testing.F) {
 	if err != nil {
 		f.Fatal(err)
 	}
-	for _, seed := range [][]byte{nil, text, text[1:], append(bytes.Clone(text), '\n'), bytes.Replace(text, []byte("node "), []byte("nodf "), 1), bytes.ToUpper(text), bytes.Replace(text, []byte("https://node.example"), []byte("\n\nsalt "), 1)} {
+	for _, seed := range [][]byte{nil, text, text[1:], append(bytes.Clone(text), '\n'),
+		bytes.Replace(text, []byte("node "), []byte("nodf "), 1), bytes.ToUpper(text),
+		bytes.Replace(text, []byte("https://node.example"), []byte("\n\nsalt "), 1)} {
 		f.Add(seed)
 	}
 	f.Fuzz(func(t *testing.T, text []byte) {
@@ -290,7 +304,8 @@ func FuzzLockText(f *testing.F) {
 		if ok {
 			salt := text[len(text)-33 : len(text)-1]
 			numbers, _ := hex.DecodeString(string(salt))
-			again, err := wagtenib.LockText(text[:295], text[301:len(text)-39], binary.BigEndian.Uint64(numbers), binary.BigEndian.Uint64(numbers[8:]))
+			again, err := wagtenib.LockText(text[:295], text[301:len(text)-39], binary.BigEndian.Uint64(numbers),
+				binary.BigEndian.Uint64(numbers[8:]))
 			want := append(append(bytes.Clone(text[:len(text)-33]), bytes.ToLower(salt)...), '\n')
 			if err != nil || !bytes.Equal(again, want) {
 				t.Fatalf("%q is written as %q, %v", text, again, err)
@@ -301,7 +316,8 @@ func FuzzLockText(f *testing.F) {
 
 func FuzzBatchName(f *testing.F) {
 	name := wagtenib.BatchName(made)
-	for _, seed := range []string{"", name, name[1:], name + "0", strings.ToUpper(name), "staging/" + strings.Repeat("F", 48), "staging/" + strings.Repeat("-", 48)} {
+	for _, seed := range []string{"", name, name[1:], name + "0", strings.ToUpper(name),
+		"staging/" + strings.Repeat("F", 48), "staging/" + strings.Repeat("-", 48)} {
 		f.Add(seed)
 	}
 	f.Fuzz(func(t *testing.T, name string) {
@@ -315,7 +331,8 @@ func FuzzBatchName(f *testing.F) {
 			return
 		}
 		at := func(i int) uint64 { return binary.BigEndian.Uint64(numbers[8*i:]) }
-		if want := (wagtenib.NodeState{Timestamp: at(0), PreviousTimestamp: at(1), Salt: at(2)}); got != nil || state != want || wagtenib.BatchName(state) != strings.ToLower(name) {
+		if want := (wagtenib.NodeState{Timestamp: at(0), PreviousTimestamp: at(1), Salt: at(2)}); got != nil ||
+			state != want || wagtenib.BatchName(state) != strings.ToLower(name) {
 			t.Fatalf("%q: %+v, %v, but %+v is due", name, state, got, want)
 		}
 	})

@@ -15,8 +15,8 @@ import (
 
 const fuzzedLeaves = 700
 
-// FuzzTiles reads roots, paths and proofs out of the tiles of a log, of which one may be changed or cut: at the byte `at` it is changed by `by`, or cut there if
-// that is 0. It has a seed for each way.
+// FuzzTiles reads roots, paths and proofs out of the tiles of a log, of which one may be changed or cut: at the byte
+// `at` it is changed by `by`, or cut there if that is 0. It has a seed for each way.
 func FuzzTiles(f *testing.F) {
 	var log madeLog
 	for i := range fuzzedLeaves {
@@ -65,7 +65,8 @@ func known(t *testing.T, names []string, size uint64) {
 	}
 }
 
-// is fails the test unless a result is the one that is due: ErrBadTile if a tile is cut, and otherwise tlog's exactly if the tiles that it is made of are tlog's.
+// is fails the test unless a result is the one that is due: ErrBadTile if a tile is cut, and otherwise tlog's exactly
+// if the tiles that it is made of are tlog's.
 func is[T any](t *testing.T, got, want T, err error, isCut, isSame bool) {
 	t.Helper()
 	if isCut {

@@ -91,8 +91,10 @@ func nodeHash(left, right wagtenib.Hash) wagtenib.Hash {
 	return sha256.Sum256(append(append([]byte{1}, left[:]...), right[:]...))
 }
 
-// rootsByProof returns the first and the second root to which SUBPROOF(m, D[n], whole) of RFC 6962, section 2.1.2, leads, or false if it has another length.
-func rootsByProof(m, n uint64, known wagtenib.Hash, proof []wagtenib.Hash, whole bool) (first, second wagtenib.Hash, ok bool) {
+// rootsByProof returns the first and the second root to which SUBPROOF(m, D[n], whole) of RFC 6962, section 2.1.2,
+// leads, or false if it has another length.
+func rootsByProof(m, n uint64, known wagtenib.Hash, proof []wagtenib.Hash,
+	whole bool) (first, second wagtenib.Hash, ok bool) {
 	if m == n && whole {
 		return known, known, len(proof) == 0
 	}
@@ -112,7 +114,8 @@ func rootsByProof(m, n uint64, known wagtenib.Hash, proof []wagtenib.Hash, whole
 	return nodeHash(last, first), nodeHash(last, second), ok
 }
 
-// rootByPath returns the root to which PATH(m, D[n]) of RFC 6962, section 2.1.1, leads from a leaf hash, or false if it has another length.
+// rootByPath returns the root to which PATH(m, D[n]) of RFC 6962, section 2.1.1, leads from a leaf hash, or false if it
+// has another length.
 func rootByPath(m, n uint64, hash wagtenib.Hash, path []wagtenib.Hash) (root wagtenib.Hash, ok bool) {
 	if n == 1 || len(path) == 0 {
 		return hash, n == 1 && len(path) == 0
@@ -184,7 +187,8 @@ func indexExtension(index uint64) []byte {
 }
 
 // receiptFault returns why an SCT of a leaf that is well formed may not be signed after the last head.
-func (l *madeLog) receiptFault(t *testing.T, last wagtenib.TreeHead, leaf []byte, index uint64, path []wagtenib.Hash) error {
+func (l *madeLog) receiptFault(t *testing.T, last wagtenib.TreeHead, leaf []byte, index uint64,
+	path []wagtenib.Hash) error {
 	t.Helper()
 	if index >= last.TreeSize {
 		return wagtenib.ErrIndexOutOfRange
@@ -280,7 +284,8 @@ func (g *guarded) state() (state []byte, isOne bool) {
 func (g *guarded) headCall(t *testing.T) {
 	t.Helper()
 	log := []*madeLog{&g.log, &g.log, &g.log, &g.fork}[g.chance.Intn(4)]
-	size := []uint64{g.last.TreeSize, g.last.TreeSize, uint64(g.chance.Intn(guardedSize)), uint64(g.chance.Intn(8))}[g.chance.Intn(4)]
+	size := []uint64{g.last.TreeSize, g.last.TreeSize, uint64(g.chance.Intn(guardedSize)),
+		uint64(g.chance.Intn(8))}[g.chance.Intn(4)]
 	later := []uint64{0, 1, 1, 100, hour, hour + 1, math.MaxUint64}[g.chance.Intn(7)]
 	head := wagtenib.TreeHead{TreeSize: size, Timestamp: g.last.Timestamp + later, Root: log.root(t, size)}
 	if g.chance.Intn(10) == 0 {
@@ -345,7 +350,8 @@ func (g *guarded) stateCall(t *testing.T) {
 	g.seen[due]++
 }
 
-// TestGuardAgreesWithAModel has the guard judge random histories of heads, receipts and states, and compares each call with a model.
+// TestGuardAgreesWithAModel has the guard judge random histories of heads, receipts and states, and compares each call
+// with a model.
 func TestGuardAgreesWithAModel(t *testing.T) {
 	seen := map[error]int{}
 	for seed := range int64(8) {
@@ -358,9 +364,10 @@ func TestGuardAgreesWithAModel(t *testing.T) {
 		}
 	}
 	for _, due := range []error{
-		nil, wagtenib.ErrState, wagtenib.ErrTimestampTooFar, wagtenib.ErrSizeFalls, wagtenib.ErrTimestampNotLater, wagtenib.ErrFork, wagtenib.ErrEmptyPath,
-		wagtenib.ErrPathTooLong, wagtenib.ErrPathTooShort, wagtenib.ErrFirstMismatch, wagtenib.ErrRootMismatch, wagtenib.ErrIndexOutOfRange,
-		wagtenib.ErrLaterLeaf, wagtenib.ErrOtherIndex, wagtenib.ErrTrailing, wagtenib.ErrStateRolledBack,
+		nil, wagtenib.ErrState, wagtenib.ErrTimestampTooFar, wagtenib.ErrSizeFalls, wagtenib.ErrTimestampNotLater,
+		wagtenib.ErrFork, wagtenib.ErrEmptyPath, wagtenib.ErrPathTooLong, wagtenib.ErrPathTooShort, wagtenib.ErrFirstMismatch,
+		wagtenib.ErrRootMismatch, wagtenib.ErrIndexOutOfRange, wagtenib.ErrLaterLeaf, wagtenib.ErrOtherIndex,
+		wagtenib.ErrTrailing, wagtenib.ErrStateRolledBack,
 	} {
 		if seen[due] == 0 {
 			t.Errorf("no call of the histories came to %v", due)

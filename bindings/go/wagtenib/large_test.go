@@ -30,8 +30,8 @@ func (p publishedTiles) ReadTiles(tiles []tlog.Tile) ([][]byte, error) {
 	return all, nil
 }
 
-// TestLargeLog grows a log past a full tile of level 1. tlog reads its tiles, each of which it checks against the root, and proves leaves and older trees from them. It refuses
-// each proof of another leaf or root.
+// TestLargeLog grows a log past a full tile of level 1. tlog reads its tiles, each of which it checks against the root,
+// and proves leaves and older trees from them. It refuses each proof of another leaf or root.
 func TestLargeLog(t *testing.T) {
 	const batch, steps, samples = 4096, 17, 500
 	log := steppedLog{objects: map[string][]byte{}}
@@ -46,7 +46,8 @@ func TestLargeLog(t *testing.T) {
 		for i := range batch {
 			submissions = append(submissions, submissionAt(number*batch+i))
 		}
-		step, err := wagtenib.MakeStep(stepOrigin, log.state, log.edge(t), batchOf(t, submissions...), uint64(1001+number), hour)
+		step, err := wagtenib.MakeStep(stepOrigin, log.state, log.edge(t), batchOf(t, submissions...), uint64(1001+number),
+			hour)
 		if err != nil {
 			t.Fatal(err)
 		}
@@ -80,7 +81,8 @@ func checkLeaf(t *testing.T, reader tlog.HashReader, tree tlog.Tree, index int64
 	}
 }
 
-// checkOlder proves that an older tree is a beginning of the tree, and checks the proof for its root and for another one.
+// checkOlder proves that an older tree is a beginning of the tree, and checks the proof for its root and for another
+// one.
 func checkOlder(t *testing.T, reader tlog.HashReader, tree tlog.Tree, size int64) {
 	t.Helper()
 	root, err := tlog.TreeHash(size, reader)

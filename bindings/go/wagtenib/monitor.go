@@ -25,7 +25,8 @@ import (
 	"unsafe"
 )
 
-// maxMonitorState is the largest number of bytes of a monitor's state: the version, two heads, two times 64 hashes, and the hash of all of it.
+// maxMonitorState is the largest number of bytes of a monitor's state: the version, two heads, two times 64 hashes, and
+// the hash of all of it.
 const maxMonitorState = 1 + 2*49 + 2*(16+64*HashSize) + HashSize
 
 // Verdict is a verdict of a monitor on an answer of a log.
@@ -33,22 +34,43 @@ type Verdict uint32
 
 // The verdicts of a monitor.
 const (
-	VerdictAccepted     Verdict = C.WAGTENIB_ACCEPTED       // the waiting head is that of all leaves that were read, and is accepted
-	VerdictPending      Verdict = C.WAGTENIB_PENDING        // the waiting head has more leaves than were read
-	VerdictAgain        Verdict = C.WAGTENIB_AGAIN          // the size and the root of a known head again
-	VerdictStale        Verdict = C.WAGTENIB_STALE          // fewer leaves than a known head has, and an earlier timestamp
-	VerdictShrunk       Verdict = C.WAGTENIB_SHRUNK         // fewer leaves than a known head has, and not an earlier timestamp
-	VerdictForked       Verdict = C.WAGTENIB_FORKED         // the size of a known head, and another root
-	VerdictNotLater     Verdict = C.WAGTENIB_HEAD_NOT_LATER // more leaves than a known head has, and not a later timestamp
-	VerdictOtherRoot    Verdict = C.WAGTENIB_OTHER_ROOT     // the waiting head has another root than the leaves that were read
-	VerdictGap          Verdict = C.WAGTENIB_GAP            // the entries begin elsewhere, or no head waits, or there are no two heads for a proof
-	VerdictConsistent   Verdict = C.WAGTENIB_CONSISTENT     // the proof leads from the accepted head to the waiting one
-	VerdictInconsistent Verdict = C.WAGTENIB_INCONSISTENT   // the proof does not lead there
+	// the waiting head is that of all leaves that were read, and is accepted
+	VerdictAccepted Verdict = C.WAGTENIB_ACCEPTED
+	// the waiting head has more leaves than were read
+	VerdictPending Verdict = C.WAGTENIB_PENDING
+	// the size and the root of a known head again
+	VerdictAgain Verdict = C.WAGTENIB_AGAIN
+	// fewer leaves than a known head has, and an earlier timestamp
+	VerdictStale Verdict = C.WAGTENIB_STALE
+	// fewer leaves than a known head has, and not an earlier timestamp
+	VerdictShrunk Verdict = C.WAGTENIB_SHRUNK
+	// the size of a known head, and another root
+	VerdictForked Verdict = C.WAGTENIB_FORKED
+	// more leaves than a known head has, and not a later timestamp
+	VerdictNotLater Verdict = C.WAGTENIB_HEAD_NOT_LATER
+	// the waiting head has another root than the leaves that were read
+	VerdictOtherRoot Verdict = C.WAGTENIB_OTHER_ROOT
+	// the entries begin elsewhere, or no head waits, or there are no two heads for a proof
+	VerdictGap Verdict = C.WAGTENIB_GAP
+	// the proof leads from the accepted head to the waiting one
+	VerdictConsistent Verdict = C.WAGTENIB_CONSISTENT
+	// the proof does not lead there
+	VerdictInconsistent Verdict = C.WAGTENIB_INCONSISTENT
 )
 
-var verdictNames = map[Verdict]string{VerdictAccepted: "accepted", VerdictPending: "pending", VerdictAgain: "again", VerdictStale: "stale", VerdictShrunk: "shrunk",
-	VerdictForked: "fork", VerdictNotLater: "time-not-later", VerdictOtherRoot: "root-mismatch", VerdictGap: "gap", VerdictConsistent: "consistent",
-	VerdictInconsistent: "inconsistent"}
+var verdictNames = map[Verdict]string{
+	VerdictAccepted:     "accepted",
+	VerdictPending:      "pending",
+	VerdictAgain:        "again",
+	VerdictStale:        "stale",
+	VerdictShrunk:       "shrunk",
+	VerdictForked:       "fork",
+	VerdictNotLater:     "time-not-later",
+	VerdictOtherRoot:    "root-mismatch",
+	VerdictGap:          "gap",
+	VerdictConsistent:   "consistent",
+	VerdictInconsistent: "inconsistent",
+}
 
 // String returns the name of a verdict.
 func (v Verdict) String() string {
@@ -90,14 +112,16 @@ type FaultyEntry struct {
 	Fault error // as of DecodeLeaf
 }
 
-// EntryReport holds the first entry that is later than the head that waited for it, and the first that is no leaf. Each is nil if there is none.
+// EntryReport holds the first entry that is later than the head that waited for it, and the first that is no leaf. Each
+// is nil if there is none.
 type EntryReport struct {
 	Later  *LaterEntry
 	Faulty *FaultyEntry
 }
 
 // judged makes a call that writes a verdict and a state.
-func judged(call func(verdict *C.struct_wagtenib_monitor_verdict, out *C.uint8_t, room C.size_t, length *C.uint64_t) C.uint32_t) (Judgement, []byte, error) {
+func judged(call func(verdict *C.struct_wagtenib_monitor_verdict, out *C.uint8_t, room C.size_t,
+	length *C.uint64_t) C.uint32_t) (Judgement, []byte, error) {
 	var verdict C.struct_wagtenib_monitor_verdict
 	state, code := output(maxMonitorState, func(out *C.uint8_t, room C.size_t, length *C.uint64_t) C.uint32_t {
 		return call(&verdict, out, room, length)
@@ -105,12 +129,16 @@ func judged(call func(verdict *C.struct_wagtenib_monitor_verdict, out *C.uint8_t
 	if err := result(code); err != nil {
 		return Judgement{}, nil, err
 	}
-	known := TreeHead{TreeSize: uint64(verdict.known.tree_size), Timestamp: uint64(verdict.known.timestamp), Root: *(*Hash)(unsafe.Pointer(&verdict.known.root))}
-	return Judgement{Verdict: Verdict(verdict.verdict), Fault: result(verdict.fault), Known: known, Root: *(*Hash)(unsafe.Pointer(&verdict.root)),
-		Accepted: uint64(verdict.leaves_accepted), Read: uint64(verdict.leaves_read), Wanted: uint64(verdict.leaves_wanted)}, state, nil
+	known := TreeHead{TreeSize: uint64(verdict.known.tree_size), Timestamp: uint64(verdict.known.timestamp),
+		Root: *(*Hash)(unsafe.Pointer(&verdict.known.root))}
+	return Judgement{Verdict: Verdict(verdict.verdict), Fault: result(verdict.fault), Known: known,
+		Root:     *(*Hash)(unsafe.Pointer(&verdict.root)),
+		Accepted: uint64(verdict.leaves_accepted), Read: uint64(verdict.leaves_read),
+		Wanted: uint64(verdict.leaves_wanted)}, state, nil
 }
 
-// MonitorBegin returns the state of a monitor that was handed nothing. The error is nil or ErrMemory. It must never be called because a state is missing.
+// MonitorBegin returns the state of a monitor that was handed nothing. The error is nil or ErrMemory. It must never be
+// called because a state is missing.
 func MonitorBegin() (state []byte, err error) {
 	state, code := output(maxMonitorState, func(out *C.uint8_t, room C.size_t, length *C.uint64_t) C.uint32_t {
 		return C.wagtenib_monitor_begin(out, room, length)
@@ -154,25 +182,31 @@ func LastSubtrees(leafHash Hash, size uint64, path []Hash) ([]Hash, error) {
 	return subtrees, nil
 }
 
-// MonitorHead judges a tree head over a state. The head is compared with the accepted head and with the one that waits for its entries. If it is larger and later
-// than both, it waits from then on (unless another one waits already), and is compared with the leaves that were read.
+// MonitorHead judges a tree head over a state. The head is compared with the accepted head and with the one that waits
+// for its entries. If it is larger and later than both, it waits from then on (unless another one waits already), and
+// is compared with the leaves that were read.
 //
-// It returns the verdict and the next state. The error is nil, ErrState or ErrMemory. The caller must store the next state before it acts on the verdict.
+// It returns the verdict and the next state. The error is nil, ErrState or ErrMemory. The caller must store the next
+// state before it acts on the verdict.
 func MonitorHead(state []byte, head TreeHead) (found Judgement, next []byte, err error) {
 	judgedHead := head.inC()
-	return judged(func(verdict *C.struct_wagtenib_monitor_verdict, out *C.uint8_t, room C.size_t, length *C.uint64_t) C.uint32_t {
+	return judged(func(verdict *C.struct_wagtenib_monitor_verdict, out *C.uint8_t, room C.size_t,
+		length *C.uint64_t) C.uint32_t {
 		return C.wagtenib_monitor_head(ofBytes(state), C.size_t(len(state)), &judgedHead, verdict, out, room, length)
 	})
 }
 
-// MonitorEntries judges the leaves (MerkleTreeLeaf, RFC 6962, section 3.4) from the index start on. As many are read as the waiting head has, and that head is
-// compared with all leaves that were read. Entries that are not read are not in the report. The rest is as of MonitorHead.
-func MonitorEntries(state []byte, start uint64, leaves [][]byte) (found Judgement, report EntryReport, next []byte, err error) {
+// MonitorEntries judges the leaves (MerkleTreeLeaf, RFC 6962, section 3.4) from the index start on. As many are read as
+// the waiting head has, and that head is compared with all leaves that were read. Entries that are not read are not in
+// the report. The rest is as of MonitorHead.
+func MonitorEntries(state []byte, start uint64, leaves [][]byte) (found Judgement, report EntryReport, next []byte,
+	err error) {
 	contents, lengths, count := joined(leaves)
 	var reported C.struct_wagtenib_entry_report
-	found, next, err = judged(func(verdict *C.struct_wagtenib_monitor_verdict, out *C.uint8_t, room C.size_t, length *C.uint64_t) C.uint32_t {
-		return C.wagtenib_monitor_entries(ofBytes(state), C.size_t(len(state)), C.uint64_t(start), ofBytes(contents), C.size_t(len(contents)), lengths, count, verdict,
-			&reported, out, room, length)
+	found, next, err = judged(func(verdict *C.struct_wagtenib_monitor_verdict, out *C.uint8_t, room C.size_t,
+		length *C.uint64_t) C.uint32_t {
+		return C.wagtenib_monitor_entries(ofBytes(state), C.size_t(len(state)), C.uint64_t(start), ofBytes(contents),
+			C.size_t(len(contents)), lengths, count, verdict, &reported, out, room, length)
 	})
 	if reported.later_timestamp != 0 {
 		report.Later = &LaterEntry{Index: uint64(reported.later_index), Timestamp: uint64(reported.later_timestamp)}
@@ -183,16 +217,19 @@ func MonitorEntries(state []byte, start uint64, leaves [][]byte) (found Judgemen
 	return found, report, next, err
 }
 
-// MonitorProof judges a consistency proof (RFC 6962, section 2.1.2) from the accepted head to the waiting one. The state stays the same. The rest is as of
-// MonitorHead.
+// MonitorProof judges a consistency proof (RFC 6962, section 2.1.2) from the accepted head to the waiting one. The
+// state stays the same. The rest is as of MonitorHead.
 func MonitorProof(state []byte, proof []Hash) (found Judgement, next []byte, err error) {
-	return judged(func(verdict *C.struct_wagtenib_monitor_verdict, out *C.uint8_t, room C.size_t, length *C.uint64_t) C.uint32_t {
-		return C.wagtenib_monitor_proof(ofBytes(state), C.size_t(len(state)), ofHashes(proof), C.size_t(len(proof)), verdict, out, room, length)
+	return judged(func(verdict *C.struct_wagtenib_monitor_verdict, out *C.uint8_t, room C.size_t,
+		length *C.uint64_t) C.uint32_t {
+		return C.wagtenib_monitor_proof(ofBytes(state), C.size_t(len(state)), ofHashes(proof), C.size_t(len(proof)), verdict,
+			out, room, length)
 	})
 }
 
-// MonitorEntry judges one leaf (MerkleTreeLeaf, RFC 6962, section 3.4) beside a tree head with this timestamp. It returns the timestamp of the leaf. All timestamps are
-// in milliseconds. The error is nil if the leaf is no later than the head, ErrLaterEntry if it is, which speaks against the log, or that of DecodeLeaf.
+// MonitorEntry judges one leaf (MerkleTreeLeaf, RFC 6962, section 3.4) beside a tree head with this timestamp. It
+// returns the timestamp of the leaf. All timestamps are in milliseconds. The error is nil if the leaf is no later than
+// the head, ErrLaterEntry if it is, which speaks against the log, or that of DecodeLeaf.
 func MonitorEntry(headTimestamp uint64, leaf []byte) (timestamp uint64, err error) {
 	var found C.uint64_t
 	err = result(C.wagtenib_monitor_entry(C.uint64_t(headTimestamp), ofBytes(leaf), C.size_t(len(leaf)), &found))

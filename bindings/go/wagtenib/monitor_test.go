@@ -12,7 +12,8 @@ import (
 	"wagtenib/bindings/go/wagtenib"
 )
 
-// watched is a model of a monitor: the accepted head, the leaves of the log that are accepted, the head that waits, and the leaves that were read after those.
+// watched is a model of a monitor: the accepted head, the leaves of the log that are accepted, the head that waits, and
+// the leaves that were read after those.
 type watched struct {
 	accepted, waiting *wagtenib.TreeHead
 	sure, read        uint64
@@ -113,7 +114,8 @@ func TestMonitorAgreesWithTlog(t *testing.T) {
 			var proof []wagtenib.Hash
 			if model.accepted != nil && model.waiting != nil {
 				due = wagtenib.VerdictInconsistent
-				if first, second := model.accepted.TreeSize, model.waiting.TreeSize; first > 0 && model.waiting.Root == log.root(t, second) {
+				first, second := model.accepted.TreeSize, model.waiting.TreeSize
+				if first > 0 && model.waiting.Root == log.root(t, second) {
 					proof = log.proof(t, first, second)
 					if due = wagtenib.VerdictConsistent; chance.Intn(3) == 0 {
 						due, proof = wagtenib.VerdictInconsistent, proof[:len(proof)-1]
@@ -173,7 +175,8 @@ func TestMonitorReportsEntries(t *testing.T) {
 	if report.Faulty == nil || report.Faulty.Index != 2 || !errors.Is(report.Faulty.Fault, wagtenib.ErrBadVersion) {
 		t.Errorf("%+v", report.Faulty)
 	}
-	if _, report, _, err = wagtenib.MonitorEntries(state, 0, log.leaves[:1]); err != nil || report.Later != nil || report.Faulty != nil {
+	if _, report, _, err = wagtenib.MonitorEntries(state, 0, log.leaves[:1]); err != nil || report.Later != nil ||
+		report.Faulty != nil {
 		t.Errorf("%v: %+v", err, report)
 	}
 }
@@ -191,7 +194,8 @@ func TestMonitorNamesKnownHeads(t *testing.T) {
 	}
 	fork := wagtenib.TreeHead{TreeSize: 1, Timestamp: 9, Root: sha256.Sum256([]byte("another"))}
 	found, same, err := wagtenib.MonitorHead(state, fork)
-	if err != nil || found.Verdict != wagtenib.VerdictForked || found.Known != known || !found.Verdict.Accuses() || !bytes.Equal(same, state) {
+	if err != nil || found.Verdict != wagtenib.VerdictForked || found.Known != known || !found.Verdict.Accuses() ||
+		!bytes.Equal(same, state) {
 		t.Errorf("%v: %+v", err, found)
 	}
 	found, _, state, err = wagtenib.MonitorEntries(state, 0, log.leaves)
@@ -209,7 +213,8 @@ func TestMonitorRefusesDamagedStates(t *testing.T) {
 	if err != nil {
 		t.Fatal(err)
 	}
-	wrong := map[string][]byte{"nothing": nil, "a byte less": state[:len(state)-1], "a byte more": append(bytes.Clone(state), 0), "no hash": state[:len(state)-32]}
+	wrong := map[string][]byte{"nothing": nil, "a byte less": state[:len(state)-1],
+		"a byte more": append(bytes.Clone(state), 0), "no hash": state[:len(state)-32]}
 	for place := range state {
 		damaged := bytes.Clone(state)
 		damaged[place] ^= 1
@@ -248,7 +253,8 @@ func TestMonitorStartsAtATrustedHead(t *testing.T) {
 			t.Fatalf("%d leaves: %v", size, err)
 		}
 		found, state, err := wagtenib.MonitorHead(state, last)
-		if err != nil || found.Verdict != wagtenib.VerdictPending || found.Accepted != size || found.Read != size || found.Wanted != 20 {
+		if err != nil || found.Verdict != wagtenib.VerdictPending || found.Accepted != size || found.Read != size ||
+			found.Wanted != 20 {
 			t.Fatalf("%d leaves: %+v, %v", size, found, err)
 		}
 		found, _, _, err = wagtenib.MonitorEntries(state, size, log.leaves[size:])
@@ -294,7 +300,8 @@ func TestMonitorStartRefusesOtherSubtrees(t *testing.T) {
 	if _, err := wagtenib.MonitorStart(head, subtrees); !errors.Is(err, wagtenib.ErrRootMismatch) {
 		t.Errorf("another root: %v", err)
 	}
-	if _, err := wagtenib.LastSubtrees(wagtenib.Hash{}, 8, make([]wagtenib.Hash, 2)); !errors.Is(err, wagtenib.ErrPathTooShort) {
+	if _, err := wagtenib.LastSubtrees(wagtenib.Hash{}, 8,
+		make([]wagtenib.Hash, 2)); !errors.Is(err, wagtenib.ErrPathTooShort) {
 		t.Errorf("a path of two hashes in a tree of eight leaves: %v", err)
 	}
 }

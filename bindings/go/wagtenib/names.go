@@ -33,17 +33,20 @@ type Name struct {
 	Bytes []byte // as they are in the certificate
 }
 
-// sizeOfLength is the number of bytes in which the library writes the length of a vector, and the position of a watched name.
+// sizeOfLength is the number of bytes in which the library writes the length of a vector, and the position of a watched
+// name.
 const sizeOfLength = 8
 
-// CertificateNames returns the names of a certificate (X509Entry), or of the TBSCertificate of a precertificate (PrecertEntry), both in DER: the
-// common names of its subject, and after them the names of its subjectAltName, in order.
+// CertificateNames returns the names of a certificate (X509Entry), or of the TBSCertificate of a precertificate
+// (PrecertEntry), both in DER: the common names of its subject, and after them the names of its subjectAltName, in
+// order.
 //
 // The error is nil, a *CertificateError of ErrDERTruncated to ErrDERTrailing, ErrBadEntryType or ErrMemory.
 func CertificateNames(entryType EntryType, certificate []byte) ([]Name, error) {
 	var field C.uint32_t
 	text, code := output(len(certificate), func(out *C.uint8_t, room C.size_t, length *C.uint64_t) C.uint32_t {
-		return C.wagtenib_certificate_names(C.uint32_t(entryType), ofBytes(certificate), C.size_t(len(certificate)), out, room, length, &field)
+		return C.wagtenib_certificate_names(C.uint32_t(entryType), ofBytes(certificate), C.size_t(len(certificate)), out,
+			room, length, &field)
 	})
 	if err := certificateResult(code, field); err != nil {
 		return nil, err
@@ -87,15 +90,16 @@ func NewWatchList(names []string) WatchList {
 	return list
 }
 
-// WatchedNames returns which of the watched names are found in a certificate (X509Entry) or in a TBSCertificate (PrecertEntry), both in DER, in the order of
-// the list. A watched name is found by its labels (RFC 9525, section 6.3), without regard to the case of ASCII letters and to one dot at its end.
+// WatchedNames returns which of the watched names are found in a certificate (X509Entry) or in a TBSCertificate
+// (PrecertEntry), both in DER, in the order of the list. A watched name is found by its labels (RFC 9525, section 6.3),
+// without regard to the case of ASCII letters and to one dot at its end.
 //
 // The error is as of CertificateNames.
 func WatchedNames(entryType EntryType, certificate []byte, watched WatchList) ([]Found, error) {
 	var field C.uint32_t
 	text, code := output(0, func(out *C.uint8_t, room C.size_t, length *C.uint64_t) C.uint32_t {
-		return C.wagtenib_watched_names(C.uint32_t(entryType), ofBytes(certificate), C.size_t(len(certificate)), ofBytes(watched.bytes), C.size_t(len(watched.bytes)),
-			out, room, length, &field)
+		return C.wagtenib_watched_names(C.uint32_t(entryType), ofBytes(certificate), C.size_t(len(certificate)),
+			ofBytes(watched.bytes), C.size_t(len(watched.bytes)), out, room, length, &field)
 	})
 	if err := certificateResult(code, field); err != nil {
 		return nil, err
@@ -103,15 +107,17 @@ func WatchedNames(entryType EntryType, certificate []byte, watched WatchList) ([
 	return foundNames(text), nil
 }
 
-// NamesInBytes returns which of the watched names are somewhere in the bytes, in the order of the list, each with the place InBytes. The bytes may be any bytes:
-// for example a certificate that cannot be read, or that has the name in a field that WatchedNames does not read. A watched name is in the bytes if its text is,
-// without regard to the case of ASCII letters. Its text is the name without one dot at its end, and without the "*." or the dot in front. An empty text is in all
-// bytes.
+// NamesInBytes returns which of the watched names are somewhere in the bytes, in the order of the list, each with the
+// place InBytes. The bytes may be any bytes: for example a certificate that cannot be read, or that has the name in a
+// field that WatchedNames does not read. A watched name is in the bytes if its text is, without regard to the case of
+// ASCII letters. Its text is the name without one dot at its end, and without the "*." or the dot in front. An empty
+// text is in all bytes.
 //
 // The error is nil or ErrMemory.
 func NamesInBytes(data []byte, watched WatchList) ([]Found, error) {
 	text, code := output(0, func(out *C.uint8_t, room C.size_t, length *C.uint64_t) C.uint32_t {
-		return C.wagtenib_names_in_bytes(ofBytes(data), C.size_t(len(data)), ofBytes(watched.bytes), C.size_t(len(watched.bytes)), out, room, length)
+		return C.wagtenib_names_in_bytes(ofBytes(data), C.size_t(len(data)), ofBytes(watched.bytes),
+			C.size_t(len(watched.bytes)), out, room, length)
 	})
 	if err := result(code); err != nil {
 		return nil, err

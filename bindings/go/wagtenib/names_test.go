@@ -48,10 +48,12 @@ func named(t *testing.T, a *authority) *x509.Certificate {
 	})
 }
 
-// TestNamesAreThoseOfX509: crypto/x509 reads the same names of each kind, in the same order, of the certificate and of its TBSCertificate.
+// TestNamesAreThoseOfX509: crypto/x509 reads the same names of each kind, in the same order, of the certificate and of
+// its TBSCertificate.
 func TestNamesAreThoseOfX509(t *testing.T) {
 	certificate := named(t, newAuthority(t))
-	for entryType, data := range map[wagtenib.EntryType][]byte{wagtenib.X509Entry: certificate.Raw, wagtenib.PrecertEntry: certificate.RawTBSCertificate} {
+	for entryType, data := range map[wagtenib.EntryType][]byte{wagtenib.X509Entry: certificate.Raw,
+		wagtenib.PrecertEntry: certificate.RawTBSCertificate} {
 		names, err := wagtenib.CertificateNames(entryType, data)
 		if err != nil {
 			t.Fatal(err)
@@ -66,8 +68,9 @@ func TestNamesAreThoseOfX509(t *testing.T) {
 		}
 		addresses := []string{certificate.IPAddresses[0].String(), certificate.IPAddresses[1].String()}
 		for kind, want := range map[wagtenib.NameKind][]string{
-			wagtenib.CommonName: {certificate.Subject.CommonName}, wagtenib.DNSName: certificate.DNSNames, wagtenib.MailAddress: certificate.EmailAddresses,
-			wagtenib.URI: {certificate.URIs[0].String()}, wagtenib.IPAddress: addresses,
+			wagtenib.CommonName: {certificate.Subject.CommonName}, wagtenib.DNSName: certificate.DNSNames,
+			wagtenib.MailAddress: certificate.EmailAddresses,
+			wagtenib.URI:         {certificate.URIs[0].String()}, wagtenib.IPAddress: addresses,
 		} {
 			if !slices.Equal(found[kind], want) {
 				t.Errorf("entry type %d, kind %d: %q, and not %q", entryType, kind, found[kind], want)
@@ -79,11 +82,12 @@ func TestNamesAreThoseOfX509(t *testing.T) {
 	}
 }
 
-// TestFindsHostsThatX509Verifies: a watched host is found in subjectAltName exactly if crypto/x509 says that the certificate is valid for it.
+// TestFindsHostsThatX509Verifies: a watched host is found in subjectAltName exactly if crypto/x509 says that the
+// certificate is valid for it.
 func TestFindsHostsThatX509Verifies(t *testing.T) {
 	certificate := named(t, newAuthority(t))
-	hosts := []string{"www.example.org", "WWW.example.org", "example.org", "a.wild.example.org", "a.b.wild.example.org", "wild.example.org", "mixed.example.com", "192.0.2.1",
-		"2001:db8::1", "192.0.2.2", "other.example"}
+	hosts := []string{"www.example.org", "WWW.example.org", "example.org", "a.wild.example.org", "a.b.wild.example.org",
+		"wild.example.org", "mixed.example.com", "192.0.2.1", "2001:db8::1", "192.0.2.2", "other.example"}
 	found, err := wagtenib.WatchedNames(wagtenib.X509Entry, certificate.Raw, wagtenib.NewWatchList(hosts))
 	if err != nil {
 		t.Fatal(err)
@@ -99,26 +103,34 @@ func TestFindsHostsThatX509Verifies(t *testing.T) {
 	}
 }
 
-// TestFindsPlaces: a watched name is found by its position, also below a name with a dot in front, in a mail address, in a URI and in a common name.
+// TestFindsPlaces: a watched name is found by its position, also below a name with a dot in front, in a mail address,
+// in a URI and in a common name.
 func TestFindsPlaces(t *testing.T) {
 	certificate := named(t, newAuthority(t))
-	watched := []string{"absent.example", ".example.net", "mail.example.org", "host.example.net.", "common.example.org", "", ".org"}
-	want := []wagtenib.Found{{Position: 1, Place: wagtenib.InAltName}, {Position: 2, Place: wagtenib.InAltName}, {Position: 3, Place: wagtenib.InAltName},
+	watched := []string{"absent.example", ".example.net", "mail.example.org", "host.example.net.", "common.example.org",
+		"", ".org"}
+	want := []wagtenib.Found{{Position: 1, Place: wagtenib.InAltName}, {Position: 2, Place: wagtenib.InAltName},
+		{Position: 3, Place: wagtenib.InAltName},
 		{Position: 4, Place: wagtenib.InCommonName}, {Position: 6, Place: wagtenib.InAltName}}
-	found, err := wagtenib.WatchedNames(wagtenib.PrecertEntry, certificate.RawTBSCertificate, wagtenib.NewWatchList(watched))
+	found, err := wagtenib.WatchedNames(wagtenib.PrecertEntry, certificate.RawTBSCertificate,
+		wagtenib.NewWatchList(watched))
 	if err != nil || !slices.Equal(found, want) {
 		t.Errorf("%v %v", found, err)
 	}
 }
 
-// TestFindsNamesInBytes: a watched name is found in the bytes of a certificate that cannot be read, in an organization and across fields, whatever the case of its
-// letters. The dot or the "*." in front and the dot at the end are no part of what is looked for. The dot at the end goes first, so "*." is the text "*".
+// TestFindsNamesInBytes: a watched name is found in the bytes of a certificate that cannot be read, in an organization
+// and across fields, whatever the case of its letters. The dot or the "*." in front and the dot at the end are no part
+// of what is looked for. The dot at the end goes first, so "*." is the text "*".
 func TestFindsNamesInBytes(t *testing.T) {
 	certificate := named(t, newAuthority(t)).Raw
 	cut := certificate[:len(certificate)-1]
-	watched := []string{"absent.example", "An ORGANIZATION", ".mixed.example.com", "*.wild.example.org", "www.example.org.", "", "*.", "an organizatiom", "\x82\x0fwww"}
-	want := []wagtenib.Found{{Position: 1, Place: wagtenib.InBytes}, {Position: 2, Place: wagtenib.InBytes}, {Position: 3, Place: wagtenib.InBytes},
-		{Position: 4, Place: wagtenib.InBytes}, {Position: 5, Place: wagtenib.InBytes}, {Position: 6, Place: wagtenib.InBytes}, {Position: 8, Place: wagtenib.InBytes}}
+	watched := []string{"absent.example", "An ORGANIZATION", ".mixed.example.com", "*.wild.example.org",
+		"www.example.org.", "", "*.", "an organizatiom", "\x82\x0fwww"}
+	want := []wagtenib.Found{{Position: 1, Place: wagtenib.InBytes}, {Position: 2, Place: wagtenib.InBytes},
+		{Position: 3, Place: wagtenib.InBytes},
+		{Position: 4, Place: wagtenib.InBytes}, {Position: 5, Place: wagtenib.InBytes},
+		{Position: 6, Place: wagtenib.InBytes}, {Position: 8, Place: wagtenib.InBytes}}
 	if _, err := wagtenib.CertificateNames(wagtenib.X509Entry, cut); !errors.Is(err, wagtenib.ErrDERTruncated) {
 		t.Fatal(err)
 	}
@@ -126,7 +138,8 @@ func TestFindsNamesInBytes(t *testing.T) {
 	if err != nil || !slices.Equal(found, want) {
 		t.Errorf("%v %v", found, err)
 	}
-	if found, err := wagtenib.NamesInBytes(nil, wagtenib.NewWatchList([]string{"a", "."})); err != nil || len(found) != 1 || found[0].Position != 1 {
+	if found, err := wagtenib.NamesInBytes(nil, wagtenib.NewWatchList([]string{"a", "."})); err != nil ||
+		len(found) != 1 || found[0].Position != 1 {
 		t.Errorf("no bytes: %v %v", found, err)
 	}
 	if found, err := wagtenib.NamesInBytes(cut, wagtenib.NewWatchList(nil)); err != nil || len(found) != 0 {
@@ -137,9 +150,12 @@ func TestFindsNamesInBytes(t *testing.T) {
 // TestReadsWideCommonNames: a common name in a BMPString keeps its bytes.
 func TestReadsWideCommonNames(t *testing.T) {
 	wide := asn1.RawValue{Tag: asn1.TagBMPString, Bytes: []byte{0, 'w', 0, '.', 0x65, 0xe5}}
-	certificate := newAuthority(t).issueNamed(t, &x509.Certificate{Subject: pkix.Name{ExtraNames: []pkix.AttributeTypeAndValue{{Type: asn1.ObjectIdentifier{2, 5, 4, 3}, Value: wide}}}})
+	commonName := pkix.AttributeTypeAndValue{Type: asn1.ObjectIdentifier{2, 5, 4, 3}, Value: wide}
+	certificate := newAuthority(t).issueNamed(t,
+		&x509.Certificate{Subject: pkix.Name{ExtraNames: []pkix.AttributeTypeAndValue{commonName}}})
 	names, err := wagtenib.CertificateNames(wagtenib.X509Entry, certificate.Raw)
-	if err != nil || len(names) != 1 || names[0].Kind != wagtenib.BMPCommonName || !bytes.Equal(names[0].Bytes, wide.Bytes) {
+	if err != nil || len(names) != 1 || names[0].Kind != wagtenib.BMPCommonName ||
+		!bytes.Equal(names[0].Bytes, wide.Bytes) {
 		t.Errorf("%v %v", names, err)
 	}
 }
@@ -161,7 +177,8 @@ func TestRefusesNames(t *testing.T) {
 		_, err := wagtenib.CertificateNames(test.entryType, test.data)
 		_, other := wagtenib.WatchedNames(test.entryType, test.data, wagtenib.NewWatchList([]string{"example.org"}))
 		var fault *wagtenib.CertificateError
-		if !errors.Is(err, test.want) || !errors.Is(other, test.want) || errors.As(err, &fault) != (test.field != 0) || fault != nil && fault.Field != test.field {
+		if !errors.Is(err, test.want) || !errors.Is(other, test.want) || errors.As(err, &fault) != (test.field != 0) ||
+			fault != nil && fault.Field != test.field {
 			t.Errorf("%v and %v, and not %v in %v", err, other, test.want, test.field)
 		}
 	}

@@ -29,7 +29,8 @@ type NodeState struct {
 }
 
 func (s NodeState) inC() C.struct_wagtenib_node_state {
-	return C.struct_wagtenib_node_state{timestamp: C.uint64_t(s.Timestamp), previous_timestamp: C.uint64_t(s.PreviousTimestamp), salt: C.uint64_t(s.Salt)}
+	return C.struct_wagtenib_node_state{timestamp: C.uint64_t(s.Timestamp),
+		previous_timestamp: C.uint64_t(s.PreviousTimestamp), salt: C.uint64_t(s.Salt)}
 }
 
 func ofState(s *C.struct_wagtenib_node_state) NodeState {
@@ -53,7 +54,8 @@ const (
 	AnswerAll   NodeCommandKind = 9 // answer the submissions of Next
 )
 
-// NodeCommand is a command of a node. Those states and numbers that it is not about are zero. The zero value is the command of a node that starts.
+// NodeCommand is a command of a node. Those states and numbers that it is not about are zero. The zero value is the
+// command of a node that starts.
 type NodeCommand struct {
 	Seen, Next NodeState
 	Objects    uint64 // the number of objects of Next
@@ -61,7 +63,8 @@ type NodeCommand struct {
 }
 
 func (c NodeCommand) inC() C.struct_wagtenib_node_command {
-	return C.struct_wagtenib_node_command{seen: c.Seen.inC(), next: c.Next.inC(), objects: C.uint64_t(c.Objects), command: C.uint32_t(c.Kind)}
+	return C.struct_wagtenib_node_command{seen: c.Seen.inC(), next: c.Next.inC(), objects: C.uint64_t(c.Objects),
+		command: C.uint32_t(c.Kind)}
 }
 
 // NodeOutcomeKind says what came of a command.
@@ -85,10 +88,11 @@ type NodeOutcome struct {
 	Kind    NodeOutcomeKind
 }
 
-// NodeNext returns the command that follows a command, by its outcome. An outcome that does not belong to the command gives the command again. The error is nil,
-// ErrCommand or ErrOutcome.
+// NodeNext returns the command that follows a command, by its outcome. An outcome that does not belong to the command
+// gives the command again. The error is nil, ErrCommand or ErrOutcome.
 func NodeNext(command NodeCommand, outcome NodeOutcome) (NodeCommand, error) {
-	given, told := command.inC(), C.struct_wagtenib_node_outcome{state: outcome.State.inC(), objects: C.uint64_t(outcome.Objects), outcome: C.uint32_t(outcome.Kind)}
+	given, told := command.inC(), C.struct_wagtenib_node_outcome{state: outcome.State.inC(),
+		objects: C.uint64_t(outcome.Objects), outcome: C.uint32_t(outcome.Kind)}
 	var next C.struct_wagtenib_node_command
 	if err := result(C.wagtenib_node_next(&given, &told, &next)); err != nil {
 		return NodeCommand{}, err
@@ -96,8 +100,8 @@ func NodeNext(command NodeCommand, outcome NodeOutcome) (NodeCommand, error) {
 	return NodeCommand{ofState(&next.seen), ofState(&next.next), uint64(next.objects), NodeCommandKind(next.command)}, nil
 }
 
-// NodeFound is what a node finds of a log when it starts, beside the lock's text. What is nil is not there. The root of a head is compared only if its size and its
-// timestamp are those of the lock's head.
+// NodeFound is what a node finds of a log when it starts, beside the lock's text. What is nil is not there. The root of
+// a head is compared only if its size and its timestamp are those of the lock's head.
 type NodeFound struct {
 	Seen      *TreeHead // the newest head that this machine saw
 	Signed    *TreeHead // the last head that was signed
@@ -136,13 +140,13 @@ func (f NodeFound) inC() (found C.struct_wagtenib_node_found) {
 // lockExists is the flag of struct wagtenib_node_found that says that there is a lock.
 const lockExists = 128
 
-// NodeStart decides what a node does when it starts. It must read the lock first and the rest after it. A nil slice means that there is no
-// lock. A lock that exists and has no bytes is refused (ErrLockText).
+// NodeStart decides what a node does when it starts. It must read the lock first and the rest after it. A nil slice
+// means that there is no lock. A lock that exists and has no bytes is refused (ErrLockText).
 //
-// The error is nil exactly if the node continues from the lock's text, since no head that it found is later than the lock's, or has its
-// size and timestamp and another root. If it is ErrCreatesLock, the node creates the
-// lock of a new log. Otherwise the node must do neither, and the error is the first reason: ErrLockText, ErrLockGone if there is no lock, or ErrBehindSeen, ErrTwoRoots or
-// ErrBehindSigned, ErrSignedBehindListed, ErrBehindListed, ErrBehindPublished.
+// The error is nil exactly if the node continues from the lock's text, since no head that it found is later than the
+// lock's, or has its size and timestamp and another root. If it is ErrCreatesLock, the node creates the lock of a new
+// log. Otherwise the node must do neither, and the error is the first reason: ErrLockText, ErrLockGone if there is no
+// lock, or ErrBehindSeen, ErrTwoRoots or ErrBehindSigned, ErrSignedBehindListed, ErrBehindListed, ErrBehindPublished.
 func NodeStart(lock []byte, found NodeFound) error {
 	all := found.inC()
 	if lock != nil {
@@ -151,25 +155,30 @@ func NodeStart(lock []byte, found NodeFound) error {
 	return result(C.wagtenib_node_start(ofBytes(lock), C.size_t(len(lock)), &all))
 }
 
-// NodeAccept decides whether a node may go on from head, if accepted is the newest head that it accepted. The proof is the consistency proof between them (RFC 6962,
-// section 2.1.2), and is not read if their sizes are equal or the size of accepted is 0.
+// NodeAccept decides whether a node may go on from head, if accepted is the newest head that it accepted. The proof is
+// the consistency proof between them (RFC 6962, section 2.1.2), and is not read if their sizes are equal or the size of
+// accepted is 0.
 //
-// It returns nil exactly if head is the accepted head again, or its timestamp is later, and its tree contains that of accepted by the proof. Otherwise it returns the
-// first reason of ErrSizeFalls, ErrTimestampNotLater, ErrFork, ErrEmptyPath, ErrPathTooLong, ErrPathTooShort, ErrFirstMismatch and ErrRootMismatch.
+// It returns nil exactly if head is the accepted head again, or its timestamp is later, and its tree contains that of
+// accepted by the proof. Otherwise it returns the first reason of ErrSizeFalls, ErrTimestampNotLater, ErrFork,
+// ErrEmptyPath, ErrPathTooLong, ErrPathTooShort, ErrFirstMismatch and ErrRootMismatch.
 //
-// A node must sign and publish nothing of a lock's text before its head is accepted, since the lock may hold an older text again, or that of another list.
+// A node must sign and publish nothing of a lock's text before its head is accepted, since the lock may hold an older
+// text again, or that of another list.
 func NodeAccept(accepted, head TreeHead, proof []Hash) error {
 	before, next := accepted.inC(), head.inC()
 	return result(C.wagtenib_node_accept(&before, &next, ofHashes(proof), C.size_t(len(proof))))
 }
 
-// LockText returns a lock's text: line is the state's line that a step gave, node the address of this node, previousTimestamp that of the state from which the step
-// was made, and salt a new random number. The error is nil or ErrMemory. LockState refuses the text if the line is none.
+// LockText returns a lock's text: line is the state's line that a step gave, node the address of this node,
+// previousTimestamp that of the state from which the step was made, and salt a new random number. The error is nil or
+// ErrMemory. LockState refuses the text if the line is none.
 func LockText(line, node []byte, previousTimestamp, salt uint64) ([]byte, error) {
 	const rest = 64 // the words and numbers of a text have 45 bytes
 	text := make([]byte, len(line)+len(node)+rest)
 	var length C.uint64_t
-	err := result(C.wagtenib_lock_text(ofBytes(line), C.size_t(len(line)), ofBytes(node), C.size_t(len(node)), C.uint64_t(previousTimestamp), C.uint64_t(salt), ofBytes(text), C.size_t(len(text)), &length))
+	err := result(C.wagtenib_lock_text(ofBytes(line), C.size_t(len(line)), ofBytes(node), C.size_t(len(node)),
+		C.uint64_t(previousTimestamp), C.uint64_t(salt), ofBytes(text), C.size_t(len(text)), &length))
 	return text[:length], err
 }
 

@@ -34,7 +34,8 @@ func TestNodeNext(t *testing.T) {
 		{outcome{Kind: wagtenib.BatchListed, State: older}, command{Kind: wagtenib.DeleteBatch, Seen: seen, Next: older}},
 		{outcome{Kind: wagtenib.WasLost}, command{Kind: wagtenib.TakeStep, Seen: seen}},
 		{outcome{Kind: wagtenib.StepMade, State: older, Objects: 2}, command{Kind: wagtenib.TakeStep, Seen: seen}},
-		{outcome{Kind: wagtenib.StepMade, State: made, Objects: 2}, command{Kind: wagtenib.StageBatch, Seen: seen, Next: made, Objects: 2}},
+		{outcome{Kind: wagtenib.StepMade, State: made, Objects: 2},
+			command{Kind: wagtenib.StageBatch, Seen: seen, Next: made, Objects: 2}},
 		{outcome{Kind: wagtenib.WasDone}, command{Kind: wagtenib.SwapLock, Seen: seen, Next: made, Objects: 2}},
 		{outcome{Kind: wagtenib.WasDone}, command{Kind: wagtenib.PutObjects, Next: made, Objects: 2}},
 		{outcome{Kind: wagtenib.WasDone}, command{Kind: wagtenib.AddToIndex, Next: made}},
@@ -80,11 +81,14 @@ func TestLockTexts(t *testing.T) {
 	if err != nil {
 		t.Fatal(err)
 	}
-	if state, _, err := wagtenib.LockState(text); err != nil || state != (wagtenib.NodeState{Timestamp: 9, Salt: math.MaxUint64}) {
+	if state, _, err := wagtenib.LockState(text); err != nil ||
+		state != (wagtenib.NodeState{Timestamp: 9, Salt: math.MaxUint64}) {
 		t.Errorf("%+v, %v", state, err)
 	}
-	for _, bad := range []string{"", "a text", string(text[1:]), string(text) + "\n", strings.Replace(string(text), "salt", "salz", 1), strings.Replace(string(text), "00", "0g", 1)} {
-		if state, size, err := wagtenib.LockState([]byte(bad)); !errors.Is(err, wagtenib.ErrLockText) || state != (wagtenib.NodeState{}) || size != 0 {
+	for _, bad := range []string{"", "a text", string(text[1:]), string(text) + "\n",
+		strings.Replace(string(text), "salt", "salz", 1), strings.Replace(string(text), "00", "0g", 1)} {
+		if state, size, err := wagtenib.LockState([]byte(bad)); !errors.Is(err, wagtenib.ErrLockText) ||
+			state != (wagtenib.NodeState{}) || size != 0 {
 			t.Errorf("%.60q: %+v, %d, %v", bad, state, size, err)
 		}
 	}
@@ -124,8 +128,10 @@ func TestNodeStart(t *testing.T) {
 		want  error
 	}{
 		{lock, found{}, nil},
-		{lock, found{Seen: head(3, 9, root), Signed: head(3, 9, root), Guarded: true, Published: at(3, 9), Listed: at(3, 9), HasObject: true}, nil},
-		{lock, found{Seen: head(2, 8, wagtenib.Hash{}), Signed: head(2, 8, wagtenib.Hash{}), Guarded: true, Published: at(2, 8), Listed: at(2, 8)}, nil},
+		{lock, found{Seen: head(3, 9, root), Signed: head(3, 9, root), Guarded: true, Published: at(3, 9), Listed: at(3, 9),
+			HasObject: true}, nil},
+		{lock, found{Seen: head(2, 8, wagtenib.Hash{}), Signed: head(2, 8, wagtenib.Hash{}), Guarded: true,
+			Published: at(2, 8), Listed: at(2, 8)}, nil},
 		{lock, found{Seen: head(3, 9, wagtenib.Hash{})}, wagtenib.ErrBehindSeen},
 		{lock, found{Seen: head(4, 8, root)}, wagtenib.ErrBehindSeen},
 		{lock, found{Signed: head(3, 9, wagtenib.Hash{}), Guarded: true}, wagtenib.ErrTwoRoots},

@@ -12,7 +12,8 @@ import (
 	"wagtenib/bindings/go/wagtenib"
 )
 
-// TestSHAInstructionsHashAsGo compares the hashes of leaves of random lengths with those of crypto/sha256. WAGTENIB_BLOCKS is the number of blocks.
+// TestSHAInstructionsHashAsGo compares the hashes of leaves of random lengths with those of crypto/sha256.
+// WAGTENIB_BLOCKS is the number of blocks.
 func TestSHAInstructionsHashAsGo(t *testing.T) {
 	left := 100_000
 	if text := os.Getenv("WAGTENIB_BLOCKS"); text != "" {
@@ -35,7 +36,8 @@ func TestSHAInstructionsHashAsGo(t *testing.T) {
 	}
 }
 
-// TestSHAInstructionsAreUsed compares what the package reports with WAGTENIB_INSTRUCTIONS, which says whether the processor has SHA instructions.
+// TestSHAInstructionsAreUsed compares what the package reports with WAGTENIB_INSTRUCTIONS, which says whether the
+// processor has SHA instructions.
 func TestSHAInstructionsAreUsed(t *testing.T) {
 	due := os.Getenv("WAGTENIB_INSTRUCTIONS")
 	if due == "" {

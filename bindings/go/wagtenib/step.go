@@ -24,7 +24,8 @@ import (
 // MaxBatch is the largest number of submissions of a step.
 const MaxBatch = 4096
 
-// ErrSubmission reports that a submission has no encoding: a certificate has no bytes or more than 2^24 - 1, or the chain has more than 2,047 issuers.
+// ErrSubmission reports that a submission has no encoding: a certificate has no bytes or more than 2^24 - 1, or the
+// chain has more than 2,047 issuers.
 var ErrSubmission = errors.New("wagtenib: a submission has a length that is not in range")
 
 // Submission holds an entry of a batch.
@@ -79,8 +80,8 @@ func appendCertificate(text, certificate []byte) ([]byte, error) {
 	return append(append(text, byte(n>>16), byte(n>>8), byte(n)), certificate...), nil
 }
 
-// AppendSubmission appends the submission as it is in a batch: a TileLeaf (C2SP static-ct-api) with the timestamp 0 and no extensions. It returns
-// ErrSubmission if a length is not in range.
+// AppendSubmission appends the submission as it is in a batch: a TileLeaf (C2SP static-ct-api) with the timestamp 0 and
+// no extensions. It returns ErrSubmission if a length is not in range.
 func AppendSubmission(batch []byte, s Submission) (_ []byte, err error) {
 	if len(s.Chain) >= 2048 {
 		return nil, fmt.Errorf("%w: %d fingerprints", ErrSubmission, len(s.Chain))
@@ -143,7 +144,8 @@ func (f *fields) published() (p Published) {
 	p.Signed = SignedBytes(f.bytes(TreeHeadBytes))
 	p.Checkpoint = string(f.vector())
 	for objects := (fields{f.vector()}); len(objects.rest) > 0; {
-		p.Objects = append(p.Objects, Object{string(objects.vector()), objects.number(), objects.number(), Hash(objects.bytes(HashSize))})
+		p.Objects = append(p.Objects, Object{string(objects.vector()), objects.number(), objects.number(),
+			Hash(objects.bytes(HashSize))})
 	}
 	return p
 }
@@ -156,7 +158,8 @@ func StepBegin(timestamp uint64) (state string, err error) {
 	return string(reply), err
 }
 
-// StepNeeds returns the names of the objects whose contents a step from the state needs, in order. The error is nil, ErrState or ErrMemory.
+// StepNeeds returns the names of the objects whose contents a step from the state needs, in order. The error is nil,
+// ErrState or ErrMemory.
 func StepNeeds(state string) (names []string, err error) {
 	reply, err := answered(512, func(out *C.uint8_t, room C.size_t, length *C.uint64_t) C.uint32_t {
 		return C.wagtenib_step_needs(ofText(state), C.size_t(len(state)), out, room, length)
@@ -170,16 +173,19 @@ func StepNeeds(state string) (names []string, err error) {
 	return names, nil
 }
 
-// MakeStep returns the step of a log with this origin from a state. The edge has the contents that the step needs, appended by AppendContent in the order
-// of StepNeeds, and the batch has the submissions, appended by AppendSubmission. The timestamp now is in milliseconds.
+// MakeStep returns the step of a log with this origin from a state. The edge has the contents that the step needs,
+// appended by AppendContent in the order of StepNeeds, and the batch has the submissions, appended by AppendSubmission.
+// The timestamp now is in milliseconds.
 //
-// The error is nil or the first reason of ErrOrigin, ErrBatch, ErrTooMany, ErrEdge (the edge is no list), ErrState, ErrTimestampTooFar (now is more than
-// maxAhead beyond the state's timestamp), ErrEdge, ErrEntries, ErrClockBack, ErrLogFull, ErrDataTileTooLong and ErrMemory.
+// The error is nil or the first reason of ErrOrigin, ErrBatch, ErrTooMany, ErrEdge (the edge is no list), ErrState,
+// ErrTimestampTooFar (now is more than maxAhead beyond the state's timestamp), ErrEdge, ErrEntries, ErrClockBack,
+// ErrLogFull, ErrDataTileTooLong and ErrMemory.
 func MakeStep(origin, state string, edge, batch []byte, now, maxAhead uint64) (*Step, error) {
-	reply, err := answered(len(edge)+2*len(batch)+len(batch)/4+32768, func(out *C.uint8_t, room C.size_t, length *C.uint64_t) C.uint32_t {
-		return C.wagtenib_step(ofText(origin), C.size_t(len(origin)), ofText(state), C.size_t(len(state)), ofBytes(edge), C.size_t(len(edge)),
-			ofBytes(batch), C.size_t(len(batch)), C.uint64_t(now), C.uint64_t(maxAhead), out, room, length)
-	})
+	reply, err := answered(len(edge)+2*len(batch)+len(batch)/4+32768,
+		func(out *C.uint8_t, room C.size_t, length *C.uint64_t) C.uint32_t {
+			return C.wagtenib_step(ofText(origin), C.size_t(len(origin)), ofText(state), C.size_t(len(state)), ofBytes(edge),
+				C.size_t(len(edge)), ofBytes(batch), C.size_t(len(batch)), C.uint64_t(now), C.uint64_t(maxAhead), out, room, length)
+		})
 	if err != nil {
 		return nil, err
 	}
@@ -191,20 +197,22 @@ func MakeStep(origin, state string, edge, batch []byte, now, maxAhead uint64) (*
 	return step, nil
 }
 
-// StepClaim returns the bytes to sign for the SCT of a submission, appended by AppendSubmission, if its entry has this timestamp and is the leaf at index:
-// the path leads from that leaf to the root of the state. The error is nil or the first reason of ErrBatch, ErrState, ErrClaim and ErrMemory.
+// StepClaim returns the bytes to sign for the SCT of a submission, appended by AppendSubmission, if its entry has this
+// timestamp and is the leaf at index: the path leads from that leaf to the root of the state. The error is nil or the
+// first reason of ErrBatch, ErrState, ErrClaim and ErrMemory.
 func StepClaim(state string, index, timestamp uint64, path []Hash, submission []byte) (signed []byte, err error) {
 	return answered(len(submission)+64, func(out *C.uint8_t, room C.size_t, length *C.uint64_t) C.uint32_t {
-		return C.wagtenib_step_claim(ofText(state), C.size_t(len(state)), C.uint64_t(index), C.uint64_t(timestamp), ofHashes(path), C.size_t(len(path)),
-			ofBytes(submission), C.size_t(len(submission)), out, room, length)
+		return C.wagtenib_step_claim(ofText(state), C.size_t(len(state)), C.uint64_t(index), C.uint64_t(timestamp),
+			ofHashes(path), C.size_t(len(path)), ofBytes(submission), C.size_t(len(submission)), out, room, length)
 	})
 }
 
-// StepResume returns what is published of the step that made a state, by its bundle. The error is nil or the first reason of ErrOrigin, ErrState,
-// ErrBundle and ErrMemory.
+// StepResume returns what is published of the step that made a state, by its bundle. The error is nil or the first
+// reason of ErrOrigin, ErrState, ErrBundle and ErrMemory.
 func StepResume(origin, state string, bundle []byte) (*Published, error) {
 	reply, err := answered(16384, func(out *C.uint8_t, room C.size_t, length *C.uint64_t) C.uint32_t {
-		return C.wagtenib_step_resume(ofText(origin), C.size_t(len(origin)), ofText(state), C.size_t(len(state)), ofBytes(bundle), C.size_t(len(bundle)), out, room, length)
+		return C.wagtenib_step_resume(ofText(origin), C.size_t(len(origin)), ofText(state), C.size_t(len(state)),
+			ofBytes(bundle), C.size_t(len(bundle)), out, room, length)
 	})
 	if err != nil {
 		return nil, err

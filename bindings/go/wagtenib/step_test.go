@@ -17,7 +17,8 @@ import (
 
 const stepOrigin = "log.example/steps"
 
-// steppedLeaf returns the MerkleTreeLeaf of a submission (RFC 6962, section 3.4), whose one extension is its index (C2SP static-ct-api).
+// steppedLeaf returns the MerkleTreeLeaf of a submission (RFC 6962, section 3.4), whose one extension is its index
+// (C2SP static-ct-api).
 func steppedLeaf(s wagtenib.Submission, timestamp, index uint64) []byte {
 	leaf := binary.BigEndian.AppendUint64([]byte{0, 0}, timestamp)
 	signed := s.Certificate
@@ -33,9 +34,11 @@ func steppedLeaf(s wagtenib.Submission, timestamp, index uint64) []byte {
 // submissionAt returns a made-up submission.
 func submissionAt(number int) wagtenib.Submission {
 	if number%3 == 2 {
-		return wagtenib.Submission{PreCertificate: fmt.Append(nil, "pre ", number), TBSCertificate: fmt.Append(nil, "tbs ", number), IssuerKeyHash: sha256.Sum256([]byte{1})}
+		return wagtenib.Submission{PreCertificate: fmt.Append(nil, "pre ", number),
+			TBSCertificate: fmt.Append(nil, "tbs ", number), IssuerKeyHash: sha256.Sum256([]byte{1})}
 	}
-	return wagtenib.Submission{Certificate: fmt.Append(nil, "certificate ", number), Chain: make([]wagtenib.Hash, number%4)}
+	return wagtenib.Submission{Certificate: fmt.Append(nil, "certificate ", number),
+		Chain: make([]wagtenib.Hash, number%4)}
 }
 
 // batchOf returns the bytes of a batch.
@@ -87,7 +90,8 @@ func (l *steppedLog) take(t testing.TB, step *wagtenib.Step) {
 	l.state = step.State
 }
 
-// TestSteps makes steps of many sizes: roots and tiles are those of x/mod's tlog, and what is signed is as RFC 6962 has it.
+// TestSteps makes steps of many sizes: roots and tiles are those of x/mod's tlog, and what is signed is as RFC 6962 has
+// it.
 func TestSteps(t *testing.T) {
 	log := steppedLog{objects: map[string][]byte{}}
 	var err error
@@ -124,7 +128,8 @@ func TestSteps(t *testing.T) {
 		}
 		digests := [4][32]byte{root, sha256.Sum256(step.Bundle), {}, sha256.Sum256([]byte(before))}
 		line := fmt.Sprintf("growth %016x%016x%x%x", size, now, digests[0], digests[1])
-		if !strings.HasPrefix(step.State, line) || !strings.HasSuffix(step.State, hex.EncodeToString(digests[3][:])) || len(step.State) != 295 {
+		if !strings.HasPrefix(step.State, line) || !strings.HasSuffix(step.State, hex.EncodeToString(digests[3][:])) ||
+			len(step.State) != 295 {
 			t.Errorf("step %d: the state is %s", number, step.State)
 		}
 		if len(step.Receipts) != len(batch) {
@@ -141,7 +146,8 @@ func TestSteps(t *testing.T) {
 		}
 		log.take(t, step)
 		published, err := wagtenib.StepResume(stepOrigin, step.State, step.Bundle)
-		if err != nil || published.Signed != step.Signed || published.Checkpoint != step.Checkpoint || fmt.Sprint(published.Objects) != fmt.Sprint(step.Objects) {
+		if err != nil || published.Signed != step.Signed || published.Checkpoint != step.Checkpoint ||
+			fmt.Sprint(published.Objects) != fmt.Sprint(step.Objects) {
 			t.Errorf("step %d: what is published is %+v, %v", number, published, err)
 		}
 	}
@@ -173,7 +179,8 @@ func TestSteps(t *testing.T) {
 				return wagtenib.StepClaim(log.state, 1<<40, timestamp, log.path(t, index, size), s)
 			},
 			"another submission": func() ([]byte, error) {
-				return wagtenib.StepClaim(log.state, index, timestamp, log.path(t, index, size), batchOf(t, submissionAt(int(index)+1)))
+				return wagtenib.StepClaim(log.state, index, timestamp, log.path(t, index, size),
+					batchOf(t, submissionAt(int(index)+1)))
 			},
 			"without a path": func() ([]byte, error) { return wagtenib.StepClaim(log.state, index, timestamp, nil, s) },
 		} {
@@ -213,19 +220,21 @@ func (l *steppedLog) refuses(t *testing.T) {
 		"an origin of two lines":      {"log\n", l.state, edge, one, 2000, hour, wagtenib.ErrOrigin},
 		"an origin that is no UTF-8":  {"log\xff", l.state, edge, one, 2000, hour, wagtenib.ErrOrigin},
 		"a batch that is cut off":     {stepOrigin, l.state, edge, one[:len(one)-1], 2000, hour, wagtenib.ErrBatch},
-		"a batch that goes on":        {stepOrigin, l.state, edge, append(bytes.Clone(one), 0), 2000, hour, wagtenib.ErrBatch},
-		"a timestamp in the batch":    {stepOrigin, l.state, edge, timestamped, 2000, hour, wagtenib.ErrBatch},
-		"extensions in the batch":     {stepOrigin, l.state, edge, extended, 2000, hour, wagtenib.ErrBatch},
-		"too many":                    {stepOrigin, l.state, edge, many, 2000, hour, wagtenib.ErrTooMany},
-		"an edge that is no list":     {stepOrigin, "growth", edge[:len(edge)-1], one, 2000, hour, wagtenib.ErrEdge},
-		"no state":                    {stepOrigin, l.state[1:], edge, one, 2000, hour, wagtenib.ErrState},
-		"too far ahead":               {stepOrigin, l.state, edge, one, 2000, 2000 - 1008, wagtenib.ErrTimestampTooFar},
-		"a bent tile":                 {stepOrigin, l.state, bent, one, 2000, hour, wagtenib.ErrEdge},
-		"no edge":                     {stepOrigin, l.state, nil, one, 2000, hour, wagtenib.ErrEdge},
-		"one content too many":        {stepOrigin, l.state, wagtenib.AppendContent(bytes.Clone(edge), nil), one, 2000, hour, wagtenib.ErrEdge},
-		"a bent data tile":            {stepOrigin, l.state, data, one, 2000, hour, wagtenib.ErrEntries},
-		"a clock that goes back":      {stepOrigin, l.state, edge, one, 1007, hour, wagtenib.ErrClockBack},
-		"a log of 2^40 leaves":        {stepOrigin, full, nil, one, 6, hour, wagtenib.ErrEdge},
+		"a batch that goes on": {stepOrigin, l.state, edge, append(bytes.Clone(one), 0), 2000, hour,
+			wagtenib.ErrBatch},
+		"a timestamp in the batch": {stepOrigin, l.state, edge, timestamped, 2000, hour, wagtenib.ErrBatch},
+		"extensions in the batch":  {stepOrigin, l.state, edge, extended, 2000, hour, wagtenib.ErrBatch},
+		"too many":                 {stepOrigin, l.state, edge, many, 2000, hour, wagtenib.ErrTooMany},
+		"an edge that is no list":  {stepOrigin, "growth", edge[:len(edge)-1], one, 2000, hour, wagtenib.ErrEdge},
+		"no state":                 {stepOrigin, l.state[1:], edge, one, 2000, hour, wagtenib.ErrState},
+		"too far ahead":            {stepOrigin, l.state, edge, one, 2000, 2000 - 1008, wagtenib.ErrTimestampTooFar},
+		"a bent tile":              {stepOrigin, l.state, bent, one, 2000, hour, wagtenib.ErrEdge},
+		"no edge":                  {stepOrigin, l.state, nil, one, 2000, hour, wagtenib.ErrEdge},
+		"one content too many": {stepOrigin, l.state, wagtenib.AppendContent(bytes.Clone(edge), nil), one, 2000, hour,
+			wagtenib.ErrEdge},
+		"a bent data tile":       {stepOrigin, l.state, data, one, 2000, hour, wagtenib.ErrEntries},
+		"a clock that goes back": {stepOrigin, l.state, edge, one, 1007, hour, wagtenib.ErrClockBack},
+		"a log of 2^40 leaves":   {stepOrigin, full, nil, one, 6, hour, wagtenib.ErrEdge},
 	} {
 		step, err := wagtenib.MakeStep(of.origin, of.state, of.edge, of.batch, of.now, of.ahead)
 		if !errors.Is(err, of.due) || (err == nil) != (step != nil) {

@@ -32,7 +32,8 @@ func TestCheckpointsAreRead(t *testing.T) {
 	if err != nil || checkpoint.Origin != "example.com/behind-the-sofa" || checkpoint.TreeSize != 20852163 {
 		t.Fatalf("%v %v", checkpoint, err)
 	}
-	if coded := base64.StdEncoding.EncodeToString(checkpoint.Root[:]); coded != "CsUYapGGPo4dkMgIAUqom/Xajj7h2fB2MPA3j2jxq2I=" {
+	if coded := base64.StdEncoding.EncodeToString(checkpoint.Root[:]); coded !=
+		"CsUYapGGPo4dkMgIAUqom/Xajj7h2fB2MPA3j2jxq2I=" {
 		t.Errorf("root %s", coded)
 	}
 	if text, err := wagtenib.CheckpointText(checkpoint); err != nil || text != exampleCheckpoint {
@@ -47,7 +48,8 @@ func TestRefusesTexts(t *testing.T) {
 			t.Errorf("%q: %v", origin, err)
 		}
 	}
-	for _, text := range []string{"", exampleCheckpoint[1:][:40], exampleCheckpoint + "an extension line\n", strings.Replace(exampleCheckpoint, "\n2", "\n02", 1)} {
+	for _, text := range []string{"", exampleCheckpoint[1:][:40], exampleCheckpoint + "an extension line\n",
+		strings.Replace(exampleCheckpoint, "\n2", "\n02", 1)} {
 		if _, err := wagtenib.ReadCheckpoint(text); !errors.Is(err, wagtenib.ErrNoCheckpoint) {
 			t.Errorf("%q: %v", text, err)
 		}
@@ -87,7 +89,8 @@ func TestKeysAreNumberedAsNotesDo(t *testing.T) {
 	}
 }
 
-// TestHeadsAndLogs: a TreeHeadSignature has the fields of RFC 6962, section 3.5, and a LogID is the hash of the key that crypto/x509 writes.
+// TestHeadsAndLogs: a TreeHeadSignature has the fields of RFC 6962, section 3.5, and a LogID is the hash of the key
+// that crypto/x509 writes.
 func TestHeadsAndLogs(t *testing.T) {
 	head := wagtenib.TreeHead{TreeSize: 1 << 40, Timestamp: 12345678901234, Root: sha256.Sum256([]byte("a root"))}
 	want := binary.BigEndian.AppendUint64(binary.BigEndian.AppendUint64([]byte{0, 1}, head.Timestamp), head.TreeSize)

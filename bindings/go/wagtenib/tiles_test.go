@@ -75,7 +75,8 @@ func TestTilesAreTlogs(t *testing.T) {
 func TestLargeTrees(t *testing.T) {
 	const most = 1<<64 - 1
 	names, err := wagtenib.PathTiles(most-1, most)
-	if err != nil || len(names) != 8 || names[0] != "tile/0/x072/x057/x594/x037/x927/935.p/255" || names[7] != "tile/7/000.p/255" {
+	if err != nil || len(names) != 8 || names[0] != "tile/0/x072/x057/x594/x037/x927/935.p/255" ||
+		names[7] != "tile/7/000.p/255" {
 		t.Errorf("%q, %v", names, err)
 	}
 	if names, err := wagtenib.PathTiles(0, most); err != nil || len(names) != 15 {
@@ -100,13 +101,16 @@ func TestRefusesTiles(t *testing.T) {
 		return bent
 	}
 	// (the lengths of the last one make up for each other)
-	shifted := [][]byte{tiles[0][:len(tiles[0])-32], append(append([]byte{}, tiles[0][len(tiles[0])-32:]...), tiles[1]...), tiles[2]}
+	shifted := [][]byte{tiles[0][:len(tiles[0])-32], append(append([]byte{}, tiles[0][len(tiles[0])-32:]...), tiles[1]...),
+		tiles[2]}
 	for what, test := range map[string]struct {
 		tiles [][]byte
 		want  error
 	}{
-		"none": {nil, wagtenib.ErrMissingTile}, "one is missing": {tiles[:2], wagtenib.ErrMissingTile}, "one more": {append(append([][]byte{}, tiles...), nil), wagtenib.ErrTooManyTiles},
-		"a byte less": {bent(1, tiles[1][1:]), wagtenib.ErrBadTile}, "an empty one": {bent(2, nil), wagtenib.ErrBadTile}, "a hash more": {bent(0, append(make([]byte, 32), tiles[0]...)), wagtenib.ErrBadTile},
+		"none": {nil, wagtenib.ErrMissingTile}, "one is missing": {tiles[:2], wagtenib.ErrMissingTile},
+		"one more":    {append(append([][]byte{}, tiles...), nil), wagtenib.ErrTooManyTiles},
+		"a byte less": {bent(1, tiles[1][1:]), wagtenib.ErrBadTile}, "an empty one": {bent(2, nil), wagtenib.ErrBadTile},
+		"a hash more":        {bent(0, append(make([]byte, 32), tiles[0]...)), wagtenib.ErrBadTile},
 		"hashes of the next": {shifted, wagtenib.ErrBadTile},
 	} {
 		if path, err := wagtenib.PathOfTiles(7, 300, test.tiles); !errors.Is(err, test.want) || path != nil {
@@ -114,7 +118,8 @@ func TestRefusesTiles(t *testing.T) {
 		}
 	}
 	for what, err := range map[string]error{
-		"a root of none": func() error { _, err := wagtenib.RootTiles(0); return err }(), "its tiles": func() error { _, err := wagtenib.RootOfTiles(0, nil); return err }(),
+		"a root of none": func() error { _, err := wagtenib.RootTiles(0); return err }(),
+		"its tiles":      func() error { _, err := wagtenib.RootOfTiles(0, nil); return err }(),
 	} {
 		if !errors.Is(err, wagtenib.ErrEmptyTree) {
 			t.Errorf("%s: %v", what, err)

@@ -14,8 +14,10 @@ import (
 	"wagtenib/bindings/go/wagtenib"
 )
 
-// The published vectors of Certificate Transparency's reference tree: its eight leaves, and the root of the first n for each n.
-var referenceLeaves = []string{"", "00", "10", "2021", "3031", "40414243", "5051525354555657", "606162636465666768696a6b6c6d6e6f"}
+// The published vectors of Certificate Transparency's reference tree: its eight leaves, and the root of the first n for
+// each n.
+var referenceLeaves = []string{"", "00", "10", "2021", "3031", "40414243", "5051525354555657",
+	"606162636465666768696a6b6c6d6e6f"}
 
 var referenceRoots = []string{
 	"e3b0c44298fc1c149afbf4c8996fb92427ae41e4649b934ca495991b7852b855",
@@ -29,7 +31,8 @@ var referenceRoots = []string{
 	"5dc9da79a70659a9ad559cb701ded9a2ab9d823aad2f4960cfe370eff4604328",
 }
 
-// The reference tree's published audit path of the leaf 5 in all eight leaves, and its consistency proof of 6 leaves with all eight.
+// The reference tree's published audit path of the leaf 5 in all eight leaves, and its consistency proof of 6 leaves
+// with all eight.
 var (
 	referencePath = []string{
 		"bc1a0643b12e4d2d7c77918f44e0f4f79a838b6cf9ec5b5c283e1f4d88599e6b",
@@ -111,15 +114,16 @@ func TestRefusesAuditPathsByTheFirstFault(t *testing.T) {
 		path []wagtenib.Hash
 		root wagtenib.Hash
 	}{
-		"an index above the tree":  {wagtenib.ErrIndexOutOfRange, leaf, 8, path, root},
-		"the largest index":        {wagtenib.ErrIndexOutOfRange, leaf, 1<<64 - 1, path, root},
-		"one hash more":            {wagtenib.ErrPathTooLong, leaf, 5, append(path[:3:3], root), root},
-		"one hash less":            {wagtenib.ErrPathTooShort, leaf, 5, path[:2], root},
-		"no hash":                  {wagtenib.ErrPathTooShort, leaf, 5, nil, root},
-		"another root":             {wagtenib.ErrRootMismatch, leaf, 5, path, flipped(root)},
-		"another leaf":             {wagtenib.ErrRootMismatch, flipped(leaf), 5, path, root},
-		"another index":            {wagtenib.ErrRootMismatch, leaf, 4, path, root},
-		"another hash on the path": {wagtenib.ErrRootMismatch, leaf, 5, []wagtenib.Hash{path[0], flipped(path[1]), path[2]}, root},
+		"an index above the tree": {wagtenib.ErrIndexOutOfRange, leaf, 8, path, root},
+		"the largest index":       {wagtenib.ErrIndexOutOfRange, leaf, 1<<64 - 1, path, root},
+		"one hash more":           {wagtenib.ErrPathTooLong, leaf, 5, append(path[:3:3], root), root},
+		"one hash less":           {wagtenib.ErrPathTooShort, leaf, 5, path[:2], root},
+		"no hash":                 {wagtenib.ErrPathTooShort, leaf, 5, nil, root},
+		"another root":            {wagtenib.ErrRootMismatch, leaf, 5, path, flipped(root)},
+		"another leaf":            {wagtenib.ErrRootMismatch, flipped(leaf), 5, path, root},
+		"another index":           {wagtenib.ErrRootMismatch, leaf, 4, path, root},
+		"another hash on the path": {wagtenib.ErrRootMismatch, leaf, 5, []wagtenib.Hash{path[0], flipped(path[1]), path[2]},
+			root},
 	} {
 		if err := wagtenib.VerifyInclusion(one.leaf, one.at, 8, one.path, one.root); !errors.Is(err, one.due) {
 			t.Errorf("%s: %v, but %v is due", name, err, one.due)
@@ -210,7 +214,8 @@ func comparesProofs(t *testing.T, chance *rand.Rand, stored storedHashes, hashes
 		if err != nil {
 			t.Fatal(err)
 		}
-		if err := wagtenib.VerifyInclusion(hashes[index], uint64(index), uint64(second), ofTlog(path), roots[second-1]); err != nil {
+		if err := wagtenib.VerifyInclusion(hashes[index], uint64(index), uint64(second), ofTlog(path),
+			roots[second-1]); err != nil {
 			t.Errorf("tlog's path of %d in %d: %v", index, second, err)
 		}
 		if index == 0 {
@@ -220,7 +225,8 @@ func comparesProofs(t *testing.T, chance *rand.Rand, stored storedHashes, hashes
 		if err != nil {
 			t.Fatal(err)
 		}
-		if err := wagtenib.VerifyConsistency(uint64(index), uint64(second), roots[index-1], roots[second-1], ofTlog(proof)); err != nil {
+		if err := wagtenib.VerifyConsistency(uint64(index), uint64(second), roots[index-1], roots[second-1],
+			ofTlog(proof)); err != nil {
 			t.Errorf("tlog's proof of %d and %d: %v", index, second, err)
 		}
 	}
@@ -247,16 +253,19 @@ func TestDecodesLeaves(t *testing.T) {
 	}{
 		"a certificate": {
 			leafOf(1_700_000_000_123, 0, opaque(3, certificate), extensions),
-			wagtenib.Leaf{Timestamp: 1_700_000_000_123, EntryType: wagtenib.X509Entry, Certificate: certificate, Extensions: extensions},
+			wagtenib.Leaf{Timestamp: 1_700_000_000_123, EntryType: wagtenib.X509Entry, Certificate: certificate,
+				Extensions: extensions},
 		},
 		"a precertificate": {
 			leafOf(1<<64-1, 1, append(keyHash[:], opaque(3, certificate)...), nil),
-			wagtenib.Leaf{Timestamp: 1<<64 - 1, EntryType: wagtenib.PrecertEntry, IssuerKeyHash: keyHash[:], Certificate: certificate},
+			wagtenib.Leaf{Timestamp: 1<<64 - 1, EntryType: wagtenib.PrecertEntry, IssuerKeyHash: keyHash[:],
+				Certificate: certificate},
 		},
 	} {
 		got, err := wagtenib.DecodeLeaf(one.leaf)
-		if err != nil || got.Timestamp != one.due.Timestamp || got.EntryType != one.due.EntryType || !bytes.Equal(got.IssuerKeyHash, one.due.IssuerKeyHash) ||
-			!bytes.Equal(got.Certificate, one.due.Certificate) || !bytes.Equal(got.Extensions, one.due.Extensions) {
+		if err != nil || got.Timestamp != one.due.Timestamp || got.EntryType != one.due.EntryType ||
+			!bytes.Equal(got.IssuerKeyHash, one.due.IssuerKeyHash) || !bytes.Equal(got.Certificate, one.due.Certificate) ||
+			!bytes.Equal(got.Extensions, one.due.Extensions) {
 			t.Errorf("%s: %v, with %v, but %v is due", name, got, err, one.due)
 		}
 	}

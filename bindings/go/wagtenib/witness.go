@@ -13,8 +13,8 @@ import "C"
 
 import "unsafe"
 
-// maxBeforeText is the largest number of bytes before the checkpoint's text in a message: "cosignature/v1", "time ", a time of at most 20 digits, and two
-// line ends.
+// maxBeforeText is the largest number of bytes before the checkpoint's text in a message: "cosignature/v1", "time ", a
+// time of at most 20 digits, and two line ends.
 const maxBeforeText = 41
 
 // WitnessedTree holds what a witness cosigned last of a log.
@@ -25,7 +25,8 @@ type WitnessedTree struct {
 }
 
 // cosigned makes a call that writes a message over a checkpoint's text.
-func cosigned(text string, call func(out *C.uint8_t, room C.size_t, length *C.uint64_t) C.uint32_t) (message []byte, err error) {
+func cosigned(text string, call func(out *C.uint8_t, room C.size_t, length *C.uint64_t) C.uint32_t) (message []byte,
+	err error) {
 	var length C.uint64_t
 	message = make([]byte, maxBeforeText+len(text))
 	if err := result(call(ofBytes(message), C.size_t(len(message)), &length)); err != nil {
@@ -34,40 +35,47 @@ func cosigned(text string, call func(out *C.uint8_t, room C.size_t, length *C.ui
 	return message[:length:length], nil
 }
 
-// WitnessFirst decides whether a witness may cosign a checkpoint as the first one of the log with this origin. It must be called only if the witness was told to
-// witness the log and never cosigned a tree of it, and never because a state is missing. The old size, the proof, the time and the error are as of WitnessCosign.
+// WitnessFirst decides whether a witness may cosign a checkpoint as the first one of the log with this origin. It must
+// be called only if the witness was told to witness the log and never cosigned a tree of it, and never because a state
+// is missing. The old size, the proof, the time and the error are as of WitnessCosign.
 //
 // It returns the message to cosign (C2SP tlog-cosignature), which is the witness's state from now on.
 func WitnessFirst(origin, checkpoint string, old uint64, proof []Hash, time uint64) (message []byte, err error) {
 	return cosigned(checkpoint, func(out *C.uint8_t, room C.size_t, length *C.uint64_t) C.uint32_t {
-		return C.wagtenib_witness_first(ofText(origin), C.size_t(len(origin)), ofText(checkpoint), C.size_t(len(checkpoint)), C.uint64_t(old), ofHashes(proof),
-			C.size_t(len(proof)), C.uint64_t(time), out, room, length)
+		return C.wagtenib_witness_first(ofText(origin), C.size_t(len(origin)), ofText(checkpoint), C.size_t(len(checkpoint)),
+			C.uint64_t(old), ofHashes(proof), C.size_t(len(proof)), C.uint64_t(time), out, room, length)
 	})
 }
 
-// WitnessCosign decides whether a witness may cosign a checkpoint (C2SP tlog-witness) after the one that it cosigned last, whose message is state. The checkpoint is
-// the text of the note, old is the size that the consistency proof is from, and time is that of the cosignature in seconds since 1970.
+// WitnessCosign decides whether a witness may cosign a checkpoint (C2SP tlog-witness) after the one that it cosigned
+// last, whose message is state. The checkpoint is the text of the note, old is the size that the consistency proof is
+// from, and time is that of the cosignature in seconds since 1970.
 //
-// It returns the message to cosign exactly if the checkpoint is of the same log, old is the size of the last tree, the proof leads from that tree to the
-// checkpoint's (it is empty if both are the same or the last one has no leaves), and the time is neither 0 nor earlier than the last one's. Otherwise it
-// returns the first reason of ErrState, ErrNoCheckpoint, ErrOtherOrigin, ErrOldAbove, ErrNotLast, ErrFork, ErrProofNotEmpty, ErrEmptyPath, ErrPathTooLong,
+// It returns the message to cosign exactly if the checkpoint is of the same log, old is the size of the last tree, the
+// proof leads from that tree to the checkpoint's (it is empty if both are the same or the last one has no leaves), and
+// the time is neither 0 nor earlier than the last one's. Otherwise it returns the first reason of ErrState,
+// ErrNoCheckpoint, ErrOtherOrigin, ErrOldAbove, ErrNotLast, ErrFork, ErrProofNotEmpty, ErrEmptyPath, ErrPathTooLong,
 // ErrPathTooShort, ErrFirstMismatch, ErrRootMismatch and ErrTimeFalls; or ErrMemory.
 //
-// Before the caller cosigns the message, it must store it in place of state, in a place that one process at a time can change.
+// Before the caller cosigns the message, it must store it in place of state, in a place that one process at a time can
+// change.
 func WitnessCosign(state []byte, checkpoint string, old uint64, proof []Hash, time uint64) (message []byte, err error) {
 	return cosigned(checkpoint, func(out *C.uint8_t, room C.size_t, length *C.uint64_t) C.uint32_t {
-		return C.wagtenib_witness_cosign(ofBytes(state), C.size_t(len(state)), ofText(checkpoint), C.size_t(len(checkpoint)), C.uint64_t(old), ofHashes(proof),
-			C.size_t(len(proof)), C.uint64_t(time), out, room, length)
+		return C.wagtenib_witness_cosign(ofBytes(state), C.size_t(len(state)), ofText(checkpoint), C.size_t(len(checkpoint)),
+			C.uint64_t(old), ofHashes(proof), C.size_t(len(proof)), C.uint64_t(time), out, room, length)
 	})
 }
 
-// WitnessState reads a state, the message that was cosigned last. It returns the tree and the time exactly if the state is that of seen, or of a later
-// cosignature of the same log, whose time is not earlier and whose tree is the same or has more leaves. Otherwise it returns ErrState, or
-// ErrStateRolledBack; or ErrMemory. To read a state without another, pass it twice.
+// WitnessState reads a state, the message that was cosigned last. It returns the tree and the time exactly if the state
+// is that of seen, or of a later cosignature of the same log, whose time is not earlier and whose tree is the same or
+// has more leaves. Otherwise it returns ErrState, or ErrStateRolledBack; or ErrMemory. To read a state without another,
+// pass it twice.
 func WitnessState(seen, state []byte) (WitnessedTree, error) {
 	var last C.struct_wagtenib_witnessed_tree
-	if err := result(C.wagtenib_witness_state(ofBytes(seen), C.size_t(len(seen)), ofBytes(state), C.size_t(len(state)), &last)); err != nil {
+	if err := result(C.wagtenib_witness_state(ofBytes(seen), C.size_t(len(seen)), ofBytes(state), C.size_t(len(state)),
+		&last)); err != nil {
 		return WitnessedTree{}, err
 	}
-	return WitnessedTree{TreeSize: uint64(last.tree_size), Time: uint64(last.time), Root: *(*Hash)(unsafe.Pointer(&last.root))}, nil
+	return WitnessedTree{TreeSize: uint64(last.tree_size), Time: uint64(last.time),
+		Root: *(*Hash)(unsafe.Pointer(&last.root))}, nil
 }

@@ -31,7 +31,8 @@ func messageOf(time uint64, text string) []byte {
 }
 
 // due is what x/mod's tlog and this file say of a request over a tree and a time that were cosigned last.
-func due(last wagtenib.WitnessedTree, size uint64, root wagtenib.Hash, old uint64, proof []wagtenib.Hash, time uint64) string {
+func due(last wagtenib.WitnessedTree, size uint64, root wagtenib.Hash, old uint64, proof []wagtenib.Hash,
+	time uint64) string {
 	switch {
 	case size < old:
 		return "old above"
@@ -67,8 +68,10 @@ func said(err error) string {
 	if !errors.As(err, &code) {
 		return err.Error()
 	}
-	names := map[wagtenib.Code]string{wagtenib.ErrOldAbove: "old above", wagtenib.ErrNotLast: "not last", wagtenib.ErrFork: "fork", wagtenib.ErrProofNotEmpty: "proof not empty",
-		wagtenib.ErrTimeFalls: "time", wagtenib.ErrEmptyPath: "proof", wagtenib.ErrPathTooLong: "proof", wagtenib.ErrPathTooShort: "proof", wagtenib.ErrFirstMismatch: "proof",
+	names := map[wagtenib.Code]string{wagtenib.ErrOldAbove: "old above", wagtenib.ErrNotLast: "not last",
+		wagtenib.ErrFork: "fork", wagtenib.ErrProofNotEmpty: "proof not empty",
+		wagtenib.ErrTimeFalls: "time", wagtenib.ErrEmptyPath: "proof", wagtenib.ErrPathTooLong: "proof",
+		wagtenib.ErrPathTooShort: "proof", wagtenib.ErrFirstMismatch: "proof",
 		wagtenib.ErrRootMismatch: "proof"}
 	if name, ok := names[code]; ok {
 		return name
@@ -132,7 +135,8 @@ func TestWitnessAgreesWithTlog(t *testing.T) {
 			if _, err := wagtenib.WitnessState(state, message); err != nil {
 				t.Fatalf("%q after %q: %v", message, state, err)
 			}
-			if _, err := wagtenib.WitnessState(message, state); (err == nil) != bytes.Equal(message, state) || err != nil && !errors.Is(err, wagtenib.ErrStateRolledBack) {
+			if _, err := wagtenib.WitnessState(message, state); (err == nil) != bytes.Equal(message, state) ||
+				err != nil && !errors.Is(err, wagtenib.ErrStateRolledBack) {
 				t.Fatalf("%q after %q: %v", state, message, err)
 			}
 		}
@@ -154,9 +158,14 @@ func TestWitnessRefusesDamagedTexts(t *testing.T) {
 	log.append(t, []byte("b"))
 	text := checkpointOf(witnessed, 1, log.root(t, 1))
 	state := messageOf(7, text)
-	for name, wrong := range map[string]string{"nothing": "", "half a line": text[:9], "no last line end": text[:len(text)-1], "an extension line": text + "more\n", "carriage returns": strings.ReplaceAll(text, "\n", "\r\n"),
-		"a leading zero": strings.Replace(text, "\n1\n", "\n01\n", 1), "a plus": strings.Replace(text, "\n1\n", "\n+1\n", 1), "a size of 65 bits": strings.Replace(text, "\n1\n", "\n18446744073709551616\n", 1),
-		"no origin": text[len(witnessed):], "a short root": checkpointOf(witnessed, 1, wagtenib.Hash{})[:len(text)-5] + "\n", "no UTF-8": "\xff" + text, "a message": string(state)} {
+	for name, wrong := range map[string]string{"nothing": "", "half a line": text[:9],
+		"no last line end": text[:len(text)-1], "an extension line": text + "more\n",
+		"carriage returns":  strings.ReplaceAll(text, "\n", "\r\n"),
+		"a leading zero":    strings.Replace(text, "\n1\n", "\n01\n", 1),
+		"a plus":            strings.Replace(text, "\n1\n", "\n+1\n", 1),
+		"a size of 65 bits": strings.Replace(text, "\n1\n", "\n18446744073709551616\n", 1),
+		"no origin":         text[len(witnessed):], "a short root": checkpointOf(witnessed, 1,
+			wagtenib.Hash{})[:len(text)-5] + "\n", "no UTF-8": "\xff" + text, "a message": string(state)} {
 		if _, err := wagtenib.WitnessCosign(state, wrong, 1, nil, 7); !errors.Is(err, wagtenib.ErrNoCheckpoint) {
 			t.Errorf("%s: %v", name, err)
 		}
@@ -168,9 +177,13 @@ func TestWitnessRefusesDamagedTexts(t *testing.T) {
 			t.Errorf("%s, in a state: %v", name, err)
 		}
 	}
-	for name, wrong := range map[string][]byte{"nothing": nil, "the text": []byte(text), "a line end more": append(bytes.Clone(state), '\n'), "another version": bytes.Replace(state, []byte("v1"), []byte("v2"), 1),
-		"the first line and a half": state[:20], "a time with a zero": bytes.Replace(state, []byte("time 7"), []byte("time 07"), 1), "a time with a plus": bytes.Replace(state, []byte("time 7"), []byte("time +7"), 1),
-		"a time of 65 bits": bytes.Replace(state, []byte("time 7"), []byte("time 18446744073709551616"), 1), "no time": bytes.Replace(state, []byte("time 7"), []byte("time "), 1), "cut": state[:len(state)-1]} {
+	for name, wrong := range map[string][]byte{"nothing": nil, "the text": []byte(text),
+		"a line end more":           append(bytes.Clone(state), '\n'),
+		"another version":           bytes.Replace(state, []byte("v1"), []byte("v2"), 1),
+		"the first line and a half": state[:20], "a time with a zero": bytes.Replace(state, []byte("time 7"),
+			[]byte("time 07"), 1), "a time with a plus": bytes.Replace(state, []byte("time 7"), []byte("time +7"), 1),
+		"a time of 65 bits": bytes.Replace(state, []byte("time 7"), []byte("time 18446744073709551616"), 1),
+		"no time":           bytes.Replace(state, []byte("time 7"), []byte("time "), 1), "cut": state[:len(state)-1]} {
 		if _, err := wagtenib.WitnessCosign(wrong, text, 1, nil, 7); !errors.Is(err, wagtenib.ErrState) {
 			t.Errorf("%s: %v", name, err)
 		}
@@ -185,16 +198,19 @@ func TestWitnessRefusesDamagedTexts(t *testing.T) {
 func TestWitnessKeepsOneLog(t *testing.T) {
 	root := wagtenib.Hash(sha256.Sum256(nil))
 	state, other := messageOf(7, checkpointOf(witnessed, 0, root)), checkpointOf("other.example", 0, root)
-	if _, err := wagtenib.WitnessCosign(state, other, 9, []wagtenib.Hash{{}}, 0); !errors.Is(err, wagtenib.ErrOtherOrigin) {
+	if _, err := wagtenib.WitnessCosign(state, other, 9, []wagtenib.Hash{{}},
+		0); !errors.Is(err, wagtenib.ErrOtherOrigin) {
 		t.Error(err)
 	}
-	if _, err := wagtenib.WitnessFirst(witnessed, other, 9, []wagtenib.Hash{{}}, 0); !errors.Is(err, wagtenib.ErrOtherOrigin) {
+	if _, err := wagtenib.WitnessFirst(witnessed, other, 9, []wagtenib.Hash{{}},
+		0); !errors.Is(err, wagtenib.ErrOtherOrigin) {
 		t.Error(err)
 	}
 	if _, err := wagtenib.WitnessState(state, messageOf(7, other)); !errors.Is(err, wagtenib.ErrStateRolledBack) {
 		t.Error(err)
 	}
-	if _, err := wagtenib.WitnessState(state, messageOf(6, checkpointOf(witnessed, 0, root))); !errors.Is(err, wagtenib.ErrStateRolledBack) {
+	if _, err := wagtenib.WitnessState(state, messageOf(6, checkpointOf(witnessed, 0, root))); !errors.Is(err,
+		wagtenib.ErrStateRolledBack) {
 		t.Error(err)
 	}
 }
