@@ -28,7 +28,8 @@ type refusingList struct {
 	asked   atomic.Int64
 }
 
-func serveRefusingList(t *testing.T) *refusingList {
+// listOfOneLog returns a log list with a log that is served.
+func listOfOneLog(t *testing.T) []byte {
 	t.Helper()
 	log, authority := serveLog(t, "a.example"), testcert.NewAuthority(t)
 	log.add(authority, authority.Issue("other.net"))
@@ -38,6 +39,12 @@ func serveRefusingList(t *testing.T) *refusingList {
 			"key": log.PublicKey(), "log_id": id[:], "mmd": 86400, "url": log.address + "/",
 			"state": map[string]any{"usable": map[string]any{"timestamp": "2026-01-01T00:00:00Z"}}}}}}})
 	must(t, err)
+	return list
+}
+
+func serveRefusingList(t *testing.T) *refusingList {
+	t.Helper()
+	list := listOfOneLog(t)
 	one := &refusingList{}
 	server := httptest.NewServer(http.HandlerFunc(func(w http.ResponseWriter, _ *http.Request) {
 		one.asked.Add(1)
@@ -135,7 +142,7 @@ func TestReportsAListThatWasNeverRead(t *testing.T) {
 		t.Errorf("the first line is %+v", first)
 	}
 	page := first.Page
-	if one := nextEvent(t, lines, "log-list"); one.Address != list.address || one.Next != "it is tried again" ||
+	if one := nextEvent(t, lines, "log-list"); one.Address != list.address || one.Next != "it is tried again in 1s" ||
 		!strings.Contains(one.Fault, "status 503") {
 		t.Errorf("the first line is %+v", one)
 	}
@@ -156,6 +163,33 @@ func TestReportsAListThatWasNeverRead(t *testing.T) {
 		status, line := healthOf(t, page)
 		return status == http.StatusOK && strings.HasPrefix(line, "1 log; all are read")
 	})
+	must(t, program.Process.Signal(syscall.SIGTERM))
+	for lines.Scan() {
+		continue
+	}
+	must(t, program.Wait())
+}
+
+// TestReadsAListThatComesAfterTheStart: a list that cannot be read at the start is read soon after it can be. The line of
+// the failure says when it is tried again.
+func TestReadsAListThatComesAfterTheStart(t *testing.T) {
+	folder := t.TempDir()
+	list := filepath.Join(folder, "list.json")
+	program, lines := started(t, "run", "--name", "example.org", "--folder", filepath.Join(folder, "store"),
+		"--log-list", list, "--listen", "")
+	if one := nextEvent(t, lines, "log-list"); one.Address != list || one.Next != "it is tried again in 1s" ||
+		!strings.Contains(one.Fault, "no such file") {
+		t.Errorf("the first line is %+v", one)
+	}
+	must(t, os.WriteFile(list+".new", listOfOneLog(t), 0o600))
+	must(t, os.Rename(list+".new", list))
+	one := nextEvent(t, lines, "log-list")
+	for one.Fault != "" && strings.HasPrefix(one.Next, "it is tried again in ") {
+		one = nextEvent(t, lines, "log-list")
+	}
+	if one.Logs != 1 || one.Fault != "" || one.List != list {
+		t.Errorf("the line of the list that was read is %+v", one)
+	}
 	must(t, program.Process.Signal(syscall.SIGTERM))
 	for lines.Scan() {
 		continue

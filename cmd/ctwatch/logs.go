@@ -149,7 +149,7 @@ func newFollower(of logSettings, keeper watch.Keeper, lines *web.Lines) (*follow
 	}
 	if of.once {
 		client.Retrying = firstOfEach(func(address string, fault error) {
-			lines.Warn("retry", "address", address, "fault", fault, "next", "it is tried again")
+			lines.Warn("retry", "address", address, "fault", fault, "next", triedAgain)
 		})
 	}
 	f := &follower{of: of, lines: lines, listed: listStatus{since: time.Now()}}
@@ -182,10 +182,13 @@ func firstOfEach(report func(address string, fault error)) func(string, error) {
 	}
 }
 
+// triedAgain is what a line says of a request that failed.
+const triedAgain = "it is tried again"
+
 // retryList reports that an attempt to read the log list failed, and that there will be another one.
 func (f *follower) retryList(address string, fault error) {
 	f.listed.report(time.Now(), fault)
-	f.lines.Error("log-list", "address", address, "fault", fault, "next", "it is tried again")
+	f.lines.Error("log-list", "address", address, "fault", fault, "next", triedAgain)
 }
 
 // run follows the logs until the context ends.
@@ -210,8 +213,8 @@ func (f *follower) run(ctx context.Context) {
 			f.lines.Info("log-list", "logs", len(logs), "list", f.of.list, "of", list.Time.Format(time.RFC3339))
 			f.group.Follow(ctx, logs)
 			f.listed.report(time.Now(), nil)
-		}, func(err error) {
-			f.lines.Error("log-list", "fault", err)
+		}, func(err error, next time.Duration) {
+			f.lines.Error("log-list", "address", f.of.list, "fault", err, "next", fmt.Sprintf("%s in %v", triedAgain, next))
 			f.listed.report(time.Now(), err)
 		})
 	}

@@ -72,31 +72,59 @@ func (s Source) content(ctx context.Context, place string, most int64) ([]byte, 
 	return content, nil
 }
 
+// The pause after the first failed reading of a list that was never read, and the longest one. A program without a list
+// watches nothing, so it must not wait as long as between two lists.
+const (
+	firstRetry = time.Second
+	maxRetry   = 3 * time.Minute
+)
+
 // Follow reads the list now and after each pause, and calls `changed` with it, until the context ends. If it cannot be
-// read, is refused, or is older than the last one, `failed` gets the reason, and the last list stays. It returns the
-// error of the context.
-func (s Source) Follow(ctx context.Context, pause time.Duration, changed func(List), failed func(error)) error {
+// read, is refused, or is older than the last one, `failed` gets the reason and the time until the next reading, and the
+// last list stays. Until the list was read once, the pauses are shorter: they double from 1 second to 3 minutes, except
+// that a server may ask for a longer one. Follow returns the error of the context.
+func (s Source) Follow(ctx context.Context, pause time.Duration, changed func(List),
+	failed func(err error, next time.Duration)) error {
 	clock := s.Client.Clock
 	if clock == nil {
 		clock = logclient.MachineClock{}
 	}
+	// (the pauses of a client between attempts would begin with short ones again in each reading)
+	source := s
+	source.Client.Limits.Attempts = 1
+	retry := firstRetry
 	var last time.Time
 	for {
-		list, err := s.Read(ctx)
+		list, err := source.Read(ctx)
 		if err == nil && list.Time.Before(last) {
 			err = fmt.Errorf("%s: %w: it is of %s, and that was of %s", s.Place, ErrOlder, list.Time.Format(time.RFC3339),
 				last.Format(time.RFC3339))
 		}
+		next := pause
 		switch {
 		case err == nil:
+			source, retry = s, 0
 			last = list.Time
 			changed(list)
 		case ctx.Err() != nil && errors.Is(err, ctx.Err()):
 		default:
-			failed(err)
+			if retry > 0 {
+				next = min(max(retry, asked(err, clock.Now())), pause)
+				retry = min(2*retry, maxRetry)
+			}
+			failed(err, next)
 		}
-		if err := clock.Wait(ctx, pause); err != nil {
+		if err := clock.Wait(ctx, next); err != nil {
 			return err
 		}
 	}
+}
+
+// asked returns how long a server that refused a request asked to wait, or 0 if it did not.
+func asked(err error, now time.Time) time.Duration {
+	var busy *logclient.BusyError
+	if !errors.As(err, &busy) {
+		return 0
+	}
+	return busy.Until.Sub(now)
 }

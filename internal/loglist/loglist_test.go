@@ -16,6 +16,7 @@ import (
 	"net/http/httptest"
 	"os"
 	"path/filepath"
+	"slices"
 	"strings"
 	"testing"
 	"time"
@@ -210,16 +211,17 @@ func TestReadsSignedLists(t *testing.T) {
 	}
 }
 
-// pauses is a clock whose waits are counted, and end the context after some.
+// pauses is a clock whose waits are recorded, and end the context after some.
 type pauses struct {
-	count, most int
-	cancel      context.CancelFunc
+	waits  []time.Duration
+	most   int
+	cancel context.CancelFunc
 }
 
 func (p *pauses) Now() time.Time { return time.Date(2027, 1, 1, 0, 0, 0, 0, time.UTC) }
 
-func (p *pauses) Wait(ctx context.Context, _ time.Duration) error {
-	if p.count++; p.count == p.most {
+func (p *pauses) Wait(ctx context.Context, d time.Duration) error {
+	if p.waits = append(p.waits, d); len(p.waits) == p.most {
 		p.cancel()
 	}
 	return ctx.Err()
@@ -252,7 +254,7 @@ func TestFollows(t *testing.T) {
 	var seen []string
 	var faults []error
 	err := source.Follow(ctx, time.Hour, func(list loglist.List) { seen = append(seen, list.Logs[0].Name) },
-		func(err error) { faults = append(faults, err) })
+		func(err error, _ time.Duration) { faults = append(faults, err) })
 	if !errors.Is(err, context.Canceled) || strings.Join(seen, " ") != "a c" || len(faults) != 3 {
 		t.Fatalf("%v: %v, %v", err, seen, faults)
 	}
@@ -260,5 +262,49 @@ func TestFollows(t *testing.T) {
 		if !errors.Is(faults[i], due) {
 			t.Errorf("%v, and %v is due", faults[i], due)
 		}
+	}
+}
+
+// Until a list was read once, it is tried again after pauses that double up to three minutes, and after each failure the
+// caller knows the pause. A server may ask for a longer pause, up to that between two lists. After the first list,
+// pauses are as long as the caller says.
+func TestTriesAgainUntilTheFirstList(t *testing.T) {
+	list := listOf(t, at, []entry{newEntry("a", false, "usable")}, nil)
+	refusals := []string{"", "", "", "", "", "", "", "", "", "", "", "400", "172800"}
+	asked := 0
+	server := httptest.NewServer(http.HandlerFunc(func(w http.ResponseWriter, r *http.Request) {
+		asked++
+		switch {
+		case asked <= len(refusals):
+			if after := refusals[asked-1]; after != "" {
+				w.Header().Set("Retry-After", after)
+			}
+			w.WriteHeader(http.StatusServiceUnavailable)
+		case asked == len(refusals)+1:
+			if _, err := w.Write(list); err != nil {
+				t.Error(err)
+			}
+		default:
+			http.NotFound(w, r)
+		}
+	}))
+	defer server.Close()
+	ctx, cancel := context.WithCancel(context.Background())
+	defer cancel()
+	var want []time.Duration
+	for _, seconds := range []int{1, 2, 4, 8, 16, 32, 64, 128, 180, 180, 180, 400, 3600, 3600, 3600} {
+		want = append(want, time.Duration(seconds)*time.Second)
+	}
+	clock := &pauses{most: len(want), cancel: cancel}
+	source := loglist.Source{Place: server.URL + "/log_list.json", Client: logclient.Options{Clock: clock}}
+	var failures []time.Duration
+	lists := 0
+	err := source.Follow(ctx, time.Hour, func(loglist.List) { lists++ },
+		func(_ error, next time.Duration) { failures = append(failures, next) })
+	if !errors.Is(err, context.Canceled) || lists != 1 || !slices.Equal(clock.waits, want) {
+		t.Errorf("%v: %d lists, after the pauses %v, and %v are due", err, lists, clock.waits, want)
+	}
+	if due := slices.Delete(slices.Clone(want), len(refusals), len(refusals)+1); !slices.Equal(failures, due) {
+		t.Errorf("the next readings are said to be in %v, and %v are due", failures, due)
 	}
 }
