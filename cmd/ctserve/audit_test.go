@@ -245,6 +245,8 @@ func TestAuditArguments(t *testing.T) {
 			at.path("absent")}, ca...),
 		"has no certificate in PEM": append([]string{"https://log.example", "--ca-file",
 			at.path("settings")}, ca...),
+		`--for: "2 seconds" is not a duration (write a duration such as 2s`: append([]string{"https://log.example",
+			"--for", "2 seconds"}, ca...),
 		"--for 0s is not above 0": append([]string{"https://log.example", "--for", "0s"}, ca...),
 		"--poll-interval -1s is not above 0": append([]string{"https://log.example", "--poll-interval",
 			"-1s"}, ca...),

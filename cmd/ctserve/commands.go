@@ -60,18 +60,32 @@ func commandFlags(name, page string, faults io.Writer) *flag.FlagSet {
 	return settingsfile.Flags("ctserve "+name, page, faults)
 }
 
+// parseWords reads words that are flags, up to the first other one. The error wraps flag.ErrHelp or errUsage.
+func parseWords(flags *flag.FlagSet, words []string) error {
+	err := settingsfile.ParseWords(flags, words)
+	if err != nil && !errors.Is(err, flag.ErrHelp) {
+		return fmt.Errorf("%w: %v", errUsage, err)
+	}
+	return err
+}
+
 // parseFlags reads words that are flags, and as many others as are given.
 func parseFlags(flags *flag.FlagSet, words []string, others int) error {
-	err := flags.Parse(words)
-	switch {
-	case errors.Is(err, flag.ErrHelp):
+	if err := parseWords(flags, words); err != nil {
 		return err
-	case err != nil:
-		return fmt.Errorf("%w: %v", errUsage, err)
-	case flags.NArg() != others:
+	}
+	if flags.NArg() != others {
 		return fmt.Errorf("%w: wrong number of arguments (see %s --help)", errUsage, flags.Name())
 	}
 	return nil
+}
+
+// parseSettings reads the words of a command that takes a log's settings: the file that has them, or flags.
+func parseSettings(words []string, faults io.Writer) (*settings, error) {
+	if len(words) == 1 && !strings.HasPrefix(words[0], "-") {
+		words = []string{"--config", words[0]}
+	}
+	return parse(words, faults)
 }
 
 // runKey makes a log's key in a file that isn't there yet, or shows the one that is: the log's id (RFC 6962, section
@@ -263,10 +277,7 @@ func publicKey(s *settings, path string) ([]byte, error) {
 // runCheck checks everything that a log's settings name, and starts nothing: the settings, the key, the roots and TLS.
 // It prints a line for each. It checks all of them, and reports the first fault of each.
 func runCheck(words []string, answers, faults io.Writer) error {
-	if len(words) == 1 && !strings.HasPrefix(words[0], "-") {
-		words = []string{"--config", words[0]}
-	}
-	s, err := parse(words, faults)
+	s, err := parseSettings(words, faults)
 	if err != nil {
 		return err
 	}
@@ -359,10 +370,7 @@ func runVersion(answers io.Writer) int {
 
 // runIndex builds a log's deduplication index again from its tiles. The log may run at the same time.
 func runIndex(words []string, answers, faults io.Writer) (err error) {
-	if len(words) == 1 && !strings.HasPrefix(words[0], "-") {
-		words = []string{"--config", words[0]}
-	}
-	s, err := parse(words, faults)
+	s, err := parseSettings(words, faults)
 	if err != nil {
 		return err
 	}

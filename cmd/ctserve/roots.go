@@ -44,10 +44,8 @@ func runRoots(words []string, answers, faults io.Writer) error {
 	flags := commandFlags("roots", rootsPage, faults)
 	var given rootsFlags
 	given.add(flags)
-	if err := flags.Parse(words); errors.Is(err, flag.ErrHelp) {
+	if err := parseWords(flags, words); err != nil {
 		return err
-	} else if err != nil {
-		return fmt.Errorf("%w: %v", errUsage, err)
 	}
 	if given.into == "" || flags.NArg() == 0 || given.maxFall < 0 || given.maxFall > 100 {
 		return fmt.Errorf("%w: roots needs --into, a table, and a percentage as --max-fall (see ctserve roots --help)",

@@ -528,9 +528,9 @@ func isOn(into **bool) func(string) error {
 // above0 reads a duration, which must be above 0.
 func above0(into *time.Duration) func(string) error {
 	return func(text string) error {
-		set, err := time.ParseDuration(text)
+		set, err := settingsfile.Duration(text)
 		if err == nil && set <= 0 {
-			err = errors.New("a duration must be above 0")
+			err = fmt.Errorf("%v is not above 0 (write for example 50ms or 30s)", set)
 		}
 		*into = set
 		return err

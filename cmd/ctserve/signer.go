@@ -3,7 +3,6 @@ package main
 import (
 	"context"
 	"errors"
-	"flag"
 	"fmt"
 	"io"
 	"os"
@@ -11,6 +10,7 @@ import (
 	"strings"
 	"time"
 
+	"wagtenib/internal/settingsfile"
 	"wagtenib/internal/signer"
 	"wagtenib/internal/stores"
 )
@@ -65,11 +65,10 @@ func runSigner(given []string, from io.Reader, answers, to io.Writer) int {
 	openWithin := flags.Duration("open-timeout", signsWithin, "time within which the guard's state must open")
 	listen := flags.String("listen", "",
 		"`path` of a socket for nodes of this user or group. Without it, requests come over standard input")
-	err := flags.Parse(given)
-	if errors.Is(err, flag.ErrHelp) {
-		return 0
+	if status, ends := settingsfile.Ends(settingsfile.ParseWords(flags, given), to); ends {
+		return status
 	}
-	if err != nil || flags.NArg() > 0 || *key == "" {
+	if flags.NArg() > 0 || *key == "" {
 		fmt.Fprintln(to, "ctserve signer: --signing-key is missing, or an argument is not a setting (see --help)")
 		return 2
 	}

@@ -105,6 +105,19 @@ func TestSaysWhatToWriteInTheFile(t *testing.T) {
 	}
 }
 
+// TestSaysWhatToWriteInTheCommandLine: a duration in words is refused with the flag, the value and what to write, by
+// `ctwatch run` and by the other commands.
+func TestSaysWhatToWriteInTheCommandLine(t *testing.T) {
+	for _, words := range [][]string{{"run", "--name", "example.org", "--pause", "2 seconds"},
+		{"health", "--silent-after", "2 seconds"}} {
+		status, _, faults := ctwatch(t, words...)
+		due := words[len(words)-2] + `: "2 seconds" is not a duration (write a duration such as 2s, 5m or 24h)`
+		if status != statusUsage || !strings.Contains(faults, due) {
+			t.Errorf("%s: status %d: %s, and %s is due", words[0], status, faults, due)
+		}
+	}
+}
+
 // TestChecksWatchLists: names prints what each name covers, also of a list of certspotter, where no dot is an exact
 // name.
 func TestChecksWatchLists(t *testing.T) {

@@ -9,6 +9,8 @@ import (
 	"fmt"
 	"io"
 	"os"
+	"regexp"
+	"strconv"
 	"strings"
 	"time"
 )
@@ -46,10 +48,34 @@ func Ends(err error, to io.Writer) (status int, ends bool) {
 	return 2, true
 }
 
+// ParseWords sets flags from the arguments of a command line, up to the first one that is no flag. The error of a value
+// that a flag refuses names the flag, the value and what to write. If help was requested it returns flag.ErrHelp.
+func ParseWords(flags *flag.FlagSet, words []string) error {
+	err := flags.Parse(words)
+	if err == nil || errors.Is(err, flag.ErrHelp) {
+		return err
+	}
+	// Package flag returns the name and the value only in its text.
+	parts := refusal.FindStringSubmatch(err.Error())
+	if parts == nil {
+		return err
+	}
+	value, unquoted := strconv.Unquote(parts[1])
+	of := flags.Lookup(parts[2])
+	if unquoted != nil || of == nil {
+		return err
+	}
+	return fmt.Errorf("--%s: %s", of.Name, refused(of, value, parts[3], "--%[1]s, or --%[1]s=false"))
+}
+
+// refusal matches the text of package flag for a value that a flag refuses: the quoted value, the flag's name, and the
+// reason.
+var refusal = regexp.MustCompile(`(?s)^invalid (?:boolean )?value ("(?:[^"\\]|\\.)*") for (?:flag )?-([^:]*): (.*)$`)
+
 // Parse sets flags from the arguments of a command line, which must have nothing else. It sets the other flags from the
 // file that the flag config names, if there is one. If help was requested it returns flag.ErrHelp.
 func (r Rules) Parse(flags *flag.FlagSet, words []string) error {
-	if err := flags.Parse(words); err != nil {
+	if err := ParseWords(flags, words); err != nil {
 		return err
 	}
 	if flags.NArg() > 0 {
@@ -101,27 +127,50 @@ func (r Rules) read(flags *flag.FlagSet, path string) error {
 		if given[name] && !several {
 			continue
 		}
-		if err := flags.Set(name, strings.TrimSpace(value)); err != nil {
-			return fmt.Errorf("%s, line %d: %s: %v%s", path, number, name, err, remedy(flags.Lookup(name)))
+		value = strings.TrimSpace(value)
+		if err := flags.Set(name, value); err != nil {
+			return fmt.Errorf("%s, line %d: %s: %s", path, number, name,
+				refused(flags.Lookup(name), value, err.Error(), "%[1]s true, or %[1]s false"))
 		}
 	}
 	return lines.Err()
 }
 
-// remedy returns what to write in the file for a flag whose value is refused, if its type says so, and otherwise
-// nothing.
-func remedy(of *flag.Flag) string {
-	value, isGetter := of.Value.(flag.Getter)
-	if !isGetter {
-		return ""
+// Duration reads a duration. The error names the text and what to write.
+func Duration(text string) (time.Duration, error) {
+	set, err := time.ParseDuration(text)
+	if err != nil {
+		return 0, fmt.Errorf("%.100q is not a duration (write a duration such as 2s, 5m or 24h)", text)
 	}
-	switch value.Get().(type) {
+	return set, nil
+}
+
+// refused returns why a flag refuses a value, and what to write: for a flag that is true or false, this format with its
+// name. A flag of another type than those below gives a reason of its own.
+func refused(of *flag.Flag, value, reason, trueOrFalse string) string {
+	var kind any
+	if getter, isGetter := of.Value.(flag.Getter); isGetter {
+		kind = getter.Get()
+	}
+	isRange := strings.Contains(reason, "out of range")
+	switch kind.(type) {
 	case bool:
-		return fmt.Sprintf(" (write %s true, or %s false)", of.Name, of.Name)
+		return fmt.Sprintf("%.100q is neither true nor false (write %s)", value, fmt.Sprintf(trueOrFalse, of.Name))
 	case time.Duration:
-		return " (write a duration such as 2s, 5m or 24h)"
+		if _, err := Duration(value); err != nil {
+			return err.Error()
+		}
+	case int, int64, uint, uint64:
+		if !isRange {
+			return fmt.Sprintf("%.100q is not a whole number (write digits only)", value)
+		}
+		return fmt.Sprintf("%.100q is out of range (write a number with fewer digits)", value)
+	case float64:
+		if !isRange {
+			return fmt.Sprintf("%.100q is not a number (write for example 99.5)", value)
+		}
 	}
-	return ""
+	return reason
 }
 
 func has(names []string, name string) bool {

@@ -66,7 +66,7 @@ func TestSettle(t *testing.T) {
 	}{
 		{"--size 3", "", 1, nil},
 		{"--size 4", "program: 4 is too much", 1, usage},
-		{"--size three", `program: invalid value "three" for flag -size: parse error`, 0, usage},
+		{"--size three", `program: --size: "three" is not a whole number (write digits only)`, 0, usage},
 		{"--help", "flag: help requested", 0, flag.ErrHelp},
 	} {
 		flags, size, _ := made()
@@ -130,4 +130,39 @@ func made() (flags *flag.FlagSet, size *int, logs *[]string) {
 	flags.String("config", "", "")
 	flags.Func("log", "", func(text string) error { *logs = append(*logs, text); return nil })
 	return flags, size, logs
+}
+
+// TestNamesWrongValues: the error of a value that a flag refuses has the name, the value and what to write, on the
+// command line and in the file. A flag with a reason of its own keeps it, whatever is in it.
+func TestNamesWrongValues(t *testing.T) {
+	const either = `"maybe" is neither true nor false (write `
+	for _, c := range []struct{ name, value, due string }{
+		{"pause", "2 seconds", `"2 seconds" is not a duration (write a duration such as 2s, 5m or 24h)`},
+		{"pause", "", `"" is not a duration (write a duration such as 2s, 5m or 24h)`},
+		{"pause", `"a" for flag -size: b`, `"\"a\" for flag -size: b" is not a duration (write a duration such as 2s, 5m or 24h)`},
+		{"on", "maybe", either + "on true, or on false)"},
+		{"size", "3 KiB", `"3 KiB" is not a whole number (write digits only)`},
+		{"size", "99999999999999999999", `"99999999999999999999" is out of range (write a number with fewer digits)`},
+		{"share", "half", `"half" is not a number (write for example 99.5)`},
+		{"own", "x", `it is "x" for flag -size: and more (write y)`},
+	} {
+		flags, _, _ := made()
+		flags.Duration("pause", 0, "")
+		flags.Bool("on", false, "")
+		flags.Float64("share", 0, "")
+		flags.Func("own", "", func(text string) error { return fmt.Errorf("it is %q for flag -size: and more (write y)", text) })
+		due := strings.Replace(c.due, either+"on true, or on false)", either+"--on, or --on=false)", 1)
+		if err := ParseWords(flags, []string{"--" + c.name + "=" + c.value}); err == nil ||
+			err.Error() != "--"+c.name+": "+due {
+			t.Errorf("the flag: %v, and %s is due", err, due)
+		}
+		path := filepath.Join(t.TempDir(), "settings")
+		if err := os.WriteFile(path, []byte(c.name+" "+c.value), 0o600); err != nil {
+			t.Fatal(err)
+		}
+		if err := (Rules{}).Parse(flags, []string{"--config", path}); err == nil ||
+			err.Error() != path+", line 1: "+c.name+": "+c.due {
+			t.Errorf("the file: %v, and %s is due", err, c.due)
+		}
+	}
 }
