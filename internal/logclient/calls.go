@@ -155,19 +155,22 @@ func (c *Client) Entries(ctx context.Context, start, end uint64, use func(entrie
 	return inOrder(ctx, c, next, c.page, use)
 }
 
-// page reads the entries of a piece. A log may give fewer than were asked for, so it may take several requests.
+// page reads the entries of a piece. A log may give fewer than were asked for, so it may take several requests, whose
+// answers have a bound together.
 func (c *Client) page(ctx context.Context, of piece, held *holding) (Page, error) {
 	const name = "get-entries"
-	found := Page{Start: of.start}
+	found, left := Page{Start: of.start}, c.limits.Page
 	for at := of.start; at < of.end; at = of.start + uint64(len(found.Entries)) {
 		query := url.Values{"start": {strconv.FormatUint(at, 10)}, "end": {strconv.FormatUint(of.end-1, 10)}}
 		var answer struct {
 			Entries entryList `json:"entries"`
 		}
 		answer.Entries.most = int(of.end - at)
-		if _, err := c.call(ctx, name, query, maxEntries, held, &answer); err != nil {
+		content, err := c.call(ctx, name, query, min(maxEntries, left), held, &answer)
+		if err != nil {
 			return Page{}, err
 		}
+		left -= int64(len(content))
 		if len(answer.Entries.entries) == 0 {
 			return Page{}, fmt.Errorf("ct/v1/%s: %w: no entries from %d on, and the log has signed %d", name, ErrNonsense, at,
 				of.end)

@@ -23,6 +23,7 @@ type Limits struct {
 	Attempts int           // requests for one answer, if the log is busy or fails; 10
 	Wait     time.Duration // the longest time between two attempts. A log that asks for a longer one is busy; 5 minutes
 	InFlight int           // requests at a time; 8
+	Page     int64         // bytes of all answers for 256 entries; 256 MiB
 	Buffer   int64         // bytes of entries that are read ahead, beside one whole answer; 32 MiB
 }
 
@@ -43,9 +44,13 @@ func (l Limits) withDefaults() Limits {
 	number(&l.Pace, 4096)
 	number(&l.Attempts, 10)
 	number(&l.InFlight, 8)
-	if l.Buffer <= 0 {
-		l.Buffer = 32 << 20
+	size := func(value *int64, otherwise int64) {
+		if *value <= 0 {
+			*value = otherwise
+		}
 	}
+	size(&l.Page, 256<<20)
+	size(&l.Buffer, 32<<20)
 	return l
 }
 

@@ -40,6 +40,30 @@ func TestReadsSmallPages(t *testing.T) {
 	}
 }
 
+// A log that answers each entry by itself, with much around it, cannot fill the memory: the answers for the entries that
+// are handed over at once have a bound together.
+func TestBoundsTheAnswersOfAPage(t *testing.T) {
+	const answer = 1000 // bytes
+	asked := 0
+	log := http.HandlerFunc(func(w http.ResponseWriter, _ *http.Request) {
+		asked++
+		fmt.Fprintf(w, "%-*s", answer, `{"entries":[{"leaf_input":"AAAA","extra_data":""}]}`)
+	})
+	for most, due := range map[int64]error{100 * answer: logclient.ErrTooLarge, 255 * answer: logclient.ErrTooLarge,
+		256 * answer: nil} {
+		asked = 0
+		c := client(t, log, logclient.Options{Limits: logclient.Limits{Page: most}})
+		entries := 0
+		err := c.Entries(context.Background(), 0, 256, func(page logclient.Page, _ bool) error {
+			entries += len(page.Entries)
+			return nil
+		})
+		if !errors.Is(err, due) || err == nil && entries != 256 || asked > int(most/answer)+1 {
+			t.Errorf("with %d bytes: %d entries of %d answers, %v, and %v is due", most, entries, asked, err, due)
+		}
+	}
+}
+
 // With little room to read ahead, tiles are asked for again in their turn: they come in order and whole, and the room
 // is given back.
 func TestReadsWithLittleRoom(t *testing.T) {
