@@ -6,6 +6,7 @@ import (
 	"io/fs"
 	"os"
 	"path/filepath"
+	"strings"
 	"time"
 )
 
@@ -55,7 +56,7 @@ const halfKept = ".writing-"
 // DropHalfKept removes what killed writers of KeepFile and ShowFile left beside a file. The caller must keep other
 // processes from writing the file.
 func DropHalfKept(path string) error {
-	left, err := filepath.Glob(path + halfKept + "*")
+	left, err := halvesOf(path)
 	for _, half := range left {
 		err = errors.Join(err, os.Remove(half))
 	}
@@ -65,17 +66,30 @@ func DropHalfKept(path string) error {
 	return nil
 }
 
+// halvesOf returns the temporary files beside a file. The path may have signs that are special in patterns.
+func halvesOf(path string) (halves []string, err error) {
+	folder, name := filepath.Split(path)
+	files, err := os.ReadDir(filepath.Clean(folder))
+	if errors.Is(err, fs.ErrNotExist) {
+		return nil, nil
+	}
+	for _, file := range files {
+		if strings.HasPrefix(file.Name(), name+halfKept) {
+			halves = append(halves, folder+file.Name())
+		}
+	}
+	return halves, err
+}
+
 // KeptFile reads what KeepFile or ShowFile wrote; ErrAbsent where there is no such file. It takes away what killed
 // writers left beside it.
 func KeptFile(path string) ([]byte, error) {
-	left, err := filepath.Glob(path + halfKept + "*")
+	// (a folder that cannot be listed may have a file that can be read)
+	left, _ := halvesOf(path)
 	for _, half := range left {
 		if info, err := os.Stat(half); err == nil && time.Since(info.ModTime()) > abandoned {
 			os.Remove(half)
 		}
-	}
-	if err != nil {
-		return nil, fmt.Errorf("stores: keep: %w", err)
 	}
 	content, err := os.ReadFile(path)
 	if errors.Is(err, fs.ErrNotExist) {

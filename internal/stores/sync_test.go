@@ -202,6 +202,37 @@ func TestKeptFile(t *testing.T) {
 	}
 }
 
+// TestKeptFileInAFolderOfAnyName: what killed writers left is deleted whatever the name of the folder.
+func TestKeptFileInAFolderOfAnyName(t *testing.T) {
+	for _, name := range []string{"log [1", "log[12]", "log*", "log?\\"} {
+		folder := filepath.Join(t.TempDir(), name)
+		must(t, os.Mkdir(folder, 0o700))
+		path := filepath.Join(folder, "kept")
+		old, young, other := path+halfKept+"1", path+halfKept+"2", filepath.Join(folder, "other")+halfKept+"3"
+		for _, half := range []string{old, young, other} {
+			must(t, os.WriteFile(half, nil, 0o600))
+		}
+		must(t, os.Chtimes(old, time.Now(), time.Now().Add(-2*abandoned)))
+		leaves := func(want ...string) {
+			t.Helper()
+			files, err := os.ReadDir(folder)
+			var names []string
+			for _, file := range files {
+				names = append(names, filepath.Join(folder, file.Name()))
+			}
+			if err != nil || !reflect.DeepEqual(names, want) {
+				t.Errorf("%s: %q, and %q are due: %v", name, names, want, err)
+			}
+		}
+		if _, err := KeptFile(path); !errors.Is(err, ErrAbsent) {
+			t.Errorf("%s: %v", name, err)
+		}
+		leaves(young, other)
+		must(t, DropHalfKept(path))
+		leaves(other)
+	}
+}
+
 // TestFileThatIsCutShort: if the disk is full in the middle of a content, the one before stays, and nothing is left of
 // the new one. The file's mode stays as it is.
 func TestFileThatIsCutShort(t *testing.T) {
