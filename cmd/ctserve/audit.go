@@ -107,6 +107,9 @@ func addressLast(words []string) []string {
 	return words
 }
 
+// isPercentage reports whether a number is a percentage. NaN, which a flag takes, is none: no bound holds against it.
+func isPercentage(number float64) bool { return number >= 0 && number <= 100 }
+
 // write writes the report into its two files.
 func (a *auditFlags) write(report probe.Report) error {
 	if a.report == "" {
@@ -139,7 +142,7 @@ func (a *auditFlags) options(address string) (options probe.Options, err error) 
 			return options, fmt.Errorf("--%s %v is not above 0", name, given)
 		}
 	}
-	if a.availability < 0 || a.availability > 100 {
+	if !isPercentage(a.availability) {
 		return options, fmt.Errorf("--min-availability %v is no percentage", a.availability)
 	}
 	if options.Submitter, err = a.submitter(); err != nil {

@@ -250,6 +250,8 @@ func TestAuditArguments(t *testing.T) {
 		"--for 0s is not above 0": append([]string{"https://log.example", "--for", "0s"}, ca...),
 		"--poll-interval -1s is not above 0": append([]string{"https://log.example", "--poll-interval",
 			"-1s"}, ca...),
+		"--min-availability NaN is no percentage": append([]string{"https://log.example", "--min-availability",
+			"NaN"}, ca...),
 		"--min-availability 101 is no percentage": append([]string{"https://log.example", "--min-availability",
 			"101"}, ca...),
 		"the contact \"\\n\" must have printable ASCII": append([]string{"https://log.example", "--contact", "\n"},

@@ -47,7 +47,7 @@ func runRoots(words []string, answers, faults io.Writer) error {
 	if err := parseWords(flags, words); err != nil {
 		return err
 	}
-	if given.into == "" || flags.NArg() == 0 || given.maxFall < 0 || given.maxFall > 100 {
+	if given.into == "" || flags.NArg() == 0 || !isPercentage(given.maxFall) {
 		return fmt.Errorf("%w: roots needs --into, a table, and a percentage as --max-fall (see ctserve roots --help)",
 			errUsage)
 	}

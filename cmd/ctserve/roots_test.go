@@ -64,7 +64,9 @@ func TestRootsOfCCADB(t *testing.T) {
 	other := strings.Replace(strings.Replace(table, "Websites", "Mail", 1), "Email", "Websites", 1)
 	servers.write("other.csv", []byte(other))
 	for words, due := range map[string]int{server.URL + "/none.csv": 1, "http" + strings.TrimPrefix(server.URL, "https") +
-		"/all.csv": 1, servers.path("none.csv"): 1, servers.path("other.csv"): 1, "": 2} {
+		"/all.csv": 1, servers.path("none.csv"): 1, servers.path("other.csv"): 1, "": 2, "--max-fall NaN " +
+		servers.path("none.csv"): 2, "--max-fall -1 " + servers.path("none.csv"): 2, "--max-fall 101 " +
+		servers.path("none.csv"): 2} {
 		if status, said := update(strings.Fields(words)...); status != due {
 			t.Errorf("%s: %d %s", words, status, said)
 		}
