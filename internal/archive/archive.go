@@ -151,8 +151,12 @@ func (f *folder) close() {
 func (f *folder) belongsTo(of Log) error {
 	kept, err := readLog(f.path)
 	if errors.Is(err, stores.ErrAbsent) {
-		if others, err := os.ReadDir(f.path); err != nil || len(others) > 0 {
-			return fmt.Errorf("%w: %s has other files (name an empty folder): %v", ErrFolder, f.path, err)
+		others, err := os.ReadDir(f.path)
+		if err != nil {
+			return fmt.Errorf("archive: %w", err)
+		}
+		if len(others) > 0 {
+			return fmt.Errorf("%w: %s has other files (name an empty folder)", ErrFolder, f.path)
 		}
 		content, err := json.MarshalIndent(of, "", "  ")
 		if err != nil {
@@ -164,7 +168,8 @@ func (f *folder) belongsTo(of Log) error {
 		return err
 	}
 	if kept.Origin != of.Origin || !bytes.Equal(kept.PublicKey, of.PublicKey) {
-		return fmt.Errorf("%w: %s is of %s, with another key or origin", ErrFolder, f.path, kept.Origin)
+		return fmt.Errorf("%w: %s is of %s, with another key or origin (name another folder)", ErrFolder, f.path,
+			kept.Origin)
 	}
 	return nil
 }
@@ -175,8 +180,12 @@ func readLog(path string) (of Log, err error) {
 	if err != nil {
 		return of, err
 	}
-	if err := json.Unmarshal(content, &of); err != nil || of.Origin == "" || len(of.PublicKey) == 0 {
-		return of, fmt.Errorf("%w: %s: %v", ErrFolder, filepath.Join(path, logName), err)
+	err = json.Unmarshal(content, &of)
+	if err == nil && (of.Origin == "" || len(of.PublicKey) == 0) {
+		err = errors.New("it has no origin or no key")
+	}
+	if err != nil {
+		return of, fmt.Errorf("%w: %s: %v (put it back from a backup)", ErrFolder, filepath.Join(path, logName), err)
 	}
 	return of, nil
 }

@@ -120,8 +120,11 @@ func (m *maker) wanted() (head, error) {
 
 // accuse keeps a head that contradicts the one that is being archived, and returns the error.
 func (m *maker) accuse(kind error, now, kept head, why error) error {
-	err := fmt.Errorf("%w: %s has its head of %d entries, and %s the one of %d: %v", kind,
-		filepath.Join(m.path, wantedName), kept.TreeSize, filepath.Join(m.path, otherName), now.TreeSize, why)
+	err := fmt.Errorf("%w: %s has its head of %d entries, and %s the one of %d", kind,
+		filepath.Join(m.path, wantedName), kept.TreeSize, filepath.Join(m.path, otherName), now.TreeSize)
+	if why != nil {
+		err = fmt.Errorf("%w: %v", err, why)
+	}
 	return errors.Join(err, m.keep(otherName, now.answer))
 }
 

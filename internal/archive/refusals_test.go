@@ -8,6 +8,7 @@ import (
 	"os"
 	"path/filepath"
 	"strconv"
+	"strings"
 	"testing"
 
 	"wagtenib/internal/archive"
@@ -157,7 +158,7 @@ func TestRefusesALogThatLies(t *testing.T) {
 			before := filesIn(t, w.folder)
 			w.grow(300)
 			of.tell(t, w)
-			if err := w.make(); !errors.Is(err, of.due) {
+			if err := w.make(); !errors.Is(err, of.due) || strings.Contains(err.Error(), "nil") {
 				t.Errorf("%v, and %v is due", err, of.due)
 			}
 			after := filesIn(t, w.folder)
@@ -230,8 +231,13 @@ func TestRefusesAnotherFolder(t *testing.T) {
 	wantsSame(t, before, filesIn(t, w.folder))
 	w.folder = t.TempDir()
 	trial.Must(t, os.WriteFile(filepath.Join(w.folder, "letter"), []byte("Dear"), 0o600))
-	if err := w.make(); !errors.Is(err, archive.ErrFolder) {
+	if err := w.make(); !errors.Is(err, archive.ErrFolder) || !strings.HasSuffix(err.Error(), "(name an empty folder)") {
 		t.Errorf("a folder with a letter: %v", err)
+	}
+	w.folder = t.TempDir()
+	trial.Must(t, os.WriteFile(filepath.Join(w.folder, "log.json"), []byte("{}"), 0o600))
+	if err := w.make(); !errors.Is(err, archive.ErrFolder) || !strings.Contains(err.Error(), "it has no origin or no key") {
+		t.Errorf("a folder of no log: %v", err)
 	}
 	w.folder = filepath.Join(t.TempDir(), "archive")
 	settings := options()
