@@ -160,11 +160,12 @@ load: ## runs the tests with sixteen threads and a shutdown among them 50 times 
 	@PYTHONDONTWRITEBYTECODE=1 python3 tests/load.py --runs $(RUNS) --shifts 3
 
 # After `rt run -- --help` in crates/ctlog and `rt test` in crates/house_tests, which build what is swept.
-sweep: ## refuses each growth of ctlog and of the library's calls in turn, and judges what they then do; adds up ctlog's, and shortens reads and writes
+sweep: ## refuses each allocation of ctlog and of the library's calls in turn, and judges what they then do; adds up ctlog's, shortens reads and writes, and gives it a long line
 	@PYTHONDONTWRITEBYTECODE=1 python3 tests/memory.py
 	@PYTHONDONTWRITEBYTECODE=1 python3 tests/sweep.py
 	@PYTHONDONTWRITEBYTECODE=1 python3 tests/growths.py
 	@PYTHONDONTWRITEBYTECODE=1 python3 tests/short_calls.py
+	@PYTHONDONTWRITEBYTECODE=1 python3 tests/long_lines.py
 
 # After `make check`, over whose work it goes. The first line of an edit says which gates try it.
 wrong: ## has the prover refuse the wrong bodies of CRATE=ct_core (crates/*/wrong-bodies), of which the gate tries few each time

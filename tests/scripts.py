@@ -158,6 +158,23 @@ def try_tiles():
         fail(f"tiles/histories.py: {ran.stderr.decode()}")
 
 
+def try_planted():
+    """The faults that tiles/planted.py and node/wrong_machines.py plant can be planted: each text that they replace is in its file exactly once. Whether each fault
+    is found takes minutes, so both are run by hand."""
+    sys.path += [str(HERE / "tiles"), str(HERE / "node")]
+    # (the folders are on the path only now)
+    import planted
+    import wrong_machines
+
+    faults = [(planted.HERE / file, old) for _, file, old, _ in planted.FAULTS]
+    faults += [(wrong_machines.CRATE / file, old) for _, changes in wrong_machines.ALL.values() for file, old, _ in changes]
+    for path, old in faults:
+        times = path.read_text().count(old) if path.exists() else 0
+        if times != 1:
+            fail(f"a fault cannot be planted: {path.relative_to(HERE.parent)} has {times} times the text {old!r} (change the fault in tiles/planted.py or node/wrong_machines.py)")
+    return len(faults)
+
+
 def installed(folder):
     """The files and links below a folder, each with its text."""
     return {str(path.relative_to(folder)): path.read_text() for path in folder.rglob("*") if not path.is_dir()}
@@ -657,10 +674,13 @@ def main():
     try_first_session()
     try_tiles()
     try_nodes()
+    planted = try_planted()
     for name, words in INPUTS.items():
         ran = run("expected.py", *words.split(), given=(EXAMPLES / f"{name}.jsonl").read_bytes())
         if ran.stdout != (EXAMPLES / f"{name}.expected.jsonl").read_bytes():
             fail(f"expected.py computes other replies than {name}.expected.jsonl")
+    if run("four_fronts.py", given=(EXAMPLES / "real-chains.jsonl").read_bytes()).stdout != (EXAMPLES / "four-fronts.jsonl").read_bytes():
+        fail("four_fronts.py writes other lines than four-fronts.jsonl (examples/README.md says how to write them)")
     checks = run("checks.py")
     if checks.returncode:
         fail(checks.stdout.decode() + checks.stderr.decode())
@@ -677,7 +697,7 @@ def main():
             fail(f"names/{script}: {named.stderr.decode()}")
         sys.stdout.write(named.stdout.decode())
     stored = len(lines_of("bad-lines"))
-    rest = f"{chains} chains, {len(INPUTS)} inputs, {sessions} sessions, {outputs} damaged outputs, {quotations} quotations, {files} installed files and a release ({released})"
+    rest = f"{chains} chains, {len(INPUTS)} inputs, {sessions} sessions, {outputs} damaged outputs, {quotations} quotations, {planted} places of faults, {files} installed files and a release ({released})"
     print(f"tests/scripts.py: as expected, over {stored} stored lines, {DAMAGED} damaged ones, {rest}.")
 
 

@@ -5,7 +5,8 @@
 
 No contract says how long a call takes. A call reads its input a fixed number of times, so 32 times the input takes about 32 times as long. A call that reads all of its
 input again for each part of it takes 1,024 times as long, and one that hashes each half of a tree's left half twice 243 times. Each call here may take 120 times as long. A
-number, such as the size of a tree, must not make a call much slower than a small one does. Each time is the shortest of several, and counts only this thread. Without gcc for this processor it says so.
+number, such as the size of a tree, must not make a call much slower than a small one does. Each time is the shortest of several, and counts only this thread. Without gcc
+for this processor it says so.
 """
 import ctypes
 import pathlib
@@ -177,7 +178,7 @@ def prepared(make, count, call):
 
 def main():
     if not shutil.which("gcc") or platform.machine() not in _library.PROCESSORS:
-        print("tests/library/cost.py: nothing was compared, for want of gcc for a processor of dist/")
+        print("tests/library/cost.py: nothing was compared: there is no gcc for a processor of dist/")
         return 0
     call, failed, largest = _library.load(), 0, (0, "")
     for make in INPUTS:

@@ -27,22 +27,23 @@ class State(typing.NamedTuple):
 # A node, an outcome and a command that came are tuples: the name, and then the arguments.
 READING = ("Reading",)
 FIRST = State(1, 0, 0)
-STEPS = 150
+STEPS = 300
 # So many identities wait, again and again.
 IDENTITIES = 12
-# Objects of one index and of moments in a row are one tile's, until it has so many hashes.
-FULL = 4
+# Objects of one index and of moments in a row are one tile's, until it has so many hashes. The first moment after that of FIRST begins a tile.
+FULL = 3
 
 
 def count(state):
     """How many objects a state's bundle has."""
-    return 0 if state == FIRST else (state.moment + state.salt) % 3
+    return 0 if state == FIRST else (1, 2, 1, 2, 0)[(state.moment + state.salt) % 5]
 
 
 def tile_of(thing):
     """The tile that an object is of, and how wide it is there."""
     state, index = thing
-    return (index, state.moment // FULL), state.moment % FULL
+    number = state.moment - FIRST.moment - 1
+    return (index, number // FULL), number % FULL + 1
 
 
 class Machine:
@@ -135,7 +136,12 @@ WRONG = {
     "doesn't start beside its own head": ("on", wrong(starts=lambda self, register, listed: listed is None)),
 }
 # Each wrong store with the clause that has to find it out.
-STORES = {"a place is missing": "others", "a tile goes where none is wider": "kept", "the newest head goes": "latest"}
+STORES = {
+    "a place is missing": "others",
+    "a tile goes before the full one": "kept",
+    "a tile goes once a wider one was put": "kept",
+    "the newest head goes": "latest",
+}
 
 
 class World:
@@ -186,12 +192,18 @@ class World:
         self.objects |= objects
         self.standing |= objects
 
+    def may_go(self, tile, width):
+        """Whether the store deletes a tile of this width: its full tile was put."""
+        wider = {wide for other, wide in map(tile_of, self.objects) if other == tile and wide > width}
+        if self.store == "a tile goes before the full one":
+            return True
+        return bool(wider) if self.store == "a tile goes once a wider one was put" else FULL in wider
+
     def sweeps(self, chance):
-        """Deletes a tile if a wider one was put, and a head if a later one was put."""
-        if self.standing:
-            tile, width = tile_of(chance.choice(sorted(self.standing)))
-            if self.store == "a tile goes where none is wider" or any(other == tile and wide > width for other, wide in map(tile_of, self.objects)):
-                self.standing = {thing for thing in self.standing if tile_of(thing) != (tile, width)}
+        """Deletes a partial tile if its full tile was put, and a head if a later one was put."""
+        if tiles := sorted(tile for tile in set(map(tile_of, self.standing)) if self.may_go(*tile)):
+            gone = chance.choice(tiles)
+            self.standing = {thing for thing in self.standing if tile_of(thing) != gone}
         head = chance.choice(sorted(self.listed))
         if len(self.listed) > 1 and self.store == "the newest head goes" or any(other.moment > head.moment for other in self.heads):
             self.listed.discard(head)
@@ -265,8 +277,8 @@ class World:
             return "others"
         if held not in self.bundles:
             return "bundle"
-        widest = dict(sorted(map(tile_of, self.standing)))
-        if any(widest.get(tile, -1) < width for tile, width in map(tile_of, self.objects)):
+        left = set(map(tile_of, self.standing))
+        if any((tile, width) not in left and (tile, FULL) not in left for tile, width in map(tile_of, self.objects)):
             return "kept"
         return "latest" if max(self.listed).moment < max(self.heads).moment else self.started
 

@@ -15,6 +15,7 @@ import sys
 import tempfile
 
 ROOT = pathlib.Path(__file__).resolve().parent.parent.parent
+CRATE = ROOT / "crates" / "ct_node"
 NODES, STARTS = ("specs/Nodes.antt", "src/node.rt"), ("specs/Starts.antt", "src/starting.rt")
 FUNCTIONS = {"is_past", "may_follow", "Node::next", "begin", "create", "start"}
 
@@ -86,7 +87,7 @@ STARTING = {
 # The same of what may be deleted, which is no code.
 SWEPT = "specs/Sweeps.antt"
 SWEEPING = {
-    "a tile goes where none is wider": ("stands_on", ("Has p w.world.objects × IsWider n (tile p) ×", "Has p w.world.objects × (tile p ≡ tile p) ×")),
+    "a tile goes before the full one": ("stands_on", ("Has p w.world.objects × IsFullFor n (tile p) ×", "Has p w.world.objects × (tile p ≡ tile p) ×")),
     "the newest head goes": ("later_left", ("(l.moment < m.moment) × AreLeft", "(l.moment ≤ m.moment) × AreLeft")),
 }
 
@@ -101,7 +102,7 @@ ALL = {
 def changed(path, old, new):
     text = path.read_text()
     if text.count(old) != 1:
-        sys.exit(f"wrong_machines.py: {path.name} has this {text.count(old)} times, and not once: {old}")
+        sys.exit(f"wrong_machines.py: {path.name} has this text {text.count(old)} times, and not once: {old} (change the fault in wrong_machines.py)")
     path.write_text(text.replace(old, new))
 
 
@@ -117,7 +118,7 @@ def main():
     faults = []
     with tempfile.TemporaryDirectory(prefix="wagtenib-") as room:
         crate = pathlib.Path(room, "crates", "ct_node")
-        shutil.copytree(ROOT / "crates" / "ct_node", crate, ignore=lambda folder, names: [name for name in names if name.endswith(("-bodies", "-turns", "-fail"))])
+        shutil.copytree(CRATE, crate, ignore=lambda folder, names: [name for name in names if name.endswith(("-bodies", "-turns", "-fail"))])
         pathlib.Path(room, "crates.txt").write_text("ct_node:\n")
         shutil.copy(ROOT / "HANDLES", room)
         pathlib.Path(room, ".git").mkdir()

@@ -90,7 +90,7 @@ FAULTS = (
     ("no precertificate in the data tile", "leaves.py", "else vector(3, submission.precertificate)", "else vector(3, submission.signed)"),
     ("extension of another type", "leaves.py", "b\"\\0\" + vector(2, index", "b\"\\1\" + vector(2, index"),
     ("state in upper case", "states.py", "growth [0-9a-f]{288}", "growth [0-9a-fA-F]{288}"),
-    ("digits of a name", "expected.py", "f\"x{index % 1000:03}/{groups}\"", "f\"x{index % 1000}/{groups}\""),
+    ("digits of a name", "trees.py", "f\"x{index % 1000:03}/{groups}\"", "f\"x{index % 1000}/{groups}\""),
 )
 
 
@@ -108,7 +108,7 @@ def planted(folder, file, old, new):
     program, path = copied(folder), folder / "tiles" / file
     text = path.read_text()
     if text.count(old) != 1:
-        sys.exit(f"planted.py: {file} has {text.count(old)} times the text {old!r}")
+        sys.exit(f"planted.py: {file} has {text.count(old)} times the text {old!r}, and not once (change the fault in planted.py)")
     path.write_text(text.replace(old, new))
     return program
 
