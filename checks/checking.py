@@ -218,7 +218,10 @@ def page(claim):
     shown = [one for one in texts if one.key[2] not in BY_EQUATIONS]
     size = sum(one.text.count("\n") + 1 for one in shown)
     lines = [f"# {claim.title}", "", MADE, "", claim.sentence, "", "[CHECKING.md](../CHECKING.md#how-to-read-a-contract) says how to read a contract.", "", "## Premises", ""]
-    lines += [*(f"{number}. {premise}" for number, premise in enumerate(claim.premises, 1)), "", "## Contracts", ""]
+    lines += [claim.about, ""] if claim.about else []
+    lines += [*(f"{number}. {premise}" for number, premise in enumerate(claim.premises, 1)), ""] if claim.premises else []
+    lines += [claim.exception, ""] if claim.exception else []
+    lines += ["## Contracts", ""]
     for each, (head, _) in zip(claim.contracts, found):
         lines += [f"{each.words} `crates/{each.file}`:", "", *block("rust", head)]
     lines += ["## Definitions", "", f"The contracts rest on these {len(shown)} definitions ({size} lines). Each one comes after those that it names.", ""]
