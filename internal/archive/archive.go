@@ -69,6 +69,7 @@ const (
 	signedName    = "signed-head.json" // the answer to get-sth of which the archive has all entries
 	otherName     = "other-head.json"  // an answer to get-sth that contradicts one of these
 	progressName  = "progress"         // how many entries are there
+	obsoleteName  = "obsolete"         // partial tiles to delete, a name on each line
 	indexName     = "index"
 	objectsName   = "objects"
 	checkpointAt  = objectsName + "/checkpoint"
@@ -109,7 +110,8 @@ func (f *folder) open(ctx context.Context, of Log) (err error) {
 	if err := syscall.Flock(int(f.lock.Fd()), syscall.LOCK_EX|syscall.LOCK_NB); err != nil {
 		return fmt.Errorf("%w: %s", ErrInUse, f.path)
 	}
-	for _, name := range []string{logName, wantedName, signedName, otherName, progressName, checkpointAt} {
+	for _, name := range []string{logName, wantedName, signedName, otherName, progressName, obsoleteName,
+		checkpointAt} {
 		if err := stores.DropHalfKept(filepath.Join(f.path, filepath.FromSlash(name))); err != nil {
 			return fmt.Errorf("archive: %w", err)
 		}

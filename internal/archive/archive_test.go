@@ -23,8 +23,8 @@ import (
 	"wagtenib/internal/archive"
 	"wagtenib/internal/logclient"
 	"wagtenib/internal/signature"
-	"wagtenib/internal/stores"
 	"wagtenib/internal/testlog"
+	"wagtenib/internal/tile"
 	"wagtenib/internal/trial"
 )
 
@@ -298,8 +298,8 @@ func (w *world) killed(write int) {
 	}
 }
 
-// writes archives the log in a new folder that begins with these files, and returns how many writes that takes.
-func (w *world) writes(begin map[string]string) (count int) {
+// writes archives the log in a new folder that begins as another one, and returns how many writes that takes.
+func (w *world) writes(begin string) (count int) {
 	w.t.Helper()
 	w.begin(begin)
 	settings := options()
@@ -309,27 +309,26 @@ func (w *world) writes(begin map[string]string) (count int) {
 	return count
 }
 
-// begin makes a new folder with these files.
-func (w *world) begin(files map[string]string) {
+// begin makes a new folder with the files of another one, if that is named.
+func (w *world) begin(from string) {
 	w.t.Helper()
 	w.folder = filepath.Join(w.t.TempDir(), "archive")
-	for name, content := range files {
-		path := filepath.Join(w.folder, filepath.FromSlash(name))
-		trial.Must(w.t, stores.MakeFolder(filepath.Dir(path)))
-		trial.Must(w.t, os.WriteFile(path, []byte(content), 0o644))
+	if from != "" {
+		trial.Must(w.t, os.CopyFS(w.folder, os.DirFS(from)))
 	}
 }
 
 // A process that is killed before any of its writes leaves a folder with which the next one goes on, and which ends
-// with the same bytes. Nothing is served before all is there.
+// with the same bytes. A head is served as soon as all of it is there, and from then on there is always one.
 func TestContinuesAfterAKillAtEachWrite(t *testing.T) {
 	w := newWorld(t, 300)
 	trial.Must(t, w.make())
-	first := filesIn(t, w.folder)
+	first := filepath.Join(t.TempDir(), "first")
+	trial.Must(t, os.CopyFS(first, os.DirFS(w.folder)))
 	w.grow(300)
 	trial.Must(t, w.make())
 	second := filesIn(t, w.folder)
-	for what, begin := range map[string]map[string]string{"from nothing": nil, "from 300 entries": first} {
+	for what, begin := range map[string]string{"from nothing": "", "from 300 entries": first} {
 		writes := w.writes(begin)
 		if writes < 15 {
 			t.Errorf("%s: there are only %d writes", what, writes)
@@ -343,12 +342,11 @@ func TestContinuesAfterAKillAtEachWrite(t *testing.T) {
 				served, err := archive.Open(trial.Limited(t, trial.Longest), own.folder)
 				switch {
 				case err == nil:
-					if size := served.Figures().Entries; begin == nil || size != 300 {
+					if size := served.Figures().Entries; size != 600 && (begin == "" || size != 300) {
 						t.Errorf("an archive of %d entries is served", size)
 					}
 					served.Close()
-				case !errors.Is(err, archive.ErrIncomplete) && !errors.Is(err, archive.ErrFolder) &&
-					(begin == nil || !errors.Is(err, archive.ErrDamaged)):
+				case begin != "" || !errors.Is(err, archive.ErrIncomplete) && !errors.Is(err, archive.ErrFolder):
 					t.Error(err)
 				}
 				trial.Must(t, own.make())
@@ -356,5 +354,34 @@ func TestContinuesAfterAKillAtEachWrite(t *testing.T) {
 				own.wantsServed(600)
 			})
 		}
+	}
+}
+
+// What is served stays whole while another process adds entries to the archive, although it deletes partial tiles.
+func TestServesWhileTheArchiveGrows(t *testing.T) {
+	w := newWorld(t, 300)
+	trial.Must(t, w.make())
+	ctx := trial.Limited(t, trial.Longest)
+	served, err := archive.Open(ctx, w.folder)
+	trial.Must(t, err)
+	defer served.Close()
+	names := []string{"tile/data/001.p/44", "tile/0/001.p/44", "tile/1/000.p/1", "tile/data/000"}
+	before := filesIn(t, w.folder)
+	for _, count := range []uint64{100, 600} {
+		w.grow(count)
+		trial.Must(t, w.make())
+		if _, err := os.Stat(filepath.Join(w.folder, "objects", names[0])); !errors.Is(err, fs.ErrNotExist) {
+			t.Errorf("%s is not deleted: %v", names[0], err)
+		}
+		for _, name := range names {
+			content, err := served.Object(ctx, name, 1<<20)
+			if err != nil || string(content) != before["objects/"+name] {
+				t.Errorf("%s: %d bytes, %v", name, len(content), err)
+			}
+		}
+		if root, err := tile.NewProver(served.Object, 1).Root(ctx, 300, 300); err != nil || root != w.log.Root(300) {
+			t.Errorf("the root is %x: %v", root, err)
+		}
+		w.wantsArchived()
 	}
 }

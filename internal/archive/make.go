@@ -4,7 +4,9 @@ import (
 	"context"
 	"errors"
 	"fmt"
+	"os"
 	"path/filepath"
+	"strings"
 
 	"golang.org/x/mod/sumdb/tlog"
 
@@ -251,7 +253,8 @@ func (m *maker) hasRoot(ctx context.Context, of wagtenib.TreeHead) error {
 	return nil
 }
 
-// finish publishes the head, after all its tiles are there.
+// finish publishes the head, after all its tiles are there. The partial tiles that only the head before has go after
+// that: until then, who opens the archive has to find them.
 func (m *maker) finish(ctx context.Context, of head) error {
 	if err := m.hasRoot(ctx, of.TreeHead); err != nil {
 		return err
@@ -264,16 +267,48 @@ func (m *maker) finish(ctx context.Context, of head) error {
 	if err != nil {
 		return fmt.Errorf("archive: %w", err)
 	}
+	// (a run that was stopped may have left some)
+	if err := m.dropObsolete(ctx, signed.TreeSize); err != nil {
+		return err
+	}
+	if names := tile.PartialOnly(signed.TreeSize, of.TreeSize); len(names) > 0 {
+		if err := m.keep(obsoleteName, []byte(strings.Join(names, "\n")+"\n")); err != nil {
+			return err
+		}
+	}
 	if err := m.keep(checkpointAt, checkpoint); err != nil {
 		return err
 	}
-	for _, name := range tile.PartialOnly(signed.TreeSize, of.TreeSize) {
+	if err := m.keep(signedName, of.answer); err != nil {
+		return err
+	}
+	return m.dropObsolete(ctx, of.TreeSize)
+}
+
+// dropObsolete deletes the partial tiles that the folder names as obsolete, unless a tree of this size has them.
+func (m *maker) dropObsolete(ctx context.Context, size uint64) error {
+	path := filepath.Join(m.path, obsoleteName)
+	content, err := stores.KeptFile(path)
+	if errors.Is(err, stores.ErrAbsent) {
+		return nil
+	}
+	if err != nil {
+		return fmt.Errorf("archive: %w", err)
+	}
+	for _, name := range strings.Fields(string(content)) {
+		if of, isTile := tile.Parse(name); !isTile || tile.WidthIn(of, size) == of.W {
+			continue
+		}
 		m.writing(objectsName + "/" + name)
 		if err := m.objects.Delete(ctx, name); err != nil {
 			return fmt.Errorf("archive: %w", err)
 		}
 	}
-	return m.keep(signedName, of.answer)
+	m.writing(obsoleteName)
+	if err := os.Remove(path); err != nil {
+		return fmt.Errorf("archive: %w", err)
+	}
+	return nil
 }
 
 // hasIndex builds the index again from the hash tiles, unless it has the last entry of the folder.

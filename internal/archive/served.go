@@ -1,6 +1,7 @@
 package archive
 
 import (
+	"bytes"
 	"context"
 	"errors"
 	"fmt"
@@ -25,6 +26,8 @@ type Served struct {
 	objects  stores.Objects
 	index    stores.Places
 	comparer *tile.Comparer
+	// edge has the partial tiles of the tree, by their names. A process that goes on with the archive deletes them.
+	edge map[string][]byte
 }
 
 // OriginOf returns the origin of the archive in a folder.
@@ -53,7 +56,8 @@ func Open(ctx context.Context, path string) (s *Served, err error) {
 	if err != nil {
 		return nil, err
 	}
-	s = &Served{of: of, tree: signer.Head{Size: signed.TreeSize, Timestamp: signed.Timestamp, Root: signed.Root}}
+	s = &Served{of: of, tree: signer.Head{Size: signed.TreeSize, Timestamp: signed.Timestamp, Root: signed.Root},
+		edge: map[string][]byte{}}
 	if s.head, err = headOf(signed, of); err != nil {
 		return nil, err
 	}
@@ -64,7 +68,11 @@ func Open(ctx context.Context, path string) (s *Served, err error) {
 		return nil, fmt.Errorf("archive: %w", err)
 	}
 	s.comparer = tile.NewComparer(s.read, tile.LeavesOfArchive)
-	if s.index, err = openIndex(ctx, path); err == nil {
+	s.index, err = openIndex(ctx, path)
+	if err == nil {
+		err = s.keepEdge(ctx)
+	}
+	if err == nil {
 		err = s.isWhole(ctx)
 	}
 	if err != nil {
@@ -86,6 +94,18 @@ func headOf(signed head, of Log) (log.Head, error) {
 	}
 	return log.Head{Note: note, TreeSize: signed.TreeSize, Timestamp: signed.Timestamp, RootHash: signed.Root,
 		Signature: sth.Signature}, nil
+}
+
+// keepEdge reads the partial tiles of the tree.
+func (s *Served) keepEdge(ctx context.Context) error {
+	for _, name := range tile.PartialOnly(s.tree.Size, 0) {
+		content, err := s.read(ctx, name)
+		if err != nil {
+			return fmt.Errorf("%w: %w", ErrDamaged, err)
+		}
+		s.edge[name] = content
+	}
+	return nil
 }
 
 // isWhole returns ErrDamaged unless the hash tiles have the root of the head, and the index has the last entry.
@@ -114,8 +134,17 @@ func (s *Served) isWhole(ctx context.Context) error {
 // read reads an object of the tree.
 func (s *Served) read(ctx context.Context, name string) ([]byte, error) {
 	return tile.Stored(func(ctx context.Context, name string) ([]byte, error) {
-		return s.objects.Get(ctx, name, maxObject)
+		return s.get(ctx, name, maxObject)
 	})(ctx, name)
+}
+
+// get reads an object. A partial tile that was deleted is the one that was there when the archive was opened.
+func (s *Served) get(ctx context.Context, name string, most int64) ([]byte, error) {
+	content, err := s.objects.Get(ctx, name, most)
+	if kept := s.edge[name]; errors.Is(err, stores.ErrAbsent) && kept != nil && int64(len(kept)) <= most {
+		return bytes.Clone(kept), nil
+	}
+	return content, err
 }
 
 // Key returns the log's public key, a SubjectPublicKeyInfo in DER.
@@ -151,7 +180,7 @@ func (s *Served) Object(ctx context.Context, name string, most int64) ([]byte, e
 	if isTile && tile.WidthIn(of, s.tree.Size) != of.W {
 		return nil, fmt.Errorf("archive: %s: %w", name, stores.ErrAbsent)
 	}
-	content, err := s.objects.Get(ctx, name, most)
+	content, err := s.get(ctx, name, most)
 	if !isTile || errors.Is(err, stores.ErrTooLong) {
 		return content, err
 	}
