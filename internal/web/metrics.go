@@ -10,6 +10,8 @@ import (
 	"github.com/prometheus/client_golang/prometheus/collectors"
 	"github.com/prometheus/client_golang/prometheus/promhttp"
 
+	"wagtenib/internal/log"
+	"wagtenib/internal/stores"
 	"wagtenib/internal/version"
 )
 
@@ -155,76 +157,104 @@ func (c figures) Collect(to chan<- prometheus.Metric) {
 	// (this reads the newest head, which the figures describe)
 	unready := c.front.unready(context.Background())
 	f := c.front.log.Figures()
-	gauge := func(of *prometheus.Desc, value float64) {
-		to <- prometheus.MustNewConstMetric(of, prometheus.GaugeValue, value)
-	}
-	count := func(of *prometheus.Desc, value uint64) {
-		to <- prometheus.MustNewConstMetric(of, prometheus.CounterValue, float64(value))
-	}
-	fault := 0.0
-	if f.Fault != "" {
-		fault = 1
-	}
-	gauge(descEntries, float64(f.Entries))
-	gauge(descHeadAge, f.HeadAge.Seconds())
+	values := collected{to}
+	values.state(f, unready == nil)
 	if delay := c.front.options.About.MaxMergeDelay; delay > 0 {
-		gauge(descMergeDelay, delay.Seconds())
+		values.gauge(descMergeDelay, delay.Seconds())
 	}
-	gauge(descAhead, float64(f.Unpublished))
-	gauge(descRound, f.SinceRound.Seconds())
-	gauge(descQueue, float64(f.Queue))
-	gauge(descMostQueue, float64(f.MaxQueue))
-	gauge(descFault, fault)
-	count(descFaults, f.Faults)
-	ready := 1.0
-	if unready != nil {
-		ready = 0
+	values.work(f)
+	values.upkeep(f)
+	values.witnesses(f)
+	values.stores(c.front.options.Stores)
+	values.gauge(descOpen, float64(c.front.connections.open.Load()))
+	values.gauge(descWaiting, float64(c.front.waiting.used.Load()))
+	values.gauge(descAnswers, float64(c.front.answers.used.Load()))
+	values.gauge(descRoots, float64(len(c.front.checker.Roots().Certificates())))
+}
+
+// collected is where the metrics of a scrape go.
+type collected struct{ to chan<- prometheus.Metric }
+
+func (c collected) gauge(of *prometheus.Desc, value float64, labels ...string) {
+	c.to <- prometheus.MustNewConstMetric(of, prometheus.GaugeValue, value, labels...)
+}
+
+func (c collected) count(of *prometheus.Desc, value uint64, labels ...string) {
+	c.to <- prometheus.MustNewConstMetric(of, prometheus.CounterValue, float64(value), labels...)
+}
+
+// flag collects 1 for true.
+func (c collected) flag(of *prometheus.Desc, is bool, labels ...string) {
+	value := 0.0
+	if is {
+		value = 1
 	}
-	gauge(descReady, ready)
-	count(descSteps, f.Steps)
-	count(descLost, f.LostSwaps)
-	count(descUnknown, f.Unknown)
-	count(descRepeats, f.Repeats)
-	count(descHelped, f.Helped)
-	count(descHandedOver, f.HandedOver)
-	count(descSigner, f.SignerStarts)
-	count(descSwept, f.Swept)
-	count(descSweptHeads, f.SweptHeads)
-	count(descScrubbed, f.Scrubbed)
-	gauge(descDamaged, float64(f.Damaged))
-	count(descWritten, f.Written)
+	c.gauge(of, value, labels...)
+}
+
+// state collects what the log is, and whether it accepts submissions.
+func (c collected) state(f log.Figures, isReady bool) {
+	c.gauge(descEntries, float64(f.Entries))
+	c.gauge(descHeadAge, f.HeadAge.Seconds())
+	c.gauge(descAhead, float64(f.Unpublished))
+	c.gauge(descRound, f.SinceRound.Seconds())
+	c.gauge(descQueue, float64(f.Queue))
+	c.gauge(descMostQueue, float64(f.MaxQueue))
+	c.flag(descFault, f.Fault != "")
+	c.count(descFaults, f.Faults)
+	c.flag(descReady, isReady)
+}
+
+// work collects what steps did.
+func (c collected) work(f log.Figures) {
+	c.count(descSteps, f.Steps)
+	c.count(descLost, f.LostSwaps)
+	c.count(descUnknown, f.Unknown)
+	c.count(descRepeats, f.Repeats)
+	c.count(descHelped, f.Helped)
+	c.count(descHandedOver, f.HandedOver)
+	c.count(descSigner, f.SignerStarts)
+	c.count(descWritten, f.Written)
 	for _, phase := range f.Phases {
-		to <- prometheus.MustNewConstSummary(descPhase, phase.Count, phase.Took.Seconds(), nil, phase.Name)
+		c.to <- prometheus.MustNewConstSummary(descPhase, phase.Count, phase.Took.Seconds(), nil, phase.Name)
 	}
 	taken := map[float64]uint64{}
 	for most, steps := range f.Batches.AtMost {
 		taken[float64(most)] = steps
 	}
-	to <- prometheus.MustNewConstHistogram(descBatches, f.Batches.Steps, float64(f.Batches.Submissions), taken)
-	for _, call := range c.front.options.Stores.All() {
-		to <- prometheus.MustNewConstSummary(descStore, call.Count, call.Took.Seconds(), nil, call.Store, call.Name)
-		to <- prometheus.MustNewConstMetric(descFailed, prometheus.CounterValue, float64(call.Failed), call.Store, call.Name)
-	}
-	count(descBundles, f.SweptBundles)
-	gauge(descStaged, float64(f.Staged))
-	count(descTending, f.TendFailures)
-	gauge(descSweptTo, float64(f.SweptTo))
-	gauge(descReadNext, float64(f.ReadNext))
-	gauge(descIssuers, float64(f.DamagedIssuers))
-	count(descMended, f.Mended)
+	c.to <- prometheus.MustNewConstHistogram(descBatches, f.Batches.Steps, float64(f.Batches.Submissions), taken)
+}
+
+// upkeep collects what was deleted, checked and repaired.
+func (c collected) upkeep(f log.Figures) {
+	c.count(descSwept, f.Swept)
+	c.count(descSweptHeads, f.SweptHeads)
+	c.count(descScrubbed, f.Scrubbed)
+	c.gauge(descDamaged, float64(f.Damaged))
+	c.count(descBundles, f.SweptBundles)
+	c.gauge(descStaged, float64(f.Staged))
+	c.count(descTending, f.TendFailures)
+	c.gauge(descSweptTo, float64(f.SweptTo))
+	c.gauge(descReadNext, float64(f.ReadNext))
+	c.gauge(descIssuers, float64(f.DamagedIssuers))
+	c.count(descMended, f.Mended)
+}
+
+// witnesses collects what each witness did.
+func (c collected) witnesses(f log.Figures) {
 	for _, w := range f.Witnesses {
-		more := 0.0
-		if w.SeenMore {
-			more = 1
-		}
-		to <- prometheus.MustNewConstMetric(descLag, prometheus.GaugeValue, float64(w.Missed), w.Name)
-		to <- prometheus.MustNewConstMetric(descCosigned, prometheus.CounterValue, float64(w.Cosigned), w.Name)
-		to <- prometheus.MustNewConstMetric(descSeenMore, prometheus.GaugeValue, more, w.Name)
+		c.gauge(descLag, float64(w.Missed), w.Name)
+		c.count(descCosigned, w.Cosigned, w.Name)
+		c.flag(descSeenMore, w.SeenMore, w.Name)
 	}
-	gauge(descOpen, float64(c.front.connections.open.Load()))
-	gauge(descWaiting, float64(c.front.waiting.used.Load()))
-	gauge(descAnswers, float64(c.front.answers.used.Load()))
-	gauge(descRoots, float64(len(c.front.checker.Roots().Certificates())))
+}
+
+// stores collects the calls of each store.
+func (c collected) stores(calls *stores.Calls) {
+	for _, call := range calls.All() {
+		c.to <- prometheus.MustNewConstSummary(descStore, call.Count, call.Took.Seconds(), nil, call.Store, call.Name)
+		c.count(descFailed, call.Failed, call.Store, call.Name)
+	}
 }
 
 // Operator returns the handler for operators: /metrics, and /healthz and /readyz as clients see them.
