@@ -20,6 +20,7 @@ import (
 	"wagtenib/internal/chains"
 	"wagtenib/internal/logclient"
 	"wagtenib/internal/probe"
+	"wagtenib/internal/settingsfile"
 	"wagtenib/internal/version"
 )
 
@@ -138,8 +139,8 @@ func (a *auditFlags) options(address string) (options probe.Options, err error) 
 	}
 	for name, given := range map[string]time.Duration{"for": a.schedule.For, "poll-interval": a.schedule.Poll,
 		"submit-interval": a.schedule.Submit, "max-latency": a.latency} {
-		if given <= 0 {
-			return options, fmt.Errorf("--%s %v is not above 0", name, given)
+		if err := settingsfile.Positive(name, given); err != nil {
+			return options, err
 		}
 	}
 	if !isPercentage(a.availability) {

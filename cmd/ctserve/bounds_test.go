@@ -26,7 +26,8 @@ func TestEachBound(t *testing.T) {
 		if _, err := with(name, least); err != nil {
 			t.Errorf("%s %d: %v", name, least, err)
 		}
-		if _, err := with(name, least-1); err == nil || !strings.Contains(err.Error(), "a bound must be above 0") {
+		due := fmt.Sprintf("--%s %d is too small (write at least %d, or leave %s out)", name, least-1, least, name)
+		if _, err := with(name, least-1); err == nil || !strings.Contains(err.Error(), due) {
 			t.Errorf("%s %d: %v", name, least-1, err)
 		}
 	}
@@ -37,7 +38,8 @@ func TestEachBound(t *testing.T) {
 			t.Errorf("%s: %v", name, err)
 		}
 		for _, time := range []time.Duration{0, -1} {
-			if _, err := with(name, time); err == nil || !strings.Contains(err.Error(), "a duration must be above 0") {
+			if _, err := with(name, time); err == nil || !strings.Contains(err.Error(), "--"+name) ||
+				!strings.Contains(err.Error(), fmt.Sprintf(" %v is not above 0 (write for example ", time)) {
 				t.Errorf("%s %v: %v", name, time, err)
 			}
 		}
@@ -53,7 +55,7 @@ func TestEachBound(t *testing.T) {
 			}
 		}
 		if _, err := with(name, -1); err == nil || !strings.Contains(err.Error(),
-			"a rate must be 0 (no bound) or above") {
+			fmt.Sprintf("--%s -1 is too small (write at least 0, or leave %s out)", name, name)) {
 			t.Errorf("%s -1: %v", name, err)
 		}
 	}

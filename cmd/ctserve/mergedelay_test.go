@@ -23,8 +23,8 @@ func TestMergeDelay(t *testing.T) {
 		"--refresh-interval=60s":  {refusal: "--refresh-interval 1m0s is not below --max-merge-delay 1m0s"},
 		"--max-merge-delay=1.5s":  {refusal: "--max-merge-delay 1.5s is no whole number of seconds"},
 		"--max-merge-delay=999ms": {refusal: "is no whole number of seconds"},
-		"--max-merge-delay=0":     {refusal: "a duration must be above 0"},
-		"--max-merge-delay=-1m":   {refusal: "a duration must be above 0"},
+		"--max-merge-delay=0":     {refusal: "--max-merge-delay 0s is not above 0"},
+		"--max-merge-delay=-1m":   {refusal: "--max-merge-delay -1m0s is not above 0"},
 		"--max-merge-delay=1s --refresh-interval=1ms": {delay: time.Second, refresh: time.Millisecond},
 	} {
 		s, err := parse(append([]string{"--roots", "r", "--origin", "o.example", "--signing-key", "k"},

@@ -280,10 +280,19 @@ func (n *node) witnessFlags(flags *flag.FlagSet) {
 
 // settle checks which settings need one another, and fills in the defaults that follow from others.
 func (s *settings) settle() error {
-	n, l := &s.node, &s.limits
-	if err := s.settleArchive(); err != nil {
-		return err
+	n := &s.node
+	for _, check := range []func() error{s.settleArchive, s.checkNeeded, s.settleAddresses, s.settleRules,
+		s.checkDurations, n.settleMergeDelay, s.settleLimits, n.settleStores, n.settleWitnesses} {
+		if err := check(); err != nil {
+			return err
+		}
 	}
+	return nil
+}
+
+// checkNeeded reports settings that are missing, and those that are of no use beside others.
+func (s *settings) checkNeeded() error {
+	n := &s.node
 	for _, needed := range []struct{ name, value string }{
 		{"roots", strings.Join(s.roots.Paths, "")},
 		{"origin", n.origin},
@@ -293,49 +302,96 @@ func (s *settings) settle() error {
 			return fmt.Errorf("--%s is missing", needed.name)
 		}
 	}
-	if err := checkOrigin(n.origin); err != nil {
-		return err
-	}
-	if s.monitoringURL == "" {
-		s.monitoringURL = "https://" + n.origin + "/"
-	}
-	if err := checkMonitoringURL(s.monitoringURL); err != nil {
-		return err
-	}
-	if err := checkListeners(s.listen, n.peers.listen, s.operator); err != nil {
-		return err
-	}
 	if n.signerAt != "" && (n.signingKey != "" || n.guard != nil || n.guardState != "") {
 		return errors.New("--signer-socket replaces --signing-key, --guard and --guard-state: remove either")
 	}
 	if (s.certificate == "") != (s.key == "") {
 		return errors.New("--tls-certificate and --tls-key need each other")
 	}
+	return nil
+}
+
+// settleAddresses checks the names and addresses under which the log is read, and at which it listens.
+func (s *settings) settleAddresses() error {
+	if err := checkOrigin(s.node.origin); err != nil {
+		return err
+	}
+	if s.monitoringURL == "" {
+		s.monitoringURL = "https://" + s.node.origin + "/"
+	}
+	if err := checkMonitoringURL(s.monitoringURL); err != nil {
+		return err
+	}
+	return checkListeners(s.listen, s.node.peers.listen, s.operator)
+}
+
+// settleRules fills in which certificates are accepted.
+func (s *settings) settleRules() error {
 	s.rules.ServerAuthentication, s.roots.AnyPurpose = !s.anyPurpose, s.anyPurpose
 	if window := s.rules.Window; !window.From.IsZero() && !window.To.IsZero() && !window.From.Before(window.To) {
 		return errors.New("--not-after-start must be before --not-after-limit")
 	}
-	for _, time := range []time.Duration{s.endWithin, l.Headers, l.Request, l.Submission, l.Answer, l.Idle,
-		n.maxMergeDelay, n.openWithin, n.sweepAfter, n.sweepTilesAfter, n.readEvery, n.readAllWithin, n.maxSkew} {
-		if time <= 0 {
-			return errors.New("a duration must be above 0")
+	return nil
+}
+
+// checkDurations refuses durations that are not above 0. The zero value is no default of theirs.
+func (s *settings) checkDurations() error {
+	n, l := &s.node, &s.limits
+	for _, of := range []struct {
+		name  string
+		value time.Duration
+	}{
+		{"shutdown-timeout", s.endWithin},
+		{"header-timeout", l.Headers},
+		{"request-timeout", l.Request},
+		{"submission-timeout", l.Submission},
+		{"response-timeout", l.Answer},
+		{"idle-timeout", l.Idle},
+		{"max-merge-delay", n.maxMergeDelay},
+		{"open-timeout", n.openWithin},
+		{"delete-heads-after", n.sweepAfter},
+		{"delete-tiles-after", n.sweepTilesAfter},
+		{"scrub-interval", n.readEvery},
+		{"scrub-period", n.readAllWithin},
+		{"max-clock-skew", n.maxSkew},
+	} {
+		if err := settingsfile.Positive(of.name, of.value); err != nil {
+			return err
 		}
 	}
-	if err := n.settleMergeDelay(); err != nil {
-		return err
-	}
+	return nil
+}
+
+// settleLimits checks what clients and steps may use.
+func (s *settings) settleLimits() error {
+	n, l := &s.node, &s.limits
 	// One address may use a quarter of the proofs.
-	if l.ProofsByAddress = n.maxProofs / 4; l.ProofsByAddress < 1 {
-		l.ProofsByAddress = 1
+	l.ProofsByAddress = max(n.maxProofs/4, 1)
+	for _, of := range []struct {
+		name       string
+		value, min int64
+	}{
+		{"max-connections", int64(l.Connections), 1},
+		{"max-connections-per-address", int64(l.ConnectionsByAddress), 1},
+		{"submission-rate-per-address", int64(l.SubmissionRate), 0},
+		{"read-rate-per-address", int64(l.ReadRate), 0},
+		{"max-checks", int64(l.Checks), 1},
+		{"max-queued-bytes", l.WaitingBytes, web.MaxBody},
+		{"max-response-bytes", l.AnswerBytes, stores.MaxObject},
+		{"max-queue", int64(n.maxQueue), 1},
+		{"max-batch", int64(n.maxBatch), 1},
+		{"max-write-rate", int64(n.maxWritten), 1},
+		{"max-proofs", int64(n.maxProofs), 1},
+	} {
+		if of.value < of.min {
+			return fmt.Errorf("--%s %d is too small (write at least %d, or leave %s out)", of.name, of.value, of.min, of.name)
+		}
 	}
-	if l.Connections < 1 || l.ConnectionsByAddress < 1 || l.Checks < 1 || l.WaitingBytes < web.MaxBody ||
-		l.AnswerBytes < stores.MaxObject || n.maxQueue < 1 || n.maxBatch < 1 || n.maxWritten < 1 || n.maxProofs < 1 {
-		return fmt.Errorf("a bound must be above 0, --max-queued-bytes at least %d, and --max-response-bytes at least %d",
-			web.MaxBody, stores.MaxObject)
-	}
-	if l.SubmissionRate < 0 || l.ReadRate < 0 {
-		return errors.New("a rate must be 0 (no bound) or above")
-	}
+	return nil
+}
+
+// settleStores fills in the addresses of stores and the names of files that follow from the folder.
+func (n *node) settleStores() error {
 	for _, address := range []struct {
 		of   *string
 		text string
@@ -362,7 +418,7 @@ func (s *settings) settle() error {
 		return errors.New("--nodes-address: nodes on several machines must share one index: " +
 			"use PostgreSQL (--index postgres://HOST/DATABASE?log=NAME) instead of a file on each machine")
 	}
-	return n.settleWitnesses()
+	return nil
 }
 
 // checkMonitoringURL refuses what is no monitoring prefix (C2SP static-ct-api, "Parameters"): readers append paths to

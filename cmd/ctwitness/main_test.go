@@ -301,7 +301,7 @@ func TestWords(t *testing.T) {
 		{"nothing 7", nil, 2, `there is no setting "nothing"`},
 		{"create a", nil, 2, `there is no setting "create"`},
 		{"name x", nil, 2, "is in line 1 already"},
-		{"shutdown-timeout 0s", nil, 2, "above 0"},
+		{"shutdown-timeout 0s", nil, 2, "--shutdown-timeout 0s is not above 0"},
 		{"program ctwitness", nil, 2, `there is no setting "program"`},
 		{"log a.example", nil, 2, "at least one key"},
 		{"log a.example " + p.path("none"), nil, 2, "no such file"},

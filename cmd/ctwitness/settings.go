@@ -100,12 +100,10 @@ func (s *settings) settle() error {
 			return fmt.Errorf("accepted-by %s: there is no such log", origin)
 		}
 	}
-	for _, time := range []time.Duration{s.openWithin, s.endWithin} {
-		if time <= 0 {
-			return errors.New("a duration must be above 0")
-		}
+	if err := settingsfile.Positive("open-timeout", s.openWithin); err != nil {
+		return err
 	}
-	return nil
+	return settingsfile.Positive("shutdown-timeout", s.endWithin)
 }
 
 // addAccepted reads a log's origin and the file of the checkpoint that a monitor accepted.

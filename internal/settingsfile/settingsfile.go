@@ -145,6 +145,14 @@ func Duration(text string) (time.Duration, error) {
 	return set, nil
 }
 
+// Positive returns an error unless the duration of a flag is above 0.
+func Positive(name string, value time.Duration) error {
+	if value <= 0 {
+		return fmt.Errorf("--%s %v is not above 0 (write for example 30s, or leave %s out)", name, value, name)
+	}
+	return nil
+}
+
 // refused returns why a flag refuses a value, and what to write: for a flag that is true or false, this format with its
 // name. A flag of another type than those below gives a reason of its own.
 func refused(of *flag.Flag, value, reason, trueOrFalse string) string {

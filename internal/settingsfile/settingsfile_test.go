@@ -9,6 +9,7 @@ import (
 	"path/filepath"
 	"strings"
 	"testing"
+	"time"
 )
 
 // TestParse: the command line counts before the file, several lines add up where they may, and each line that isn't one
@@ -80,6 +81,17 @@ func TestSettle(t *testing.T) {
 		}, usage)
 		if !errors.Is(err, c.wanted) || err != nil && err.Error() != c.told || looks != c.looks {
 			t.Errorf("%s: %v, looked at %d times", c.words, err, looks)
+		}
+	}
+}
+
+// TestPositive: a duration that is not above 0 is refused with the name of its flag.
+func TestPositive(t *testing.T) {
+	for value, due := range map[time.Duration]string{
+		1: "", 0: "--pause 0s is not above 0 (write for example 30s, or leave pause out)",
+		-time.Minute: "--pause -1m0s is not above 0 (write for example 30s, or leave pause out)"} {
+		if err := Positive("pause", value); (err == nil) != (due == "") || err != nil && err.Error() != due {
+			t.Errorf("%v: %v", value, err)
 		}
 	}
 }
