@@ -10,12 +10,9 @@ package main
 
 import (
 	"context"
-	"crypto/tls"
 	"encoding/hex"
 	"errors"
-	"fmt"
 	"io"
-	"net"
 	"net/http"
 	"os"
 	"os/signal"
@@ -103,29 +100,16 @@ func run(words []string, to io.Writer, open opener) int {
 // so in the programs that this process starts.
 func surviveReader() { signal.Notify(make(chan os.Signal, 1), syscall.SIGPIPE) }
 
-// served is one listener with its server.
-type served struct {
-	of       string
-	address  string
-	over     *tls.Config
-	handler  http.Handler
-	listener net.Listener
-	server   *web.Server
-}
-
+// serveLog opens the log of the settings, and serves it until a signal ends it or a server fails.
 func serveLog(s *settings, lines *web.Lines, signals <-chan os.Signal, open opener) (err error) {
 	roots, err := s.loadRoots()
 	if err != nil {
 		return err
 	}
 	tellLeftOut(roots, lines)
-	var certificate *web.Certificate
-	var over *tls.Config
-	if s.certificate != "" {
-		if certificate, err = web.LoadCertificate(s.certificate, s.key); err != nil {
-			return err
-		}
-		over = certificate.Config()
+	certificate, over, err := s.loadCertificate()
+	if err != nil {
+		return err
 	}
 	opening, cancel := context.WithTimeout(context.Background(), s.node.openWithin)
 	of, err := open(opening, s.node)
@@ -147,42 +131,9 @@ func serveLog(s *settings, lines *web.Lines, signals <-chan os.Signal, open open
 		Limits: s.limits, Proxies: s.proxies, Lines: lines, LogRequests: s.logRequests, ReadOnly: s.readOnly, About: about,
 		Stores: of.calls, Forward: of.forward,
 	})
-
-	servers := []*served{{of: "clients", address: s.listen, over: over, handler: front}}
-	if of.secured != nil {
-		servers = append(servers, &served{
-			of: "nodes", address: s.node.peers.listen, over: of.secured.listens, handler: of.nodes(front.Nodes()),
-		})
-	}
-	if s.operator != "" {
-		servers = append(servers, &served{of: "operator", address: s.operator, handler: front.Operator()})
-	}
-	failed, ending := make(chan error, len(servers)), os.Signal(nil)
-	for _, each := range servers {
-		if each.listener, err = net.Listen("tcp", each.address); err != nil {
-			break
-		}
-		lines.Info("listening", "for", each.of, "address", each.listener.Addr(), "tls", each.over != nil)
-	}
-	for _, each := range servers {
-		if err != nil {
-			if each.listener != nil {
-				each.listener.Close()
-			}
-			continue
-		}
-		each := each
-		switch each.of {
-		case "clients":
-			each.server = front.Serve(each.handler)
-		case "nodes":
-			each.server = front.ServeNodes(each.handler)
-		default:
-			each.server = front.ServeOthers(each.handler)
-		}
-		go func() { failed <- each.server.Listen(each.listener, each.over) }()
-	}
-	if err == nil {
+	servers, ending := serversOf(s, of, front, over), os.Signal(nil)
+	if err = listen(servers, lines); err == nil {
+		failed := start(servers)
 		tellHead(s, of.log, lines)
 		telling, stop := context.WithCancel(context.Background())
 		defer stop()
@@ -298,23 +249,4 @@ func reload(s *settings, front *web.Front, checker *chains.Checker, certificates
 			reloaded(name, certificates[at].Reload())
 		}
 	}
-}
-
-// ended has the log, which takes no more, publish and answer who waits, and then ends the servers, within the time for
-// it. Reading goes on until the log has ended.
-func ended(s *settings, of log.Log, servers []*served, why error) error {
-	ctx, cancel := context.WithTimeout(context.Background(), s.endWithin)
-	defer cancel()
-	if err := of.End(ctx); why == nil {
-		why = err
-	}
-	for _, each := range servers {
-		if each.server == nil {
-			continue
-		}
-		if err := each.server.End(ctx); why == nil && err != nil {
-			why = fmt.Errorf("the requests at the listener for %s were not answered in time: %w", each.of, err)
-		}
-	}
-	return why
 }

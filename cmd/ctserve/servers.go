@@ -1,0 +1,92 @@
+package main
+
+import (
+	"context"
+	"crypto/tls"
+	"fmt"
+	"net"
+	"net/http"
+
+	"wagtenib/internal/log"
+	"wagtenib/internal/web"
+)
+
+// served is one listener with its server.
+type served struct {
+	of       string
+	address  string
+	over     *tls.Config
+	handler  http.Handler
+	make     func(http.Handler) *web.Server
+	listener net.Listener
+	server   *web.Server
+}
+
+// loadCertificate reads the certificate for clients. Without one, the log serves plain HTTP.
+func (s *settings) loadCertificate() (*web.Certificate, *tls.Config, error) {
+	if s.certificate == "" {
+		return nil, nil, nil
+	}
+	certificate, err := web.LoadCertificate(s.certificate, s.key)
+	if err != nil {
+		return nil, nil, err
+	}
+	return certificate, certificate.Config(), nil
+}
+
+// serversOf returns the servers of a log: for clients, for other nodes and for operators.
+func serversOf(s *settings, of *opened, front *web.Front, over *tls.Config) []*served {
+	servers := []*served{{of: "clients", address: s.listen, over: over, handler: front, make: front.Serve}}
+	if of.secured != nil {
+		servers = append(servers, &served{of: "nodes", address: s.node.peers.listen, over: of.secured.listens,
+			handler: of.nodes(front.Nodes()), make: front.ServeNodes})
+	}
+	if s.operator != "" {
+		servers = append(servers, &served{of: "operator", address: s.operator, handler: front.Operator(),
+			make: front.ServeOthers})
+	}
+	return servers
+}
+
+// listen opens the listeners of servers. If one of them cannot be opened, none is open after it.
+func listen(servers []*served, lines *web.Lines) (err error) {
+	for at, each := range servers {
+		if each.listener, err = net.Listen("tcp", each.address); err != nil {
+			for _, open := range servers[:at] {
+				open.listener.Close()
+			}
+			return err
+		}
+		lines.Info("listening", "for", each.of, "address", each.listener.Addr(), "tls", each.over != nil)
+	}
+	return nil
+}
+
+// start has servers answer at their listeners. The channel gets the error of each one that ends.
+func start(servers []*served) <-chan error {
+	failed := make(chan error, len(servers))
+	for _, each := range servers {
+		each.server = each.make(each.handler)
+		go func() { failed <- each.server.Listen(each.listener, each.over) }()
+	}
+	return failed
+}
+
+// ended has the log, which takes no more, publish and answer who waits, and then ends the servers, within the time for
+// it. Reading goes on until the log has ended.
+func ended(s *settings, of log.Log, servers []*served, why error) error {
+	ctx, cancel := context.WithTimeout(context.Background(), s.endWithin)
+	defer cancel()
+	if err := of.End(ctx); why == nil {
+		why = err
+	}
+	for _, each := range servers {
+		if each.server == nil {
+			continue
+		}
+		if err := each.server.End(ctx); why == nil && err != nil {
+			why = fmt.Errorf("the requests at the listener for %s were not answered in time: %w", each.of, err)
+		}
+	}
+	return why
+}
