@@ -48,11 +48,6 @@ def blocks(text, pattern):
         yield found.start(), closing(text, text.index("{", found.end()))
 
 
-def is_pattern(text, found):
-    """Reports whether a name is in a pattern."""
-    return BEHIND.match(text[found.end() : text.find("\n", found.end())]) is not None
-
-
 # Another name for it: that of an import, or of a type that is not a trait's.
 RENAMED = re.compile(rf"{NAMES.pattern}\s+as\s+\w|^(?:pub(?:\(\w+\))? )?type (?!{NAMES.pattern})\w+\s*=\s*(?:\w+::)*{NAMES.pattern}\s*;", re.M)
 # A test for the error, before an expression that names it, that tests nothing else.

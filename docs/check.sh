@@ -2,7 +2,7 @@
 # Checks the documents, in seconds: links, names of files and functions, commands, quotations, the contracts of PROMISES.md, and pictures.
 # make test runs it before the proofs, and make check after them.
 set -u
-cd "$(dirname "$0")/.."
+cd "$(dirname "$0")/.." || exit 1
 export PYTHONDONTWRITEBYTECODE=1
 status=0
 python3 checks/documents.py || status=1

@@ -3,7 +3,7 @@
 # FOLDER has the programs, by default cmd/out. VULNDB names another database than govulncheck's own (https://.. or file://..).
 # Status 0: none is known. 1: some are, which govulncheck prints. 2: it can't look.
 set -u
-cd "$(dirname "$0")/.."
+cd "$(dirname "$0")/.." || exit 1
 folder=${1:-cmd/out}
 if ! command -v govulncheck >/dev/null; then
   echo "vulnerabilities.sh: govulncheck isn't on the PATH (install one of version 1.0 or later; release/README.md says what to do without it)" >&2

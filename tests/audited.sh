@@ -2,7 +2,8 @@
 # Serves a log, kills it (-9) each minute, and has `ctserve audit` look at it meanwhile: audited.sh [MINUTES] [FOLDER]
 # The log is one node on a folder. With NODES=2 or more it has that many nodes on Ceph's S3 and PostgreSQL (engines.sh), behind nginx with
 # release/ctserve.nginx.conf. They are killed in turn, one each minute, and each of them stays away for 20 seconds.
-# It ends with the status of the audit. FOLDER, which must not exist, gets the log, its lines and the report; without it, a folder below /tmp.
+# It ends with the status of the audit, or with 1 if the log was killed less often than each other minute. FOLDER, which must not exist, gets the log, its
+# lines and the report. Without it, that is a folder below /tmp.
 # MAX_LATENCY=30s is another bound for the audit.
 set -eu
 here=$(cd "$(dirname "$0")/.." && pwd)
@@ -10,6 +11,11 @@ minutes=${1:-60}
 nodes=${NODES:-0}
 if [ "$nodes" != 0 ] && [ -z "${STORES_S3:-}" ]; then
   ENGINES="postgres s3" exec "$here/tests/engines.sh" run "$0" "$@"
+fi
+[ -x "$here/cmd/out/ctserve" ] || { echo "audited.sh: ctserve isn't built (make service builds it)" >&2; exit 1; }
+if [ "$nodes" != 0 ] && ! PATH=$PATH:/usr/sbin command -v nginx >/dev/null; then
+  echo "audited.sh: there is no nginx, which NODES=$nodes needs (apt-get install nginx)" >&2
+  exit 1
 fi
 work=${2:-$(mktemp -d)/audited}
 mkdir "$work"
@@ -144,5 +150,10 @@ done
 status=0
 "$here/cmd/out/ctserve" audit "http://$address" --list-entry entry.json --issuer ca.pem --issuer-key ca.key --wanted-roots ca.pem \
   --for "${minutes}m" --poll-interval 1s --submit-interval 5s --max-latency "${MAX_LATENCY:-10s}" --report report || status=$?
-echo "$(wc -l <kills) kills; the report is $work/report"
+kills=$(wc -l <kills)
+echo "$kills kills; the report is $work/report"
+if [ "$kills" -lt $((minutes / 2)) ]; then
+  echo "audited.sh: the log was killed $kills times in $minutes minutes, so the audit says little (look at $work/lines-0)" >&2
+  exit 1
+fi
 exit "$status"

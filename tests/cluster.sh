@@ -54,7 +54,7 @@ addresses() {
   bucket="${STORES_S3-}/log?tls=no"
   bucket=${bucket/http:/s3:}
   register=etcd://${STORES_MEMBERS-}/log
-  places=postgres://log@127.0.0.1:$(sed 's/.*port=\([0-9]*\).*/\1/' <<<"${STORES_POSTGRES-}")/postgres?log=log\&sslmode=disable
+  places="postgres://log@127.0.0.1:$(sed 's/.*port=\([0-9]*\).*/\1/' <<<"${STORES_POSTGRES-}")/postgres?log=log&sslmode=disable"
 }
 
 # numbers KIND: those of the nodes, or of the witnesses.

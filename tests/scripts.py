@@ -638,6 +638,21 @@ def try_quotations():
     return count
 
 
+def try_shell():
+    """shellcheck warns of nothing in the shell scripts. Without shellcheck it isn't tried, and says so."""
+    root = HERE.parent
+    folders = (".ci", "bench", "checks", "cmd", "deps", "dist", "docs", "examples", "release", "tests")
+    files = [path for folder in folders for path in sorted((root / folder).rglob("*")) if path.is_file() and "out" not in path.relative_to(root).parts]
+    scripts = [path.relative_to(root) for path in files if re.match(rb"#!.*\b(bash|sh)\n", path.open("rb").readline())]
+    if not shutil.which("shellcheck"):
+        print("tests/scripts.py: the shell scripts were left out: there is no shellcheck (apt-get install shellcheck)")
+        return 0
+    ran = subprocess.run(["shellcheck", "--severity=warning", "--format=gcc", *scripts], cwd=root, capture_output=True, text=True)
+    if ran.returncode:
+        fail(f"shellcheck warns:\n{ran.stdout}{ran.stderr}")
+    return len(scripts)
+
+
 def try_nodes():
     """node/explore.py: each history of the right machine is sound, and each wrong machine is found out by its clause."""
     ran = run("node/explore.py")
@@ -675,6 +690,7 @@ def main():
     try_tiles()
     try_nodes()
     planted = try_planted()
+    shell = try_shell()
     for name, words in INPUTS.items():
         ran = run("expected.py", *words.split(), given=(EXAMPLES / f"{name}.jsonl").read_bytes())
         if ran.stdout != (EXAMPLES / f"{name}.expected.jsonl").read_bytes():
@@ -697,7 +713,7 @@ def main():
             fail(f"names/{script}: {named.stderr.decode()}")
         sys.stdout.write(named.stdout.decode())
     stored = len(lines_of("bad-lines"))
-    rest = f"{chains} chains, {len(INPUTS)} inputs, {sessions} sessions, {outputs} damaged outputs, {quotations} quotations, {planted} places of faults, {files} installed files and a release ({released})"
+    rest = f"{chains} chains, {len(INPUTS)} inputs, {sessions} sessions, {outputs} damaged outputs, {quotations} quotations, {planted} places of faults, {shell} shell scripts, {files} installed files and a release ({released})"
     print(f"tests/scripts.py: as expected, over {stored} stored lines, {DAMAGED} damaged ones, {rest}.")
 
 

@@ -4,9 +4,9 @@
     served_page.py [--screenshots FOLDER] [--more ENTRIES]
 
 It serves a log of its own by cmd/serve.sh at a port that is free. The page has to tell what the log answers: its size, names, key and notice; that the
-head's signature is the key's, and a changed head's isn't; that an audit path leads to the head's root, and a changed one doesn't; it may not be wider
-than a phone, and without JavaScript it says so. With --more ctload has so many taken before it looks once more. Screenshots are of a light and of a dark
-screen. It ends with a line of what it saw, and with status 1 where something is wrong.
+head's signature is the key's, and a changed head's isn't; that an audit path leads to the head's root, and a changed one doesn't. It may not be wider
+than a phone. Without JavaScript it says so. With --more ctload submits so many before the script looks once more. Screenshots are of a light and of a dark
+screen. The script prints a line that says what it saw, and ends with status 1 if something is wrong.
 """
 import argparse
 import base64
@@ -93,12 +93,14 @@ class Served:
         sys.exit(f"served_page.py: serve.sh ended with status {self.log.wait()}")
 
     def size(self):
-        """How many entries the log has after no more come. Submissions that ctload left unanswered still become entries."""
-        found = None
-        while (now := json.load(urllib.request.urlopen(self.base + "ct/v1/get-sth"))["tree_size"]) != found:
-            found = now
-            time.sleep(3)
-        return found
+        """How many entries the log has, after those that ctload was answered for. A submission that it gave up may become an entry too."""
+        due = len(NAMES) + len((self.folder / "answers").read_text().splitlines())
+        for _ in range(600):
+            found = json.load(urllib.request.urlopen(self.base + "ct/v1/get-sth"))["tree_size"]
+            if found >= due:
+                return found
+            time.sleep(0.1)
+        sys.exit(f"served_page.py: the log has {found} entries, and answered for {due} (look at {self.folder}/answers)")
 
     def roots(self):
         """How many roots the log has."""
@@ -215,7 +217,7 @@ def main():
     words.add_argument("--more", type=int)
     options = words.parse_args()
     if not shutil.which("chromium"):
-        sys.exit("served_page.py lacks chromium")
+        sys.exit("served_page.py: there is no chromium (apt-get install chromium)")
     if options.screenshots:
         options.screenshots.mkdir(exist_ok=True)
     with tempfile.TemporaryDirectory() as folder:

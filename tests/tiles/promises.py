@@ -145,16 +145,6 @@ def vector(size, content):
     return len(content).to_bytes(size, "big") + content
 
 
-def with_timestamps(tbs, *timestamps):
-    """The TBSCertificate with a list of signed certificate timestamps after its extensions (section 3.3)."""
-    fields = only(SEQUENCE, tbs, "tbs")
-    rest = after(FIELDS, fields)
-    listed = only(SEQUENCE, only(EXTENSIONS, rest, "extensions"), "extensions") if rest else b""
-    value = written(OCTETS, vector(2, b"".join(vector(2, one) for one in timestamps)))
-    listed += written(SEQUENCE, written(NAME, LIST_NAME) + written(OCTETS, value))
-    return written(SEQUENCE, fields[: len(fields) - len(rest)] + written(EXTENSIONS, written(SEQUENCE, listed)))
-
-
 def leaf_of(certificate, issuer, moment, extensions):
     """The leaf that a timestamp within a certificate promises."""
     entry = of("certificate", cut, of("certificate", tbs_of, certificate), LIST_NAME)[0]

@@ -25,6 +25,7 @@ def try_monitor(leaves, same, outcome):
     ):
         judged = wagtenib.monitor_head(state, head)
         same(what, (judged.verdict, judged.known, judged.state), (*due, state))
+        same(f"whether {what} speaks against the log", judged.verdict.accuses, due[0] not in (Verdict.AGAIN, Verdict.STALE))
     same("entries that no head wants", wagtenib.monitor_entries(state, 8, leaves)[0].verdict, Verdict.GAP)
     other, _ = wagtenib.monitor_entries(waiting.state, 0, leaves[:7] + [b"another leaf"])
     same("another leaf", (other.verdict, other.root, other.read), (Verdict.OTHER_ROOT, merkle.root(leaves[:7] + [b"another leaf"]), 0))
