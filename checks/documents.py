@@ -1,11 +1,12 @@
 #!/usr/bin/env python3
 """Checks that everything that the documents name exists: links, files, functions, words of the code, and targets of the Makefile.
 
-It reads README.md, docs/**/*.md (except the parts that checking.py generates) and the README.md of each folder in READMES. It checks that
+It reads the pages of the top folder (except CHANGELOG.md, of which it checks only the links), docs/**/*.md (except the parts that checking.py generates) and the
+pages of other folders in PAGES. It checks that
 
 - a link leads to a file, and its # to a heading there;
 - in code (spans and blocks), a path is a file of this repository, `Type::name` a function or a case, `name()` a function, and `make name` a target;
-- a name with a capital inside or an underscore, and a span of one word, occur in the code outside of comments, or in elsewhere.txt;
+- a name with a capital inside or an underscore, and a span of one word, occur in the code outside of comments, or in elsewhere.txt, which has no others;
 - `make help` lists each target, except the parts of `make install`;
 - a block below a comment `<!-- from FILE -->` has only text of that file, in its order (a line of `..` marks omitted text, and lines may be wrapped
   differently);
@@ -30,11 +31,12 @@ CALL = re.compile(r"(?<![\w.])([a-z]\w*)\(\)")
 NAME = re.compile(r"\b(?:[A-Z][a-z0-9]+(?:[A-Z][a-z0-9]*)+|[a-z]+(?:_[a-z0-9]+)+)\b")
 MAKE = re.compile(r"\bmake ([a-z]+(?:-[a-z]+)*)")
 QUOTED = re.compile(r"^<!-- from (\S+) -->\n+(```.*?^```$|(?:^ {4}[^\n]*\n)+)", re.M | re.S)
-# The folders whose README.md is read, in addition to docs/.
+# The pages that are read, in addition to docs/.
 READMES = (
     "bench", "bindings", "bindings/go/wagtenib", "bindings/python", "bindings/rust", "checks", "cmd", "crates", "deps", "dist", "examples", "examples/link", "include",
     "internal", "internal/node", "internal/sim", "release", "tests",
 )
+PAGES = ("README.md", "CONTRIBUTING.md", "SECURITY.md", "bench/peers.md", *(f"{folder}/README.md" for folder in READMES))
 # Files that do not count as code: this script, with its own page of faults, and elsewhere.txt.
 OWN = ("documents.py", "elsewhere.txt")
 # Words of the kit, of std, of the C library, of other crates and of standards, which occur in no code here.
@@ -52,7 +54,7 @@ def files():
 
 
 def pages():
-    return [ROOT / "README.md", *sorted((ROOT / "docs").glob("**/*.md")), *(ROOT / folder / "README.md" for folder in READMES)]
+    return [*(ROOT / page for page in PAGES), *sorted((ROOT / "docs").glob("**/*.md"))]
 
 
 def words_of_code(paths):
@@ -99,6 +101,13 @@ class Repository:
         self.files, self.names = [f"/{path}" for path in paths], {path.name for path in paths}
         self.words, self.functions = words_of_code(paths), functions_of_code()
         self.targets, self.told = targets()
+        # The names that the pages need of elsewhere.txt.
+        self.needed = set()
+
+    def is_elsewhere(self, name):
+        """Reports whether elsewhere.txt has a name, and notes that a page needs it."""
+        self.needed.add(name)
+        return name in ELSEWHERE
 
     def has_path(self, path, page):
         """Reports whether a path exists in the repository: from its top, the page's folder, crates/ or a crate, or at the end of some file's path."""
@@ -125,17 +134,17 @@ class Repository:
     def faults_of_code(self, code, page):
         """Yields a message for each name in a span or a block that does not exist."""
         for path in PATH.findall(code):
-            if not self.has_path(path, page) and path not in ELSEWHERE:
+            if not self.has_path(path, page) and not self.is_elsewhere(path):
                 yield f"{path} is not a file of this repository"
         for left, right in PAIR.findall(code):
-            if left not in ELSEWHERE and (left not in self.words or right not in self.functions):
+            if (left not in self.words or right not in self.functions) and not self.is_elsewhere(left):
                 yield f"{left}::{right} occurs nowhere in the code"
         for name in CALL.findall(code):
-            if name not in self.functions | ELSEWHERE:
+            if name not in self.functions and not self.is_elsewhere(name):
                 yield f"{name}() is not a function of this repository"
         names = NAME.findall(code) + [code] * bool(re.fullmatch(r"[A-Za-z]\w+", code))
         for name in dict.fromkeys(names):
-            if name not in self.words | ELSEWHERE:
+            if name not in self.words and not self.is_elsewhere(name):
                 yield f"{name} occurs nowhere in the code (or name it in checks/elsewhere.txt)"
         for name in MAKE.findall(code):
             if name not in self.targets:
@@ -226,6 +235,8 @@ def main():
     for page in pages():
         text = re.sub(r"<!-- Made by .*?<!-- Made until here. -->", "", page.read_text(), flags=re.S)
         found += [f"{page.relative_to(ROOT)}: {fault}" for fault in dict.fromkeys(repository.faults(text, page))]
+    found += [f"CHANGELOG.md: {fault}" for fault in repository.faults_of_links((ROOT / "CHANGELOG.md").read_text(), ROOT / "CHANGELOG.md")]
+    found += [f"checks/elsewhere.txt: no page needs {name} (remove it)" for name in sorted(ELSEWHERE - repository.needed)]
     for fault in found:
         print(fault)
     sys.exit(1 if found else 0)
