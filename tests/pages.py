@@ -6,7 +6,7 @@ the kit.
 
 It runs all commands of README.md except the gate, the commands of the other pages that readme.py leaves to it, and the targets of the Makefile that their
 text names. It needs root. It runs in a network of its own, which has only loopback, so that the ports are those of the pages. It mounts a layer over
-/usr/local, /etc and others that is removed at the end, so that `make install` and `ldconfig` run as they are written too. A service that a command starts
+/usr/local, /etc and others that is removed at the end, so that commands that install something run as they are written too. A service that a command starts
 runs until its page ends or another service starts; then pages.py interrupts it, as Ctrl-C does.
 
 The proofs of this checkout are copied into the clone, and rt checks that they are of these sources. With --from-nothing they are not copied, and everything
@@ -83,7 +83,7 @@ def own_mounts(work):
     over = work / "over"
     over.mkdir()
     subprocess.run(["mount", "-t", "tmpfs", "tmpfs", over], check=True)
-    for folder in filter(os.path.isdir, ("/usr/local", "/etc", "/var/cache", "/srv", "/run")):
+    for folder in filter(os.path.isdir, ("/usr/local", "/usr/share", "/etc", "/var/cache", "/var/lib", "/srv", "/run")):
         upper, use = over / folder.replace("/", "_"), over / f"{folder.replace('/', '_')}.work"
         upper.mkdir()
         use.mkdir()

@@ -134,14 +134,15 @@ ELSEWHERE = {
     "docs/ARCHIVE.md": {"": BARE},
     "docs/AUDIT.md": {"cat ct-log/leaf.pem": HERE, "curl -s -d @ct-log/chain.json": HERE, "cmd/out/ctwatch audit": HERE},
     "docs/LINES.md": {"crates/ctlog/out/ctlog": HERE},
-    "docs/OPERATING.md": {"": BARE},
+    "docs/OPERATING.md": {**dict.fromkeys(("make service", "install ", "adduser "), PAGES), "": BARE},
     "docs/WATCH.md": {"make serve": HERE, "curl -s -d @ct-log/chain.json": HERE, "cmd/out/ctwatch run --once": HERE, "openssl req": HERE, "openssl x509": HERE, "printf": HERE,
                       "curl -s -d @own.json": HERE},
     "examples/README.md": {"examples/pem_lines.py": HERE, "examples/bad_lines.py": HERE},
     "examples/link/README.md": {"make link": PAGES, "make install": PAGES, "ldconfig": PAGES, "cc program.c": PAGES},
     "release/README.md": {"make programs release": PAGES, "cd release/out && sha256sum": PAGES, "apt-get install": BARE},
     "docs/SERVICE.md": {"make deps": PAGES, "make service-engines": PAGES, "make service-test": GATE, "make service": HERE, "openssl genpkey": BARE, "cp 2027h1.pem": BARE, "cat > /etc/ctwitness/a.conf": BARE,
-                          "runuser -u ctwitness": BARE, "systemctl": BARE, "ctwatch cosign": BARE, "apt-get install": BARE},
+                          "runuser -u ctwitness": BARE, "systemctl": BARE, "ctwatch cosign": BARE, "apt-get install": BARE,
+                          "(printf '{\"chain\":['": HERE, "curl -s -d @chain.json": HERE, "curl -s '127.0.0.1:8618/ct/v1/get-entr": HERE},
 }
 # The targets that the pages name in their text, also in README.md's tables.
 TARGETS = {
@@ -206,6 +207,8 @@ SIGNED = r'\{"sct_version":0,.*"signature":"[A-Za-z0-9+/=]+"\}\s*'
 CHECKPOINT = "ct-log.example\n1\n[A-Za-z0-9+/=]{44}\n\n\u2014 ct-log.example [A-Za-z0-9+/=]+\n"
 ALERT = r"FOUND example\.org: shop\.example\.org \(1 name\); issued by .*; certificate 0 of 127\.0\.0\.1:[0-9]+; .*\n"
 AUDITED = r"ct-log\.example: passed\n.*"
+# The answers to the requests of docs/SERVICE.md, by a part of the command.
+ANSWERS = {"add-chain": SIGNED, "get-entries": r'\{"entries":\[\{"leaf_input":.*\}\]\}\n', "get-entry-and-proof": r'\{"leaf_input":.*"audit_path":\[\]\}\n'}
 INCLUDED = r"127\.0\.0\.1:[0-9]+: INCLUDED: the leaf is at 0 of [0-9]+\n"
 # The commands by their first words, with the test of each.
 KNOWN = [
@@ -247,6 +250,10 @@ def main():
                     page.run(command, 0, SIGNED if command.startswith("curl") else "")
                 for command in commands(ROOT / "docs" / "AUDIT.md"):
                     page.run(command, 0, INCLUDED if "ctwatch audit" in command else "")
+                # (chain.pem is that of AUDIT.md)
+                for command in commands(ROOT / "docs" / "SERVICE.md"):
+                    if "chain.json" in command or "/ct/v1/" in command:
+                        page.run(command, 0, next((form for part, form in ANSWERS.items() if part in command), ""))
                 pem_lines(page)
         finally:
             page.end()

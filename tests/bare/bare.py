@@ -37,7 +37,7 @@ import urllib.request
 ROOT = pathlib.Path(__file__).resolve().parent.parent.parent
 sys.path += [str(ROOT / "release"), str(ROOT / "tests"), str(ROOT / "tests" / "tiles")]
 
-from readme import bare_commands, commands, files  # noqa: E402
+from readme import BARE, bare_commands, commands, files, run_by  # noqa: E402
 from release import PROGRAMS  # noqa: E402
 
 PAGE = ROOT / "docs" / "OPERATING.md"
@@ -432,7 +432,7 @@ def main():
     given = words.parse_args()
     if os.geteuid() or not shutil.which("mmdebstrap"):
         fail("it needs root, and mmdebstrap (Debian's package of that name)")
-    own, lines, network = commands(PAGE), bare_commands(), Network()
+    own, lines, network = [line for line in commands(PAGE) if run_by(PAGE, line) == BARE], bare_commands(), Network()
     work = pathlib.Path(tempfile.mkdtemp(prefix="bare-"))
     bare = Bare(work / "debian", network)
     try:
