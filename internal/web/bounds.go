@@ -11,6 +11,7 @@ import (
 	"sync/atomic"
 
 	"wagtenib/internal/log"
+	"wagtenib/internal/stores"
 )
 
 // budget counts bytes up to a bound.
@@ -214,6 +215,34 @@ func (c *connections) closeIdle() bool {
 	return true
 }
 
+// uses counts what clients use at the same time, each against its bound.
+type uses struct {
+	connections connections
+	requests    counts
+	// waiting counts the bytes of submissions, and answers those of responses. The counts are those of each client.
+	waiting, answers     budget
+	waitingOf, answersOf counts
+	proofsOf             counts
+	// checks has a place for each chain that is checked, and packs for each answer that is compressed.
+	checks, packs chan struct{}
+	rates         map[cost]*rates
+}
+
+func usesOf(limits Limits) uses {
+	return uses{
+		connections: connections{byAddress: counts{most: limits.ConnectionsByAddress, submitters: limits.Submitters}},
+		requests:    counts{most: limits.ConnectionsByAddress, submitters: limits.Submitters},
+		waiting:     budget{most: limits.WaitingBytes},
+		waitingOf:   counts{most: byAddress(limits.WaitingBytes, MaxBody)},
+		answers:     budget{most: limits.AnswerBytes},
+		answersOf:   counts{most: byAddress(limits.AnswerBytes, stores.MaxObject+likelyEntries)},
+		proofsOf:    counts{most: limits.ProofsByAddress},
+		checks:      make(chan struct{}, limits.Checks),
+		packs:       make(chan struct{}, limits.Checks),
+		rates:       map[cost]*rates{aSubmission: newRates(limits.SubmissionRate), aRead: newRates(limits.ReadRate)},
+	}
+}
+
 // bounded is a listener that closes connections above the bounds of a front. The connections of a proxy have only the
 // bound for all.
 type bounded struct {
@@ -237,15 +266,15 @@ func (l bounded) Accept() (net.Conn, error) {
 func (f *Front) takeConnection(connection net.Conn) net.Conn {
 	address := addressOf(connection.RemoteAddr().String())
 	counted := !f.isProxy(address)
-	if counted && !f.connections.byAddress.take(address) {
+	if counted && !f.uses.connections.byAddress.take(address) {
 		f.metrics.refused.WithLabelValues("address").Inc()
 		return nil
 	}
-	for f.connections.open.Add(1) > int64(f.limits.Connections) {
-		f.connections.open.Add(-1)
-		if !f.connections.closeIdle() {
+	for f.uses.connections.open.Add(1) > int64(f.limits.Connections) {
+		f.uses.connections.open.Add(-1)
+		if !f.uses.connections.closeIdle() {
 			if counted {
-				f.connections.byAddress.give(address)
+				f.uses.connections.byAddress.give(address)
 			}
 			f.metrics.refused.WithLabelValues("all").Inc()
 			return nil
@@ -254,13 +283,13 @@ func (f *Front) takeConnection(connection net.Conn) net.Conn {
 	}
 	taken := &open{Conn: connection, isClient: true}
 	taken.closed = func() {
-		f.connections.leave(taken)
-		f.connections.open.Add(-1)
+		f.uses.connections.leave(taken)
+		f.uses.connections.open.Add(-1)
 		if counted {
-			f.connections.byAddress.give(address)
+			f.uses.connections.byAddress.give(address)
 		}
 	}
-	f.connections.isIdle(taken, true)
+	f.uses.connections.isIdle(taken, true)
 	return taken
 }
 

@@ -126,7 +126,7 @@ func FuzzConnections(f *testing.F) {
 				break
 			}
 		}
-		if x.front.waiting.used.Load() < 0 {
+		if x.front.uses.waiting.used.Load() < 0 {
 			t.Fatal("more is given than was taken")
 		}
 	})

@@ -166,9 +166,9 @@ func (c figures) Collect(to chan<- prometheus.Metric) {
 	values.upkeep(f)
 	values.witnesses(f)
 	values.stores(c.front.options.Stores)
-	values.gauge(descOpen, float64(c.front.connections.open.Load()))
-	values.gauge(descWaiting, float64(c.front.waiting.used.Load()))
-	values.gauge(descAnswers, float64(c.front.answers.used.Load()))
+	values.gauge(descOpen, float64(c.front.uses.connections.open.Load()))
+	values.gauge(descWaiting, float64(c.front.uses.waiting.used.Load()))
+	values.gauge(descAnswers, float64(c.front.uses.answers.used.Load()))
 	values.gauge(descRoots, float64(len(c.front.checker.Roots().Certificates())))
 }
 

@@ -53,14 +53,14 @@ func (f *Front) writePacked(w http.ResponseWriter, r *http.Request, kind string,
 		return
 	}
 	select {
-	case f.packs <- struct{}{}:
+	case f.uses.packs <- struct{}{}:
 	default:
 		// (who waited would hold what was read for longer)
 		write(w, http.StatusOK, kind, content)
 		return
 	}
 	packed := pack(content)
-	<-f.packs
+	<-f.uses.packs
 	if len(packed) >= len(content) || heldIn(r.Context()).change(int64(len(packed))) != nil {
 		write(w, http.StatusOK, kind, content)
 		return

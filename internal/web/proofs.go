@@ -137,10 +137,10 @@ func numbersOf(r *http.Request, names ...string) (query url.Values, numbers []ui
 // between, after the full tile was stored. Then underHead makes the proof again.
 func (f *Front) underHead(r *http.Request, size uint64, ask func(context.Context, log.Head) error) error {
 	client := f.clientOf(r)
-	if !f.proofsOf.take(client) {
+	if !f.uses.proofsOf.take(client) {
 		return tooMany
 	}
-	defer f.proofsOf.give(client)
+	defer f.uses.proofsOf.give(client)
 	ctx, cancel := f.reading(r)
 	defer cancel()
 	for again := false; ; again = true {

@@ -261,9 +261,9 @@ func TestProofsByAddress(t *testing.T) {
 		go ask("192.0.2.1:7")
 	}
 	asked := func(peer string) int {
-		f.front.proofsOf.mutex.Lock()
-		defer f.front.proofsOf.mutex.Unlock()
-		return f.front.proofsOf.of[netip.MustParsePrefix(peer+"/32")]
+		f.front.uses.proofsOf.mutex.Lock()
+		defer f.front.uses.proofsOf.mutex.Unlock()
+		return f.front.uses.proofsOf.of[netip.MustParsePrefix(peer+"/32")]
 	}
 	for asked("192.0.2.1") != 2 {
 		time.Sleep(time.Millisecond)

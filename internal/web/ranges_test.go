@@ -85,7 +85,7 @@ func TestParts(t *testing.T) {
 		}
 	}
 	refused(t, "a tile that isn't there", ask("GET", "/tile/data/009", "Range", "bytes=0-1"), 404, "absent")
-	if used := f.front.answers.used.Load(); used != 0 {
+	if used := f.front.uses.answers.used.Load(); used != 0 {
 		t.Errorf("%d bytes of answers are held", used)
 	}
 }

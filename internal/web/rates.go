@@ -93,5 +93,5 @@ func (f *Front) isInRate(c call, client netip.Addr) bool {
 	if _, is := submitterOf(client, f.limits.Submitters); is {
 		return true
 	}
-	return f.rates[c.costs].take(groupOf(client), time.Now())
+	return f.uses.rates[c.costs].take(groupOf(client), time.Now())
 }

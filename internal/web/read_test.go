@@ -133,8 +133,8 @@ func TestAnswersAreBounded(t *testing.T) {
 	// (issuers are at hand by now)
 	f.front.issuers.kept, f.front.issuers.bytes = nil, 0
 	const all = 2<<20 - 4096
-	if !f.front.answers.take(all) {
-		t.Fatalf("%d bytes are still counted", f.front.answers.used.Load())
+	if !f.front.uses.answers.take(all) {
+		t.Fatalf("%d bytes are still counted", f.front.uses.answers.used.Load())
 	}
 	for _, path := range objects {
 		w := f.get(path)
@@ -143,12 +143,12 @@ func TestAnswersAreBounded(t *testing.T) {
 		}
 	}
 	answered(none...)
-	f.front.answers.give(all)
+	f.front.uses.answers.give(all)
 	answered(objects...)
 	// One that has more bytes than it was taken to have.
 	f.log.Change("tile/data/001.p/4", dataTileOf(700000, 700000, 700000, 700000))
 	refused(t, "a large tile", f.get("/tile/data/001.p/4"), 503, "busy")
-	if used := f.front.answers.used.Load(); used != 0 {
+	if used := f.front.uses.answers.used.Load(); used != 0 {
 		t.Errorf("%d bytes are still counted", used)
 	}
 }
@@ -162,7 +162,7 @@ type countedWriter struct {
 }
 
 func (w *countedWriter) Write(content []byte) (int, error) {
-	if now := w.front.answers.used.Load(); now > w.counted {
+	if now := w.front.uses.answers.used.Load(); now > w.counted {
 		w.counted = now
 	}
 	return w.ResponseRecorder.Write(content)
@@ -190,15 +190,15 @@ func TestAnswersWithEntriesCount(t *testing.T) {
 	}
 	// There is room for the tile, and not for the answer.
 	const room = likelyEntries + 64<<10
-	if !f.front.answers.take(64<<20 - room) {
-		t.Fatalf("%d bytes are still counted", f.front.answers.used.Load())
+	if !f.front.uses.answers.take(64<<20 - room) {
+		t.Fatalf("%d bytes are still counted", f.front.uses.answers.used.Load())
 	}
 	if w := f.get("/tile/data/000"); w.Code != http.StatusOK {
 		t.Errorf("the tile: %d %s", w.Code, w.Body)
 	}
 	refused(t, "the entries", f.get(paths[0]), 503, "busy")
-	f.front.answers.give(64<<20 - room)
-	if used := f.front.answers.used.Load(); used != 0 {
+	f.front.uses.answers.give(64<<20 - room)
+	if used := f.front.uses.answers.used.Load(); used != 0 {
 		t.Errorf("%d bytes are still counted", used)
 	}
 }
@@ -257,7 +257,7 @@ func TestLongObjectsAreTakenFirst(t *testing.T) {
 	if most := long.most.Load(); most < length || most > 40<<20 {
 		t.Errorf("%d bytes were read at once, of tiles of %d", most, length)
 	}
-	if used := f.front.answers.used.Load(); used != 0 {
+	if used := f.front.uses.answers.used.Load(); used != 0 {
 		t.Errorf("%d bytes are still counted", used)
 	}
 }
@@ -278,13 +278,13 @@ func TestAnswersByAddress(t *testing.T) {
 			return w
 		}
 		taken := test.one - likelyEntries
-		if !f.front.answersOf.takeSome(client, taken) {
+		if !f.front.uses.answersOf.takeSome(client, taken) {
 			t.Fatalf("of %d bytes one address hasn't %d", test.all, taken)
 		}
 		if w := from(same); w.Code != 200 {
 			t.Errorf("an object that has room: %d %s", w.Code, w.Body)
 		}
-		if !f.front.answersOf.takeSome(client, 1) {
+		if !f.front.uses.answersOf.takeSome(client, 1) {
 			t.Errorf("of %d bytes one address hasn't %d", test.all, taken+1)
 		}
 		w := from(same)
@@ -294,12 +294,12 @@ func TestAnswersByAddress(t *testing.T) {
 		if w := from(other); w.Code != 200 {
 			t.Errorf("another address: %d %s", w.Code, w.Body)
 		}
-		f.front.answersOf.giveSome(client, taken+1)
+		f.front.uses.answersOf.giveSome(client, taken+1)
 		if w := from(same); w.Code != 200 {
 			t.Errorf("the same address, behind it: %d %s", w.Code, w.Body)
 		}
-		if used := f.front.answers.used.Load(); used != 0 || len(f.front.answersOf.of) != 0 {
-			t.Errorf("%d bytes and %v are still counted", used, f.front.answersOf.of)
+		if used := f.front.uses.answers.used.Load(); used != 0 || len(f.front.uses.answersOf.of) != 0 {
+			t.Errorf("%d bytes and %v are still counted", used, f.front.uses.answersOf.of)
 		}
 	}
 }
@@ -605,7 +605,7 @@ func TestAnswersInGzip(t *testing.T) {
 			t.Errorf("%s is in gzip", path)
 		}
 	}
-	if used := f.front.answers.used.Load(); used != 0 {
+	if used := f.front.uses.answers.used.Load(); used != 0 {
 		t.Errorf("%d bytes are still counted", used)
 	}
 }
@@ -828,13 +828,13 @@ func TestAnswersComeLast(t *testing.T) {
 		before, lines, times := counted(), told(), 0
 		w := ask(func() {
 			times++
-			for which, of := range map[string]*counts{"requests": &f.front.requests, "proofs": &f.front.proofsOf,
-				"submissions": &f.front.waitingOf, "answers": &f.front.answersOf} {
+			for which, of := range map[string]*counts{"requests": &f.front.uses.requests, "proofs": &f.front.uses.proofsOf,
+				"submissions": &f.front.uses.waitingOf, "answers": &f.front.uses.answersOf} {
 				if len(of.of) != 0 {
 					t.Errorf("%s: of %s %v is held", what, which, of.of)
 				}
 			}
-			if submitted, read := f.front.waiting.used.Load(), f.front.answers.used.Load(); submitted != 0 ||
+			if submitted, read := f.front.uses.waiting.used.Load(), f.front.uses.answers.used.Load(); submitted != 0 ||
 				read != 0 {
 				t.Errorf("%s: %d and %d bytes are held", what, submitted, read)
 			}

@@ -73,7 +73,7 @@ func (h httpLines) Write(text []byte) (int, error) {
 func (s *Server) remember(connection net.Conn, state http.ConnState) {
 	if state == http.StateActive || state == http.StateIdle {
 		if counted, ok := openIn(connection); ok {
-			s.front.connections.isIdle(counted, state == http.StateIdle)
+			s.front.uses.connections.isIdle(counted, state == http.StateIdle)
 		}
 	}
 	s.mutex.Lock()

@@ -225,7 +225,7 @@ func TestSlowClients(t *testing.T) {
 		}(what, send)
 	}
 	// One that asks for a large object and takes none of it: its handler ends.
-	for began := (time.Time{}); f.front.answers.used.Load() < 32<<20; time.Sleep(time.Millisecond) {
+	for began := (time.Time{}); f.front.uses.answers.used.Load() < 32<<20; time.Sleep(time.Millisecond) {
 		// (on a busy machine it was cut off before that was seen)
 		if time.Since(began) > 5*time.Second {
 			greedy := dial(t, address)
@@ -256,8 +256,8 @@ func TestSlowClients(t *testing.T) {
 	}
 	// A connection is closed if a write on it fails. The resources of its request are freed after that.
 	eventually(t, "all connections are closed, and no bytes are counted", func() bool {
-		return f.front.connections.open.Load() == 0 && f.front.waiting.used.Load() == 0 &&
-			f.front.answers.used.Load() == 0
+		return f.front.uses.connections.open.Load() == 0 && f.front.uses.waiting.used.Load() == 0 &&
+			f.front.uses.answers.used.Load() == 0
 	})
 }
 
@@ -326,8 +326,8 @@ func TestClosedConnectionsHoldNoPlace(t *testing.T) {
 		held   func() int
 	}{
 		"a client's": {func(l net.Listener) net.Listener { return bounded{l, f.front} }, func() int {
-			return int(f.front.connections.open.Load()) + len(f.front.connections.byAddress.of) +
-				f.front.connections.waiting()
+			return int(f.front.uses.connections.open.Load()) + len(f.front.uses.connections.byAddress.of) +
+				f.front.uses.connections.waiting()
 		}},
 		"an operator's": {func(l net.Listener) net.Listener { return few{l, room} }, func() int { return len(room) }},
 	} {
@@ -409,7 +409,7 @@ func TestOperatorCountsApart(t *testing.T) {
 
 // isAsked waits until something is asked on so many connections, and on all of them.
 func isAsked(f *fixture, many int64) {
-	for f.front.connections.open.Load() != many || f.front.connections.waiting() != 0 {
+	for f.front.uses.connections.open.Load() != many || f.front.uses.connections.waiting() != 0 {
 		time.Sleep(time.Millisecond)
 	}
 }
@@ -450,13 +450,13 @@ func TestIdleConnectionsGo(t *testing.T) {
 			return err
 		}
 		var idle []net.Conn
-		for f.front.connections.waiting() < 2 {
+		for f.front.uses.connections.waiting() < 2 {
 			connection := dialed()
 			if err := answered(connection); err != nil {
 				t.Fatal(err)
 			}
 			// (what is answered may still count as asked on for a moment)
-			for idle = append(idle, connection); f.front.connections.waiting() != len(idle); {
+			for idle = append(idle, connection); f.front.uses.connections.waiting() != len(idle); {
 				time.Sleep(time.Millisecond)
 			}
 		}
@@ -464,14 +464,14 @@ func TestIdleConnectionsGo(t *testing.T) {
 		f.log.Slow = time.Hour
 		busy := dialed()
 		fmt.Fprintf(busy, "GET /checkpoint HTTP/1.1\r\nHost: log\r\n\r\n")
-		for f.front.connections.waiting() != 2 {
+		for f.front.uses.connections.waiting() != 2 {
 			time.Sleep(time.Millisecond)
 		}
 		// Something is asked on the first again: the second one is idle for longer.
 		if err := answered(first); err != nil {
 			t.Fatal(err)
 		}
-		for f.front.connections.waiting() != 2 {
+		for f.front.uses.connections.waiting() != 2 {
 			time.Sleep(time.Millisecond)
 		}
 		if err := answered(dialed()); err != nil {
@@ -504,7 +504,7 @@ func TestServerEnds(t *testing.T) {
 	fmt.Fprintf(half, "GET /healthz HT")
 	body := standin.Submission(f.issue(false))
 	fmt.Fprintf(waits, "POST /ct/v1/add-chain HTTP/1.1\r\nHost: log\r\nContent-Length: %d\r\n\r\n%s", len(body), body)
-	for f.log.Figures().Queue == 0 || f.front.connections.open.Load() < 4 {
+	for f.log.Figures().Queue == 0 || f.front.uses.connections.open.Load() < 4 {
 		time.Sleep(time.Millisecond)
 	}
 	f.front.Refuse()
@@ -590,11 +590,11 @@ func TestClientsThatGo(t *testing.T) {
 	for f.log.Figures().Queue == 0 {
 		time.Sleep(time.Millisecond)
 	}
-	if f.front.waiting.used.Load() != int64(len(body)) {
-		t.Errorf("%d bytes wait", f.front.waiting.used.Load())
+	if f.front.uses.waiting.used.Load() != int64(len(body)) {
+		t.Errorf("%d bytes wait", f.front.uses.waiting.used.Load())
 	}
 	connection.Close()
-	eventually(t, "its bytes aren't counted any more", func() bool { return f.front.waiting.used.Load() == 0 })
+	eventually(t, "its bytes aren't counted any more", func() bool { return f.front.uses.waiting.used.Load() == 0 })
 }
 
 // TestClientsThatGoRingNoAlarm: a client that leaves before its response causes no alert. It is counted with a status
@@ -612,11 +612,11 @@ func TestClientsThatGoRingNoAlarm(t *testing.T) {
 	for _, path := range []string{"/checkpoint", "/tile/0/000.p/1"} {
 		connection := dial(t, address)
 		fmt.Fprintf(connection, "GET %s HTTP/1.1\r\nHost: log\r\n\r\n", path)
-		for f.front.connections.open.Load() != 1 {
+		for f.front.uses.connections.open.Load() != 1 {
 			time.Sleep(time.Millisecond)
 		}
 		connection.Close()
-		for f.front.connections.open.Load() != 0 {
+		for f.front.uses.connections.open.Load() != 0 {
 			time.Sleep(time.Millisecond)
 		}
 	}

@@ -40,8 +40,8 @@ func (f *Front) add(w http.ResponseWriter, r *http.Request, check func([][]byte)
 	client := f.clientOf(r)
 	body, taken, err := f.body(r, client)
 	// The entry, which is kept, has fewer bytes than the request. The request's bytes count until the response.
-	defer f.waiting.give(taken)
-	defer f.waitingOf.giveSome(client, int(taken))
+	defer f.uses.waiting.give(taken)
+	defer f.uses.waitingOf.giveSome(client, int(taken))
 	if err != nil {
 		return err
 	}
@@ -76,12 +76,12 @@ func (f *Front) body(r *http.Request, client netip.Addr) (body []byte, taken int
 		n, err := r.Body.Read(piece)
 		if n > 0 {
 			// The received bytes count, and not the announced ones. So a client that sends nothing holds nothing.
-			if !f.waitingOf.takeSome(client, n) {
+			if !f.uses.waitingOf.takeSome(client, n) {
 				return nil, taken, refusal{status: http.StatusTooManyRequests, name: "too-many-bytes",
 					after: 1, closes: true}
 			}
-			if !f.waiting.take(int64(n)) {
-				f.waitingOf.giveSome(client, n)
+			if !f.uses.waiting.take(int64(n)) {
+				f.uses.waitingOf.giveSome(client, n)
 				return nil, taken, refusal{status: http.StatusServiceUnavailable, name: "busy", after: 1, closes: true}
 			}
 			taken += int64(n)
@@ -101,11 +101,11 @@ func (f *Front) body(r *http.Request, client netip.Addr) (body []byte, taken int
 func (f *Front) checked(ctx context.Context, body []byte, check func([][]byte) (*chains.Entry,
 	error)) (*chains.Entry, error) {
 	select {
-	case f.checks <- struct{}{}:
+	case f.uses.checks <- struct{}{}:
 	case <-ctx.Done():
 		return nil, ctx.Err()
 	}
-	defer func() { <-f.checks }()
+	defer func() { <-f.uses.checks }()
 	var submission struct {
 		Chain [][]byte `json:"chain"`
 	}

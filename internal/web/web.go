@@ -105,46 +105,23 @@ type Options struct {
 
 // Front answers the calls of one log. It is an http.Handler, for clients; Operator is the one for operators.
 type Front struct {
-	log         log.Log
-	reader      *tile.Prover
-	checker     *chains.Checker
-	options     Options
-	limits      Limits
-	metrics     *metrics
-	ending      atomic.Bool
-	checks      chan struct{}
-	packs       chan struct{}
-	waiting     budget
-	waitingOf   counts
-	answers     budget
-	answersOf   counts
-	requests    counts
-	proofsOf    counts
-	rates       map[cost]*rates
-	connections connections
-	roots       atomic.Pointer[encodedRoots]
-	issuers     issuers
+	log     log.Log
+	reader  *tile.Prover
+	checker *chains.Checker
+	options Options
+	limits  Limits
+	metrics *metrics
+	ending  atomic.Bool
+	uses    uses
+	roots   atomic.Pointer[encodedRoots]
+	issuers issuers
 }
 
 // New makes a front of a log, and of what makes proofs out of its tiles.
 func New(of log.Log, proofs *tile.Prover, checker *chains.Checker, options Options) *Front {
 	limits := options.Limits
-	if limits.Checks < 1 {
-		limits.Checks = 1
-	}
-	f := &Front{
-		log: of, reader: proofs, checker: checker, options: options, limits: limits,
-		checks:    make(chan struct{}, limits.Checks),
-		packs:     make(chan struct{}, limits.Checks),
-		waiting:   budget{most: limits.WaitingBytes},
-		waitingOf: counts{most: byAddress(limits.WaitingBytes, MaxBody)},
-		answers:   budget{most: limits.AnswerBytes},
-		answersOf: counts{most: byAddress(limits.AnswerBytes, stores.MaxObject+likelyEntries)},
-		requests:  counts{most: limits.ConnectionsByAddress, submitters: limits.Submitters},
-		proofsOf:  counts{most: limits.ProofsByAddress},
-		rates:     map[cost]*rates{aSubmission: newRates(limits.SubmissionRate), aRead: newRates(limits.ReadRate)},
-	}
-	f.connections.byAddress.most, f.connections.byAddress.submitters = limits.ConnectionsByAddress, limits.Submitters
+	limits.Checks = max(limits.Checks, 1)
+	f := &Front{log: of, reader: proofs, checker: checker, options: options, limits: limits, uses: usesOf(limits)}
 	f.metrics = newMetrics(f)
 	return f
 }
@@ -238,13 +215,13 @@ func (f *Front) ServeHTTP(w http.ResponseWriter, r *http.Request) {
 	}
 	client := f.clientOf(r)
 	if !isUncounted(r.Context()) {
-		if !f.requests.take(client) {
+		if !f.uses.requests.take(client) {
 			f.refuse(a, tooMany)
 			return
 		}
-		defer f.requests.give(client)
+		defer f.uses.requests.give(client)
 	}
-	own := &held{of: &f.answers, ofClient: &f.answersOf, client: client}
+	own := &held{of: &f.uses.answers, ofClient: &f.uses.answersOf, client: client}
 	defer own.giveAll()
 	if err := f.serve(c, a, r.WithContext(context.WithValue(r.Context(), heldKey{}, own))); err != nil {
 		refused := refusalOf(err)

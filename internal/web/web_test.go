@@ -258,7 +258,7 @@ func TestBodiesAreRefused(t *testing.T) {
 	refused(t, "no chain", f.do("POST", "/ct/v1/add-chain", []byte(`{}`)), 400, "empty-chain")
 	refused(t, "bytes", f.do("POST", "/ct/v1/add-chain", make([]byte, MaxBody+1)), 413, "body-too-large")
 	refused(t, "bytes that wait", f.do("POST", "/ct/v1/add-chain", make([]byte, 4097)), 503, "busy")
-	if used := f.front.waiting.used.Load(); used != 0 {
+	if used := f.front.uses.waiting.used.Load(); used != 0 {
 		t.Errorf("%d bytes are still counted", used)
 	}
 	r := httptest.NewRequest("POST", "/ct/v1/add-chain", strings.NewReader("{}"))
@@ -283,19 +283,19 @@ func TestBytesByAddress(t *testing.T) {
 			f.front.ServeHTTP(w, r)
 			return w
 		}
-		if !f.front.waitingOf.takeSome(client, test.one) || f.front.waitingOf.takeSome(client, 1) {
+		if !f.front.uses.waitingOf.takeSome(client, test.one) || f.front.uses.waitingOf.takeSome(client, 1) {
 			t.Errorf("of %d bytes one address hasn't %d", test.all, test.one)
 		}
 		refused(t, "the same address", from(same), 429, "too-many-bytes")
 		if w := from("[2001:db8:0:1::1]:7"); w.Code != 200 {
 			t.Errorf("another address: %d %s", w.Code, w.Body)
 		}
-		f.front.waitingOf.giveSome(client, test.one)
+		f.front.uses.waitingOf.giveSome(client, test.one)
 		if w := from(same); w.Code != 200 {
 			t.Errorf("the same address, behind it: %d %s", w.Code, w.Body)
 		}
-		if used := f.front.waiting.used.Load(); used != 0 || len(f.front.waitingOf.of) != 0 {
-			t.Errorf("%d bytes and %v are still counted", used, f.front.waitingOf.of)
+		if used := f.front.uses.waiting.used.Load(); used != 0 || len(f.front.uses.waitingOf.of) != 0 {
+			t.Errorf("%d bytes and %v are still counted", used, f.front.uses.waitingOf.of)
 		}
 	}
 }
@@ -401,7 +401,7 @@ func TestSubmissionsThatWait(t *testing.T) {
 	w = httptest.NewRecorder()
 	f.front.ServeHTTP(w, r)
 	refused(t, "gone", w, statusGone, "gone")
-	if used := f.front.waiting.used.Load(); used != 0 {
+	if used := f.front.uses.waiting.used.Load(); used != 0 {
 		t.Errorf("%d bytes are still counted", used)
 	}
 }
@@ -582,12 +582,12 @@ func TestMetricsAndHealth(t *testing.T) {
 		}
 	}
 	// An operator counts as no client.
-	f.front.requests.most = 0
+	f.front.uses.requests.most = 0
 	refused(t, "a client above its bound", f.get("/healthz"), 429, "too-many-requests")
 	if w := ask("/healthz"); w.Code != 200 {
 		t.Errorf("an operator at an address that is above its bound as a client: %d", w.Code)
 	}
-	f.front.requests.most = 64
+	f.front.uses.requests.most = 64
 	f.front.Refuse()
 	refused(t, "/readyz", ask("/readyz"), 503, "ended")
 	refused(t, "add-chain", f.do("POST", "/ct/v1/add-chain", standin.Submission(f.issue(false))), 503, "ended")
@@ -749,7 +749,7 @@ func TestClientsBehindProxies(t *testing.T) {
 	}
 	one, same, other := netip.MustParseAddr("2001:db8::1"), netip.MustParseAddr("2001:db8::2:3"),
 		netip.MustParseAddr("2001:db8:0:1::1")
-	if !f.front.requests.take(one) || f.front.requests.take(same) || !f.front.requests.take(other) {
+	if !f.front.uses.requests.take(one) || f.front.uses.requests.take(same) || !f.front.uses.requests.take(other) {
 		t.Error("addresses of IPv6 don't count by /64")
 	}
 	r := httptest.NewRequest("GET", "/", nil)
@@ -757,9 +757,9 @@ func TestClientsBehindProxies(t *testing.T) {
 	w := httptest.NewRecorder()
 	f.front.ServeHTTP(w, r)
 	refused(t, "a second request", w, 429, "too-many-requests")
-	f.front.requests.give(one)
-	f.front.requests.give(other)
-	if len(f.front.requests.of) != 0 {
+	f.front.uses.requests.give(one)
+	f.front.uses.requests.give(other)
+	if len(f.front.uses.requests.of) != 0 {
 		t.Error("addresses stay behind")
 	}
 }
@@ -774,8 +774,8 @@ func TestSubmitters(t *testing.T) {
 		o.Limits.ConnectionsByAddress, o.Limits.Submitters = 1, submitters
 		o.Proxies = []netip.Prefix{netip.MustParsePrefix("127.0.0.1/32")}
 	})
-	for what, counted := range map[string]*counts{"requests": &f.front.requests,
-		"connections": &f.front.connections.byAddress} {
+	for what, counted := range map[string]*counts{"requests": &f.front.uses.requests,
+		"connections": &f.front.uses.connections.byAddress} {
 		var taken []netip.Addr
 		for _, test := range []struct {
 			address string
@@ -800,7 +800,7 @@ func TestSubmitters(t *testing.T) {
 			t.Errorf("%s stay behind: %v", what, counted.of)
 		}
 	}
-	if counted := &f.front.waitingOf; len(counted.submitters) != 0 {
+	if counted := &f.front.uses.waitingOf; len(counted.submitters) != 0 {
 		t.Error("bytes count by submitter")
 	}
 }

@@ -28,25 +28,35 @@ type Log struct {
 	Every time.Duration
 	// MaxQueue is how many submissions may wait.
 	MaxQueue int
+	Troubles
+
+	mutex   sync.Mutex
+	id      [32]byte
+	tree    tree
+	waiting []waiting
+	ended   bool
+	stop    chan struct{}
+}
+
+// Troubles are how a log misbehaves.
+type Troubles struct {
 	// Fault is the error of each call, or nil.
 	Fault error
 	// Damage is what its figures say of a tile that is damaged.
 	Damage string
 	// Slow is how long each reading takes.
 	Slow time.Duration
-
-	mutex   sync.Mutex
-	id      [32]byte
-	objects map[string][]byte
-	leaves  [][]byte
-	hashes  [][32]byte
-	waiting []waiting
-	head    log.Head
 	// faults counts how often it was broken, and lastFault is by what it was last.
 	faults    uint64
 	lastFault string
-	ended     bool
-	stop      chan struct{}
+}
+
+// tree is what a log has published.
+type tree struct {
+	objects map[string][]byte
+	leaves  [][]byte
+	hashes  [][32]byte
+	head    log.Head
 }
 
 type waiting struct {
@@ -64,7 +74,7 @@ func New(every time.Duration) (*Log, error) {
 	if err != nil {
 		return nil, err
 	}
-	l := &Log{Key: key, Every: every, MaxQueue: 1024, id: sha256.Sum256(public), objects: map[string][]byte{},
+	l := &Log{Key: key, Every: every, MaxQueue: 1024, id: sha256.Sum256(public), tree: tree{objects: map[string][]byte{}},
 		stop: make(chan struct{})}
 	l.publish()
 	if every > 0 {
@@ -141,11 +151,11 @@ func (l *Log) publish() {
 		places = append(places, l.take(w.entry, now))
 	}
 	l.tiles()
-	root := MerkleTreeHash(l.hashes)
-	l.head = log.Head{TreeSize: uint64(len(l.leaves)), Timestamp: now, RootHash: root}
-	l.head.Note = []byte(fmt.Sprintf("log.example/stand-in\n%d\n%s\n\n— log.example/stand-in AAAAAA==\n", len(l.leaves),
-		base64.StdEncoding.EncodeToString(root[:])))
-	l.head.Signature = l.sign(HeadSigned(l.head))
+	root := MerkleTreeHash(l.tree.hashes)
+	l.tree.head = log.Head{TreeSize: uint64(len(l.tree.leaves)), Timestamp: now, RootHash: root}
+	l.tree.head.Note = []byte(fmt.Sprintf("log.example/stand-in\n%d\n%s\n\n— log.example/stand-in AAAAAA==\n",
+		len(l.tree.leaves), base64.StdEncoding.EncodeToString(root[:])))
+	l.tree.head.Signature = l.sign(HeadSigned(l.tree.head))
 	for i, w := range batch {
 		w.place <- places[i]
 	}
@@ -153,7 +163,7 @@ func (l *Log) publish() {
 
 // take settles an entry.
 func (l *Log) take(entry log.Entry, now uint64) log.Place {
-	index := uint64(len(l.leaves))
+	index := uint64(len(l.tree.leaves))
 	extensions := []byte{0, 0, 5, byte(index >> 32), byte(index >> 24), byte(index >> 16),
 		byte(index >> 8), byte(index)}
 	timestamped := timestampedEntry(entry, now, extensions)
@@ -164,12 +174,12 @@ func (l *Log) take(entry log.Entry, now uint64) log.Place {
 	leaf.AddUint16LengthPrefixed(func(b *cryptobyte.Builder) {
 		for _, issuer := range entry.Issuers {
 			fingerprint := sha256.Sum256(issuer)
-			l.objects["issuer/"+hex.EncodeToString(fingerprint[:])] = issuer
+			l.tree.objects["issuer/"+hex.EncodeToString(fingerprint[:])] = issuer
 			b.AddBytes(fingerprint[:])
 		}
 	})
-	l.leaves = append(l.leaves, leaf.BytesOrPanic())
-	l.hashes = append(l.hashes, LeafHash(append([]byte{0, 0}, timestamped...)))
+	l.tree.leaves = append(l.tree.leaves, leaf.BytesOrPanic())
+	l.tree.hashes = append(l.tree.hashes, LeafHash(append([]byte{0, 0}, timestamped...)))
 	return log.Place{LeafIndex: index, Timestamp: now, Extensions: extensions, LogID: l.id,
 		Signature: l.sign(append([]byte{0, 0}, timestamped...))}
 }
@@ -191,33 +201,33 @@ func timestampedEntry(entry log.Entry, now uint64, extensions []byte) []byte {
 // tiles puts the tiles of levels 0 and 1 and the data tiles, and takes away the partial ones of a full one.
 func (l *Log) tiles() {
 	var above []byte
-	for first := 0; first+256 <= len(l.hashes); first += 256 {
-		root := MerkleTreeHash(l.hashes[first : first+256])
+	for first := 0; first+256 <= len(l.tree.hashes); first += 256 {
+		root := MerkleTreeHash(l.tree.hashes[first : first+256])
 		above = append(above, root[:]...)
 	}
 	if len(above) > 0 {
-		l.objects[fmt.Sprintf("tile/1/000.p/%d", len(above)/32)] = above
+		l.tree.objects[fmt.Sprintf("tile/1/000.p/%d", len(above)/32)] = above
 	}
-	for first := 0; first < len(l.leaves); first += 256 {
+	for first := 0; first < len(l.tree.leaves); first += 256 {
 		last := first + 256
-		if last > len(l.leaves) {
-			last = len(l.leaves)
+		if last > len(l.tree.leaves) {
+			last = len(l.tree.leaves)
 		}
 		var data, hashes []byte
 		for i := first; i < last; i++ {
-			data = append(data, l.leaves[i]...)
-			hashes = append(hashes, l.hashes[i][:]...)
+			data = append(data, l.tree.leaves[i]...)
+			hashes = append(hashes, l.tree.hashes[i][:]...)
 		}
 		name, part := fmt.Sprintf("%03d", first/256), ""
 		if last-first < 256 {
 			part = fmt.Sprintf(".p/%d", last-first)
 		} else {
 			for width := 1; width < 256; width++ {
-				delete(l.objects, fmt.Sprintf("tile/data/%s.p/%d", name, width))
-				delete(l.objects, fmt.Sprintf("tile/0/%s.p/%d", name, width))
+				delete(l.tree.objects, fmt.Sprintf("tile/data/%s.p/%d", name, width))
+				delete(l.tree.objects, fmt.Sprintf("tile/0/%s.p/%d", name, width))
 			}
 		}
-		l.objects["tile/data/"+name+part], l.objects["tile/0/"+name+part] = data, hashes
+		l.tree.objects["tile/data/"+name+part], l.tree.objects["tile/0/"+name+part] = data, hashes
 	}
 }
 
@@ -237,7 +247,7 @@ func (l *Log) Checkpoint(ctx context.Context) (log.Head, error) {
 	}
 	l.mutex.Lock()
 	defer l.mutex.Unlock()
-	return l.head, l.Fault
+	return l.tree.head, l.Fault
 }
 
 // HeadOf is log.Log's.
@@ -253,7 +263,7 @@ func (l *Log) Object(ctx context.Context, name string, most int64) ([]byte, erro
 	if l.Fault != nil {
 		return nil, l.Fault
 	}
-	content, there := l.objects[name]
+	content, there := l.tree.objects[name]
 	if !there {
 		return nil, stores.ErrAbsent
 	}
@@ -277,9 +287,9 @@ func (l *Log) Change(name string, content []byte) {
 	l.mutex.Lock()
 	defer l.mutex.Unlock()
 	if content == nil {
-		delete(l.objects, name)
+		delete(l.tree.objects, name)
 	} else {
-		l.objects[name] = content
+		l.tree.objects[name] = content
 	}
 }
 
@@ -316,7 +326,7 @@ func (l *Log) IndexOf(ctx context.Context, leafHash [32]byte) (uint64, error) {
 	}
 	l.mutex.Lock()
 	defer l.mutex.Unlock()
-	for index, hash := range l.hashes {
+	for index, hash := range l.tree.hashes {
 		if hash == leafHash {
 			return uint64(index), nil
 		}
@@ -341,8 +351,8 @@ func (l *Log) Figures() log.Figures {
 	l.mutex.Lock()
 	defer l.mutex.Unlock()
 	figures := log.Figures{
-		Queue: len(l.waiting), MaxQueue: l.MaxQueue, Entries: l.head.TreeSize,
-		HeadAge: time.Since(time.UnixMilli(int64(l.head.Timestamp))), LostSwaps: 3, Unpublished: 18,
+		Queue: len(l.waiting), MaxQueue: l.MaxQueue, Entries: l.tree.head.TreeSize,
+		HeadAge: time.Since(time.UnixMilli(int64(l.tree.head.Timestamp))), LostSwaps: 3, Unpublished: 18,
 		SinceRound: 2500 * time.Millisecond,
 		Swept:      4, SweptHeads: 8, Scrubbed: 5, Damaged: 6, Damage: l.Damage, SignerStarts: 7,
 		Written: 16, Phases: []log.Phase{{Name: "stage", Count: 17, Took: 1500 * time.Millisecond}}, SweptBundles: 11,
