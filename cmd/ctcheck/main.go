@@ -158,7 +158,8 @@ func readAnswers(name string, answers []check.Answer) ([]check.Answer, error) {
 	defer file.Close()
 	lines := bufio.NewScanner(file)
 	lines.Buffer(nil, maxLine)
-	for number := 1; lines.Scan(); number++ {
+	number := 1
+	for ; lines.Scan(); number++ {
 		var a check.Answer
 		var fields map[string]json.RawMessage
 		err := json.Unmarshal(lines.Bytes(), &a)
@@ -174,7 +175,10 @@ func readAnswers(name string, answers []check.Answer) ([]check.Answer, error) {
 		}
 		answers = append(answers, a)
 	}
-	return answers, lines.Err()
+	if err := lines.Err(); err != nil {
+		return nil, fmt.Errorf("ctcheck: %s: line %d: %w (a line has at most %d bytes)", name, number, err, maxLine)
+	}
+	return answers, nil
 }
 
 // missing returns the name of a field of check.Answer that a line lacks, or nothing. The line of a precertificate has

@@ -1,6 +1,7 @@
 package main
 
 import (
+	"bufio"
 	"bytes"
 	"crypto/ecdsa"
 	"crypto/elliptic"
@@ -115,8 +116,11 @@ func TestJudge(t *testing.T) {
 		}
 	}
 	long := filepath.Join(t.TempDir(), "long")
-	must(t, os.WriteFile(long, []byte(strings.Repeat(" ", maxLine)+"{}\n"), 0o600))
-	if _, err := judge(l.folder, l.key, []string{long}); err == nil || !strings.Contains(err.Error(), "too long") {
+	whole, err := os.ReadFile(file(t, l.answer))
+	must(t, err)
+	must(t, os.WriteFile(long, append(whole, strings.Repeat(" ", maxLine)+"{}\n"...), 0o600))
+	if _, err := judge(l.folder, l.key, []string{long}); !errors.Is(err, bufio.ErrTooLong) ||
+		!strings.Contains(err.Error(), long+": line 2: ") {
 		t.Errorf("a line that is too long: %v", err)
 	}
 	for _, text := range []string{"x\n", "[]\n", `{"timestamp":"7"}` + "\n", "null\n", "{\n}\n"} {
