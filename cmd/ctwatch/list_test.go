@@ -170,8 +170,8 @@ func TestReportsAListThatWasNeverRead(t *testing.T) {
 	must(t, program.Wait())
 }
 
-// TestReadsAListThatComesAfterTheStart: a list that cannot be read at the start is read soon after it can be. The line of
-// the failure says when it is tried again.
+// TestReadsAListThatComesAfterTheStart: a list that cannot be read at the start is read soon after it can be. The line
+// of the failure says when it is tried again.
 func TestReadsAListThatComesAfterTheStart(t *testing.T) {
 	folder := t.TempDir()
 	list := filepath.Join(folder, "list.json")

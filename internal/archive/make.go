@@ -254,7 +254,7 @@ func (m *maker) hasRoot(ctx context.Context, of wagtenib.TreeHead) error {
 }
 
 // finish publishes the head, after all its tiles are there. The partial tiles that only the head before has go after
-// that: until then, who opens the archive has to find them.
+// that: until then, a server that opens the archive has to find them.
 func (m *maker) finish(ctx context.Context, of head) error {
 	if err := m.hasRoot(ctx, of.TreeHead); err != nil {
 		return err

@@ -236,7 +236,8 @@ func TestRefusesAnotherFolder(t *testing.T) {
 	}
 	w.folder = t.TempDir()
 	trial.Must(t, os.WriteFile(filepath.Join(w.folder, "log.json"), []byte("{}"), 0o600))
-	if err := w.make(); !errors.Is(err, archive.ErrFolder) || !strings.Contains(err.Error(), "it has no origin or no key") {
+	if err := w.make(); !errors.Is(err, archive.ErrFolder) ||
+		!strings.Contains(err.Error(), "it has no origin or no key") {
 		t.Errorf("a folder of no log: %v", err)
 	}
 	w.folder = filepath.Join(t.TempDir(), "archive")

@@ -40,8 +40,8 @@ func TestReadsSmallPages(t *testing.T) {
 	}
 }
 
-// A log that answers each entry by itself, with much around it, cannot fill the memory: the answers for the entries that
-// are handed over at once have a bound together.
+// A log that answers each entry by itself, with much around it, cannot fill the memory: the answers for the entries
+// that are handed over at once have a bound together.
 func TestBoundsTheAnswersOfAPage(t *testing.T) {
 	const answer = 1000 // bytes
 	asked := 0

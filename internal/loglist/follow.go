@@ -80,9 +80,9 @@ const (
 )
 
 // Follow reads the list now and after each pause, and calls `changed` with it, until the context ends. If it cannot be
-// read, is refused, or is older than the last one, `failed` gets the reason and the time until the next reading, and the
-// last list stays. Until the list was read once, the pauses are shorter: they double from 1 second to 3 minutes, except
-// that a server may ask for a longer one. Follow returns the error of the context.
+// read, is refused, or is older than the last one, `failed` gets the reason and the time until the next reading, and
+// the last list stays. Until the list was read once, the pauses are shorter: they double from 1 second to 3 minutes,
+// except that a server may ask for a longer one. Follow returns the error of the context.
 func (s Source) Follow(ctx context.Context, pause time.Duration, changed func(List),
 	failed func(err error, next time.Duration)) error {
 	clock := s.Client.Clock

@@ -265,8 +265,8 @@ func TestFollows(t *testing.T) {
 	}
 }
 
-// Until a list was read once, it is tried again after pauses that double up to three minutes, and after each failure the
-// caller knows the pause. A server may ask for a longer pause, up to that between two lists. After the first list,
+// Until a list was read once, it is tried again after pauses that double up to three minutes, and after each failure
+// the caller knows the pause. A server may ask for a longer pause, up to that between two lists. After the first list,
 // pauses are as long as the caller says.
 func TestTriesAgainUntilTheFirstList(t *testing.T) {
 	list := listOf(t, at, []entry{newEntry("a", false, "usable")}, nil)

@@ -151,7 +151,8 @@ func TestNamesWrongValues(t *testing.T) {
 	for _, c := range []struct{ name, value, due string }{
 		{"pause", "2 seconds", `"2 seconds" is not a duration (write a duration such as 2s, 5m or 24h)`},
 		{"pause", "", `"" is not a duration (write a duration such as 2s, 5m or 24h)`},
-		{"pause", `"a" for flag -size: b`, `"\"a\" for flag -size: b" is not a duration (write a duration such as 2s, 5m or 24h)`},
+		{"pause", `"a" for flag -size: b`,
+			`"\"a\" for flag -size: b" is not a duration (write a duration such as 2s, 5m or 24h)`},
 		{"on", "maybe", either + "on true, or on false)"},
 		{"size", "3 KiB", `"3 KiB" is not a whole number (write digits only)`},
 		{"size", "99999999999999999999", `"99999999999999999999" is out of range (write a number with fewer digits)`},
@@ -162,7 +163,9 @@ func TestNamesWrongValues(t *testing.T) {
 		flags.Duration("pause", 0, "")
 		flags.Bool("on", false, "")
 		flags.Float64("share", 0, "")
-		flags.Func("own", "", func(text string) error { return fmt.Errorf("it is %q for flag -size: and more (write y)", text) })
+		flags.Func("own", "", func(text string) error {
+			return fmt.Errorf("it is %q for flag -size: and more (write y)", text)
+		})
 		due := strings.Replace(c.due, either+"on true, or on false)", either+"--on, or --on=false)", 1)
 		if err := ParseWords(flags, []string{"--" + c.name + "=" + c.value}); err == nil ||
 			err.Error() != "--"+c.name+": "+due {
