@@ -78,6 +78,9 @@ OF_DIST = (
     "tests/linear.py",
 )
 
+# What such a script says if it can compare nothing here, so that it is not counted.
+NOTHING = re.compile("nothing was compared|no test was run")
+
 # How the programs are broken off: each fortieth allocation is refused (make sweep refuses every one).
 BROKEN_OFF = (
     ("sweep.py", "--step", "40"),
@@ -248,9 +251,10 @@ def run_programs():
         passed, failed = passed + (not broken.returncode), failed + (broken.returncode != 0)
     for script in OF_DIST:
         compared = subprocess.run([sys.executable, ROOT / script], **how)
-        left_out = "".join(f"{line}\n" for line in compared.stdout.splitlines() if " left out" in line)
-        print(compared.stdout if compared.returncode else f"{left_out}{script}: as due", flush=True)
-        passed, failed = passed + (not compared.returncode), failed + (compared.returncode != 0)
+        left_out = [line for line in compared.stdout.splitlines() if " left out" in line or NOTHING.search(line)]
+        is_tried = not any(map(NOTHING.search, left_out))
+        print(compared.stdout if compared.returncode else "\n".join([*left_out, *[f"{script}: as due"] * is_tried]), flush=True)
+        passed, failed = passed + (not compared.returncode and is_tried), failed + (compared.returncode != 0)
     for part in DEMO:
         shown = subprocess.run([ROOT / "examples" / "demo.sh", part], **how)
         print(shown.stdout if shown.returncode else f"the demo's part {part}: as due", flush=True)
