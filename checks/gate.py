@@ -107,9 +107,8 @@ def turn():
 
 
 def edits(crate, *when):
-    """Returns the edits of a crate that are tried at one of these times. Those of by-turns are tried in turn."""
-    found = [edit for edit in sorted((crate / "wrong-bodies").glob("*.edit")) if edit.read_text().partition("\n")[0] in when]
-    return found + (sorted((crate / "by-turns").glob("*.edit")) if IN_TURN in when else [])
+    """Returns the edits of a crate that are tried at one of these times."""
+    return [edit for edit in sorted((crate / "wrong-bodies").glob("*.edit")) if edit.read_text().partition("\n")[0] in when]
 
 
 def for_rt(edit):

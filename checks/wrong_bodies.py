@@ -22,8 +22,8 @@ import tempfile
 import gate
 from source import CRATES, MADE, ROOT
 
-# (must-fail is rt's own folder, used while a gate is at work; by-turns has wrong bodies that every ninth gate tries)
-FOLDERS = ("must-fail", "by-turns", "wrong-bodies")
+# (must-fail is rt's own folder, used while a gate is at work)
+FOLDERS = ("must-fail", "wrong-bodies")
 
 
 def why_not(edit, crate):
@@ -83,7 +83,7 @@ def passed_over(folder, names):
 def tried(names):
     """Reports whether the prover refuses each edit of these crates' folders."""
     for name in names:
-        if not any(edit for folder in FOLDERS[1:] for edit in (CRATES / name / folder).glob("*.edit")):
+        if not any((CRATES / name / "wrong-bodies").glob("*.edit")):
             sys.exit(f"wrong_bodies.py: crates/{name} has no edit in wrong-bodies")
     gate.end_in_order()
     # (the copy takes several GB, so its folder must be on the disk, not in memory)
@@ -98,7 +98,7 @@ def tried(names):
             crate = copy / "crates" / name
             shutil.rmtree(crate / "must-fail", ignore_errors=True)
             (crate / "must-fail").mkdir()
-            for edit in (it for folder in FOLDERS[1:] for it in (crate / folder).glob("*.edit")):
+            for edit in (crate / "wrong-bodies").glob("*.edit"):
                 (crate / "must-fail" / edit.name).write_text(gate.for_rt(edit))
         trial = subprocess.Popen(["rt", "must-fail", *names], cwd=copy)
         try:

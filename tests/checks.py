@@ -175,7 +175,7 @@ def try_left(repository):
         repository.run("checks/wrong_bodies.py")
         hold("while a gate is at work there is in must-fail", repository.texts("must-fail"), LEFT)
     ended, said = repository.run("checks/wrong_bodies.py")
-    hold(f"wrong_bodies.py behind a gate that was killed says {said}", ended, 0)
+    hold(f"wrong_bodies.py after a gate that was killed says {said}", ended, 0)
     hold("it leaves in must-fail", repository.texts("must-fail"), OWN)
     other = {"whole.edit": EDIT.format("another text")}
     repository.put("must-fail", other)

@@ -636,7 +636,7 @@ class Soak:
 
     def hang_up(self, chance):
         count = chance.randrange(3, 20)
-        self.note(f"{count} clients hang up behind their submission")
+        self.note(f"{count} clients hang up after their submission")
         for _ in range(count):
             body = submission(self.authority.issue())
             with self.raw(chance) as client:
@@ -727,16 +727,16 @@ class Soak:
             wait_for(lambda: self.resting.is_set() or ENDING.is_set() or self.damaged(any), f"nobody told that {name} is {'gone' if removes else 'bent'}")
             told = time.monotonic() - began
             if self.resting.is_set() or ENDING.is_set():
-                self.counts["tile put right before it was told of"] += 1
+                self.counts["tile repaired before it was reported"] += 1
             else:
-                self.counts["tile told of"] += 1
-                self.say(f"{name} was told of behind {told:.0f} s, and is put right")
+                self.counts["tile reported"] += 1
+                self.say(f"{name} was reported after {told:.0f} s, and is repaired")
         except Waited as why:
             self.fail(str(why))
         finally:
             self.stored(lambda: self.store.put(name, content))
         try:
-            wait_for(lambda: self.resting.is_set() or ENDING.is_set() or not self.damaged(any), f"{name} was put right, and is told of still")
+            wait_for(lambda: self.resting.is_set() or ENDING.is_set() or not self.damaged(any), f"{name} was repaired, and is still reported")
         except Waited as why:
             self.fail(str(why))
 
@@ -753,7 +753,7 @@ class Soak:
 
         try:
             wait_for(lambda: self.resting.is_set() or ENDING.is_set() or is_whole(), f"{name} isn't put again")
-            self.say(f"{name[:15]}.. was put again behind {time.monotonic() - began:.0f} s")
+            self.say(f"{name[:15]}.. was put again after {time.monotonic() - began:.0f} s")
         except Waited as why:
             self.fail(str(why))
         if not is_whole():
@@ -901,7 +901,7 @@ class Soak:
                 now = time.monotonic()
                 about = [name for begin, end, name in self.faults if end > now - 20] + [lane for lane, lock in self.lanes.items() if lock.locked()]
                 self.back.append((i, size, moment, largest, about))
-                self.counts["head behind another node's"] += 1
+                self.counts["head older than another node's"] += 1
             largest = max(largest, (size, moment))
 
     def head_of(self, i, sth=False):
@@ -991,7 +991,7 @@ class Soak:
             if self.reader.process and not self.reader.alive() and not self.reader.held:
                 said = self.last_of(self.reader).split("\n")[-1]
                 if "gives a checkpoint of" in said:
-                    self.counts["mirror ended at a head behind another node's"] += 1
+                    self.counts["mirror ended at a head older than another node's"] += 1
                     self.say(f"the mirror ended: {said}")
                 else:
                     self.fail(f"the mirror ended: {said}")
@@ -1119,7 +1119,7 @@ class Soak:
             self.start_node(i)
             node.held, node.kills = 0, 0
         try:
-            wait_for(lambda: all(self.revived(i) for i in range(len(self.nodes))), "not every node is ready behind its start")
+            wait_for(lambda: all(self.revived(i) for i in range(len(self.nodes))), "not every node is ready after its start")
             wait_for(lambda: not self.removed or self.is_back(self.removed), f"what was removed isn't made again: {self.removed}")
         except Waited as why:
             self.fail(str(why))
@@ -1231,7 +1231,7 @@ class Soak:
         read = [(int(size), base64.b64decode(root)) for size, root in re.findall(r": (\d+) entries, root (\S+): consistent", (self.work / "reader.log").read_text(errors="replace"))]
         wrong += [f"the mirror's head of {size} entries" for size, root in read if size > len(leaves) or tree.mth(0, size) != root]
         moments = sorted((moment, size) for size, moment in self.heads)
-        wrong += [f"a head of {size} entries at {moment} behind one of {before}" for (_, before), (moment, size) in zip(moments, moments[1:]) if size < before]
+        wrong += [f"a head of {size} entries at {moment} after one of {before}" for (_, before), (moment, size) in zip(moments, moments[1:]) if size < before]
         for what, index, size, path, *leaf in self.proofs:
             path = [base64.b64decode(one) for one in path]
             if size > len(leaves) or leaf and leaf[0] != tree.rows[0][index] or what == "inclusion" and path != tree.path(index, 0, size) or what == "consistency" and path != tree.proof(index, 0, size):
@@ -1263,7 +1263,7 @@ class Soak:
                 self.fail(f"a {kind} has {most >> 20} MiB")
         groups = collections.Counter(name.split("/")[0] for name in names)
         self.judged.append(f"{time.strftime('%H:%M:%S')} {said}; {len(self.heads)} heads seen, {len(read)} by the mirror, {len(self.proofs)} proofs and entries, {len(self.tiles)} tiles, "
-                           f"{mirrored} files of the mirror; all answered again behind {again:.0f} s; lost swaps {lost}, mended {mended}, ends {statuses}; stays {dict(groups)}")  # fmt: skip
+                           f"{mirrored} files of the mirror; all answered again after {again:.0f} s; lost swaps {lost}, recovered {mended}, ends {statuses}; stays {dict(groups)}")  # fmt: skip
         self.say("judged: " + self.judged[-1] + (f"; WRONG {len(wrong)}" if wrong else ""))
 
     def unsigned_heads(self, most=60):
@@ -1318,9 +1318,9 @@ class Soak:
         self.say(f"what nodes counted, as far as they were asked before they were killed: { {name: count for name, count in sorted(self.figures.items()) if count} }")
         self.say(f"ends of nodes: {dict(self.ends)}")
         self.say(f"largest gaps, in seconds: {[(round(gap), when, about) for gap, when, about in sorted(self.gaps, key=lambda one: -one[0])[:6]]}")
-        self.say(f"until something was taken behind a fault's end, at most, in seconds: { {name: round(took, 1) for name, took in sorted(self.recovered.items())} }")
+        self.say(f"the longest times from a fault's end to the next accepted submission, in seconds: { {name: round(took, 1) for name, took in sorted(self.recovered.items())} }")
         self.say(f"largest memory, in MiB: { {kind: round(most / 2**20) for kind, most in sorted(self.memory.items())} }; most open files: {dict(sorted(self.files.items()))}")
-        self.say(f"heads behind another node's: {len(self.back)}, of which without a fault about: {[one for one in self.back if not one[4]][:5]}")
+        self.say(f"heads older than another node's: {len(self.back)}, of which without a fault about: {[one for one in self.back if not one[4]][:5]}")
         for one in self.judged:
             self.say(f"judgement {one}")
 
@@ -1405,7 +1405,7 @@ class Engines(Soak):
                 continue
             seen = seen + 1 if "laggy" in said else 0
             if seen == 4:
-                self.say("ceph-osd hangs, and is started anew")
+                self.say("ceph-osd hangs, and is restarted")
                 self.counts["ceph-osd hung by itself"] += 1
                 run(HERE / "engines.sh", "again", self.engines, "ceph-osd", check=False)
 
@@ -1623,7 +1623,7 @@ class Folder(Soak):
     def judge_copy(self, *words):
         super().judge_copy(*words)
         written = sorted(path.name for path in (self.disk / "objects" / ".writing").iterdir())
-        self.say(f"files of writers that were killed, which a start takes away behind an hour: {len(written)}; the disks: "
+        self.say(f"files of writers that were killed, which a start deletes after an hour: {len(written)}; the disks: "
                  + ", ".join(f"{folder.name} {(total.f_blocks - total.f_bfree) * total.f_frsize >> 20} MiB, {total.f_files - total.f_ffree} files" for folder in self.mounted for total in [os.statvfs(folder)]))  # fmt: skip
 
     def close(self):

@@ -118,7 +118,7 @@ def main():
     faults = []
     with tempfile.TemporaryDirectory(prefix="wagtenib-") as room:
         crate = pathlib.Path(room, "crates", "ct_node")
-        shutil.copytree(CRATE, crate, ignore=lambda folder, names: [name for name in names if name.endswith(("-bodies", "-turns", "-fail"))])
+        shutil.copytree(CRATE, crate, ignore=lambda folder, names: [name for name in names if name.endswith(("-bodies", "-fail"))])
         pathlib.Path(room, "crates.txt").write_text("ct_node:\n")
         shutil.copy(ROOT / "HANDLES", room)
         pathlib.Path(room, ".git").mkdir()

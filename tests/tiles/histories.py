@@ -85,7 +85,7 @@ class Pair:
 
     def end(self):
         ends = [running.end() for running in self.both]
-        hold(ends == [(4 if self.bad else 0, b"")] * 2, "the status, and what stands behind the last reply, is", ends)
+        hold(ends == [(4 if self.bad else 0, b"")] * 2, "the status, and the text after the last reply, is", ends)
 
     def kill(self):
         for running in self.both:
@@ -259,7 +259,7 @@ def try_lengths(program):
         told = pair.ask(begin)
         hold("state" in told and pair.ask(begin.rjust(LONGEST)) == told, "a line of the largest length isn't answered")
         hold(pair.ask(begin.rjust(LONGEST + 1)) == {"refused": "bad-line"}, "a line that is too long is answered")
-        hold(pair.ask(begin) == told, "behind a line that is too long nothing is answered")
+        hold(pair.ask(begin) == told, "after a line that is too long nothing is answered")
         for long, name in ((0, None), (1, "bad-line")):
             submitted = {"chain": [], "leaf_certificate": text(bytes((1 << 24) - 1 + long))}
             reply = pair.ask(json.dumps({"batch": [submitted], "edge": [], "now": 1234, "state": told["state"]}).encode())

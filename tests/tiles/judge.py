@@ -59,7 +59,7 @@ def entry_at(fields):
     hold(extensions.number(1) == 0, "an extension isn't leaf_index")
     index = Fields(extensions.vector(2))
     found = moment, key_hash, signed, index.number(5)
-    hold(not extensions.rest and not index.rest, "behind an index stands more")
+    hold(not extensions.rest and not index.rest, "there is more after an index")
     return found
 
 
@@ -183,7 +183,7 @@ class Judge:
             for at in range(at, 256 * index + width):
                 hold_tile_leaf(fields, batch[at - first], self.moment, at)
             at = 256 * index + width
-            hold(not fields.rest, "behind the data tile", index, "stands more")
+            hold(not fields.rest, "after the data tile", index, "there is more")
         return data if not tiles else b"" if last % 256 == 0 else tiles[-1][1]
 
     def hold_step(self, reply, batch, now):
@@ -199,7 +199,7 @@ class Judge:
         due = [(tile, self.content(*tile)) for tile in self.changed(before)]
         hold([tile for tile, _ in found] == [tile for tile, _ in due], "other hash tiles than", [tile for tile, _ in due])
         hold(found == due, "a hash tile has other hashes")
-        hold(tiles[: len(due)] == due, "a data tile stands before a hash tile")
+        hold(tiles[: len(due)] == due, "a data tile comes before a hash tile")
         self.data = self.hold_data(tiles[len(due) :], batch, before)
         self.hold_head(reply)
         digests = sha256(base64.b64decode(reply["bundle"])), sha256(self.data), hashes
@@ -213,8 +213,8 @@ class Judge:
 def hold_places(reply, bundle):
     """Checks the positions of the objects in a bundle that a reply names."""
     told = [(one["name"], bundle[one["at"] : one["at"] + one["length"]], base64.b64decode(one["sha256"])) for one in reply["objects"]]
-    hold(told == [(called, content, sha256(content)) for called, content in bundled(bundle)], "the objects stand elsewhere than", reply["objects"])
-    hold(all(one["at"] + one["length"] <= len(bundle) for one in reply["objects"]), "an object ends behind its bundle")
+    hold(told == [(called, content, sha256(content)) for called, content in bundled(bundle)], "the objects are in other places than", reply["objects"])
+    hold(all(one["at"] + one["length"] <= len(bundle) for one in reply["objects"]), "an object ends after its bundle")
 
 
 def bundled(bundle):
