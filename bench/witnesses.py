@@ -148,17 +148,12 @@ class Setup:
 
     def turn(self, seconds, clients, rate):
         """Loads the log for a while."""
-        had = (self.folder / "roots.pem").stat().st_size
         words = ["--nodes", f"http://127.0.0.1:{self.port}", "--roots", self.folder / "roots.pem", "--answers", self.folder / "answers", "--repeats", "0"]
-        loading = subprocess.Popen([OUT / "ctload", *words, "--clients", str(clients), "--rate", str(rate), "--for", f"{seconds}s"], stdout=subprocess.PIPE, text=True)
-        while (self.folder / "roots.pem").stat().st_size == had:
-            time.sleep(0.01)
-        time.sleep(0.2)
-        self.processes[-1].send_signal(1)
-        said = loading.communicate()[0]
-        found = re.search(r"([0-9.]+) a second; median ([0-9.]+) s, 99th percentile ([0-9.]+) s", said)
-        if loading.returncode or not found:
-            sys.exit(f"witnesses.py: ctload ended with status {loading.returncode}: {said}")
+        words += ["--reload", f"kill -HUP {self.processes[-1].pid}"]
+        loaded = subprocess.run([OUT / "ctload", *words, "--clients", str(clients), "--rate", str(rate), "--for", f"{seconds}s"], stdout=subprocess.PIPE, text=True)
+        found = re.search(r"([0-9.]+) a second; median ([0-9.]+) s, 99th percentile ([0-9.]+) s", loaded.stdout)
+        if loaded.returncode or not found:
+            sys.exit(f"witnesses.py: ctload ended with status {loaded.returncode}: {loaded.stdout}")
         self.figures.append([float(one) for one in found.groups()])
 
     def end(self):

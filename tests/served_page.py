@@ -119,12 +119,9 @@ class Served:
     def load(self, entries):
         """So many entries of an authority of ctload's own, whose root the log is given."""
         roots = self.folder / "roots.pem"
-        words = [ROOT / "cmd/out/ctload", "-nodes", self.base.rstrip("/"), "-roots", roots, "-answers", self.folder / "answers", "-clients", "48", "-repeats", "0", "-most", str(entries)]
-        had, loading = roots.stat().st_size, subprocess.Popen(words, stdout=subprocess.DEVNULL)
-        while roots.stat().st_size == had and loading.poll() is None:
-            time.sleep(0.1)
-        os.kill(self.log.pid, signal.SIGHUP)
-        hold(loading.wait() == 0, "ctload failed")
+        words = ["--nodes", self.base.rstrip("/"), "--roots", roots, "--reload", f"kill -HUP {self.log.pid}", "--answers", self.folder / "answers"]
+        loaded = subprocess.run([ROOT / "cmd/out/ctload", *words, "--clients", "48", "--repeats", "0", "--most", str(entries)], stdout=subprocess.DEVNULL)
+        hold(loaded.returncode == 0, "ctload failed")
 
     def end(self):
         os.killpg(self.log.pid, signal.SIGTERM)
