@@ -4,7 +4,8 @@
     rust.py [--calls 4000] [--seed 1] [--write]
 
 1. wagtenib-sys/src/lib.rs must be what this script makes of include/wagtenib.h. --write writes it.
-2. Each constant of the header must have its error in wagtenib/src/error.rs.
+2. Each constant of the header must have its error in wagtenib/src/error.rs. Each function of the header must be called by the crate wagtenib, and each function of that
+   crate must be named in its tests.
 3. cargo runs the crates' tests, without the network.
 4. examples/calls.rs makes random calls: audit paths and consistency proofs, of which tests/merkle.py says the fault, and the guard's, of which guard.py says the
    reply. Most are damaged in one of many ways.
@@ -99,6 +100,20 @@ def unnamed():
     return sorted(returned - {"OK"} - named)
 
 
+def untried():
+    """What a function of the header or of the crate wagtenib lacks: a call in the crate, or a test that names it."""
+    crate = RUST / "wagtenib"
+    sources = {path.stem: path.read_text() for path in (crate / "src").glob("*.rs")}
+    tests = "".join(path.read_text() for folder in ("tests", "examples") for path in (crate / folder).rglob("*.rs"))
+    for name in re.findall(r"^    pub fn (wagtenib_\w+)\(", sys_source(), re.M):
+        if not any(f"sys::{name}(" in source for source in sources.values()) and name != "wagtenib_has_sha_instructions":
+            yield f"no function of bindings/rust/wagtenib calls {name} (write one)"
+    for module, source in sources.items():
+        for name in re.findall(r"\bpub fn (\w+)", source):
+            if not re.search(rf"(?:\b{module}::|\w::|\.){name}\(", tests):
+                yield f"no test of bindings/rust/wagtenib calls {module}::{name} (write one)"
+
+
 def code_of(fault):
     return codes()["OK" if fault is None else fault.upper().replace("-", "_")]
 
@@ -178,6 +193,9 @@ def main():
         wrong += 1
     for name in unnamed():
         print(f"tests/library/rust.py: bindings/rust/wagtenib/src/error.rs has no error for WAGTENIB_{name}")
+        wrong += 1
+    for fault in untried():
+        print(f"tests/library/rust.py: {fault}")
         wrong += 1
     if not shutil.which("cargo") or not shutil.which("gcc") or platform.machine() not in ("x86_64", "aarch64"):
         print("tests/library/rust.py: no test was run: there is no cargo, or no gcc for a processor of dist/")
