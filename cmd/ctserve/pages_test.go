@@ -79,6 +79,9 @@ func TestPagesNameSettings(t *testing.T) {
 		{"max-merge-delay", "`max-merge-delay` (a minute)", "default 1m0s)"},
 		{"refresh-interval", "each `refresh-interval` (half of `max-merge-delay`)", "default half of it)"},
 		{"interval", "twenty heads a second", "50ms means at most twenty a second"},
+		{"interval", "| 5 ms, the default of a log on a folder |", "and 5ms for a folder"},
+		{"interval", "| 50 ms, the default with witnesses and with stores on other machines |",
+			"By default, 50ms with witnesses and with stores on other machines"},
 	} {
 		if !strings.Contains(whole, said.onPage) {
 			t.Errorf("the pages don't say %q", said.onPage)
@@ -164,7 +167,7 @@ func TestUnit(t *testing.T) {
 		}
 	}
 	trial.Says(t, trial.Page(t, "../../docs/OPERATING.md"), map[string]bool{
-		"ends with status 3, and the unit does not start it again": statusSetBack == 3,
+		"ends with status 3, and the unit does not start the log again": statusSetBack == 3,
 		"A setting with an unknown name ends a start with status 2": run([]string{"--no-such-word"}, &bytes.Buffer{},
 			openNode) == 2,
 	})

@@ -9,6 +9,12 @@ import (
 	"wagtenib/internal/trial"
 )
 
+// inSecond returns how many submissions of one address are answered in a second, at most, if tree heads have this
+// interval.
+func inSecond(limits Limits, interval time.Duration) int {
+	return limits.ConnectionsByAddress * int(time.Second/interval)
+}
+
 // TestPageSaysBounds: the bounds that docs/SERVICE.md and docs/OPERATING.md say of requests and answers are those that
 // are here.
 func TestPageSaysBounds(t *testing.T) {
@@ -37,11 +43,12 @@ func TestPageSaysBounds(t *testing.T) {
 		"At most 50 lines a second are logged for one event, except for lines of level `error`": maxLines == 50,
 	})
 	trial.Says(t, trial.Page(t, "../../docs/OPERATING.md"), map[string]bool{
-		"64 connections at once, or 64 requests at once through nginx " +
-			"(`max-connections-per-address`)": limits.ConnectionsByAddress == 64,
-		"at most 64 SCTs for each tree head: 128 a " +
-			"second at `interval 500ms`": limits.ConnectionsByAddress == 64 &&
-			limits.ConnectionsByAddress*int(time.Second/(500*time.Millisecond)) == 128,
+		"64 connections at once, or 64 requests at once through nginx (`max-connections-per-address`)": limits.ConnectionsByAddress == 64,
+		"so an address gets at most 64 SCTs for each tree head":                                        limits.ConnectionsByAddress == 64,
+		"| 5 ms, the default of a log on a folder | 12,800 |":                                          inSecond(limits, 5*time.Millisecond) == 12800,
+		"| 50 ms, the default with witnesses and with stores on other machines | 1,280 |": inSecond(limits,
+			50*time.Millisecond) == 1280,
+		"| 500 ms | 128 |": inSecond(limits, 500*time.Millisecond) == 128,
 		"tiles have no rate. An address may use ten seconds of its rate at once. A request above the rate gets 429 " +
 			"`too-often`. `submitters` have no rate": burst == 10*time.Second && tileCall.costs == 0 &&
 			tooOften.status == 429 && tooOften.name == "too-often",

@@ -341,6 +341,6 @@ func TestRatesOnThePages(t *testing.T) {
 	})
 	limits := DefaultLimits()
 	trial.Says(t, trial.Page(t, "../../docs/OPERATING.md"), map[string]bool{
-		"none by default": limits.SubmissionRate == 0 && limits.ReadRate == 0,
+		"By default, no address has a rate": limits.SubmissionRate == 0 && limits.ReadRate == 0,
 	})
 }
