@@ -93,6 +93,17 @@ def watched_among(count):
     return lambda call: call.wagtenib_watched_names(0, *_memory.text(given), *_memory.text(listed), *room(1000), field())
 
 
+def searched(count):
+    """Bytes in which each name begins often, and is nowhere."""
+    given, listed = b"host.exampl" * 20 * count, wagtenib.watch_list([b"host.example.org"] * 8)
+    return lambda call: call.wagtenib_names_in_bytes(*_memory.text(given), *_memory.text(listed), *room(1000))
+
+
+def searched_for(count):
+    given, listed = b"host.exampl" * 20, wagtenib.watch_list(b"host-%d.example.org" % number for number in range(4 * count))
+    return lambda call: call.wagtenib_names_in_bytes(*_memory.text(given), *_memory.text(listed), *room(100 * count))
+
+
 def entry(count):
     """A precertificate with so many extensions before the poison."""
     fields = b"\2\1\7" + promises.written(0x30, b"") * 5
@@ -136,7 +147,7 @@ def cosigned(count):
 
 
 # The inputs, each of so many parts or of so many times as many, and the answers of their calls.
-INPUTS = [hashes, receipts, tile, names, watched, watched_among, entry, promise, entries, step, resumed, checkpoint, cosigned]
+INPUTS = [hashes, receipts, tile, names, watched, watched_among, searched, searched_for, entry, promise, entries, step, resumed, checkpoint, cosigned]
 
 # Calls with a number, which has no other input that grows with it. Their answers may be refusals.
 NUMBERS = {
