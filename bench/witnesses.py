@@ -1,12 +1,12 @@
 #!/usr/bin/env python3
 """Times what witnesses cost a timestamp: ctload submits to a log of ctserve, on loopback, without witnesses and with some, by turns.
 
-    witnesses.py [--turns 3] [--seconds 15] [--clients 16] [--rate 20] [--interval 50ms]
+    witnesses.py [--turns 3] [--seconds 15] [--clients 16] [--rate 20] [--interval 50ms] [--only 'NAME;NAME']
 
 Each setup has a log of its own, over a folder, and its witnesses, by ctwitness over files; all are made before the first turn and run to the end, so that
 the turns differ by nothing else. Some of the witnesses answer 100 ms late, or don't answer at all, or answer with no cosignature (`liar`); a head is
-published with as many as publish-quorum has by default, one more than the half. It prints of each setup the median of its turns: timestamps a second, and the median and the 99th
-percentile of the time from a submission to its timestamp. make service builds what it runs.
+published with as many as publish-quorum has by default, one more than the half. --only names setups. It prints of each setup the median of its turns: timestamps a second,
+and the median and the 99th percentile of the time from a submission to its timestamp. make service builds what it runs.
 """
 import argparse
 import contextlib
