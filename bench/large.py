@@ -234,7 +234,8 @@ def measure(folder, fabricate, words, entries):
         cells["memory, MB"] = f"{memory(log.process.pid) / 1e6:.0f}"
         cells["disk, GB"] = f"{disk_used(log.stored() / 'objects') / 1e9:.2f} + {(log.stored() / 'places').stat().st_size / 1e9:.2f}"
         log.end()
-        log.settings.write_text(log.settings.read_text() + "scrub-interval 100ms\nscrub-period 1m\n")
+        # (old tiles are read again once a head is as old as delete-tiles-after)
+        log.settings.write_text(log.settings.read_text() + "scrub-interval 100ms\nscrub-period 1m\ndelete-tiles-after 1s\n")
         log.start()
         a_second, each = read_again(log)
         # (of each 256 entries the data tile, with the hash tiles above it)
