@@ -3,9 +3,9 @@
 
     tests/engines.sh run bench/engines.py [--turns 2] [--seconds 12] [--clients 16,64,256,1024] [--stores etcd,postgres] [--out OUT,..]
 
-The engines are those of tests/engines.sh: the register and the guard's state are on etcd's three members or on PostgreSQL, the places always on PostgreSQL, objects always on S3. With
-several folders OUT of builds of ctserve (cmd/out by itself) each is a log of its own over the same engines. In each turn ctload submits to each log with so
-many clients for so many seconds, each client a new certificate as soon as its last one is answered.
+The engines are those of tests/engines.sh: the lock and the guard's state are on etcd's three members or on PostgreSQL, the index always on PostgreSQL, objects always on S3.
+With several folders OUT of builds of ctserve (by default only cmd/out) each is a log of its own over the same engines. In each turn ctload submits to each log with so many
+clients for so many seconds, each client a new certificate as soon as its last one is answered.
 `make service` builds ctserve and ctload.
 
 It prints, of each turn: timestamps a second, the median and 99th percentile of the time to one, how many entries a step took in, the processor time of the log's
@@ -16,8 +16,6 @@ import argparse
 import os
 import pathlib
 import re
-import subprocess
-import sys
 import tempfile
 import time
 import urllib.request
@@ -38,7 +36,7 @@ def bucket(name):
 
 
 def address(store, name):
-    """The engine that has a log's register and its places."""
+    """The address of an engine for a log's lock, index or guard's state."""
     if store == "etcd":
         return f"etcd://{os.environ['STORES_MEMBERS']}/{name}"
     at = dict(word.split("=") for word in os.environ["STORES_POSTGRES"].split())
@@ -50,7 +48,7 @@ class Node:
 
     def __init__(self, folder, number, store, out):
         self.name, name = f"{store}{'' if out == OUT else f', {out}'}", f"log{os.getpid()}-{number}"
-        self.log = Log(folder, out, store=bucket(name), register=address(store, name), places=address("postgres", name), guard_state=address(store, f"{name}-guard"))
+        self.log = Log(folder, out, store=bucket(name), lock=address(store, name), index=address("postgres", name), guard_state=address(store, f"{name}-guard"))
         self.rows, self.steps, self.calls, self.phases = [], 0, {}, {}
 
     def figures(self):

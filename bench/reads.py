@@ -18,7 +18,7 @@ import subprocess
 import tempfile
 import time
 
-from served import OUT, Log, busy_time, free_port, listens, load, processor_time, run, stop, until
+from served import HERE, OUT, Log, busy_time, free_port, listens, load, processor_time, run, stop, until
 
 NAME = "bench.example"
 KINDS = {"hash tile": "tile/0/000", "data tile": "tile/data/000", "checkpoint": "checkpoint"}
@@ -76,11 +76,11 @@ def main():
     with tempfile.TemporaryDirectory(dir=os.environ.get("TMPDIR")) as work:
         folder = pathlib.Path(work)
         folder.chmod(0o711)
-        log = Log(folder / "log", proxies="127.0.0.1", submitters="127.0.0.1/32=5000")
+        log = Log(folder / "log", trusted_proxies="127.0.0.1", submitters="127.0.0.1/32=5000")
         try:
             load(log, 64, "--most", words.entries)
             nginx = Nginx(folder / "nginx", log)
-            ways = {"straight": (log.url, [log.process.pid]), "behind nginx": (nginx.url, [log.process.pid, nginx.process.pid])}
+            ways = {"direct": (log.url, [log.process.pid]), "through nginx": (nginx.url, [log.process.pid, nginx.process.pid])}
             try:
                 for turn in range(words.turns):
                     for kind, path in KINDS.items():

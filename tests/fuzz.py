@@ -9,7 +9,6 @@ status 1. Otherwise it prints counts.
 """
 import argparse
 import collections
-import json
 import os
 import pathlib
 import subprocess

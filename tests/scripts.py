@@ -6,7 +6,10 @@ on a made-up repository; README.md's commands; release.py on made-up builds; and
 It prints one line if everything is as expected. Otherwise it names the fault, and ends with status 1.
 """
 import argparse
+import ast
+import builtins
 import contextlib
+import dis
 import itertools
 import json
 import os
@@ -638,6 +641,41 @@ def try_quotations():
     return count
 
 
+def codes(code):
+    """A compiled text, and the functions and classes in it."""
+    yield code
+    for constant in code.co_consts:
+        if isinstance(constant, types.CodeType):
+            yield from codes(constant)
+
+
+def faults_of_names(text):
+    """The names of a script that nothing defines, and its imports that nothing uses."""
+    known, loaded = {*dir(builtins), "__annotations__", "__file__", "__module__", "__qualname__"}, set()
+    for instruction in itertools.chain(*map(dis.get_instructions, codes(compile(text, "script", "exec")))):
+        if instruction.opname in ("STORE_NAME", "STORE_GLOBAL"):
+            known.add(instruction.argval)
+        elif instruction.opname in ("LOAD_NAME", "LOAD_GLOBAL"):
+            loaded.add(instruction.argval)
+    imports = [each for node in ast.walk(ast.parse(text)) if isinstance(node, (ast.Import, ast.ImportFrom)) for each in node.names]
+    names = {(each.asname or each.name).partition(".")[0] for each in imports} - {"annotations"}
+    unused = {name for name in names if len(re.findall(rf"\b{name}\b", text)) == 1}
+    return [*(f"{name} is not defined" for name in sorted(loaded - known)), *(f"{name} is imported, and not used" for name in sorted(unused))]
+
+
+def try_names():
+    """Each name in the scripts in Python is defined, and each import is used. Some scripts need engines or hours, so that no test runs them."""
+    if faults_of_names("import os\nimport re\nprint(os.sep, absent)\n") != ["absent is not defined", "re is imported, and not used"]:
+        fail("it finds no undefined name, or no unused import, in a text that has both")
+    root = HERE.parent
+    scripts = [path for folder in ("bench", "bindings/python", "checks", "cmd", "deps", "examples", "release", "tests") for path in sorted((root / folder).rglob("*.py"))]
+    scripts = [path for path in scripts if "out" not in path.relative_to(root).parts and path.name != "__init__.py"]
+    for path in scripts:
+        for fault in faults_of_names(path.read_text()):
+            fail(f"{path.relative_to(root)}: {fault}")
+    return len(scripts)
+
+
 def try_shell():
     """shellcheck warns of nothing in the shell scripts. Without shellcheck it isn't tried, and says so."""
     root = HERE.parent
@@ -690,7 +728,7 @@ def main():
     try_tiles()
     try_nodes()
     planted = try_planted()
-    shell = try_shell()
+    shell, python = try_shell(), try_names()
     for name, words in INPUTS.items():
         ran = run("expected.py", *words.split(), given=(EXAMPLES / f"{name}.jsonl").read_bytes())
         if ran.stdout != (EXAMPLES / f"{name}.expected.jsonl").read_bytes():
@@ -713,7 +751,7 @@ def main():
             fail(f"names/{script}: {named.stderr.decode()}")
         sys.stdout.write(named.stdout.decode())
     stored = len(lines_of("bad-lines"))
-    rest = f"{chains} chains, {len(INPUTS)} inputs, {sessions} sessions, {outputs} damaged outputs, {quotations} quotations, {planted} places of faults, {shell} shell scripts, {files} installed files and a release ({released})"
+    rest = f"{chains} chains, {len(INPUTS)} inputs, {sessions} sessions, {outputs} damaged outputs, {quotations} quotations, {planted} places of faults, {shell} scripts for shells and {python} in Python, {files} installed files and a release ({released})"
     print(f"tests/scripts.py: as expected, over {stored} stored lines, {DAMAGED} damaged ones, {rest}.")
 
 

@@ -29,7 +29,7 @@ sys.path.append(str(HERE))
 import compare  # noqa: E402
 import field  # noqa: E402
 import table  # noqa: E402
-from compare import kinds, x509  # noqa: E402
+from compare import x509  # noqa: E402
 from cryptography.hazmat.primitives import hashes, serialization  # noqa: E402
 
 PAGE = ROOT / "docs" / "WATCH.md"
