@@ -153,8 +153,8 @@ WRONG = f"""{LINES} fn f() -> Answer {{ const READS: u64 = 1 << 20; {LOOPS} }}
 use json_lines::tell; use crate::few::FEW as READS; fn f() -> Answer {{ {LOOPS} }}
 {LINES} fn f(output: &mut W) -> Answer {{ Write::write_all(output, bytes)?; }}
 {LINES} fn f(output: &mut W) -> Answer {{ <W as Write>::write_all (output, bytes)?; }}
-{LINES} fn f(words: &[String], faults: &mut E) -> u8 {{ if words.len() > 8 {{ tell(faults, b"ctnode: read"); return 1; }} {RUN} }}
-{LINES} fn f(words: &[String], faults: &mut E) -> u8 {{ if words.len() > 8 {{ tell(faults, "ctnode: read".as_bytes()); return 1; }} {RUN} }}
+{LINES} fn f(words: &[String], faults: &mut E) -> u8 {{ if words.len() > 8 {{ tell(faults, b"ctlog: read"); return 1; }} {RUN} }}
+{LINES} fn f(words: &[String], faults: &mut E) -> u8 {{ if words.len() > 8 {{ tell(faults, "ctlog: read".as_bytes()); return 1; }} {RUN} }}
 {LINES} fn f(words: &[String], faults: &mut E) -> u8 {{ if words.len() > 8 {{ tell(faults, USAGE.as_bytes()); return 1; }} {RUN} }}
 {LINES} fn f(words: &[String], faults: &mut E) -> u8 {{ if words.len() > 8 {{ return 1; }} {RUN} }}
 {LINES} fn f(words: &[String], faults: &mut E) -> u8 {{ match run(words) {{ Ok(status) => status, Err(_) => {{ tell(faults, READ.as_bytes()); 1 }} }} }}

@@ -118,7 +118,7 @@ def main():
             ran = does("start", log, str(port))
             if not ran.returncode or "isn't ready: it fails once" not in ran.stderr:
                 fail(f"a node that fails at the first start: status {ran.returncode}, {ran.stderr}")
-            for start in ("behind one that failed", "where all runs"):
+            for start in ("after one that failed", "while all of it runs"):
                 ran = does("start", log, str(port))
                 if ran.returncode:
                     fail(f"a start without a loader, {start}: {ran.stderr}")

@@ -148,7 +148,7 @@ def main():
     fell = collections.Counter()
     for run in range(given.runs):
         accepted, shut, late = judge(given.program, given.seed + run, given.fronts, given.lines, given.shifts)
-        fell["in the middle" if late and shut else "before all" if shut else "behind all"] += 1
+        fell["in the middle" if late and shut else "before all" if shut else "after all"] += 1
         print(f"seed {given.seed + run}: {accepted:,} submissions accepted, {shut:,} refused after the shutdown", flush=True)
     places = ", ".join(f"{place} of the submissions {count} times" for place, count in sorted(fell.items()))
     print(f"{given.runs} runs of {given.fronts} fronts with {given.lines:,} lines each, in {given.shifts} shifts: check.py refuses none. The last shift's shutdown fell {places}.")

@@ -165,7 +165,7 @@ def memory_is_right(entry_type, data, watched, room):
     call = _library.load().wagtenib_certificate_names if watched is None else _library.load().wagtenib_watched_names
     code = call(entry_type, *words, memory, room, ctypes.byref(length), ctypes.byref(field))
     if memory.raw[room:] != FILL:
-        return "writes behind its room"
+        return "writes after its room"
     if (field.value == UNTOUCHED) != (not 80 <= code <= 86):
         return f"writes the field {field.value} with {code}"
     if (length.value == UNTOUCHED) != (code not in (0, 9)):
@@ -233,7 +233,7 @@ def call_in_bytes(data, listed, room):
     length, memory = ctypes.c_uint64(UNTOUCHED), ctypes.create_string_buffer(FILL * (room + 1), room + 1)
     code = _library.load().wagtenib_names_in_bytes(data, len(data), listed, len(listed), memory, room, ctypes.byref(length))
     if memory.raw[room:] != FILL:
-        return code, "and writes behind its room"
+        return code, "and writes after its room"
     if code not in (0, 9, 144):
         return code, "which is no code of it"
     if (length.value == UNTOUCHED) != (code == 144):
