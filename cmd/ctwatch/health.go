@@ -16,8 +16,8 @@ var _ = addCommand("health", "prints a line on how it goes, and ends with a stat
 const maxAccusations = 20
 
 // runHealth prints how it goes with all logs and outputs. The status is 0 if all is well, statusAccused if there is
-// evidence against a log, statusUnread if a log was not read for too long, and statusFault if alerts could not be
-// sent.
+// evidence against a log, statusUnread if a log was not read for too long or the log list cannot be read, and
+// statusFault if alerts could not be sent.
 func runHealth(_ context.Context, words []string, out io.Writer) (err error) {
 	flags := flagsOf("health", "", out)
 	folder := folderFlag(flags)
@@ -63,6 +63,9 @@ func healthStatus(health watchstore.Health, silent time.Duration) error {
 	case time.Since(health.Reported) > silent:
 		return &statusError{statusUnread, fmt.Sprintf("ctwatch: no log was read for %v (is ctwatch run at work?)",
 			silent)}
+	case health.List != "":
+		return &statusError{statusUnread, "ctwatch: the log list cannot be used, so logs that joined it are not watched " +
+			"(look at its address and at the network; it is tried again)"}
 	case len(health.Silent) > 0:
 		return &statusError{statusUnread, "ctwatch: some logs cannot be read (the page of ctwatch run says why)"}
 	case len(health.Outputs) > 0:

@@ -33,6 +33,12 @@ func listOfOneLog(t *testing.T) []byte {
 	t.Helper()
 	log, authority := serveLog(t, "a.example"), testcert.NewAuthority(t)
 	log.add(authority, authority.Issue("other.net"))
+	return listOf(t, log)
+}
+
+// listOf returns a log list with a log.
+func listOf(t *testing.T, log served) []byte {
+	t.Helper()
 	id := sha256.Sum256(log.PublicKey())
 	list, err := json.Marshal(map[string]any{"version": "1", "log_list_timestamp": "2026-11-01T12:00:00Z",
 		"operators": []any{map[string]any{"name": "Operator", "logs": []any{map[string]any{"description": "a log",
@@ -151,7 +157,8 @@ func TestReportsAListThatWasNeverRead(t *testing.T) {
 		!strings.HasPrefix(line, due+": ") || !strings.Contains(line, "status 503") {
 		t.Errorf("/healthz: %d %s", status, line)
 	}
-	if status, out, faults := ctwatch(t, "health", "--folder", folder); status != statusUnread || out != due+"\n" ||
+	if status, out, faults := ctwatch(t, "health", "--folder", folder); status != statusUnread ||
+		!strings.HasPrefix(out, due+": ") || !strings.Contains(out, "status 503") ||
 		!strings.Contains(faults, "no log is watched yet") {
 		t.Errorf("ctwatch health: status %d: %s%s", status, out, faults)
 	}
@@ -195,4 +202,124 @@ func TestReadsAListThatComesAfterTheStart(t *testing.T) {
 		continue
 	}
 	must(t, program.Wait())
+}
+
+// watchingList is a folder with a log list, settings that name it, and a log.
+type watchingList struct {
+	list, store, config, alerts string
+	authority                   *testcert.Authority
+	log                         served
+}
+
+func newWatchingList(t *testing.T) watchingList {
+	t.Helper()
+	folder := t.TempDir()
+	w := watchingList{filepath.Join(folder, "list.json"), filepath.Join(folder, "store"), filepath.Join(folder, "config"),
+		filepath.Join(folder, "alerts"), testcert.NewAuthority(t), serveLog(t, "a.example")}
+	must(t, os.WriteFile(w.config, []byte("name example.org\nfolder "+w.store+"\nlog-list "+w.list+
+		"\nlisten 127.0.0.1:0\npause 1s\nquiet true\njson "+w.alerts+"\n"), 0o600))
+	w.add("other.net")
+	return w
+}
+
+// add adds a certificate to the log.
+func (w watchingList) add(name string) { w.log.add(w.authority, w.authority.Issue(name)) }
+
+// write replaces the log list.
+func (w watchingList) write(t *testing.T, content []byte) {
+	t.Helper()
+	must(t, os.WriteFile(w.list+".new", content, 0o600))
+	must(t, os.Rename(w.list+".new", w.list))
+}
+
+// isUnwell checks that a line and a status of health name the list that cannot be read.
+func (w watchingList) isUnwell(t *testing.T, is, due int, line string) {
+	t.Helper()
+	if is != due || !strings.HasPrefix(line, "1 log; the log list CANNOT BE USED: "+w.list+": ") ||
+		!strings.Contains(line, "it was read last at ") {
+		t.Errorf("the health has the status %d, and %d is due: %s", is, due, line)
+	}
+}
+
+// TestOnceReadsTheLogsOfTheLastList: with a list that cannot be read, --once reads the logs of the list that was read
+// last, sends what it finds, and ends with status 5. ctwatch health ends with 5 too, until the list can be read again.
+func TestOnceReadsTheLogsOfTheLastList(t *testing.T) {
+	w := newWatchingList(t)
+	words := []string{"run", "--once", "--name", "example.org", "--folder", w.store, "--log-list", w.list}
+	w.write(t, listOf(t, w.log))
+	if status, out, faults := ctwatch(t, words...); status != 0 {
+		t.Fatalf("status %d: %s%s", status, out, faults)
+	}
+	w.write(t, []byte("<html>"))
+	w.add("shop.example.org")
+	status, out, faults := ctwatch(t, words...)
+	if status != statusUnread || !strings.Contains(out, "FOUND example.org: shop.example.org") ||
+		!strings.Contains(faults, "the log list cannot be read: ") {
+		t.Errorf("status %d: %s%s", status, out, faults)
+	}
+	status, out, faults = ctwatch(t, "health", "--folder", w.store)
+	w.isUnwell(t, status, statusUnread, out)
+	if !strings.Contains(faults, "logs that joined it are not watched") {
+		t.Error(faults)
+	}
+	w.write(t, listOf(t, w.log))
+	if status, out, faults = ctwatch(t, words...); status != 0 {
+		t.Errorf("the list is mended: status %d: %s%s", status, out, faults)
+	}
+	if status, out, _ = ctwatch(t, "health", "--folder", w.store); status != 0 {
+		t.Errorf("the list is mended: status %d: %s", status, out)
+	}
+}
+
+// TestWatchesTheLogsOfTheLastList: after a start and after a reload with a list that cannot be read, the logs of the
+// list that was read last are watched, and /healthz answers 503 until the list can be read again.
+func TestWatchesTheLogsOfTheLastList(t *testing.T) {
+	w := newWatchingList(t)
+	w.write(t, listOf(t, w.log))
+	if status, out, faults := ctwatch(t, "run", "--once", "--config", w.config); status != 0 {
+		t.Fatalf("status %d: %s%s", status, out, faults)
+	}
+	w.write(t, []byte("<html>"))
+	w.add("start.example.org")
+	program, lines := started(t, "run", "--config", w.config)
+	var found []string
+	page := ""
+	for _, name := range []string{"start.example.org", "reload.example.org"} {
+		page = nextEvent(t, lines, "watching").Page
+		if one := nextEvent(t, lines, "log-list-kept"); one.Logs != 1 || one.List != w.list {
+			t.Errorf("the line of the list is %+v", one)
+		}
+		found = append(found, name)
+		wantsHosts(t, w.alerts, found...)
+		status, line := healthOf(t, page)
+		w.isUnwell(t, status, http.StatusServiceUnavailable, line)
+		if name == "start.example.org" {
+			w.add("reload.example.org")
+			must(t, program.Process.Signal(syscall.SIGHUP))
+		}
+	}
+	w.write(t, listOf(t, w.log))
+	trial.Eventually(t, "/healthz is well", func() bool {
+		status, line := healthOf(t, page)
+		return status == http.StatusOK && strings.HasPrefix(line, "1 log; all are read")
+	})
+	must(t, program.Process.Signal(syscall.SIGTERM))
+	for lines.Scan() {
+		continue
+	}
+	must(t, program.Wait())
+}
+
+// TestForgetsAnotherList: if the settings name another list, which cannot be read, no log of the list before is watched.
+func TestForgetsAnotherList(t *testing.T) {
+	w := newWatchingList(t)
+	w.write(t, listOf(t, w.log))
+	if status, out, faults := ctwatch(t, "run", "--once", "--config", w.config); status != 0 {
+		t.Fatalf("status %d: %s%s", status, out, faults)
+	}
+	w.add("shop.example.org")
+	status, out, faults := ctwatch(t, "run", "--once", "--config", w.config, "--log-list", w.list+".other")
+	if status != statusUnread || out != "" {
+		t.Errorf("status %d: %s%s", status, out, faults)
+	}
 }

@@ -18,6 +18,7 @@ import (
 	"wagtenib/internal/loglist"
 	"wagtenib/internal/version"
 	"wagtenib/internal/watch"
+	"wagtenib/internal/watchstore"
 	"wagtenib/internal/web"
 )
 
@@ -90,6 +91,7 @@ type follower struct {
 	list   *loglist.Source // nil if no list is followed
 	group  *watch.Group
 	lines  *web.Lines
+	lists  *watchstore.Store // has the list that was read last; it must be set before logs are read
 	listed listStatus
 }
 
@@ -187,38 +189,91 @@ const triedAgain = "it is tried again"
 
 // retryList reports that an attempt to read the log list failed, and that there will be another one.
 func (f *follower) retryList(address string, fault error) {
-	f.listed.report(time.Now(), fault)
+	f.reportList(fault)
 	f.lines.Error("log-list", "address", address, "fault", fault, "next", triedAgain)
+}
+
+// reportList stores why the log list cannot be read.
+func (f *follower) reportList(fault error) {
+	f.listed.report(time.Now(), fault)
+	if err := f.lists.ReportList(fault); err != nil {
+		f.lines.Error("store", "fault", err)
+	}
+}
+
+// keepList stores a list that was read, for a start at which it cannot be read.
+func (f *follower) keepList(list loglist.List) {
+	f.listed.report(time.Now(), nil)
+	if err := f.lists.KeepList(list.Content); err != nil {
+		f.lines.Error("store", "fault", err)
+	}
+}
+
+// keptLogs returns the logs that are watched while the log list cannot be read: those of the settings, and those of the
+// list that was read last.
+func (f *follower) keptLogs() []watch.Log {
+	kept, err := f.lists.List()
+	if err != nil {
+		f.lines.Error("store", "fault", err)
+	}
+	if err != nil || kept.Content == nil {
+		return f.of.only
+	}
+	list, err := loglist.Parse(kept.Content)
+	logs := f.of.only
+	if err == nil {
+		logs, err = f.logsOf(list)
+	}
+	if err != nil {
+		f.lines.Error("log-list-kept", "fault", err)
+		return f.of.only
+	}
+	f.lines.Warn("log-list-kept", "logs", len(logs), "list", f.of.list, "read", kept.Read.Format(time.RFC3339))
+	return logs
 }
 
 // run follows the logs until the context ends.
 func (f *follower) run(ctx context.Context) {
+	// Logs that the settings name must not wait for the list.
+	f.group.Follow(ctx, f.of.only)
 	if f.list == nil {
-		f.group.Follow(ctx, f.of.only)
 		<-ctx.Done()
 	} else {
-		// Logs that the settings name must not wait for the list.
-		f.group.Follow(ctx, f.of.only)
-		// Follow returns only after the context has ended, and its error says nothing else.
-		_ = f.list.Follow(ctx, listPause, func(list loglist.List) {
-			for _, passed := range list.Passed {
-				f.lines.Warn("log-passed-over", "reason", passed)
-			}
-			logs, err := f.logsOf(list)
-			if err != nil {
-				f.lines.Error("log-list", "fault", err)
-				f.listed.report(time.Now(), err)
-				return
-			}
-			f.lines.Info("log-list", "logs", len(logs), "list", f.of.list, "of", list.Time.Format(time.RFC3339))
-			f.group.Follow(ctx, logs)
-			f.listed.report(time.Now(), nil)
-		}, func(err error, next time.Duration) {
-			f.lines.Error("log-list", "address", f.of.list, "fault", err, "next", fmt.Sprintf("%s in %v", triedAgain, next))
-			f.listed.report(time.Now(), err)
-		})
+		f.followList(ctx)
 	}
 	f.group.Wait()
+}
+
+// followList follows the logs of the list until the context ends. If the list cannot be read at first, it follows those
+// of the list that an earlier run read last.
+func (f *follower) followList(ctx context.Context) {
+	isFirst := true
+	failed := func(err error) {
+		f.reportList(err)
+		if isFirst {
+			isFirst = false
+			f.group.Follow(ctx, f.keptLogs())
+		}
+	}
+	// Follow returns only after the context has ended, and its error says nothing else.
+	_ = f.list.Follow(ctx, listPause, func(list loglist.List) {
+		for _, passed := range list.Passed {
+			f.lines.Warn("log-passed-over", "reason", passed)
+		}
+		logs, err := f.logsOf(list)
+		if err != nil {
+			failed(err)
+			f.lines.Error("log-list", "fault", err)
+			return
+		}
+		isFirst = false
+		f.lines.Info("log-list", "logs", len(logs), "list", f.of.list, "of", list.Time.Format(time.RFC3339))
+		f.group.Follow(ctx, logs)
+		f.keepList(list)
+	}, func(err error, next time.Duration) {
+		failed(err)
+		f.lines.Error("log-list", "address", f.of.list, "fault", err, "next", fmt.Sprintf("%s in %v", triedAgain, next))
+	})
 }
 
 // errNoLogs means that a log list has logs, and that none of them is watched.
@@ -244,17 +299,32 @@ func (f *follower) logsOf(list loglist.List) ([]watch.Log, error) {
 	return logs, nil
 }
 
+// readOnce reads the log list, and returns the logs that are watched. If it cannot be read, the error says why, and the
+// logs are those of the list that was read last.
+func (f *follower) readOnce(ctx context.Context) ([]watch.Log, error) {
+	list, err := f.list.Read(ctx)
+	switch {
+	case ctx.Err() != nil:
+		return f.of.only, ctx.Err()
+	case err != nil:
+		f.reportList(err)
+		return f.keptLogs(), fmt.Errorf("the log list cannot be read: %w", err)
+	}
+	logs, err := f.logsOf(list)
+	if err != nil {
+		f.reportList(err)
+		return f.keptLogs(), err
+	}
+	f.keepList(list)
+	return logs, nil
+}
+
 // once reads each log up to its newest head. It returns the faults of logs, by their names.
 func (f *follower) once(ctx context.Context) (map[string]error, error) {
 	logs := f.of.only
 	var listFault error
 	if f.list != nil {
-		list, err := f.list.Read(ctx)
-		if err != nil {
-			listFault = fmt.Errorf("the log list cannot be read: %w", err)
-		} else {
-			logs, listFault = f.logsOf(list)
-		}
+		logs, listFault = f.readOnce(ctx)
 	}
 	faults := map[string]error{}
 	results := f.group.Once(ctx, logs)

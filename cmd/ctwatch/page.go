@@ -222,14 +222,15 @@ func (h *pages) certificate(w http.ResponseWriter, r *http.Request) {
 	h.write(w, pem.EncodeToMemory(&pem.Block{Type: "CERTIFICATE", Bytes: der}))
 }
 
-// health answers a line, and 503 if no log is known yet, a log is silent for a day or alerts cannot be sent.
+// health answers a line, and 503 if no log is known yet, the log list cannot be read, a log is silent for a day or
+// alerts cannot be sent.
 func (h *pages) health(w http.ResponseWriter, _ *http.Request) {
 	health, err := h.store.Health(24 * time.Hour)
 	health.Unread = h.listed.unread()
 	switch {
 	case err != nil:
 		http.Error(w, "the store cannot be read", http.StatusInternalServerError)
-	case health.Logs == 0 || len(health.Silent) > 0 || len(health.Outputs) > 0:
+	case health.Logs == 0 || health.List != "" || len(health.Silent) > 0 || len(health.Outputs) > 0:
 		http.Error(w, health.String(), http.StatusServiceUnavailable)
 	default:
 		h.write(w, []byte(health.String()+"\n"))

@@ -110,7 +110,7 @@ func (s *settings) watch(ctx context.Context, out io.Writer, lines *web.Lines) (
 		return err
 	}
 	defer func() { err = errors.Join(err, w.store.Close()) }()
-	if err := w.register(); err != nil {
+	if err := errors.Join(w.register(), w.store.UseList(s.logs.list, s.logs.listKey)); err != nil {
 		return err
 	}
 	var keeper watch.Keeper = w.store
@@ -122,6 +122,7 @@ func (s *settings) watch(ctx context.Context, out io.Writer, lines *web.Lines) (
 	if w.follower, err = newFollower(s.logs, keeper, lines); err != nil {
 		return err
 	}
+	w.follower.lists = w.store
 	if s.logs.once {
 		return w.once(ctx)
 	}

@@ -72,8 +72,8 @@ func (s Source) content(ctx context.Context, place string, most int64) ([]byte, 
 	return content, nil
 }
 
-// The pause after the first failed reading of a list that was never read, and the longest one. A program without a list
-// watches nothing, so it must not wait as long as between two lists.
+// The pause after the first of failed readings of a list, and the longest one. A program without a list watches nothing,
+// and one with an old list misses logs, so it must not wait as long as between two lists.
 const (
 	firstRetry = time.Second
 	maxRetry   = 3 * time.Minute
@@ -81,8 +81,8 @@ const (
 
 // Follow reads the list now and after each pause, and calls `changed` with it, until the context ends. If it cannot be
 // read, is refused, or is older than the last one, `failed` gets the reason and the time until the next reading, and
-// the last list stays. Until the list was read once, the pauses are shorter: they double from 1 second to 3 minutes,
-// except that a server may ask for a longer one. Follow returns the error of the context.
+// the last list stays. The pauses after failures are shorter: they double from 1 second to 3 minutes, except that a
+// server may ask for a longer one. Follow returns the error of the context.
 func (s Source) Follow(ctx context.Context, pause time.Duration, changed func(List),
 	failed func(err error, next time.Duration)) error {
 	clock := s.Client.Clock
@@ -103,15 +103,13 @@ func (s Source) Follow(ctx context.Context, pause time.Duration, changed func(Li
 		next := pause
 		switch {
 		case err == nil:
-			source, retry = s, 0
+			retry = firstRetry
 			last = list.Time
 			changed(list)
 		case ctx.Err() != nil && errors.Is(err, ctx.Err()):
 		default:
-			if retry > 0 {
-				next = min(max(retry, asked(err, clock.Now())), pause)
-				retry = min(2*retry, maxRetry)
-			}
+			next = min(max(retry, asked(err, clock.Now())), pause)
+			retry = min(2*retry, maxRetry)
 			failed(err, next)
 		}
 		if err := clock.Wait(ctx, next); err != nil {

@@ -46,6 +46,7 @@ type List struct {
 	Time    time.Time // log_list_timestamp; zero if there is none
 	Logs    []Log
 	Passed  []error // why logs of the list are passed over
+	Content []byte  // the list as it came
 }
 
 // WatchedStates are the states whose logs are watched by default. The logs in them have SCTs that browsers accept.
@@ -95,7 +96,7 @@ func Parse(content []byte) (List, error) {
 	if err := json.Unmarshal(content, &read); err != nil {
 		return List{}, fmt.Errorf("%w: %v", ErrForm, err)
 	}
-	list := List{Version: read.Version, Time: read.Time}
+	list := List{Version: read.Version, Time: read.Time, Content: content}
 	seen := map[watch.LogID]bool{}
 	for _, operator := range read.Operators {
 		for kind, entries := range map[bool][]json.RawMessage{false: operator.Logs, true: operator.Tiled} {

@@ -265,10 +265,10 @@ func TestFollows(t *testing.T) {
 	}
 }
 
-// Until a list was read once, it is tried again after pauses that double up to three minutes, and after each failure
-// the caller knows the pause. A server may ask for a longer pause, up to that between two lists. After the first list,
-// pauses are as long as the caller says.
-func TestTriesAgainUntilTheFirstList(t *testing.T) {
+// A list that cannot be read is tried again after pauses that double up to three minutes, and after each failure the
+// caller knows the pause. A server may ask for a longer pause, up to that between two lists. After a list, the pause is
+// as long as the caller says, and the pauses after later failures begin with the shortest one.
+func TestTriesAgainSoonAfterFailures(t *testing.T) {
 	list := listOf(t, at, []entry{newEntry("a", false, "usable")}, nil)
 	refusals := []string{"", "", "", "", "", "", "", "", "", "", "", "400", "172800"}
 	asked := 0
@@ -292,7 +292,7 @@ func TestTriesAgainUntilTheFirstList(t *testing.T) {
 	ctx, cancel := context.WithCancel(context.Background())
 	defer cancel()
 	var want []time.Duration
-	for _, seconds := range []int{1, 2, 4, 8, 16, 32, 64, 128, 180, 180, 180, 400, 3600, 3600, 3600} {
+	for _, seconds := range []int{1, 2, 4, 8, 16, 32, 64, 128, 180, 180, 180, 400, 3600, 3600, 1, 2, 4} {
 		want = append(want, time.Duration(seconds)*time.Second)
 	}
 	clock := &pauses{most: len(want), cancel: cancel}

@@ -17,6 +17,7 @@ type Health struct {
 	Outputs  []string // the names of those outputs
 	Reported time.Time
 	Unread   string // why there is no log yet; empty if that is not known
+	List     string // why the log list cannot be used, and when it was read last; empty if it can
 }
 
 // Health returns how it goes. A log that was not read for so long is silent. A log that ctwatch follows no longer
@@ -52,9 +53,30 @@ func (s *Store) Health(silentAfter time.Duration) (Health, error) {
 		}
 	}
 	counts, err := s.Counts()
+	if err != nil {
+		return h, err
+	}
 	h.Evidence = counts.NewEvidence
+	list, err := s.List()
+	if list.Fault != "" {
+		h.setList(list)
+	}
 	return h, err
 }
+
+// setList takes why the log list cannot be used.
+func (h *Health) setList(list List) {
+	h.List = list.Fault
+	if !list.Read.IsZero() {
+		h.List = fmt.Sprintf("%s (it was read last at %s)", list.Fault, list.Read.Format(time.RFC3339))
+	}
+	if h.Logs == 0 {
+		h.Unread = neverRead + ": " + h.List
+	}
+}
+
+// neverRead says why there is no log if a log list is followed.
+const neverRead = "the log list was not read yet"
 
 // String returns the health as one line.
 func (h Health) String() string {
@@ -62,9 +84,11 @@ func (h Health) String() string {
 	if h.Logs == 0 {
 		unread := h.Unread
 		if unread == "" {
-			unread = "the log list was not read yet"
+			unread = neverRead
 		}
 		parts[0] += ": " + unread
+	} else if h.List != "" {
+		parts = append(parts, "the log list CANNOT BE USED: "+h.List)
 	}
 	if len(h.Silent) > 0 {
 		parts = append(parts, fmt.Sprintf("%d SILENT: %s", len(h.Silent), strings.Join(h.Silent, ", ")))

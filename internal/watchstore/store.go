@@ -170,6 +170,9 @@ func (s *Store) start() error {
 	if err := s.check(); err != nil {
 		return err
 	}
+	if _, err := s.db.Exec(listTable); err != nil {
+		return err
+	}
 	var said string
 	if err := s.db.QueryRow("PRAGMA quick_check(1)").Scan(&said); err != nil {
 		return err
