@@ -5,9 +5,11 @@ import (
 	"encoding/json"
 	"fmt"
 	"slices"
+	"strings"
 	"time"
 
 	"wagtenib/bindings/go/wagtenib"
+	"wagtenib/internal/signature"
 )
 
 // The verdicts of evidence. `ctcheck evidence FOLDER` checks the files of each (wagtenib/internal/check).
@@ -99,8 +101,9 @@ func NewEvidence(log Log, at time.Time, verdict, text string, files map[string][
 	return Evidence{Time: at, Verdict: verdict, Text: text, Files: files}, nil
 }
 
-// Key returns a hash of the verdict and of the files but evidence.json. Two pieces of evidence with one key show the
-// same.
+// Key returns a hash of the verdict and of the files but evidence.json. Two pieces of evidence against one log with one
+// key show the same. A head counts by its size and root: a log that did wrong signs them again and again. Only an old
+// head counts as it came, because a log can have the same size each time that it stands still.
 func (e Evidence) Key() [sha256.Size]byte {
 	names := make([]string, 0, len(e.Files))
 	for name := range e.Files {
@@ -112,9 +115,26 @@ func (e Evidence) Key() [sha256.Size]byte {
 	of := sha256.New()
 	fmt.Fprintf(of, "%q", e.Verdict)
 	for _, name := range names {
-		fmt.Fprintf(of, "%q%x", name, sha256.Sum256(e.Files[name]))
+		content := e.Files[name]
+		if (name == FileFirst || name == FileHead) && e.Verdict != VerdictOldHead {
+			content = treeOf(content)
+		}
+		fmt.Fprintf(of, "%q%x", name, sha256.Sum256(content))
 	}
 	return [sha256.Size]byte(of.Sum(nil))
+}
+
+// treeOf returns what a head says of the tree: its origin if it has one, its size and its root. What is no head is
+// returned as it is. No signature is verified.
+func treeOf(head []byte) []byte {
+	text, _, _ := strings.Cut(string(head), "\n\n")
+	if checkpoint, err := wagtenib.ReadCheckpoint(text + "\n"); err == nil {
+		return fmt.Appendf(nil, "%q %d %x", checkpoint.Origin, checkpoint.TreeSize, checkpoint.Root)
+	}
+	if sth, err := signature.ReadSTH(head); err == nil {
+		return fmt.Appendf(nil, "%d %x", sth.TreeSize, sth.Root)
+	}
+	return head
 }
 
 // bytesOf returns hashes as evidence has them.
