@@ -37,7 +37,7 @@ const maxCertificateFile = 16 << 20
 // auditSettings say which logs are asked.
 type auditSettings struct {
 	settings
-	evidence string // the folder that gets evidence; empty if it is not written
+	evidence string // the folder that gets evidence, or an entry with its proof; empty if it is not written
 }
 
 // defineLogs defines the flags of the logs that are asked.
@@ -48,6 +48,10 @@ func (s *auditSettings) defineLogs(flags *flag.FlagSet) {
 	flags.Func("log", "a log: its `address`, a space, and its public key (a PEM file, or base64). tiled+https://.. is a "+
 		"tiled log; a third word is its origin if that is not its address", s.addLog)
 	flags.StringVar(&s.logs.contact, "contact", "", "your mail `address` or URL, which logs see in the User-Agent")
+}
+
+// defineEvidence defines the flag of the folder that gets evidence against logs.
+func (s *auditSettings) defineEvidence(flags *flag.FlagSet) {
 	flags.StringVar(&s.evidence, "evidence", "", "new `folder` that gets the evidence against logs, for ctcheck evidence")
 }
 
@@ -88,6 +92,7 @@ func runAudit(ctx context.Context, words []string, out io.Writer) error {
 	s := &auditSettings{}
 	flags := flagsOf("audit", "", out)
 	s.defineLogs(flags)
+	s.defineEvidence(flags)
 	issuerFile := flags.String("issuer", "",
 		"`file` with the certificate of the issuer, if it does not follow in the same file")
 	sctFile := flags.String("sct", "", "`file` with timestamps that you hold for the certificate, which are audited in "+

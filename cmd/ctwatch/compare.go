@@ -21,6 +21,7 @@ func runCompare(ctx context.Context, words []string, out io.Writer) error {
 	s := &auditSettings{}
 	flags := flagsOf("compare", "", out)
 	s.defineLogs(flags)
+	s.defineEvidence(flags)
 	words, err := parseFlags(flags, words, 1, out)
 	if err != nil {
 		return err

@@ -4,6 +4,7 @@ import (
 	"context"
 	"crypto/sha256"
 	"encoding/hex"
+	"encoding/json"
 	"encoding/pem"
 	"errors"
 	"fmt"
@@ -30,6 +31,8 @@ func runShow(ctx context.Context, words []string, out io.Writer) error {
 	s := &auditSettings{}
 	flags := flagsOf("show", "", out)
 	s.defineLogs(flags)
+	flags.StringVar(&s.evidence, "evidence", "", "new `folder` that gets the entry, its audit path and the tree head "+
+		"that the log signed, for ctcheck evidence")
 	words, err := parseFlags(flags, words, 2, out)
 	if err != nil {
 		return err
@@ -68,7 +71,32 @@ func runShow(ctx context.Context, words []string, out io.Writer) error {
 	if err := printEntry(log, entry, out); err != nil {
 		return err
 	}
-	return prove(ctx, reader, head, entry, out)
+	proof, err := prove(ctx, reader, head, entry, out)
+	if err != nil || s.evidence == "" {
+		return err
+	}
+	return s.writeEntry(log, head, entry, proof, out)
+}
+
+// writeEntry writes the files that show others that the log has an entry.
+func (s *auditSettings) writeEntry(log watch.Log, head watch.Head, entry watch.Entry, proof watch.Inclusion,
+	out io.Writer) error {
+	content, err := json.Marshal(proof)
+	if err != nil {
+		return err
+	}
+	text := fmt.Sprintf("the log has entry %d in its tree of %d leaves", proof.LeafIndex, proof.TreeSize)
+	evidence, err := watch.NewEvidence(log, time.Now(), watch.VerdictEntry, text,
+		map[string][]byte{watch.FileHead: head.Signed, watch.FileLeaf: entry.Leaf, watch.FileProof: content})
+	if err != nil {
+		return err
+	}
+	if err := writeFiles(s.evidence, evidence.Files); err != nil {
+		return err
+	}
+	_, err = fmt.Fprintf(out, "%s has the files that show this to others (ctcheck evidence %s KEY.PEM checks them).\n",
+		s.evidence, s.evidence)
+	return err
 }
 
 // unread reports that a log does not answer, or not with what it was asked for.
@@ -146,19 +174,22 @@ func isOfLeaf(precertificate, tbs []byte) bool {
 	return err == nil && slices.Equal(cut, tbs)
 }
 
-// prove checks with the library that the tree of a head has the entry at its index, and prints the outcome.
-func prove(ctx context.Context, reader *watch.Reader, head watch.Head, entry watch.Entry, out io.Writer) error {
+// prove checks with the library that the tree of a head has the entry at its index, and prints the outcome. It returns
+// the proof.
+func prove(ctx context.Context, reader *watch.Reader, head watch.Head, entry watch.Entry,
+	out io.Writer) (watch.Inclusion, error) {
+	var none watch.Inclusion
 	leafHash := wagtenib.LeafHash(entry.Leaf)
 	index, path, err := reader.Place(ctx, head, leafHash, entry.Index)
 	switch {
 	case errors.Is(err, watch.ErrAbsent):
-		return &statusError{statusAccused, fmt.Sprintf("ctwatch: %s: the log gives entry %d, and its tree does not have "+
+		return none, &statusError{statusAccused, fmt.Sprintf("ctwatch: %s: the log gives entry %d, and its tree does not have "+
 			"this leaf: %v", alert.Safe(reader.Log.Name), entry.Index, err)}
 	case err != nil:
-		return unread(reader.Log, err)
+		return none, unread(reader.Log, err)
 	}
 	if err := wagtenib.VerifyInclusion(leafHash, index, head.TreeSize, path, head.Root); err != nil {
-		return &statusError{statusAccused, fmt.Sprintf("ctwatch: %s: the log's proof does not lead from entry %d to the "+
+		return none, &statusError{statusAccused, fmt.Sprintf("ctwatch: %s: the log's proof does not lead from entry %d to the "+
 			"root of its head of %d leaves: %v", alert.Safe(reader.Log.Name), entry.Index, head.TreeSize, err)}
 	}
 	also := ""
@@ -167,5 +198,9 @@ func prove(ctx context.Context, reader *watch.Reader, head watch.Head, entry wat
 	}
 	_, err = fmt.Fprintf(out, "The log's tree has this entry: the proof leads to the tree head of size %d that the log "+
 		"signed at %s%s.\n", head.TreeSize, time.UnixMilli(int64(head.Timestamp)).UTC().Format(time.RFC3339), also)
-	return err
+	proof := watch.Inclusion{LeafIndex: index, TreeSize: head.TreeSize, LeafHash: leafHash[:]}
+	for _, hash := range path {
+		proof.AuditPath = append(proof.AuditPath, hash[:])
+	}
+	return proof, err
 }

@@ -2,15 +2,20 @@ package main
 
 import (
 	"encoding/pem"
+	"errors"
 	"fmt"
 	"net/http"
 	"net/http/httptest"
+	"os"
+	"path/filepath"
 	"slices"
 	"strings"
 	"testing"
 
+	"wagtenib/internal/check"
 	"wagtenib/internal/testcert"
 	"wagtenib/internal/testlog"
+	"wagtenib/internal/watch"
 )
 
 // TestShowsAnEntry: an entry of either kind of log is printed with its names and its certificate, byte for byte, and
@@ -45,6 +50,42 @@ func TestShowsAnEntry(t *testing.T) {
 			log.setting(true))...)
 		if status != statusUsage || !strings.Contains(faults, due) {
 			t.Errorf("%s: status %d: %s", words, status, faults)
+		}
+	}
+}
+
+// TestKeepsTheProofOfAnEntry: show writes files that convince the independent judge later, without the log. A changed
+// leaf or another tree head does not convince it.
+func TestKeepsTheProofOfAnEntry(t *testing.T) {
+	authority, log := testcert.NewAuthority(t), serveLog(t, "a.example")
+	for range 5 {
+		log.add(authority, authority.Issue("shop.example.org"))
+	}
+	for _, isTiled := range []bool{false, true} {
+		folder := filepath.Join(t.TempDir(), "kept")
+		words := []string{"show", log.address, "6", "--evidence", folder, "--log", log.setting(isTiled)}
+		status, out, faults := ctwatch(t, words...)
+		if status != 0 || !strings.Contains(out, folder+" has the files") {
+			t.Fatalf("tiled %v: status %d: %s%s", isTiled, status, out, faults)
+		}
+		shown, err := check.Evidence(folder, log.PublicKey())
+		if err != nil || !strings.Contains(shown, "its leaf 6 is the file leaf") {
+			t.Errorf("tiled %v: %v: %s", isTiled, err, shown)
+		}
+		if status, _, faults = ctwatch(t, words...); status != statusFault || !strings.Contains(faults, "new folder") {
+			t.Errorf("tiled %v: the folder is not new: status %d: %s", isTiled, status, faults)
+		}
+		for _, name := range []string{watch.FileLeaf, watch.FileHead, watch.FileProof} {
+			path := filepath.Join(folder, name)
+			content, err := os.ReadFile(path)
+			must(t, err)
+			changed := slices.Clone(content)
+			changed[len(changed)/2] ^= 1
+			must(t, os.WriteFile(path, changed, 0o600))
+			if shown, err := check.Evidence(folder, log.PublicKey()); !errors.Is(err, check.ErrEvidence) {
+				t.Errorf("tiled %v: %s is changed: %v: %s", isTiled, name, err, shown)
+			}
+			must(t, os.WriteFile(path, content, 0o600))
 		}
 	}
 }

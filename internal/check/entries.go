@@ -47,6 +47,16 @@ func (e *evidence) entry() (second head, index uint64, err error) {
 	return second, of.Index, nil
 }
 
+// logged judges that the log has an entry, which is no fault.
+func (e *evidence) logged() (string, error) {
+	second, index, err := e.entry()
+	if err != nil {
+		return "", err
+	}
+	return fmt.Sprintf("the log signed a tree of %d leaves at %d, and its leaf %d is the file leaf. Nothing else must be "+
+		"believed", second.size, second.timestamp, index), nil
+}
+
 // timestampOf returns the timestamp of a MerkleTreeLeaf, and the extensions after its entry (RFC 6962, section 3.4).
 func timestampOf(leaf []byte) (timestamp uint64, extensions []byte, ok bool) {
 	const header = 12

@@ -55,7 +55,7 @@ var judges = map[string]func(*evidence) (string, error){
 	"no leaf": (*evidence).noLeaf, "damaged tile": (*evidence).damagedTile, "old head": (*evidence).oldHead, "bad " +
 		"signature": (*evidence).badSignature,
 	"broken promise": (*evidence).brokenPromise, "two views": (*evidence).twoViews, "few " +
-		"cosignatures": (*evidence).fewCosigned,
+		"cosignatures": (*evidence).fewCosigned, "entry": (*evidence).logged,
 }
 
 // Evidence judges a folder of evidence against a log (evidence.json, head-1, head-2, leaf, tile, proof.json) by the

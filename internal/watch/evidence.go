@@ -32,6 +32,8 @@ const (
 	VerdictFewCosigned = "few cosignatures"
 	VerdictPromise     = "broken promise" // an entry is missing that a timestamp promised (RFC 6962, section 3)
 	VerdictTwoViews    = "two views"      // the log showed others a head that is not consistent with this one
+	// no fault: the log has an entry. The owner of a name can show others that a certificate was logged
+	VerdictEntry = "entry"
 )
 
 // The names of the files of evidence.
