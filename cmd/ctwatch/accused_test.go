@@ -48,3 +48,15 @@ func TestAccusesOnceOfTheSameRoots(t *testing.T) {
 		}
 	}
 }
+
+// TestNamesBothOrigins: if the settings have a wrong origin, the alert names it and that of the checkpoint, so the
+// owner sees that the settings are at fault.
+func TestNamesBothOrigins(t *testing.T) {
+	log, authority := serveLog(t, "a.example"), testcert.NewAuthority(t)
+	log.add(authority, authority.Issue("other.net"))
+	words := strings.TrimSuffix(log.setting(true), "a.example") + "wrong.example"
+	status, out, faults := ctwatch(t, "run", "--once", "--name", "example.org", "--folder", t.TempDir(), "--log", words)
+	if status != statusAccused || !strings.Contains(out, `checkpoint of "a.example", and "wrong.example" is expected`) {
+		t.Errorf("status %d: %s%s", status, out, faults)
+	}
+}

@@ -46,7 +46,7 @@ func (s *auditSettings) defineLogs(flags *flag.FlagSet) {
 		"`file or URL` of a log list (version 3). The default is "+defaultList+", or none if --log is given")
 	flags.Func("log-list-key", "`file` with the public key in PEM that must have signed the log list", s.readListKey)
 	flags.Func("log", "a log: its `address`, a space, and its public key (a PEM file, or base64). tiled+https://.. is a "+
-		"tiled log; a third word is its origin if that is not its address", s.addLog)
+		"tiled log; a third word is its origin if that is not its address. May be given several times", s.addLog)
 	flags.StringVar(&s.logs.contact, "contact", "", "your mail `address` or URL, which logs see in the User-Agent")
 }
 

@@ -310,7 +310,8 @@ func TestWatchesTheLogsOfTheLastList(t *testing.T) {
 	must(t, program.Wait())
 }
 
-// TestForgetsAnotherList: if the settings name another list, which cannot be read, no log of the list before is watched.
+// TestForgetsAnotherList: if the settings name another list, which cannot be read, no log of the list before is
+// watched.
 func TestForgetsAnotherList(t *testing.T) {
 	w := newWatchingList(t)
 	w.write(t, listOf(t, w.log))

@@ -51,12 +51,17 @@ func TestReadsSettingsAgain(t *testing.T) {
 	wantsHosts(t, first, "a.example.org")
 	write(second, "example.org", "example.net")
 	must(t, program.Process.Signal(syscall.SIGHUP))
+	says(`"event":"reloading"`)
 	says(`"names":2`)
 	log.add(authority, authority.Issue("b.example.net"))
 	wantsHosts(t, second, "b.example.net")
 	must(t, program.Process.Signal(syscall.SIGTERM))
 	if err := program.Wait(); err != nil {
 		t.Error(err)
+	}
+	if content := readAll(t, said.Name()); strings.Count(content, `"event":"ending"`) != 1 ||
+		strings.Count(content, `"event":"reloading"`) != 1 {
+		t.Errorf("one reload and one end are due: %s", content)
 	}
 	wantsHosts(t, first, "a.example.org")
 	wantsHosts(t, second, "b.example.net")

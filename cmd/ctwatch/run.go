@@ -37,6 +37,9 @@ type watching struct {
 	wakes    []chan struct{}
 }
 
+// errReload is the cause for which a run ends if other settings take its place.
+var errReload = errors.New("ctwatch: the settings are read again")
+
 // runWatch follows logs until the context ends, or with --once up to their newest heads. After a SIGHUP it goes on with
 // the settings that the file then has.
 func runWatch(ctx context.Context, words []string, out io.Writer) error {
@@ -52,14 +55,14 @@ func runWatch(ctx context.Context, words []string, out io.Writer) error {
 	signal.Notify(hangups, syscall.SIGHUP)
 	defer signal.Stop(hangups)
 	for err == nil && s != nil {
-		running, stop := context.WithCancel(ctx)
+		running, stop := context.WithCancelCause(ctx)
 		next := make(chan *settings, 1)
 		go func() {
 			next <- readAgain(running, words, hangups, lines)
-			stop()
+			stop(errReload)
 		}()
 		err = s.watch(running, out, lines)
-		stop()
+		stop(nil)
 		s = <-next
 	}
 	return err
@@ -187,7 +190,11 @@ func (w *watching) serve(ctx context.Context) error {
 	// Without systemd there is no socket, and nothing is sent.
 	_, _ = daemon.SdNotify(false, daemon.SdNotifyReady)
 	w.follower.run(ctx)
-	w.lines.Info("ending")
+	if errors.Is(context.Cause(ctx), errReload) {
+		w.lines.Info("reloading")
+	} else {
+		w.lines.Info("ending")
+	}
 	stop()
 	running.Wait()
 	w.deliverLast()

@@ -96,7 +96,7 @@ func (s *settings) define(flags *flag.FlagSet) {
 			"is given")
 	flags.Func("log-list-key", "`file` with the public key in PEM that must have signed the log list", s.readListKey)
 	flags.Func("log", "a log: its `address`, a space, and its public key (a PEM file, or base64). tiled+https://.. is "+
-		"a tiled log; a third word is its origin if that is not its address", s.addLog)
+		"a tiled log; a third word is its origin if that is not its address. May be given several times", s.addLog)
 	flags.BoolVar(&s.logs.fromStart, "from-start", false,
 		"read a log that was never read from its first entry on, and not from its end")
 	flags.DurationVar(&s.logs.pause, "pause", time.Minute, "time between two readings of a log's tree head")
@@ -121,7 +121,7 @@ func (s *settings) define(flags *flag.FlagSet) {
 		"store every certificate of the logs, so that a name that is added later is found in all of them. For small "+
 			"logs")
 	flags.DurationVar(&s.silent, "silent-after", 24*time.Hour,
-		"time after which a log that cannot be read causes an alert")
+		"time after which a log or a log list that cannot be read causes an alert; at least 1m")
 	flags.StringVar(&s.serve.listen, "listen", "127.0.0.1:8650",
 		"`address` of the local page, /metrics and /healthz. If it is empty, they are not served")
 }

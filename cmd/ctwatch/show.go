@@ -183,14 +183,14 @@ func prove(ctx context.Context, reader *watch.Reader, head watch.Head, entry wat
 	index, path, err := reader.Place(ctx, head, leafHash, entry.Index)
 	switch {
 	case errors.Is(err, watch.ErrAbsent):
-		return none, &statusError{statusAccused, fmt.Sprintf("ctwatch: %s: the log gives entry %d, and its tree does not have "+
-			"this leaf: %v", alert.Safe(reader.Log.Name), entry.Index, err)}
+		return none, &statusError{statusAccused, fmt.Sprintf("ctwatch: %s: the log gives entry %d, and its tree does not "+
+			"have this leaf: %v", alert.Safe(reader.Log.Name), entry.Index, err)}
 	case err != nil:
 		return none, unread(reader.Log, err)
 	}
 	if err := wagtenib.VerifyInclusion(leafHash, index, head.TreeSize, path, head.Root); err != nil {
-		return none, &statusError{statusAccused, fmt.Sprintf("ctwatch: %s: the log's proof does not lead from entry %d to the "+
-			"root of its head of %d leaves: %v", alert.Safe(reader.Log.Name), entry.Index, head.TreeSize, err)}
+		return none, &statusError{statusAccused, fmt.Sprintf("ctwatch: %s: the log's proof does not lead from entry %d to "+
+			"the root of its head of %d leaves: %v", alert.Safe(reader.Log.Name), entry.Index, head.TreeSize, err)}
 	}
 	also := ""
 	if index != entry.Index {

@@ -236,8 +236,8 @@ func (f *Follower) accuse(next State, verdict, text string, files map[string][]b
 // log's place, or the log uses another key.
 func (f *Follower) noHead(head Head, err error) error {
 	if errors.Is(err, signature.ErrSigner) {
-		return f.accuse(*f.state, VerdictSigner, "the log's address answered with a head that the log's key did not sign",
-			map[string][]byte{FileHead: head.Signed})
+		return f.accuse(*f.state, VerdictSigner, "the log's address answered with a head that the log's key did not sign: "+
+			err.Error(), map[string][]byte{FileHead: head.Signed})
 	}
 	return fmt.Errorf("watch: %s: %w", f.log.Name, err)
 }
