@@ -24,7 +24,7 @@ const (
 	Found    Kind = "found"    // a certificate has a watched name
 	Unread   Kind = "unread"   // the names of a certificate cannot be read
 	Evidence Kind = "evidence" // a log did wrong, and the evidence is kept
-	Silent   Kind = "silent"   // nothing of a log could be read for long
+	Silent   Kind = "silent"   // nothing of a log, or no log list, could be read for long
 )
 
 // Alert is one message to an owner.
