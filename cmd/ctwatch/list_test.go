@@ -39,11 +39,20 @@ func listOfOneLog(t *testing.T) []byte {
 // listOf returns a log list with a log.
 func listOf(t *testing.T, log served) []byte {
 	t.Helper()
-	id := sha256.Sum256(log.PublicKey())
+	return listOfStates(t, map[string]served{"usable": log})
+}
+
+// listOfStates returns a log list with a log in each of these states.
+func listOfStates(t *testing.T, states map[string]served) []byte {
+	t.Helper()
+	var logs []any
+	for state, log := range states {
+		id := sha256.Sum256(log.PublicKey())
+		logs = append(logs, map[string]any{"description": "a log", "key": log.PublicKey(), "log_id": id[:], "mmd": 86400,
+			"url": log.address + "/", "state": map[string]any{state: map[string]any{"timestamp": "2026-01-01T00:00:00Z"}}})
+	}
 	list, err := json.Marshal(map[string]any{"version": "1", "log_list_timestamp": "2026-11-01T12:00:00Z",
-		"operators": []any{map[string]any{"name": "Operator", "logs": []any{map[string]any{"description": "a log",
-			"key": log.PublicKey(), "log_id": id[:], "mmd": 86400, "url": log.address + "/",
-			"state": map[string]any{"usable": map[string]any{"timestamp": "2026-01-01T00:00:00Z"}}}}}}})
+		"operators": []any{map[string]any{"name": "Operator", "logs": logs}}})
 	must(t, err)
 	return list
 }
@@ -322,5 +331,34 @@ func TestForgetsAnotherList(t *testing.T) {
 	status, out, faults := ctwatch(t, "run", "--once", "--config", w.config, "--log-list", w.list+".other")
 	if status != statusUnread || out != "" {
 		t.Errorf("status %d: %s%s", status, out, faults)
+	}
+}
+
+// TestReadsWhatABreakMisses: while ctwatch is off, a log retires and another one joins the list, and both have a new
+// certificate. The next run reads neither. A run that names the retired log, and one with --from-start at the first
+// reading of the other log, find them, as docs/WATCH.md says.
+func TestReadsWhatABreakMisses(t *testing.T) {
+	w := newWatchingList(t)
+	joined := serveLog(t, "b.example")
+	joined.add(w.authority, w.authority.Issue("joined.example.org"))
+	w.write(t, listOf(t, w.log))
+	words := []string{"run", "--once", "--name", "example.org", "--log-list", w.list, "--folder"}
+	for _, store := range []string{w.store, w.store + "-2"} {
+		if status, out, faults := ctwatch(t, append(words, store)...); status != 0 {
+			t.Fatalf("status %d: %s%s", status, out, faults)
+		}
+	}
+	w.add("retired.example.org")
+	w.write(t, listOfStates(t, map[string]served{"retired": w.log, "usable": joined}))
+	if status, out, faults := ctwatch(t, append(words, w.store)...); status != 0 || out != "" {
+		t.Errorf("after the break: status %d: %s%s", status, out, faults)
+	}
+	status, out, faults := ctwatch(t, append(words, w.store, "--from-start", "--log", w.log.setting(false))...)
+	if status != statusFoundByOnce || strings.Count(out, "\n") != 1 || !strings.Contains(out, "retired.example.org") {
+		t.Errorf("the retired log is named: status %d: %s%s", status, out, faults)
+	}
+	status, out, faults = ctwatch(t, append(words, w.store+"-2", "--from-start")...)
+	if status != statusFoundByOnce || strings.Count(out, "\n") != 1 || !strings.Contains(out, "joined.example.org") {
+		t.Errorf("the first run after the break is from the start: status %d: %s%s", status, out, faults)
 	}
 }
