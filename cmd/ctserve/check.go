@@ -13,10 +13,16 @@ import (
 	"wagtenib/internal/web"
 )
 
+// checkPage is what `ctserve check --help` prints.
+const checkPage = `ctserve check FILE examines the settings in FILE: the key, the roots, the TLS certificate, and the
+form of the stores' addresses. It prints a line for each of them. It opens no store, and starts nothing. Instead of FILE
+you can give the settings as flags (ctserve --help). The exit status is 0 if nothing is wrong, 1 if a line says WRONG,
+and 2 if a setting or an argument is refused.`
+
 // runCheck checks everything that a log's settings name, and starts nothing: the settings, the key, the roots and TLS.
 // It prints a line for each. It checks all of them, and reports the first fault of each.
 func runCheck(words []string, answers, faults io.Writer) error {
-	s, err := parseSettings(words, faults)
+	s, err := parseSettings("check", checkPage, words, faults)
 	if err != nil {
 		return err
 	}

@@ -80,12 +80,16 @@ func parseFlags(flags *flag.FlagSet, words []string, others int) error {
 	return nil
 }
 
-// parseSettings reads the words of a command that takes a log's settings: the file that has them, or flags.
-func parseSettings(words []string, faults io.Writer) (*settings, error) {
+// parseSettings reads the arguments of a command that takes a log's settings: the file that has them, or flags. The
+// help of the command is its page. It does not list the flags, because `ctserve --help` does.
+func parseSettings(name, page string, words []string, faults io.Writer) (*settings, error) {
+	flags := flag.NewFlagSet("ctserve "+name, flag.ContinueOnError)
+	flags.SetOutput(faults)
+	flags.Usage = func() { fmt.Fprintln(faults, page) }
 	if len(words) == 1 && !strings.HasPrefix(words[0], "-") {
 		words = []string{"--config", words[0]}
 	}
-	return parse(words, faults)
+	return parseTo(flags, words)
 }
 
 // runKey makes a log's key in a file that isn't there yet, or shows the one that is: the log's id (RFC 6962, section
@@ -280,9 +284,16 @@ func runVersion(answers io.Writer) int {
 	return 0
 }
 
+// indexPage is what `ctserve index --help` prints.
+const indexPage = `ctserve index FILE builds the deduplication index of the log with the settings FILE again, from
+the log's tiles, the newest entries first. After each part it prints how many entries are left. After the first line you
+may start the log. Run it as the user of the log, who must own the index's files. Instead of FILE you can give the
+settings as flags (ctserve --help). The exit status is 0 if the index has all entries, 1 if it does not, and 2 if a
+setting or an argument is refused.`
+
 // runIndex builds a log's deduplication index again from its tiles. The log may run at the same time.
 func runIndex(words []string, answers, faults io.Writer) (err error) {
-	s, err := parseSettings(words, faults)
+	s, err := parseSettings("index", indexPage, words, faults)
 	if err != nil {
 		return err
 	}

@@ -11,6 +11,7 @@ import (
 	"os"
 	"os/exec"
 	"path/filepath"
+	"regexp"
 	"strings"
 	"testing"
 	"time"
@@ -286,6 +287,25 @@ func TestCommandLine(t *testing.T) {
 		timer.Stop()
 		if status := command.ProcessState.ExitCode(); status != c.status || out.String() != c.out {
 			t.Errorf("%q: status %d, %q", c.words, status, out.String())
+		}
+	}
+}
+
+// TestHelpOfCommands: each command that the help of ctserve names has a help of its own, which begins with the name of
+// the command. A wrong flag prints the command's help too, and not the one of ctserve.
+func TestHelpOfCommands(t *testing.T) {
+	named := regexp.MustCompile(`(?m)^  ctserve ([a-z-]+)`).FindAllStringSubmatch(page, -1)
+	if len(named) != len(commands)+1 {
+		t.Errorf("the help names %d commands, and there are %d and signer", len(named), len(commands))
+	}
+	for _, each := range named {
+		for flag, due := range map[string]int{"--help": 0, "--no-such-flag": 2} {
+			var told bytes.Buffer
+			status := run([]string{each[1], flag}, &told, openNode)
+			help := regexp.MustCompile(`(?m)^ctserve ` + each[1] + ` `).MatchString(told.String())
+			if status != due || !help || strings.Contains(told.String(), "Other commands") {
+				t.Errorf("%s %s: status %d: %s", each[1], flag, status, told.String())
+			}
 		}
 	}
 }

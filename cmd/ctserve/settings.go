@@ -91,8 +91,12 @@ Other commands, each with --help:
 
 // parse reads the command line, and the file that it names. If both have a setting, the command line counts.
 func parse(words []string, help io.Writer) (*settings, error) {
+	return parseTo(settingsfile.Flags("ctserve", page, help), words)
+}
+
+// parseTo defines the settings as flags of a program or a command, and reads its arguments as parse does.
+func parseTo(flags *flag.FlagSet, words []string) (*settings, error) {
 	s := &settings{limits: web.DefaultLimits()}
-	flags := settingsfile.Flags("ctserve", page, help)
 	flags.String("config", "", "`file` with a line 'name value' for each of these settings. A comment begins with #")
 	s.frontFlags(flags)
 	limitFlags(flags, &s.limits)
