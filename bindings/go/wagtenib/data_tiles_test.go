@@ -182,3 +182,36 @@ func FuzzDataTileLeaves(f *testing.F) {
 		}
 	})
 }
+
+// indexed returns the entry of a data tile that names this index of the log in its extensions (leaf_index, C2SP
+// static-ct-api).
+func indexed(index byte) []byte {
+	return tileLeaf(leafOf(7, 0, opaque(3, []byte("DER")), []byte{0, 0, 5, 0, 0, 0, 0, index}), nil)
+}
+
+func TestDataTilesAreComparedWithTheirNames(t *testing.T) {
+	two := slices.Concat(indexed(0), indexed(1))
+	for _, one := range []struct {
+		name  string
+		next  uint64
+		tile  []byte
+		index uint64
+		due   error
+	}{
+		{"tile/data/000.p/2", 0, two, 0, nil},
+		{"tile/data/000.p/2", 1, two, 0, nil},
+		{"tile/data/000.p/2", 2, two, 0, wagtenib.ErrTileBefore},
+		{"tile/data/001.p/2", 255, two, 0, wagtenib.ErrTileAfter},
+		{"tile/0/000.p/2", 0, two, 0, wagtenib.ErrNoDataTile},
+		{"tile/data/000.p/3", 0, two, 2, wagtenib.ErrOtherEntries},
+		{"tile/data/000.p/2", 0, slices.Concat(indexed(0), indexed(2)), 1, wagtenib.ErrWrongIndex},
+		{"tile/data/000.p/2", 1, slices.Concat(indexed(1), indexed(1)), 0, nil},
+		{"tile/data/001.p/1", 256, indexed(0), 256, wagtenib.ErrWrongIndex},
+		{"tile/data/000.p/2", 0, two[:len(two)-1], 1, wagtenib.ErrTruncated},
+	} {
+		index, err := wagtenib.CompareDataTile(one.name, one.next, one.tile)
+		if index != one.index || !errors.Is(err, one.due) {
+			t.Errorf("%s from %d on: %d, %v, and %d, %v is due", one.name, one.next, index, err, one.index, one.due)
+		}
+	}
+}

@@ -175,9 +175,36 @@ func TestMonitorReportsEntries(t *testing.T) {
 	if report.Faulty == nil || report.Faulty.Index != 2 || !errors.Is(report.Faulty.Fault, wagtenib.ErrBadVersion) {
 		t.Errorf("%+v", report.Faulty)
 	}
+	if report.HeadTimestamp != 899 {
+		t.Errorf("the head that waited has the timestamp %d", report.HeadTimestamp)
+	}
 	if _, report, _, err = wagtenib.MonitorEntries(state, 0, log.leaves[:1]); err != nil || report.Later != nil ||
 		report.Faulty != nil {
 		t.Errorf("%v: %+v", err, report)
+	}
+}
+
+// A report names the first entries only. With its timestamp, each entry gets a verdict of its own.
+func TestMonitorEntryJudgesEachEntry(t *testing.T) {
+	for _, one := range []struct {
+		head, due uint64
+		leaf      []byte
+		fault     error
+	}{
+		{899, 900, leafAt(900, "b"), wagtenib.ErrLaterEntry},
+		{900, 900, leafAt(900, "b"), nil},
+		{0, 0, leafAt(0, "a"), nil},
+		{1<<64 - 2, 1<<64 - 1, leafAt(1<<64-1, "a"), wagtenib.ErrLaterEntry},
+		{1<<64 - 1, 1<<64 - 1, leafAt(1<<64-1, "a"), nil},
+		{899, 0, []byte("no leaf"), wagtenib.ErrBadVersion},
+		{899, 0, nil, wagtenib.ErrTruncated},
+		{899, 0, append(leafAt(900, "b"), 0), wagtenib.ErrTrailing},
+	} {
+		timestamp, err := wagtenib.MonitorEntry(one.head, one.leaf)
+		if timestamp != one.due || !errors.Is(err, one.fault) {
+			t.Errorf("%x beside a head of %d: %d, %v, and %d, %v is due", one.leaf, one.head, timestamp, err, one.due,
+				one.fault)
+		}
 	}
 }
 
