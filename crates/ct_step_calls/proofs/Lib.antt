@@ -12,6 +12,5 @@ pub mod Standing
 pub mod NamedObjects
 pub mod Pushed
 pub mod Contents
-pub mod Leaves
 pub mod Receipts
 pub mod Answered
