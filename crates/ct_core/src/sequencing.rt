@@ -8,7 +8,8 @@ ghost use Rattle.ct_tree.specs.declared.head.Head.{Head};
 ghost use Rattle.ct_core.specs.Tree.{sha256_leaf};
 ghost use Rattle.ct_core.specs.Leaf.{leaf_at};
 ghost use Rattle.ct_core.specs.Settlement.{record_of, Lawful};
-ghost use Rattle.ct_core.specs.Core.{IsSettled, Begins, Grows, clock_of, newest_leaf, last_moment, settle_refusal, publish_refusal, new_core, IsNextHead, IsInTime, IsCovered, Extends, published_with, after_publishing};
+ghost use Rattle.ct_core.specs.Core.{IsSettled, Begins, Grows, clock_of, newest_leaf, last_moment, settle_refusal, publish_refusal};
+ghost use Rattle.ct_core.specs.Core.{new_core, IsNextHead, IsInTime, IsCovered, Extends, published_with, after_publishing};
 
 use crate::room::{Unshared, place_reserved, push_reserved};
 use crate::{Published, Settled, StoredEntry};

@@ -2,7 +2,8 @@
 
 ghost use Rattle.std.specs.Prelude.{◌≡◌, ◌⊎◌, ◌≤◌, length, IfOk, IfErr, IsErrOf, option_map};
 ghost use Rattle.serde_json.specs.View.{view};
-ghost use Rattle.ct_lines.specs.Asked.{Asked, IsRequest, asked_in, consistency_asked, proof_by_hash_asked, entries_asked, entry_and_proof_asked, receipt_asked, query_asked, chain_asked, pre_chain_asked, sequence_asked, audit_asked, front_asks, operator_asks, frozen_asks, who_at};
+ghost use Rattle.ct_lines.specs.Asked.{Asked, IsRequest, asked_in, consistency_asked, proof_by_hash_asked, entries_asked, entry_and_proof_asked, receipt_asked};
+ghost use Rattle.ct_lines.specs.Asked.{query_asked, chain_asked, pre_chain_asked, sequence_asked, audit_asked, front_asks, operator_asks, frozen_asks, who_at};
 ghost use Rattle.ct_lines.specs.Requests.{asked, front_asked, operator_asked, frozen_asked, audit_of, who};
 
 use crate::request::{Audit, FrontRequest, FrozenRequest, OperatorRequest, Request};

@@ -3,7 +3,8 @@
 -- A text has three lines: a state's line; `node` and the address of the node that set it; `salt` and 32 digits. The first 16 of these are
 -- the timestamp of the state that it was made from, and the last 16 are a random number. If the first 16 are not a timestamp before the
 -- state's, they count as 0.
-use Rattle.std.specs.Prelude.{ℕ, ◌-◌, List, [], ◌∷◌, ◌++◌, length, take, drop, codes, bytes_eq, nat_le, nat_lt, ◌==◌, ◌&&◌, Bool, Option, Some, None, option_map, option_and_then, Result, Ok, Err, if◌then◌else◌}
+use Rattle.std.specs.Prelude.{ℕ, ◌-◌, List, [], ◌∷◌, ◌++◌, length, take, drop, codes, bytes_eq, nat_le, nat_lt, ◌==◌, ◌&&◌, Bool}
+use Rattle.std.specs.Prelude.{Option, Some, None, option_map, option_and_then, Result, Ok, Err, if◌then◌else◌}
 use Rattle.std.specs.Int.{w64, from_be_bytes}
 use Rattle.hex.specs.Hex.{encode_lower, decode_sized}
 use Rattle.hex.specs.declared.error.FromHexError.{FromHexError}

@@ -4,7 +4,8 @@ ghost use Rattle.std.specs.Prelude.{◌≡◌, MatchResult, map};
 ghost use Rattle.std.specs.Bool.{MatchBool};
 ghost use Rattle.sha2.specs.Sha256.{sha256};
 ghost use Rattle.libwagtenib.specs.Codes.{head_code, receipt_code};
-ghost use Rattle.libwagtenib.specs.Guard.{head_of_c, AcceptsHead, GuardsFirstHead, GuardsHead, GuardsReceipt, GuardsReceipts, IsAtOrAfter, JudgesReceipts, MayBeFirst, MayFollow, MayNotFollow, ReadsGuardState};
+ghost use Rattle.libwagtenib.specs.Guard.{head_of_c, AcceptsHead, GuardsFirstHead, GuardsHead, GuardsReceipt, GuardsReceipts};
+ghost use Rattle.libwagtenib.specs.Guard.{IsAtOrAfter, JudgesReceipts, MayBeFirst, MayFollow, MayNotFollow, ReadsGuardState};
 ghost use Rattle.libwagtenib.specs.Tiles.{pieces};
 
 use crate::codes::OUT_OF_MEMORY;

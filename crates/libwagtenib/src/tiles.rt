@@ -340,7 +340,8 @@ pub extern "C" fn wagtenib_root_tiles(
     }
 }
 
-/// Writes the names of the tiles that the audit path of the leaf at an index in the tree of `tree_size` leaves is made of, the lowest level first, each ended by a line feed. 1: the index is not below the size.
+/// Writes the names of the tiles that the audit path of the leaf at an index in the tree of `tree_size` leaves is made of, the lowest level first, each ended by a
+/// line feed. 1: the index is not below the size.
 #[unsafe(no_mangle)]
 pub extern "C" fn wagtenib_path_tiles(
     alloc: Global,
@@ -360,7 +361,8 @@ pub extern "C" fn wagtenib_path_tiles(
     }
 }
 
-/// Writes the names of the tiles that the consistency proof from the tree of the first `first` leaves to that of `second` is made of, the lowest level first, each ended by a line feed. 7: not 0 < first < second.
+/// Writes the names of the tiles that the consistency proof from the tree of the first `first` leaves to that of `second` is made of, the lowest level first, each
+/// ended by a line feed. 7: not 0 < first < second.
 #[unsafe(no_mangle)]
 pub extern "C" fn wagtenib_proof_tiles(
     alloc: Global,
@@ -404,8 +406,9 @@ pub extern "C" fn wagtenib_root_of_tiles(
     }
 }
 
-/// Writes the audit path of the leaf at an index in the tree of `tree_size` leaves, out of the bytes of the tiles that `wagtenib_path_tiles` names, in this order, as `wagtenib_root_of_tiles` does. 1: the index is not below the size. 65 to 67: the
-/// tiles are not as they must be. Whatever the tiles are, a verifier that accepts the hashes is not deceived by them.
+/// Writes the audit path of the leaf at an index in the tree of `tree_size` leaves, out of the bytes of the tiles that `wagtenib_path_tiles` names, in this order,
+/// as `wagtenib_root_of_tiles` does. 1: the index is not below the size. 65 to 67: the tiles are not as they must be. Whatever the tiles are, a verifier that
+/// accepts the hashes is not deceived by them.
 #[unsafe(no_mangle)]
 pub extern "C" fn wagtenib_path_of_tiles(
     alloc: Global,
@@ -416,7 +419,8 @@ pub extern "C" fn wagtenib_path_of_tiles(
     path: &mut [[u8; 32]],
     count: &mut u64,
 ) -> u32
-    ensures { WritesMade (path_of leaf_index tree_size) (pieces lengths.now contents.now) (IsPathOf leaf_index tree_size (pieces lengths.now contents.now)) result path.old path.new count.old count.new }
+    ensures { WritesMade (path_of leaf_index tree_size) (pieces lengths.now contents.now) (IsPathOf leaf_index tree_size (pieces lengths.now contents.now))
+        result path.old path.new count.old count.new }
 {
     if leaf_index >= tree_size {
         return codes::INDEX_OUT_OF_RANGE;
@@ -427,8 +431,9 @@ pub extern "C" fn wagtenib_path_of_tiles(
     }
 }
 
-/// Writes the consistency proof from the tree of the first `first` leaves to that of `second`, out of the bytes of the tiles that `wagtenib_proof_tiles` names, in this order, as `wagtenib_root_of_tiles` does. 7: not 0 < first < second. 65 to 67: the
-/// tiles are not as they must be. Whatever the tiles are, a verifier that accepts the hashes is not deceived by them.
+/// Writes the consistency proof from the tree of the first `first` leaves to that of `second`, out of the bytes of the tiles that `wagtenib_proof_tiles` names, in
+/// this order, as `wagtenib_root_of_tiles` does. 7: not 0 < first < second. 65 to 67: the tiles are not as they must be. Whatever the tiles are, a verifier that
+/// accepts the hashes is not deceived by them.
 #[unsafe(no_mangle)]
 pub extern "C" fn wagtenib_proof_of_tiles(
     alloc: Global,

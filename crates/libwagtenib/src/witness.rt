@@ -7,7 +7,8 @@ ghost use Rattle.ct_checkpoint.specs.Message.{cosignature_message as message_of}
 ghost use Rattle.ct_verify.specs.Laws.{AreHashes};
 ghost use Rattle.ct_witness.specs.declared.tree.Tree.{Tree};
 ghost use Rattle.libwagtenib.specs.Codes.{tree_code};
-ghost use Rattle.libwagtenib.specs.Witness.{cosigned, tree_of, IsCheckpointOf, IsMessageOf, IsNoMessage, MayCosign, MayNotCosign, CosignsAfter, CosignsFirst, Cosigns, IsSeenOrLater, Describes, ReadsWitnessState};
+ghost use Rattle.libwagtenib.specs.Witness.{cosigned, tree_of, IsCheckpointOf, IsMessageOf, IsNoMessage, MayCosign, MayNotCosign};
+ghost use Rattle.libwagtenib.specs.Witness.{CosignsAfter, CosignsFirst, Cosigns, IsSeenOrLater, Describes, ReadsWitnessState};
 
 use crate::codes::OUT_OF_MEMORY;
 use crate::message::{Last, WitnessedTree, checkpoint_of, read_message};
