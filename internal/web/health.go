@@ -14,8 +14,8 @@ func (f *Front) healthz(w http.ResponseWriter, r *http.Request) error {
 	return nil
 }
 
-// readyz reports whether submissions would be taken now: the log doesn't end, nothing keeps it from going on, its queue
-// has room, and its head is read within two seconds. An old tile that is damaged keeps it from nothing.
+// readyz reports whether the node can be used now: it does not end, nothing keeps it from going on, its queue has room,
+// and its head is read within two seconds. A damaged old tile changes nothing. A read-only log is ready for reads.
 func (f *Front) readyz(w http.ResponseWriter, r *http.Request) error {
 	if err := f.unready(r.Context()); err != nil {
 		return err

@@ -103,7 +103,7 @@ var (
 		"Number of waiting submissions at which further ones are refused.")
 	descFault   = described("ctserve_fault", "1 if a fault keeps the log from accepting submissions.")
 	descFaults  = described("ctserve_faults_total", "Number of times that a fault began.")
-	descReady   = described("ctserve_ready", "1 if a submission would be accepted now, as /readyz says.")
+	descReady   = described("ctserve_ready", "1 if the node can be used now, as /readyz says. A log with read-only true is ready for reads.")
 	descSteps   = described("ctserve_steps_total", "Steps of this node that the lock took.")
 	descLost    = described("ctserve_lost_swaps_total", "Swaps of the lock that this node lost to another node.")
 	descUnknown = described("ctserve_unknown_swaps_total",

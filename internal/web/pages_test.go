@@ -43,9 +43,10 @@ func TestPageSaysBounds(t *testing.T) {
 		"At most 50 lines a second are logged for one event, except for lines of level `error`": maxLines == 50,
 	})
 	trial.Says(t, trial.Page(t, "../../docs/OPERATING.md"), map[string]bool{
-		"64 connections at once, or 64 requests at once through nginx (`max-connections-per-address`)": limits.ConnectionsByAddress == 64,
-		"so an address gets at most 64 SCTs for each tree head":                                        limits.ConnectionsByAddress == 64,
-		"| 5 ms, the default of a log on a folder | 12,800 |":                                          inSecond(limits, 5*time.Millisecond) == 12800,
+		"64 connections at once, or 64 requests at once through nginx " +
+			"(`max-connections-per-address`)": limits.ConnectionsByAddress == 64,
+		"so an address gets at most 64 SCTs for each tree head": limits.ConnectionsByAddress == 64,
+		"| 5 ms, the default of a log on a folder | 12,800 |":   inSecond(limits, 5*time.Millisecond) == 12800,
 		"| 50 ms, the default with witnesses and with stores on other machines | 1,280 |": inSecond(limits,
 			50*time.Millisecond) == 1280,
 		"| 500 ms | 128 |": inSecond(limits, 500*time.Millisecond) == 128,
