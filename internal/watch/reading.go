@@ -166,7 +166,7 @@ func (f *Follower) take(ctx context.Context, b batch) error {
 func (f *Follower) judgeEntries(ctx context.Context, b batch, report wagtenib.EntryReport) error {
 	if report.Later != nil {
 		text := fmt.Sprintf("entry %d has the timestamp %d, and the head that covers it has %d", report.Later.Index,
-			report.Later.Timestamp, f.state.Waiting.Timestamp)
+			report.Later.Timestamp, report.HeadTimestamp)
 		if err := f.accuseEntry(ctx, b, report.Later.Index, VerdictLaterEntry, text); err != nil {
 			return err
 		}

@@ -62,6 +62,7 @@ class Report(ctypes.Structure):
     """struct wagtenib_entry_report"""
 
     _fields_ = [
+        ("head_timestamp", ctypes.c_uint64),
         ("later_index", ctypes.c_uint64),
         ("later_timestamp", ctypes.c_uint64),
         ("faulty_index", ctypes.c_uint64),
@@ -169,13 +170,13 @@ class Model:
         """The verdict, and the report."""
         read = len(self.sure) + len(self.ahead)
         if self.waiting is None or start != read:
-            return ("GAP", NO_HEAD, bytes(32), 0), (0, 0, 0, 0)
+            return ("GAP", NO_HEAD, bytes(32), 0), ((self.waiting or NO_HEAD)[1], 0, 0, 0, 0)
         moment, taken = self.waiting[1], leaves[: self.waiting[0] - read]
         judged = [fault_of_leaf(leaf) for leaf in taken]
         later = next(((read + i, time) for i, (time, _) in enumerate(judged) if time is not None and time > moment), (0, 0))
         faulty = next(((read + i, CODES[fault]) for i, (_, fault) in enumerate(judged) if fault), (0, 0))
         self.ahead = self.ahead + taken
-        return self.settle(), (*later, *faulty)
+        return self.settle(), (moment, *later, *faulty)
 
     def proof(self, hashes):
         if self.accepted is None or self.waiting is None:
@@ -231,7 +232,7 @@ class Monitor:
             verdict.verdict,
             verdict.fault,
         )
-        return code, told, (report.later_index, report.later_timestamp, report.faulty_index, report.fault), memory.raw[:room], length.value
+        return code, told, (report.head_timestamp, report.later_index, report.later_timestamp, report.faulty_index, report.fault), memory.raw[:room], length.value
 
     def entry(self, head_timestamp, leaf):
         """The code of wagtenib_monitor_entry, and the timestamp after the call."""
@@ -260,7 +261,7 @@ def compare_entries(monitor, leaves):
 
 
 NOTHING_TOLD = ((7, 0, 0), NO_HEAD, bytes(32), 0, 0)
-NOTHING_REPORTED = (7, 0, 0, 0)
+NOTHING_REPORTED = (7, 0, 0, 0, 0)
 
 
 class History:
@@ -396,7 +397,7 @@ class History:
                 refusal = "OTHER_LENGTHS"
         is_damaged = handed[0] not in ("begin", "start") and chance.random() < 0.1
         state = self.damaged() if is_damaged else self.bytes
-        verdict, report = None, (0, 0, 0, 0)
+        verdict, report = None, (0, 0, 0, 0, 0)
         if handed[0] == "head":
             verdict = next_model.head(handed[1])
         elif handed[0] == "entries":
@@ -422,7 +423,7 @@ class History:
         known = self.model.waiting or self.model.accepted
         if len(self.model.sure) == SIZES and chance.random() < 0.2 or known and known[1] == MOST and chance.random() < 0.5:
             self.began = False
-        return code, verdict[0] if verdict and code == 0 else None, report[3] if code == 0 else None, None
+        return code, verdict[0] if verdict and code == 0 else None, report[4] if code == 0 else None, None
 
 
 def main():

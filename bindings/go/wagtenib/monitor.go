@@ -112,11 +112,12 @@ type FaultyEntry struct {
 	Fault error // as of DecodeLeaf
 }
 
-// EntryReport holds the first entry that is later than the head that waited for it, and the first that is no leaf. Each
-// is nil if there is none.
+// EntryReport holds the timestamp of the head that waited for the entries (0 if none waited), the first entry that is
+// later than that head, and the first that is no leaf. Each entry is nil if there is none.
 type EntryReport struct {
-	Later  *LaterEntry
-	Faulty *FaultyEntry
+	HeadTimestamp uint64 // in milliseconds
+	Later         *LaterEntry
+	Faulty        *FaultyEntry
 }
 
 // judged makes a call that writes a verdict and a state.
@@ -208,6 +209,7 @@ func MonitorEntries(state []byte, start uint64, leaves [][]byte) (found Judgemen
 		return C.wagtenib_monitor_entries(ofBytes(state), C.size_t(len(state)), C.uint64_t(start), ofBytes(contents),
 			C.size_t(len(contents)), lengths, count, verdict, &reported, out, room, length)
 	})
+	report.HeadTimestamp = uint64(reported.head_timestamp)
 	if reported.later_timestamp != 0 {
 		report.Later = &LaterEntry{Index: uint64(reported.later_index), Timestamp: uint64(reported.later_timestamp)}
 	}

@@ -594,11 +594,13 @@ uint32_t wagtenib_witness_state(const uint8_t *seen, size_t seen_length, const u
  *   1. check the signature of a tree head, and hand the head to wagtenib_monitor_head with the state (that of wagtenib_monitor_begin at first, or that of
  *      wagtenib_monitor_start to read a log from its end);
  *   2. while the verdict is 129, hand the entries from the index leaves_read on to wagtenib_monitor_entries;
- *   3. after each call that returns 0, keep the *length bytes of `out` as the state, and only then act on the verdict.
+ *   3. after each call that returns 0, keep the *length bytes of `out` as the state. Before it, or together with it in one write, keep what speaks against the log,
+ *      and the entries or what was found in them: entries before leaves_read are not handed out again, so what is kept after the state is lost by a kill between.
  *
  * A call that never came back counts for nothing: the old state still stands. Every head that gets the verdict 128 is that of a beginning of one list of leaves,
- * those that the log handed out and that are accepted after the last call. The verdicts 132, 133, 134, 135 and 138 speak against the log, and so
- * does an entry that is later than its head (later_timestamp is not 0, or wagtenib_monitor_entry returns 142).
+ * those that the log handed out and that are accepted after the last call. The verdicts 132, 133, 134, 135 and 138 speak against the log. So does an entry that is
+ * later than its head (later_timestamp is not 0, or wagtenib_monitor_entry returns 142), and one of a tiled log that does not name its own index
+ * (wagtenib_compare_data_tile returns 150).
  *
  * A state is read only if its parts fit one another and its hash is right. Everything else is refused as 36. A state that a call wrote is never refused. An empty
  * state is never taken for the first one. The calls take memory (malloc), and give it back before they return. 4,259 bytes have room for every state. */
@@ -616,7 +618,8 @@ struct wagtenib_monitor_verdict {
 
 /* What is reported of the entries that were read. They are indexes in the log. */
 struct wagtenib_entry_report {
-    uint64_t later_index;        /* the first entry whose timestamp is later than that of the head that waited for it (RFC 6962 section 3.5) */
+    uint64_t head_timestamp;     /* the timestamp in milliseconds of the head that waited for them; 0 if none waited */
+    uint64_t later_index;        /* the first entry that is later than that head (RFC 6962 section 3.5) */
     uint64_t later_timestamp;    /* its timestamp in milliseconds; 0 if there is none */
     uint64_t faulty_index;       /* the first entry that is no leaf */
     uint32_t fault;              /* its fault, 17 to 22 as of wagtenib_decode_leaf; 0 if each entry is a leaf */
@@ -656,9 +659,9 @@ uint32_t wagtenib_monitor_entries(const uint8_t *state, size_t state_length, uin
 uint32_t wagtenib_monitor_proof(const uint8_t *state, size_t state_length, const uint8_t *path, size_t path_length, struct wagtenib_monitor_verdict *verdict,
                                 uint8_t *out, size_t room, uint64_t *length);
 
-/* The verdict on one leaf (MerkleTreeLeaf, RFC 6962 section 3.4) beside a tree head with this timestamp, both in milliseconds. A report has only the first entries that
- * are later or no leaf. 0: it is no later than the head. 142: it is later, which speaks against the log (section 3.5). *timestamp gets the leaf's in both cases. 17 to
- * 22: the bytes are no leaf, as of wagtenib_decode_leaf, and nothing is written. */
+/* The verdict on one leaf (MerkleTreeLeaf, RFC 6962 section 3.4) beside a tree head with this timestamp, both in milliseconds. A report has only the first entries
+ * that are later or no leaf; with its head_timestamp, this call says it of each entry that was read. 0: it is no later than the head. 142: it is later, which speaks
+ * against the log (section 3.5). *timestamp gets the leaf's in both cases. 17 to 22: the bytes are no leaf, as of wagtenib_decode_leaf, and nothing is written. */
 uint32_t wagtenib_monitor_entry(uint64_t head_timestamp, const uint8_t *leaf, size_t leaf_length, uint64_t *timestamp);
 
 #ifdef __cplusplus

@@ -12,7 +12,7 @@ def try_monitor(leaves, same, outcome):
     waiting = wagtenib.monitor_head(wagtenib.monitor_begin(), heads[8])
     same("a larger head", (waiting.verdict, waiting.accepted, waiting.read, waiting.wanted), (Verdict.PENDING, 0, 0, 8))
     some, report = wagtenib.monitor_entries(waiting.state, 0, leaves[:3])
-    same("three leaves", (some.verdict, some.read, report), (Verdict.PENDING, 3, EntryReport(None, (0, Code.TRUNCATED))))
+    same("three leaves", (some.verdict, some.read, report), (Verdict.PENDING, 3, EntryReport(80, None, (0, Code.TRUNCATED))))
     every, _ = wagtenib.monitor_entries(some.state, 3, leaves[3:])
     same("all leaves", (every.verdict, every.accepted, every.wanted), (Verdict.ACCEPTED, 8, 8))
     state = every.state

@@ -52,6 +52,7 @@ class _Verdict(ctypes.Structure):
 
 class _Report(ctypes.Structure):
     _fields_ = [
+        ("head_timestamp", ctypes.c_uint64),
         ("later_index", ctypes.c_uint64),
         ("later_timestamp", ctypes.c_uint64),
         ("faulty_index", ctypes.c_uint64),
@@ -76,9 +77,10 @@ class Judgement:
 
 @dataclasses.dataclass(frozen=True)
 class EntryReport:
-    """The first entry that is later than the head that waited for it, with its timestamp in milliseconds, and the first that is no leaf, with its fault. Both are
-    indexes in the log, or None."""
+    """The timestamp of the head that waited for the entries (0 if none waited), the first entry that is later than that head, with its timestamp, and the first that
+    is no leaf, with its fault. Timestamps are in milliseconds. Both entries are indexes in the log, or None."""
 
+    head_timestamp: int
     later: tuple[int, int] | None
     faulty: tuple[int, Code] | None
 
@@ -125,7 +127,7 @@ def monitor_entries(state: bytes, start: int, leaves: Sequence[bytes]) -> tuple[
 
     judged = _judged(call)
     later = (reported.later_index, reported.later_timestamp) if reported.later_timestamp else None
-    return judged, EntryReport(later, (reported.faulty_index, Code(reported.fault)) if reported.fault else None)
+    return judged, EntryReport(reported.head_timestamp, later, (reported.faulty_index, Code(reported.fault)) if reported.fault else None)
 
 
 def monitor_proof(state: bytes, proof: Sequence[bytes]) -> Judgement:

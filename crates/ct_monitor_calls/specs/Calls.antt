@@ -71,11 +71,11 @@ abbrev pub ReportsEntries : WatcherState → List (List ℕ) → Verdict → Opt
 ReportsEntries s E v later faulty =
     ((v ≡ Gap) × (later ≡ None) × (faulty ≡ None)) ⊎ ((v ≡ Gap → ⊥) × FindsEntries s E later faulty)
 
--- the answer to a call with entries over the state that these bytes encode
+-- the answer to a call with entries over the state that these bytes encode; it has the timestamp of the head that waited in this state
 abbrev pub IsEntriesAnswer : (List ℕ → List ℕ) → List ℕ → ℕ → List (List ℕ) → EntriesAnswer → Type 0
 IsEntriesAnswer H bytes start E a =
     (s t : WatcherState) × IsMonitorState H s bytes × StateJudges H s (entries_from start E) a.answer.verdict t × HasState H t a.answer
-    × ReportsEntries s E a.answer.verdict a.later a.faulty
+    × ReportsEntries s E a.answer.verdict a.later a.faulty × (a.head_timestamp ≡ moment_awaited s.waiting)
 
 -- the state of a monitor that was given nothing
 abbrev pub nothing_state : WatcherState

@@ -23,6 +23,8 @@ pub struct Answer {
 pub struct EntriesAnswer {
     /// The verdict and the state.
     pub answer: Answer,
+    /// The timestamp of the head that waited before the call, in milliseconds. If no head waited, 0.
+    pub head_timestamp: u64,
     /// The first entry that is later than the head that waited for it.
     pub later: Option<LaterEntry>,
     /// The first entry that is not a leaf.

@@ -221,6 +221,7 @@ pub fn take_entries(
     let Some(mut watcher) = read_state(alloc, state)? else {
         return Ok(None);
     };
+    let head_timestamp = waiting_moment(&watcher);
     let report = report_of(&watcher, leaves);
     let verdict = judge_entries(&mut watcher, start, leaves)?;
     let told = reported(verdict, report);
@@ -229,6 +230,7 @@ pub fn take_entries(
     };
     Ok(Some(EntriesAnswer {
         answer,
+        head_timestamp,
         later: told.later,
         faulty: told.faulty,
     }))

@@ -124,6 +124,12 @@ TrueEdgesAgree =
 abbrev pub IsHashedByMaker : (List ℕ → List ℕ) → HandedLineAttempt → List ℕ → Type 0
 IsHashedByMaker H b s = IsHashedOfHanded H b.edge b.entries s ⊎ (s ≡ b.attempt.step.bundle.items)
 
+-- A finite number of strings is hashed: there is a list of all strings that the makers of these attempts hash.
+abbrev pub HashedStringsAreListed : Type 0
+HashedStringsAreListed =
+    (H : List ℕ → List ℕ) (attempts : List HandedLineAttempt)
+    → (S : List (List ℕ)) × All (λ (b : HandedLineAttempt). (s : List ℕ) → IsHashedByMaker H b s → Contains S s) attempts
+
 -- A step that was made from any received bytes is an attempt from its line, if S contains the strings that its maker hashed.
 abbrev pub HandedAttemptsAreAttempts : Type 0
 HandedAttemptsAreAttempts =

@@ -1,6 +1,6 @@
 //! Theorems about the definitions. Each is a clause of a function that does nothing.
 
-ghost use Rattle.ct_step.specs.Lines.{HandedAttemptsAreAttempts, LineSequencersAgree, TrueEdgesAgree};
+ghost use Rattle.ct_step.specs.Lines.{HandedAttemptsAreAttempts, HashedStringsAreListed, LineSequencersAgree, TrueEdgesAgree};
 ghost use Rattle.ct_step.specs.RollingOut.{StepsAreRolledOut};
 ghost use Rattle.ct_step.specs.Steps.{EdgesAreNamed, NamedEdgesTell};
 
@@ -23,6 +23,12 @@ pub fn sequencers_over_true_edges()
 /// among those of that theorem.
 pub fn attempts()
     ensures { HandedAttemptsAreAttempts }
+{}
+
+/// There is a list of all strings that the makers of steps hash, so the list that these theorems ask for can always be given.
+#[tactic(auto, using(crate::proofs::Listed::hashed_strings_are_listed))]
+pub fn listed()
+    ensures { HashedStringsAreListed }
 {}
 
 /// - `tell`: received bytes that a line names are the right edge of each log that has the line. The alternative is a collision of two

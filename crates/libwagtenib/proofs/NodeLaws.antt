@@ -1,6 +1,6 @@
 -- Histories by calls are histories of ct_node's nodes, so its laws hold of them.
 use Rattle.std.proofs.Common.{◌≡◌, ◌∙◌, ◌⊎◌, ⊎_elim, inl, inr, refl, arith, sym, ap, subst, ℕ, List, [], ◌∷◌, ◌++◌, length, take, Option, Some, None}
-use Rattle.std.specs.Prelude.{Bool, true, false, if◌then◌else◌}
+use Rattle.std.specs.Prelude.{Bool, true, false, if◌then◌else◌, option_map, ⊤}
 use Rattle.std.proofs.lemmas.Option.{same_Some, none-some}
 use Rattle.ct_data_tiles.specs.TileLeaf.{Tiled}
 use Rattle.ct_log_state.specs.declared.line.StateLine.{StateLine}
@@ -21,10 +21,12 @@ use Rattle.ct_step.specs.Lines.{IsHashedBySteps}
 use Rattle.ct_node_log.specs.Logs.{StandsOf, NodesWriteOneLog, log_of_past}
 use Rattle.ct_node_log.specs.Once.{NodesAddOnce}
 use Rattle.ct_node_log.specs.Whole.{HeadsHaveAllObjects}
+use Rattle.ct_lock_text.specs.declared.reading.Said.{Said}
 use Rattle.libwagtenib.specs.declared.node.NodeCommand.{NodeCommand}
 use Rattle.libwagtenib.specs.declared.node.NodeFound.{NodeFound}
-use Rattle.libwagtenib.specs.Node.{node_of_c, c_of_node, outcome_of_c, GivesNext, found_of_c, start_code, lock_of, StartsNode}
-use Rattle.libwagtenib.specs.NodeLaws.{CommandsAreRead, AreCommandsOf, CallsAreTold, GiveCommands, IsKeptText, TellsOf, NeedsOf, CommandsHaveTexts, CallsWorld, calls_beginning, NextCall, CallHappening, Beside, Called, IsNoTelling, happens_by_calls, MayHappenByCalls, LeadToByCalls, GivesNode, CallsAreHistories, CallsWriteOneLog, CallsPutAll, CallsNameOneContent, AllLookUpByCalls, CallsAddOnce, CallsStartBehindNone}
+use Rattle.libwagtenib.specs.declared.node.NodeState.{NodeState}
+use Rattle.libwagtenib.specs.Node.{node_of_c, c_of_node, state_of_c, outcome_of_c, GivesNext, found_of_c, start_code, lock_of, StartsNode}
+use Rattle.libwagtenib.specs.NodeLaws.{CommandsAreRead, AreCommandsOf, CallsAreTold, GiveCommands, IsKeptText, IsReadText, KnowsObjects, TellsOf, NeedsOf, CommandsHaveTexts, CommandsHaveObjects, CallsWorld, calls_beginning, NextCall, CallHappening, Beside, Called, IsNoTelling, happens_by_calls, MayHappenByCalls, LeadToByCalls, GivesNode, CallsAreHistories, CallsWriteOneLog, CallsPutAll, CallsNameOneContent, AllLookUpByCalls, CallsAddOnce, CallsStartBehindNone}
 
 -- ---- a command that is written is read again
 
@@ -70,14 +72,12 @@ commands_are_read c = ap (λ (z : NodeCommand). node_of_c z) (written c) ∙ rea
 
 -- a command is that of a node at the same index
 node_at : (given : List NodeCommand) (sent : List Node) (d : NodeCommand) (n : Node) → AreCommandsOf given sent → Has d given → node_of_c d ≡ Some n → Has n sent
-unfolding AreCommandsOf
 node_at [] sent d n a h e = absurd h
 node_at (c ∷ cs) [] d n a h e = absurd a
 node_at (c ∷ cs) (m ∷ ms) d n a (inl same) e = inl (same_Some n m (sym e ∙ ap (λ (z : NodeCommand). node_of_c z) same ∙ a.0))
 node_at (c ∷ cs) (m ∷ ms) d n a (inr i) e = inr (node_at cs ms d n a.1 i e)
 
 pub calls_are_told : CallsAreTold
-unfolding AreCommandsOf
 calls_are_told w given c a h = (node_at given w.sent c.command c.node a h c.is_node, (commands_are_read c, a))
 
 -- ---- the texts of commands
@@ -177,16 +177,43 @@ module _ (T : State → Type 0) (Q : State → ℕ → Type 0) where
       (λ (there : Has d given). h d n there e)
       i)
 
-pub commands_have_texts : CommandsHaveTexts
-commands_have_texts line text objects calls all gives tells =
-    all_need (λ k. IsKeptText line k (text k)) (λ k n. length (objects k) ≡ n) calls (c_of_node Reading ∷ []) all gives tells
+-- a text that a call read is that of the state that the call wrote
+kept_text : (line : State → StateLine) (k : State) (text : List ℕ) → IsReadText line k text → IsKeptText line k text
+kept_text line k text ((before, size_before, size, inl r), begins) =
+    let state : r.1.0.state ≡ k = sym (ap (λ (s : NodeState). state_of_c s) r.1.2) in
+    (ap (λ (o : Option Said). option_map (λ (said : Said). said.state) o) r.1.1 ∙ ap (λ (s : State). Some s) state, begins)
+kept_text line k text ((before, size_before, size, inr r), begins) = absurd (omega (arith, r.0))
+
+tells_more : (T U : State → Type 0) (Q : State → ℕ → Type 0) → ((k : State) → T k → U k) → (s : Node) (o : Outcome) → TellsOf T Q s o → TellsOf U Q s o
+tells_more T U Q f s Done t = tt
+tells_more T U Q f s Lost t = tt
+tells_more T U Q f s (Read k) t = f k t
+tells_more T U Q f s Published t = tt
+tells_more T U Q f s (Bundle n) t = t
+tells_more T U Q f s (Stepped l n) t = (f l t.0, t.1)
+tells_more T U Q f s (Listed l) t = tt
+
+from_reading : (T : State → Type 0) (Q : State → ℕ → Type 0) (calls : List NextCall) (all : List NodeCommand) → GiveCommands (c_of_node Reading ∷ []) calls all
+    → ((c : NextCall) → Has c calls → TellsOf T Q c.node c.outcome) → (c : NodeCommand) (n : Node) → Has c all → node_of_c c ≡ Some n → NeedsOf T Q n
+from_reading T Q calls all gives tells =
+    all_need T Q calls (c_of_node Reading ∷ []) all gives tells
     (λ c n h e.
     ⊎_elim
     (λ (same : c ≡ c_of_node Reading).
-    subst (λ (z : Node). NeedsOf (λ k. IsKeptText line k (text k)) (λ k m. length (objects k) ≡ m) z)
-    (read_back Reading n (sym (ap (λ (z : NodeCommand). node_of_c z) same) ∙ e)) tt)
+    subst (λ (z : Node). NeedsOf T Q z) (read_back Reading n (sym (ap (λ (z : NodeCommand). node_of_c z) same) ∙ e)) tt)
     (λ (none : ⊥). absurd none)
     h)
+
+pub commands_have_texts : CommandsHaveTexts
+commands_have_texts line text calls all gives tells =
+    let T : State → Type 0 = λ k. IsKeptText line k (text k) in
+    let Q : State → ℕ → Type 0 = λ k n. ⊤ in
+    from_reading T Q calls all gives
+    (λ c i. tells_more (λ k. IsReadText line k (text k)) T Q (λ k. kept_text line k (text k)) c.node c.outcome (tells c i))
+
+pub commands_have_objects : CommandsHaveObjects
+commands_have_objects b line reply objects calls all gives tells =
+    from_reading (λ k. ⊤) (λ k n. KnowsObjects b line reply objects k n) calls all gives tells
 
 -- ---- a history by calls is one of the nodes
 

@@ -2,6 +2,7 @@
 use Rattle.std.proofs.Common.{◌≡◌, ◌∙◌, ◌⊎◌, ◌<◌, ◌≤◌, ◌^◌, ℕ, List, [], ◌∷◌, ◌++◌, length, map, take, drop, Option, Some, None, All, Contains, true, sym, subst, ap, refl, inl, inr, ⊎_elim, arith}
 use Rattle.std.proofs.lemmas.List.Elements.{All-nil, All-cons, All-head, All-tail, All-append, All-weaker, All-contains_itself}
 use Rattle.std.proofs.lemmas.Option.{same_Some, none-some}
+use Rattle.std.specs.List.{AllZip}
 use Rattle.std.proofs.Math.Seq.{take-append_seam}
 use Rattle.ct_checkpoint.specs.Message.{cosignature_message}
 use Rattle.ct_older_tree.proofs.Viewing.{first_of, second_of}
@@ -21,7 +22,7 @@ use Rattle.libwagtenib.proofs.Messages.{same_cosigned}
 use Rattle.libwagtenib.specs.Codes.{proof_code, tree_code}
 use Rattle.libwagtenib.specs.Output.{WritesOutput}
 use Rattle.libwagtenib.specs.Witness.{Cosigned, cosigned, none_yet, IsCheckpointOf, IsMessageOf, MayCosign, MayNotCosign, CosignsAfter, CosignsFirst, Cosigns}
-use Rattle.libwagtenib.specs.WitnessLaws.{Over, none, state, Returned, CosignCall, Cosignature, message, held_by, AreKept, cosigned_tree, granted_tree, granted_by, newest_cosigned}
+use Rattle.libwagtenib.specs.WitnessLaws.{Over, none, state, Returned, CosignCall, Cosignature, message, held_by, AreKept, IsGrantOf, granted_by, newest_cosigned}
 use Rattle.libwagtenib.specs.WitnessLaws.{CallsAreCosignatures, KeptAreAWitness, KeptGoBack, CosignedInOrder, KeptAreInOrder, NoTimeIs0}
 
 -- ---- 0 is the number of no refusal
@@ -113,22 +114,23 @@ HoldsTree H t None = t ≡ no_tree H
 HoldsTree H t (Some bytes) = (k : Cosigned) × IsMessageOf k bytes × (k.tree ≡ t)
 
 -- the step of a witness that a cosignature is
-Steps : (List ℕ → List ℕ) → Tree → Tree → List (List ℕ) → Type 0
-Steps H last tree given =
-    (s : Granted) × PassesTree H last s.old s.tree s.proof × AreHashes s.proof × (s.tree ≡ tree) × ((s.proof ≡ given) ⊎ (s.proof ≡ []))
+Steps : (List ℕ → List ℕ) → Tree → Tree → ℕ → List (List ℕ) → Type 0
+Steps H last tree old given =
+    (s : Granted) × PassesTree H last s.old s.tree s.proof × AreHashes s.proof × (s.tree ≡ tree)
+    × (((s.old ≡ old) × (s.proof ≡ given)) ⊎ ((s.old ≡ s.tree.size) × (s.proof ≡ [])))
 
-again : (H : List ℕ → List ℕ) (last tree : Tree) (given : List (List ℕ)) → tree ≡ last → Steps H last tree given
+again : (H : List ℕ → List ℕ) (last tree : Tree) (old : ℕ) (given : List (List ℕ)) → tree ≡ last → Steps H last tree old given
 unfolding Steps
-again H last tree given e =
+again H last tree old given e =
     let s : Granted = record { old = last.size; tree = last; proof = [] } in
-    (s, (refl, inl (refl, refl, refl)), All-nil (λ (x : List ℕ). length x ≡ 32), sym e, inr refl)
+    (s, (refl, inl (refl, refl, refl)), All-nil (λ (x : List ℕ). length x ≡ 32), sym e, inr (refl, refl))
 
 anew : (H : List ℕ → List ℕ) (t : Tree) (last : Cosigned) (origin : List ℕ) (tree : Tree) (old : ℕ) (proof : List (List ℕ)) (time : ℕ)
-    → last.tree ≡ t → MayCosign H last origin tree old proof time → Steps H t tree proof
+    → last.tree ≡ t → MayCosign H last origin tree old proof time → Steps H t tree old proof
 unfolding Steps
 anew H t last origin tree old proof time e may =
     let s : Granted = record { old = old; tree = tree; proof = proof } in
-    (s, subst (λ (l : Tree). PassesTree H l old tree proof) e may.1, may.2, refl, inl refl)
+    (s, subst (λ (l : Tree). PassesTree H l old tree proof) e may.1, may.2, refl, inl (refl, refl))
 
 over_held : (H : List ℕ → List ℕ) (t : Tree) (held : Option (List ℕ)) (over : Over) (last : Cosigned) → HoldsTree H t held → held ≡ held_by over
     → WasAfter H over last → last.tree ≡ t
@@ -149,29 +151,34 @@ held_already H t (Some other) bytes k (l, at, tree) e is =
     ap (λ (x : Cosigned). x.tree) (same_cosigned k l other (subst (IsMessageOf k) (sym same) is) at) ∙ tree
 
 one_step : (H : List ℕ → List ℕ) (t : Tree) (held : Option (List ℕ)) (c : Cosignature H) → HoldsTree H t held
-    → (held ≡ held_by c.call.over) ⊎ (held ≡ Some (message c.call)) → Steps H t c.says.tree c.call.proof
+    → (held ≡ held_by c.call.over) ⊎ (held ≡ Some (message c.call)) → Steps H t c.says.tree c.call.old c.call.proof
 one_step H t held c h (inl e) =
     let m = made c in
     anew H t m.0 c.says.origin c.says.tree c.call.old c.call.proof c.call.time (over_held H t held c.call.over m.0 h e m.1) m.2
-one_step H t held c h (inr e) = again H t c.says.tree c.call.proof (held_already H t held (message c.call) c.says h e c.is)
+one_step H t held c h (inr e) = again H t c.says.tree c.call.old c.call.proof (held_already H t held (message c.call) c.says h e c.is)
 
 holds_it : (H : List ℕ → List ℕ) (c : Cosignature H) → HoldsTree H c.says.tree (Some (message c.call))
 unfolding HoldsTree
 holds_it H c = (c.says, c.is, refl)
 
 -- ---- all of them
--- the proofs of the steps are those of the calls, or none
-AreOf : (H : List ℕ → List ℕ) → List Granted → List (Cosignature H) → Type 0
-AreOf H [] [] = Unit {0}
-AreOf H [] (c ∷ rest) = ⊥
-AreOf H (s ∷ steps) [] = ⊥
-AreOf H (s ∷ steps) (c ∷ rest) = (s.tree ≡ c.says.tree) × ((s.proof ≡ c.call.proof) ⊎ (s.proof ≡ [])) × AreOf H steps rest
+-- the tree that was cosigned
+abbrev cosigned_tree : {H : List ℕ → List ℕ} → Cosignature H → Tree
+cosigned_tree c = c.says.tree
+
+-- the tree that was granted
+abbrev granted_tree : Granted → Tree
+granted_tree s = s.tree
+
+-- the steps are those of the cosignatures, one by one
+abbrev AreOf : (H : List ℕ → List ℕ) → List Granted → List (Cosignature H) → Type 0
+AreOf H steps all = AllZip (λ (s : Granted) (c : Cosignature H). IsGrantOf s c) steps all
 
 Run : (H : List ℕ → List ℕ) → Tree → List (Cosignature H) → Type 0
 Run H t all = (steps : List Granted) × AreGranted H t steps × (map granted_tree steps ≡ map cosigned_tree all) × AreOf H steps all
 
 run : (H : List ℕ → List ℕ) (t : Tree) (held : Option (List ℕ)) (all : List (Cosignature H)) → HoldsTree H t held → AreKept H held all → Run H t all
-unfolding AreKept AreGranted Run Steps AreOf
+unfolding AreKept AreGranted Run Steps
 run H t held [] h a = ([], tt, refl, tt)
 run H t held (c ∷ rest) h a =
     let one = one_step H t held c h a.0 in
@@ -180,7 +187,7 @@ run H t held (c ∷ rest) h a =
       one.0 ∷ more.0,
       (one.1, one.2, on),
       ap (λ (x : Tree). x ∷ map granted_tree more.0) one.3 ∙ ap (λ (xs : List Tree). c.says.tree ∷ xs) more.2,
-      (one.3, one.4, more.3),
+      ((one.3, one.4), more.3),
     )
 
 starts : (H : List ℕ → List ℕ) → HoldsTree H (no_tree H) None
@@ -189,7 +196,7 @@ starts H = refl
 
 pub kept_are_a_witness : KeptAreAWitness
 unfolding Run
-kept_are_a_witness H all a = let r = run H (no_tree H) None all (starts H) a in (r.0, r.1, r.2)
+kept_are_a_witness H all a = let r = run H (no_tree H) None all (starts H) a in (r.0, r.1, r.3)
 
 -- ---- the laws of a witness, said of the calls
 none_some : (x : Tree) (xs : List Tree) → [] ≡ x ∷ xs → ⊥
@@ -225,18 +232,19 @@ no_proof_strings H S m n r = All-nil S
 
 -- the strings of the steps are among those of the calls
 of_proof : (H : List ℕ → List ℕ) (S : List ℕ → Type 0) (last : Tree) (s : Granted) (c : Cosignature H) → s.tree ≡ c.says.tree
-    → (s.proof ≡ c.call.proof) ⊎ (s.proof ≡ []) → All S (proof_strings H last.size c.says.tree.size true last.root c.call.proof)
+    → ((s.old ≡ c.call.old) × (s.proof ≡ c.call.proof)) ⊎ ((s.old ≡ s.tree.size) × (s.proof ≡ []))
+    → All S (proof_strings H last.size c.says.tree.size true last.root c.call.proof)
     → All S (proof_strings H last.size s.tree.size true last.root s.proof)
 of_proof H S last s c e (inl f) a =
-    subst (λ (p : List (List ℕ)). All S (proof_strings H last.size s.tree.size true last.root p)) (sym f)
+    subst (λ (p : List (List ℕ)). All S (proof_strings H last.size s.tree.size true last.root p)) (sym f.1)
     (subst (λ (x : Tree). All S (proof_strings H last.size x.size true last.root c.call.proof)) (sym e) a)
 of_proof H S last s c e (inr f) a =
-    subst (λ (p : List (List ℕ)). All S (proof_strings H last.size s.tree.size true last.root p)) (sym f)
+    subst (λ (p : List (List ℕ)). All S (proof_strings H last.size s.tree.size true last.root p)) (sym f.1)
     (no_proof_strings H S last.size s.tree.size last.root)
 
 of_calls : (H : List ℕ → List ℕ) (S : List ℕ → Type 0) (last : Tree) (steps : List Granted) (all : List (Cosignature H)) → AreOf H steps all
     → All S (granted_strings H last (map granted_by all)) → All S (granted_strings H last steps)
-unfolding AreOf granted_strings
+unfolding granted_strings
 of_calls H S last [] [] o a = a
 of_calls H S last [] (c ∷ rest) o a = absurd o
 of_calls H S last (s ∷ steps) [] o a = absurd o
@@ -244,9 +252,9 @@ of_calls H S last (s ∷ steps) (c ∷ rest) o a =
     let own = proof_strings H last.size c.says.tree.size true last.root c.call.proof in
     let others = granted_strings H c.says.tree (map granted_by rest) in
     let later : All S (granted_strings H s.tree (map granted_by rest)) =
-    subst (λ (x : Tree). All S (granted_strings H x (map granted_by rest))) (sym o.0) (second_of S own others a) in
+    subst (λ (x : Tree). All S (granted_strings H x (map granted_by rest))) (sym o.0.0) (second_of S own others a) in
     All-append S (proof_strings H last.size s.tree.size true last.root s.proof) (granted_strings H s.tree steps)
-    (of_proof H S last s c o.0 o.1 (first_of S own others a)) (of_calls H S s.tree steps rest o.2 later)
+    (of_proof H S last s c o.0.0 o.0.1 (first_of S own others a)) (of_calls H S s.tree steps rest o.1 later)
 
 pub kept_go_back : KeptGoBack
 unfolding Run

@@ -111,9 +111,10 @@ abbrev pub TellsFaulty : Option FaultyEntry → ℕ → ℕ → Type 0
 TellsFaulty None index fault = (index ≡ 0) × (fault ≡ 0)
 TellsFaulty (Some e) index fault = (index ≡ e.index) × (fault ≡ leaf_code e.fault)
 
--- the report on entries, as callers in C have it
+-- the report on entries, as callers in C have it, with the timestamp of the head that waited
 abbrev pub TellsReport : EntryReport → EntriesAnswer → Type 0
-TellsReport r a = TellsLater a.later r.later_index r.later_timestamp × TellsFaulty a.faulty r.faulty_index r.fault
+TellsReport r a =
+    TellsLater a.later r.later_index r.later_timestamp × TellsFaulty a.faulty r.faulty_index r.fault × (r.head_timestamp ≡ a.head_timestamp)
 
 -- A call with entries over a state, as `Judges`. The report on the entries is written only at 0.
 abbrev pub JudgesEntries : ℕ → List (List ℕ) → List ℕ → ℕ → MonitorVerdict → MonitorVerdict → EntryReport → EntryReport → List ℕ → List ℕ → ℕ → ℕ → Type 0

@@ -1,5 +1,6 @@
 -- The laws of calls of `wagtenib_node_next` and `wagtenib_node_start`, whichever processes make them. H is any hash function on byte lists.
 use Rattle.std.specs.Prelude.{◌≡◌, ◌↔◌, ◌⊎◌, ⊤, ℕ, ◌<◌, List, [], ◌∷◌, length, take, Some}
+use Rattle.std.specs.List.{AllZip}
 use Rattle.ct_data_tiles.specs.TileLeaf.{Tiled}
 use Rattle.ct_growth.specs.Identities.{AreNewFrom}
 use Rattle.ct_lock_text.specs.LockText.{text_state}
@@ -19,12 +20,20 @@ use Rattle.ct_node_log.specs.Logs.{IsOf, AreStepsMade, StandsOf, log_of_past}
 use Rattle.ct_node_log.specs.Once.{entry_identities, AreStepsAdding}
 use Rattle.ct_node_log.specs.Whole.{AreAllPut, HasAllObjects}
 use Rattle.ct_step.specs.Lines.{LineAttempt, IsHashedBySteps}
+use Rattle.ct_step.specs.declared.step.Step.{Step}
+use Rattle.ct_step_calls.specs.StepAnswers.{IsReplyTo}
+use Rattle.ct_step_calls.specs.StepAsks.{for_step, for_resume}
+use Rattle.ct_step_calls.specs.StepRepeats.{BatchEntry}
+use Rattle.ct_step_calls.specs.StepReplies.{stepped_text, resumed_text}
+use Rattle.ct_step_calls.specs.StepWords.{Reference, steps, rolls_out}
 use Rattle.ct_step.specs.Steps.{IsLog}
 use Rattle.ct_older_tree.specs.Hashed.{CollideAmong}
 use Rattle.libwagtenib.specs.declared.node.NodeCommand.{NodeCommand}
 use Rattle.libwagtenib.specs.declared.node.NodeOutcome.{NodeOutcome}
 use Rattle.libwagtenib.specs.declared.node.NodeFound.{NodeFound}
-use Rattle.libwagtenib.specs.Node.{node_of_c, c_of_node, outcome_of_c, GivesNext, found_of_c, lock_of, StartsNode}
+use Rattle.libwagtenib.specs.declared.node.NodeState.{NodeState}
+use Rattle.libwagtenib.specs.Lock.{ReadsLockText}
+use Rattle.libwagtenib.specs.Node.{node_of_c, c_of_node, c_of_state, outcome_of_c, GivesNext, found_of_c, lock_of, StartsNode}
 
 -- A world, and the commands that calls gave, the newest first.
 pub record CallsWorld : Type 0 where
@@ -89,11 +98,8 @@ abbrev pub CommandsAreRead : Type 0
 CommandsAreRead = (c : NextCall) → node_of_c c.next ≡ Some (after c.node c.outcome)
 
 -- these commands are those of these nodes, one by one
-unfoldable pub AreCommandsOf : List NodeCommand → List Node → Type 0
-AreCommandsOf [] [] = ⊤
-AreCommandsOf [] (n ∷ ns) = ⊥
-AreCommandsOf (c ∷ cs) [] = ⊥
-AreCommandsOf (c ∷ cs) (n ∷ ns) = (node_of_c c ≡ Some n) × AreCommandsOf cs ns
+abbrev pub AreCommandsOf : List NodeCommand → List Node → Type 0
+AreCommandsOf given sent = AllZip (λ c n. node_of_c c ≡ Some n) given sent
 
 -- Nothing is asked of the lock, of the store or of the outcomes. If the commands that calls gave are those that the nodes of a world gave, then a call over one of
 -- them is over a command of one of these nodes, and it gives what that node gives next.
@@ -107,9 +113,31 @@ unfoldable pub GiveCommands : List NodeCommand → List NextCall → List NodeCo
 GiveCommands given [] all = given ≡ all
 GiveCommands given (c ∷ calls) all = Has c.command given × GiveCommands (c.next ∷ given) calls all
 
--- the text is read as this state, and begins with the line of the state
+-- the text is that of this state, and begins with the line of the state
 abbrev pub IsKeptText : (State → StateLine) → State → List ℕ → Type 0
 IsKeptText line k text = (text_state text ≡ Some k) × (take 295 text ≡ state_line_text (line k))
+
+-- a caller read the text: `wagtenib_lock_state` returned 0 for it, and wrote this state; and the text begins with the line of the state
+abbrev pub IsReadText : (State → StateLine) → State → List ℕ → Type 0
+IsReadText line k text =
+    ((before : NodeState) × (size_before : ℕ) × (size : ℕ) × ReadsLockText 0 text before (c_of_state k) size_before size)
+    × (take 295 text ≡ state_line_text (line k))
+
+-- The bytes are the reply of a step whose new line is this one, and the reply has these objects: what CallsMakeSteps says of a call of `wagtenib_step` that returned 0.
+abbrev pub IsStepWith : StateLine → List ℕ → List Reference → Type 0
+IsStepWith line reply objects =
+    (B : List BatchEntry) × (C : List (List ℕ)) × (state : List ℕ) × (now : ℕ) × (ahead : ℕ) × (origin : List ℕ) × (s : Step) × (places : List ℕ)
+    × IsReplyTo (for_step B C now state ahead) (steps s places objects) × (reply ≡ stepped_text origin s places objects) × (s.line ≡ line)
+
+-- The bytes are the reply for the step that made this line, and the reply has these objects: what CallsResumeSteps says of a call of `wagtenib_step_resume` that
+-- returned 0.
+abbrev pub IsResumedWith : StateLine → List ℕ → List Reference → Type 0
+IsResumedWith line reply objects =
+    (bundle : List ℕ) × (state : List ℕ) × (origin : List ℕ) × IsReplyTo (for_resume bundle state) (rolls_out line objects) × (reply ≡ resumed_text origin line objects)
+
+-- a caller counted the objects in the reply of a step by which the log came to this line
+abbrev pub CountsObjects : StateLine → List ℕ → List Reference → ℕ → Type 0
+CountsObjects line reply objects n = (IsStepWith line reply objects ⊎ IsResumedWith line reply objects) × (length objects ≡ n)
 
 -- Q holds for the state whose staged batch a node reads, and a number of objects
 abbrev pub BatchHas : (State → ℕ → Type 0) → Node → ℕ → Type 0
@@ -139,15 +167,27 @@ NeedsOf T Q (Placing l) = T l
 NeedsOf T Q (Heading l) = T l
 NeedsOf T Q (Answering l) = T l
 
--- Nothing is asked of the lock or of the store. Suppose that a caller keeps a text for each state that an outcome named, which is read as this state and begins with
--- its line, and the objects of its staged batch, as many as the outcome said. Then for each command that a call gave, it has such texts of the command's states, and
--- as many objects as the command says.
+-- a caller knows the number of objects of a state: the log's first state b has none, and of another state they are those in the reply
+abbrev pub KnowsObjects : State → (State → StateLine) → (State → List ℕ) → (State → List Reference) → State → ℕ → Type 0
+KnowsObjects b line reply objects k n = ((k ≡ b) × (n ≡ 0)) ⊎ CountsObjects (line k) (reply k) (objects k) n
+
+-- Nothing is asked of the lock or of the store. Suppose that a caller takes each state that an outcome names from a text that `wagtenib_lock_state` read, and keeps the
+-- text by the state. Then for each command that a call gives, it has texts that are those of the command's states and begin with their lines.
 abbrev pub CommandsHaveTexts : Type 0
 CommandsHaveTexts =
-    (line : State → StateLine) (text : State → List ℕ) (objects : State → List (List ℕ)) (calls : List NextCall) (all : List NodeCommand)
+    (line : State → StateLine) (text : State → List ℕ) (calls : List NextCall) (all : List NodeCommand) → GiveCommands (c_of_node Reading ∷ []) calls all
+    → ((c : NextCall) → Has c calls → TellsOf (λ k. IsReadText line k (text k)) (λ k n. ⊤) c.node c.outcome)
+    → (c : NodeCommand) (n : Node) → Has c all → node_of_c c ≡ Some n → NeedsOf (λ k. IsKeptText line k (text k)) (λ k n. ⊤) n
+
+-- Likewise, suppose that it takes each number of objects that an outcome names from the reply of a step to the state's line, or that the state is the log's first one
+-- and the number is 0, and keeps the reply by the state. Then for each command that a call gives, it has a reply to the line of the new state with as many objects as
+-- the command says, or the state is the first one and the command says 0.
+abbrev pub CommandsHaveObjects : Type 0
+CommandsHaveObjects =
+    (b : State) (line : State → StateLine) (reply : State → List ℕ) (objects : State → List Reference) (calls : List NextCall) (all : List NodeCommand)
     → GiveCommands (c_of_node Reading ∷ []) calls all
-    → ((c : NextCall) → Has c calls → TellsOf (λ k. IsKeptText line k (text k)) (λ k n. length (objects k) ≡ n) c.node c.outcome)
-    → (c : NodeCommand) (n : Node) → Has c all → node_of_c c ≡ Some n → NeedsOf (λ k. IsKeptText line k (text k)) (λ k n. length (objects k) ≡ n) n
+    → ((c : NextCall) → Has c calls → TellsOf (λ k. ⊤) (λ k n. KnowsObjects b line reply objects k n) c.node c.outcome)
+    → (c : NodeCommand) (n : Node) → Has c all → node_of_c c ≡ Some n → NeedsOf (λ k. ⊤) (λ k n. KnowsObjects b line reply objects k n) n
 
 -- If a call says to answer the submissions of a state, the head of that state is in the store, and its step is of the entries E: the receipt at an index is that
 -- of the submission at this index of the step's batch.

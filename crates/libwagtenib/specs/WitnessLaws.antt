@@ -1,6 +1,7 @@
 -- The laws of many calls of a witness, which any number of processes make over one register. H is any hash function on byte lists with hashes of 32 bytes. The
 -- library's is SHA-256.
 use Rattle.std.specs.Prelude.{◌≡◌, ◌⊎◌, ◌<◌, ◌≤◌, ◌^◌, ⊤, All, ℕ, List, [], ◌∷◌, Contains, length, map, take, Option, Some, None}
+use Rattle.std.specs.List.{AllZip}
 use Rattle.ct_older_tree.specs.Hashed.{CollideAmong}
 use Rattle.ct_witness.specs.declared.tree.Tree.{Tree}
 use Rattle.ct_witness.specs.Runs.{Granted, IsWitness, IsTreeOf, IsTreeOfFirst, IsHashedOver, no_tree}
@@ -58,25 +59,21 @@ unfoldable pub AreKept : (H : List ℕ → List ℕ) → Option (List ℕ) → L
 AreKept H held [] = ⊤
 AreKept H held (c ∷ rest) = ((held ≡ held_by c.call.over) ⊎ (held ≡ Some (message c.call))) × AreKept H (Some (message c.call)) rest
 
--- the tree that was cosigned
-abbrev pub cosigned_tree : {H : List ℕ → List ℕ} → Cosignature H → Tree
-cosigned_tree c = c.says.tree
-
--- the tree that was granted
-abbrev pub granted_tree : Granted → Tree
-granted_tree s = s.tree
-
 -- the tree of the last of such cosignatures
 unfoldable pub newest_cosigned : {H : List ℕ → List ℕ} → Tree → List (Cosignature H) → Tree
 newest_cosigned last [] = last
 newest_cosigned last (c ∷ rest) = newest_cosigned c.says.tree rest
 
--- Take any cosignatures over one register that held none at first. Their trees are those that a witness granted, as ct_witness's laws speak of witnesses and of
--- their quorums.
+-- The witness granted the tree of this cosignature, from the old size and by the proof that the call was given; or from the tree's own size by an empty proof, as it
+-- grants a tree again.
+abbrev pub IsGrantOf : {H : List ℕ → List ℕ} → Granted → Cosignature H → Type 0
+IsGrantOf s c = (s.tree ≡ c.says.tree) × (((s.old ≡ c.call.old) × (s.proof ≡ c.call.proof)) ⊎ ((s.old ≡ s.tree.size) × (s.proof ≡ [])))
+
+-- Take any cosignatures over one register that held none at first. They are the steps of a witness, one by one, as ct_witness's laws speak of witnesses and of their
+-- quorums.
 abbrev pub KeptAreAWitness : Type 0
 KeptAreAWitness =
-    (H : List ℕ → List ℕ) (all : List (Cosignature H)) → AreKept H None all
-    → (steps : List Granted) × IsWitness H steps × (map granted_tree steps ≡ map cosigned_tree all)
+    (H : List ℕ → List ℕ) (all : List (Cosignature H)) → AreKept H None all → (steps : List Granted) × IsWitness H steps × AllZip (λ (s : Granted) (c : Cosignature H). IsGrantOf s c) steps all
 
 -- the request that was granted, with the proof that the call was given
 abbrev pub granted_by : {H : List ℕ → List ℕ} → Cosignature H → Granted

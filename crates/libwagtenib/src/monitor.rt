@@ -6,7 +6,8 @@ ghost use Rattle.sha2.specs.Sha256.{sha256};
 ghost use Rattle.ct_monitor_calls.specs.Calls.{IsMonitorAnswer, IsEntriesAnswer, a_head, a_proof, entries_from};
 ghost use Rattle.ct_monitor_calls.specs.StateText.{IsNoState};
 ghost use Rattle.libwagtenib.specs.Guard.{head_of_c};
-ghost use Rattle.libwagtenib.specs.Monitor.{AddUp, BeginsMonitor, GivesAnswer, Judges, JudgesEntries, JudgesEntry, JudgesPieces, StartsMonitor, TellsFaulty, TellsLater, TellsReport, TellsVerdict, start_code, verdict_code, verdict_fault, verdict_known, verdict_root};
+ghost use Rattle.libwagtenib.specs.Monitor.{AddUp, BeginsMonitor, GivesAnswer, Judges, JudgesEntries, JudgesEntry, JudgesPieces, StartsMonitor, TellsFaulty};
+ghost use Rattle.libwagtenib.specs.Monitor.{TellsLater, TellsReport, TellsVerdict, start_code, verdict_code, verdict_fault, verdict_known, verdict_root};
 ghost use Rattle.libwagtenib.specs.Output.{WritesOutput};
 ghost use Rattle.libwagtenib.specs.Tiles.{pieces};
 
@@ -34,10 +35,11 @@ pub struct MonitorVerdict {
     pub fault: u32,
 }
 
-/// The report on entries: the first that is later than the waiting head, and the first that is no leaf.
+/// The report on entries: the timestamp of the head that waited, the first entry that is later than it, and the first that is no leaf.
 #[repr(C)]
 #[derive(Clone, Copy)]
 pub struct EntryReport {
+    pub head_timestamp: u64,
     pub later_index: u64,
     pub later_timestamp: u64,
     pub faulty_index: u64,
@@ -274,6 +276,7 @@ fn report_of(answer: &EntriesAnswer) -> EntryReport
     let later = later_numbers(answer.later);
     let faulty = faulty_numbers(answer.faulty);
     EntryReport {
+        head_timestamp: answer.head_timestamp,
         later_index: later.0,
         later_timestamp: later.1,
         faulty_index: faulty.0,

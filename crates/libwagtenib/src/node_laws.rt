@@ -2,7 +2,8 @@
 //!
 //! Any number of processes may make the calls, in any order. A call that never came back is left out.
 
-ghost use Rattle.libwagtenib.specs.NodeLaws.{CommandsAreRead, CallsAreTold, CallsAreHistories, CommandsHaveTexts, CallsWriteOneLog, CallsPutAll, CallsNameOneContent, CallsAddOnce, CallsStartBehindNone};
+ghost use Rattle.libwagtenib.specs.NodeLaws.{CommandsAreRead, CallsAreTold, CallsAreHistories, CommandsHaveTexts, CommandsHaveObjects, CallsWriteOneLog};
+ghost use Rattle.libwagtenib.specs.NodeLaws.{CallsPutAll, CallsNameOneContent, CallsAddOnce, CallsStartBehindNone};
 
 /// Whatever becomes of commands by calls is a history of `ct_node`'s nodes.
 /// - `read`: the command that a call wrote is read again, as the next node's.
@@ -15,10 +16,12 @@ pub fn commands_by_calls_are_histories()
     ensures histories { CallsAreHistories }
 {}
 
-/// A caller that keeps the text of each state that an outcome names, and the objects of its staged batch, has them for each command that calls give, whatever the
-/// outcomes are.
+/// - `texts`: a caller that takes the states that outcomes name from texts that `wagtenib_lock_state` read has such texts for each command that calls give, whatever the
+///   outcomes are.
+/// - `objects`: one that takes the numbers of objects from the replies of steps has such a reply for each command that calls give.
 pub fn commands_by_calls_have_texts()
-    ensures { CommandsHaveTexts }
+    ensures texts { CommandsHaveTexts }
+    ensures objects { CommandsHaveObjects }
 {}
 
 /// There is one list of entries. All that is in the stores is of it, and each call that says to answer submissions does so under a head of it. Or two of the strings

@@ -183,6 +183,7 @@ pub struct wagtenib_monitor_verdict {
 #[repr(C)]
 #[derive(Clone, Copy, Debug, Default)]
 pub struct wagtenib_entry_report {
+    pub head_timestamp: u64,
     pub later_index: u64,
     pub later_timestamp: u64,
     pub faulty_index: u64,

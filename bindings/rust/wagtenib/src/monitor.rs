@@ -69,7 +69,9 @@ pub struct Judgement {
 /// What is reported of the entries that were read, by their indexes in the log.
 #[derive(Clone, Copy, Debug, Default, PartialEq, Eq)]
 pub struct EntryReport {
-    /// The first entry that is later than the head that waited for it, and its timestamp in milliseconds.
+    /// The timestamp of the head that waited for the entries, in milliseconds; 0 if none waited.
+    pub head_timestamp: u64,
+    /// The first entry that is later than that head, and its timestamp in milliseconds.
     pub later: Option<(u64, u64)>,
     /// The first entry that is no leaf, and its fault.
     pub faulty: Option<(u64, Error)>,
@@ -151,7 +153,8 @@ pub fn entries<T: AsRef<[u8]>>(state: &[u8], start: u64, leaves: &[T]) -> Result
         unsafe { sys::wagtenib_monitor_entries(state.as_ptr(), state.len(), start, of.0, of.1, of.2, of.3, verdict, &mut reported, out, room, length) }
     })?;
     let later = (reported.later_timestamp > 0).then_some((reported.later_index, reported.later_timestamp));
-    Ok((judgement, EntryReport { later, faulty: result(reported.fault).err().map(|fault| (reported.faulty_index, fault)) }))
+    let faulty = result(reported.fault).err().map(|fault| (reported.faulty_index, fault));
+    Ok((judgement, EntryReport { head_timestamp: reported.head_timestamp, later, faulty }))
 }
 
 /// Judges a consistency proof (RFC 6962, section 2.1.2) from the accepted head to the waiting one. The state stays the same.

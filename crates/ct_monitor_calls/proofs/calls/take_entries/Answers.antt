@@ -40,4 +40,5 @@ returns c =
       subst (λ (x : Verdict). StateJudges sha256 s (entries_from c.args.start E) x u.0) (sym answers.0) u.1,
       u.2,
       subst (λ (x : Verdict). ReportsEntries s E x later faulty) (sym answers.0) told,
+      c.waiting_moment-head_timestamp.ensures,
     )
