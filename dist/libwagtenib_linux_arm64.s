@@ -42022,10 +42022,11 @@ wagtenib_monitor_entries:
 	mov	x2, x4
 	mov	x3, x8
 	mov	x4, x6
-	str	wzr, [sp, #152]
-	strh	wzr, [sp, #156]
-	str	wzr, [sp, #232]
+	str	xzr, [sp, #152]
+	str	wzr, [sp, #144]
+	strh	wzr, [sp, #148]
 	stp	q0, q0, [sp, #112]
+	str	wzr, [sp, #232]
 	strh	wzr, [sp, #236]
 	stp	q0, q0, [sp, #160]
 	stp	q0, q0, [sp, #192]
@@ -42036,7 +42037,7 @@ wagtenib_monitor_entries:
 	b	.LBB210_6
 .LBB210_9:
 	add	x8, sp, #288
-	str	x20, [sp, #64]
+	str	x20, [sp, #56]
 	movi	v0.2d, #0000000000000000
 	stur	xzr, [x8, #175]
 	ldp	x8, x20, [sp, #168]
@@ -42071,18 +42072,18 @@ wagtenib_monitor_entries:
 .LBB210_10:
 	movi	v0.2d, #0000000000000000
 	mov	w8, #1
-	stp	xzr, xzr, [sp, #8]
+	stp	xzr, xzr, [sp]
 	str	xzr, [sp, #96]
 	mov	x26, xzr
 	mov	x22, xzr
-	stp	xzr, xzr, [sp, #32]
+	stp	xzr, xzr, [sp, #24]
 	mov	x28, xzr
 	mov	x24, xzr
-	str	xzr, [sp, #24]
+	str	xzr, [sp, #16]
 	mov	w23, #1
-	str	wzr, [sp, #56]
-	str	xzr, [sp, #72]
-	str	xzr, [sp, #48]
+	stp	xzr, xzr, [sp, #64]
+	str	wzr, [sp, #48]
+	str	xzr, [sp, #40]
 	strh	wzr, [sp, #236]
 	str	wzr, [sp, #232]
 	stp	q0, q0, [sp, #192]
@@ -42107,48 +42108,48 @@ wagtenib_monitor_entries:
 	ldrb	w8, [sp, #488]
 	cmp	w8, #1
 	b.ne	.LBB210_31
-	ldp	q0, q1, [sp, #624]
+	ldp	q3, q0, [sp, #592]
 	mov	w24, wzr
+	ldp	q1, q2, [sp, #544]
 	mov	x10, xzr
+	ldr	q4, [sp, #528]
 	mov	x28, xzr
 	mov	x27, xzr
-	stp	q0, q1, [sp, #864]
-	ldp	q2, q1, [sp, #544]
-	ldr	x12, [sp, #880]
-	ldr	q0, [sp, #656]
-	stp	q2, q1, [sp, #784]
-	ldp	q2, q4, [sp, #576]
+	str	q0, [sp, #848]
+	stp	q1, q2, [sp, #784]
+	ldp	q0, q2, [sp, #624]
 	ldrb	w13, [sp, #792]
-	ldr	x8, [sp, #800]
-	ldr	q1, [sp, #608]
-	ldr	x9, [sp, #808]
-	str	q0, [sp, #896]
-	ldr	q0, [sp, #496]
+	ldr	x8, [sp, #808]
+	ldr	x9, [sp, #800]
+	ldr	q1, [sp, #576]
+	str	q4, [sp, #768]
+	stp	q0, q2, [sp, #864]
 	cmp	w13, #1
-	stp	q4, q1, [sp, #832]
-	csel	x8, x8, x12, eq
-	csel	x11, x9, xzr, eq
-	str	q2, [sp, #816]
+	ldr	q0, [sp, #656]
+	ldr	x12, [sp, #880]
+	csel	x8, x8, xzr, eq
+	stp	q1, q3, [sp, #816]
+	str	x8, [sp, #72]
+	csel	x8, x9, x12, eq
+	str	q0, [sp, #896]
+	ldp	q0, q1, [sp, #496]
 	subs	x9, x8, x12
-	ldp	q1, q3, [sp, #512]
 	cmp	x9, x20
 	csel	x23, x9, x20, lo
 	cmp	x8, x12
 	mov	w9, wzr
 	stp	q0, q1, [sp, #736]
-	str	q3, [sp, #768]
 	b.ls	.LBB210_64
 	mov	x8, x22
-	str	w24, [sp, #48]
+	str	w24, [sp, #40]
 	cbz	x23, .LBB210_104
 	ldr	x9, [sp, #88]
 	mov	x28, x12
 	mov	x24, x23
-	str	x11, [sp, #72]
+	str	w13, [sp, #44]
 	add	x21, x9, #8
-	str	w13, [sp, #52]
-	str	x12, [sp, #56]
-	str	x12, [sp, #40]
+	str	x12, [sp, #48]
+	str	x12, [sp, #32]
 	b	.LBB210_20
 .LBB210_19:
 	subs	x24, x24, #1
@@ -42195,23 +42196,23 @@ wagtenib_monitor_entries:
 	rev	x9, x27
 	cmp	x9, x10
 	b.ls	.LBB210_19
-	str	x9, [sp, #72]
+	str	x9, [sp, #64]
 	mov	w24, #1
 	b	.LBB210_42
 .LBB210_31:
 	movi	v0.2d, #0000000000000000
-	stp	xzr, xzr, [sp, #8]
+	stp	xzr, xzr, [sp]
 	mov	x26, xzr
 	str	xzr, [sp, #96]
 	mov	x22, xzr
 	mov	w23, wzr
-	stp	xzr, xzr, [sp, #32]
+	stp	xzr, xzr, [sp, #24]
 	mov	x28, xzr
 	mov	x24, xzr
-	str	xzr, [sp, #24]
-	str	wzr, [sp, #56]
-	str	xzr, [sp, #72]
-	str	xzr, [sp, #48]
+	str	xzr, [sp, #16]
+	stp	xzr, xzr, [sp, #64]
+	str	wzr, [sp, #48]
+	str	xzr, [sp, #40]
 	strh	wzr, [sp, #236]
 	str	wzr, [sp, #232]
 	stp	q0, q0, [sp, #192]
@@ -42230,16 +42231,18 @@ wagtenib_monitor_entries:
 	cmp	w23, #0
 	ldp	q0, q1, [sp, #192]
 	mov	w10, #8
-	strh	w9, [sp, #156]
+	strh	w9, [sp, #148]
 	mov	w9, #36
-	str	w8, [sp, #152]
+	str	w8, [sp, #144]
 	orr	w8, w23, w21
 	csel	w0, w10, w9, ne
 	stp	q0, q1, [sp, #112]
 	tbnz	w8, #0, .LBB210_6
 	ldp	x23, x8, [x29, #112]
 	ldr	x20, [x29, #96]
+	ldr	x9, [sp, #72]
 	cmp	x23, x22
+	str	x9, [sp, #152]
 	str	x22, [x8]
 	b.hs	.LBB210_37
 	ldur	w8, [x19, #73]
@@ -42264,33 +42267,33 @@ wagtenib_monitor_entries:
 	str	x14, [sp, #736]
 	b	.LBB210_68
 .LBB210_37:
-	ldr	x8, [sp, #64]
+	ldr	x8, [sp, #56]
 	add	x0, x25, x8
 	sub	x8, x0, x26
 	cmp	x8, x22
 	b.hs	.LBB210_40
 	cmp	x22, #8
 	b.hs	.LBB210_54
-	ldp	x17, x16, [sp, #32]
+	ldp	x17, x16, [sp, #24]
 	mov	x8, xzr
-	ldp	x1, x18, [sp, #16]
+	ldp	x1, x18, [sp, #8]
 	ldr	x15, [sp, #96]
 	b	.LBB210_56
 .LBB210_40:
 	mov	x1, x26
 	mov	x2, x22
 	bl	memmove
-	ldp	x17, x16, [sp, #32]
+	ldp	x17, x16, [sp, #24]
 	ldr	x15, [sp, #96]
-	ldp	x1, x18, [sp, #16]
-	ldp	w3, w2, [sp, #8]
+	ldp	x1, x18, [sp, #8]
+	ldp	w3, w2, [sp]
 	b	.LBB210_59
 .LBB210_41:
 	mov	x28, xzr
-	str	xzr, [sp, #72]
+	str	xzr, [sp, #64]
 .LBB210_42:
 	ldr	x9, [sp, #88]
-	ldr	x27, [sp, #40]
+	ldr	x27, [sp, #32]
 	add	x21, x9, #8
 .LBB210_43:
 	movi	v0.2d, #0000000000000000
@@ -42333,12 +42336,12 @@ wagtenib_monitor_entries:
 	b.ne	.LBB210_43
 	mov	w9, wzr
 	mov	x27, xzr
-	str	wzr, [sp, #48]
+	str	wzr, [sp, #40]
 	b	.LBB210_103
 .LBB210_54:
-	ldr	x8, [sp, #64]
-	ldp	x17, x16, [sp, #32]
-	ldp	x1, x18, [sp, #16]
+	ldr	x8, [sp, #56]
+	ldp	x17, x16, [sp, #24]
+	ldp	x1, x18, [sp, #8]
 	ldr	x15, [sp, #96]
 	add	x8, x8, x25
 	sub	x8, x8, x26
@@ -42346,9 +42349,9 @@ wagtenib_monitor_entries:
 	b.hs	.LBB210_84
 	mov	x8, xzr
 .LBB210_56:
-	ldp	w3, w2, [sp, #8]
+	ldp	w3, w2, [sp]
 .LBB210_57:
-	ldr	x9, [sp, #64]
+	ldr	x9, [sp, #56]
 	add	x10, x9, x8
 	sub	x9, x22, x8
 	add	x8, x26, x8
@@ -42369,8 +42372,8 @@ wagtenib_monitor_entries:
 	cmp	w2, #7
 	stp	q0, q0, [sp, #480]
 	b.ne	.LBB210_62
-	ldr	w11, [sp, #152]
-	ldrh	w12, [sp, #156]
+	ldr	w11, [sp, #144]
+	ldrh	w12, [sp, #148]
 	mov	x9, xzr
 	ldr	x13, [sp, #112]
 	mov	x10, xzr
@@ -42386,10 +42389,10 @@ wagtenib_monitor_entries:
 	mov	x15, xzr
 	b	.LBB210_66
 .LBB210_63:
-	str	wzr, [sp, #48]
+	str	wzr, [sp, #40]
 	b	.LBB210_102
 .LBB210_64:
-	str	w24, [sp, #48]
+	str	w24, [sp, #40]
 	mov	x8, x22
 	b	.LBB210_104
 .LBB210_65:
@@ -42431,18 +42434,19 @@ wagtenib_monitor_entries:
 	stur	x9, [x19, #95]
 	stp	w11, w12, [x19, #104]
 	b.hs	.LBB210_70
-	ldp	x11, x10, [x20]
-	ldr	x24, [x20, #16]
-	ldp	w8, w9, [x20, #24]
-	ldr	w12, [sp, #104]
+	ldp	x11, x10, [x20, #8]
+	mov	x12, x20
+	ldp	w8, w9, [x20, #32]
+	ldr	x24, [x20, #24]
+	ldr	w13, [sp, #104]
 	b	.LBB210_77
 .LBB210_70:
-	ldr	w8, [sp, #52]
+	ldr	w8, [sp, #44]
 	cbz	w8, .LBB210_75
-	ldr	w8, [sp, #48]
+	ldr	w8, [sp, #40]
 	cmp	w8, #2
 	b.le	.LBB210_79
-	ldr	w12, [sp, #104]
+	ldr	w13, [sp, #104]
 	cmp	w8, #4
 	b.gt	.LBB210_82
 	cmp	w8, #3
@@ -42450,27 +42454,29 @@ wagtenib_monitor_entries:
 	mov	w8, #20
 	b	.LBB210_76
 .LBB210_75:
-	ldr	w12, [sp, #104]
+	ldr	w13, [sp, #104]
 	mov	x24, xzr
 .LBB210_76:
-	ldr	w10, [sp, #56]
+	ldr	w10, [sp, #48]
 	mov	w9, wzr
+	add	x12, sp, #152
 	cmp	w10, #0
-	ldr	x10, [sp, #72]
+	ldr	x10, [sp, #64]
 	csel	x11, x28, xzr, ne
 	csel	x10, x10, xzr, ne
 .LBB210_77:
-	stp	x11, x10, [x20]
-	str	x24, [x20, #16]
-	stp	w8, w9, [x20, #24]
-	tbnz	w12, #0, .LBB210_6
+	ldr	x12, [x12]
+	stp	x10, x24, [x20, #16]
+	stp	w8, w9, [x20, #32]
+	stp	x12, x11, [x20]
+	tbnz	w13, #0, .LBB210_6
 	mov	w19, w0
 	mov	x0, x26
 	bl	rattle_dealloc
 	mov	w0, w19
 	b	.LBB210_6
 .LBB210_79:
-	ldr	w12, [sp, #104]
+	ldr	w13, [sp, #104]
 	cbz	w8, .LBB210_86
 	cmp	w8, #1
 	b.ne	.LBB210_87
@@ -42482,7 +42488,7 @@ wagtenib_monitor_entries:
 	mov	w8, #22
 	b	.LBB210_76
 .LBB210_84:
-	ldp	w3, w2, [sp, #8]
+	ldp	w3, w2, [sp]
 	cmp	x22, #32
 	b.hs	.LBB210_90
 	mov	x8, xzr
@@ -42500,7 +42506,7 @@ wagtenib_monitor_entries:
 	mov	w8, #8
 	b	.LBB210_76
 .LBB210_90:
-	ldr	x10, [sp, #64]
+	ldr	x10, [sp, #56]
 	and	x9, x22, #0x18
 	and	x8, x22, #0xffffffffffffffe0
 	and	x12, x22, #0xffffffffffffffe0
@@ -42518,7 +42524,7 @@ wagtenib_monitor_entries:
 	b.eq	.LBB210_59
 	cbz	x9, .LBB210_57
 .LBB210_94:
-	ldr	x9, [sp, #64]
+	ldr	x9, [sp, #56]
 	mov	x10, x8
 	and	x8, x22, #0xfffffffffffffff8
 	add	x11, x9, x10
@@ -42542,19 +42548,19 @@ wagtenib_monitor_entries:
 .LBB210_99:
 	ldrb	w8, [sp, #1105]
 	mov	w9, #1
-	str	w8, [sp, #48]
+	str	w8, [sp, #40]
 	mov	x8, x22
 	b	.LBB210_103
 .LBB210_100:
 	mov	w9, #5
 .LBB210_101:
-	str	w9, [sp, #48]
+	str	w9, [sp, #40]
 .LBB210_102:
 	mov	w9, #1
 .LBB210_103:
-	ldr	x10, [sp, #72]
-	ldr	x12, [sp, #56]
-	ldr	w13, [sp, #52]
+	ldr	x10, [sp, #64]
+	ldr	x12, [sp, #48]
+	ldr	w13, [sp, #44]
 .LBB210_104:
 	movi	v0.2d, #0000000000000000
 	add	x11, sp, #912
@@ -42578,10 +42584,10 @@ wagtenib_monitor_entries:
 	str	q1, [sp, #1072]
 	str	q2, [sp, #1088]
 	b.ne	.LBB210_117
-	stp	w9, w24, [sp, #52]
+	stp	w9, w24, [sp, #44]
 	ldr	x9, [sp, #1056]
 	movi	v0.2d, #0000000000000000
-	str	x10, [sp, #72]
+	str	x10, [sp, #64]
 	sub	x0, x29, #208
 	subs	x10, x9, x8
 	stur	xzr, [x29, #-176]
@@ -42603,12 +42609,12 @@ wagtenib_monitor_entries:
 	stp	q0, q0, [x29, #-128]
 	cbz	x21, .LBB210_135
 	ldp	x23, x8, [x29, #-160]
-	stp	x8, x27, [sp, #32]
+	stp	x8, x27, [sp, #24]
 	ldr	x8, [sp, #88]
 	add	x22, x8, #8
 	b	.LBB210_110
 .LBB210_109:
-	ldr	x27, [sp, #40]
+	ldr	x27, [sp, #32]
 	ldur	x8, [x29, #-160]
 	subs	x21, x21, #1
 	add	x22, x22, #24
@@ -42631,7 +42637,7 @@ wagtenib_monitor_entries:
 	ldp	q0, q1, [x29, #-64]
 	sub	x0, x29, #64
 	ldur	x24, [x29, #-144]
-	ldr	x27, [sp, #32]
+	ldr	x27, [sp, #24]
 	sub	x4, x29, #128
 	mov	x3, x23
 	mov	x1, x27
@@ -42642,7 +42648,7 @@ wagtenib_monitor_entries:
 	cmp	x8, x24
 	b.ne	.LBB210_113
 	ldur	x8, [x29, #-136]
-	ldr	x27, [sp, #40]
+	ldr	x27, [sp, #32]
 	cmp	x8, x24
 	b.eq	.LBB210_115
 .LBB210_112:
@@ -42651,7 +42657,7 @@ wagtenib_monitor_entries:
 	ldur	q0, [x9, #8]
 	ldur	q1, [x9, #24]
 	add	x9, x24, #1
-	str	x8, [sp, #32]
+	str	x8, [sp, #24]
 	add	x8, x8, x24, lsl #5
 	stur	x9, [x29, #-144]
 	stp	q0, q1, [x8]
@@ -42695,7 +42701,7 @@ wagtenib_monitor_entries:
 	ldur	x8, [x11, #47]
 	ldr	q2, [sp, #912]
 	mov	w22, wzr
-	stp	wzr, wzr, [sp, #52]
+	stp	wzr, wzr, [sp, #44]
 	stur	x8, [x9, #175]
 	mov	w8, #8
 	stp	q1, q0, [sp, #432]
@@ -42737,8 +42743,8 @@ wagtenib_monitor_entries:
 	bl	rattle_dealloc
 .LBB210_127:
 	ldr	x8, [sp, #904]
-	str	w22, [sp, #48]
-	str	x21, [sp, #72]
+	str	w22, [sp, #40]
+	str	x21, [sp, #64]
 	cbz	x8, .LBB210_129
 	ldr	x0, [sp, #888]
 	bl	rattle_dealloc
@@ -42755,21 +42761,21 @@ wagtenib_monitor_entries:
 	ldrb	w8, [sp, #304]
 	strh	w9, [sp, #236]
 	ldr	x9, [sp, #312]
-	str	w8, [sp, #12]
+	str	w8, [sp, #4]
 	ldrb	w8, [sp, #305]
 	str	x9, [sp, #96]
 	ldr	x9, [sp, #320]
-	str	w8, [sp, #8]
+	str	w8, [sp]
 	ldp	x22, x8, [sp, #392]
-	str	x9, [sp, #40]
+	str	x9, [sp, #32]
 	ldr	x9, [sp, #360]
 	stp	q0, q1, [sp, #192]
 	cmp	x8, #0
 	ldp	x8, x26, [sp, #376]
-	stp	x9, x8, [sp, #24]
+	stp	x9, x8, [sp, #16]
 	ldr	x9, [sp, #368]
 	cset	w8, eq
-	str	x9, [sp, #16]
+	str	x9, [sp, #8]
 	str	w8, [sp, #104]
 	cbnz	x20, .LBB210_11
 	b	.LBB210_32
@@ -42791,13 +42797,13 @@ wagtenib_monitor_entries:
 	mov	w23, wzr
 	mov	x28, xzr
 	mov	x24, xzr
-	stp	xzr, xzr, [sp, #8]
+	stp	xzr, xzr, [sp]
 	str	xzr, [sp, #96]
-	stp	xzr, xzr, [sp, #32]
-	str	xzr, [sp, #24]
-	str	wzr, [sp, #56]
-	str	xzr, [sp, #72]
-	str	xzr, [sp, #48]
+	stp	xzr, xzr, [sp, #24]
+	str	xzr, [sp, #16]
+	stp	xzr, xzr, [sp, #64]
+	str	wzr, [sp, #48]
+	str	xzr, [sp, #40]
 	str	w8, [sp, #232]
 	strh	w9, [sp, #236]
 	stp	q0, q1, [sp, #192]
@@ -42848,11 +42854,11 @@ wagtenib_monitor_entries:
 	mov	x21, xzr
 	mov	x27, xzr
 	mov	w22, wzr
-	stp	wzr, wzr, [sp, #52]
+	stp	wzr, wzr, [sp, #44]
 	b	.LBB210_119
 .LBB210_138:
-	ldr	x21, [sp, #72]
-	ldr	w22, [sp, #48]
+	ldr	x21, [sp, #64]
+	ldr	w22, [sp, #40]
 	b	.LBB210_119
 .LBB210_139:
 	ldur	x8, [x29, #-136]
