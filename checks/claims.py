@@ -57,7 +57,7 @@ CLAIMS = [
         "Any number of nodes run one log over one lock and one object store. Start, kill and interleave them in any way, and let any of their commands be lost, repeated or late."
         " Take the entries that were known, and after them those that each step added whose state the lock took. The lock's states, each stored tile and each receipt of an answered step belong to this list."
         " If guards approved heads one after the other and a node asked for the last of them, each of these heads that has a tree size above 0 belongs to the list too."
-        " Otherwise two of the strings that were hashed have one digest.",
+        " There is one exception to all of this: two different strings of a set that the contract names have one digest.",
         [
             "The lock takes a state only in place of the one that it holds, and a reading returns a state that the lock held at some time (`MayHappen`).",
             "A command takes effect only if it was given, and a node gets only outcomes that `MayBeTold` allows. Each state has one number of objects, `count`, and every outcome that has a number of objects has this one.",
@@ -65,9 +65,9 @@ CLAIMS = [
             "Each step meets what `take_step` ensures, and the objects stored for a state are among those that `resume` returns for its state line and for some bytes (`AreStepsMade`)."
             " The laws `steps_by_calls_are_attempts` and `resumed_by_calls` say so of the replies of `wagtenib_step` and `wagtenib_step_resume`.",
             "The first state is that of the known entries (`IsFirstState`, `IsLog`).",
-            "For `heads`: guards approved the heads one after the other, each from the one before (`AreHeadSteps`), and a node asked for the last of them (`NewestIsAsked`).",
+            "For `heads`: guards approved the heads one after the other, each from the one before (`AreHeadSteps`), and a node asked for the last of them (`NewestIsAsked`). P6 makes these heads those that are signed.",
             "Nothing is rolled back: the world of the laws has no event that does it. A restored lock is the subject of a claim of its own (fallen-lock).",
-            "No two steps have the same three numbers. This is in the types: a state is its three numbers, and `line`, `step`, `count` and `plan` are functions of it.",
+            "No two steps have the same three numbers. This is in the types: a state is its three numbers, `line` and `count` are functions of a state, `plan` of a state and an index, and `step` of the two states of a step.",
             "The prover, its compiler, LLVM and the C library do what they say. All pages of this folder rest on this.",
             "For `whole`: the number of objects that a node learns for a staged batch is the number of objects in it (`AreAllPut`).",
             "For `kept`: each object has the name of its tile (`AreNamed`), a partial tile is deleted only after its full tile was stored, and a head only after a later one was stored (`MayHappenSwept`).",
@@ -97,7 +97,7 @@ CLAIMS = [
         "guard",
         "What the key signs",
         "Take all heads that were signed over one register, by any number of processes, killed at any moment. If the newest of them is the head of a list of leaves, each of them that has leaves"
-        " is the head of a beginning of this list, and each signed receipt's leaf is in the list at its index. Otherwise two of the strings that were hashed have one digest.",
+        " is the head of a beginning of this list, and each signed receipt's leaf is in the list at its index. There is one exception to all of this: two different strings of a set that the contract names have one digest.",
         [
             "A head is signed only after a call for it returned 0, and after the register took the state that this call wrote, in place of the state that the call was handed. The register may also have held the written state already (`AreTaken`).",
             "A receipt is signed only after a call for it returned 0. The state that was handed to this call was written by a call for a head that the register took"
@@ -125,7 +125,7 @@ CLAIMS = [
         "What one node signs over a lock that falls",
         "A lock may hold any earlier text again, or any other text, at any time. Take everything that one node accepted, and everything that this node had signed. If the newest head that the node accepted is the head"
         " of a list of leaves, each head that it accepted or had signed is the head of a beginning of this list or has no leaves, and the leaves of each step whose receipts it had signed are in the list at their indexes."
-        " Otherwise two of the strings that were hashed have one digest.",
+        " There is one exception to all of this: two different strings of a set that the contract names have one digest.",
         [
             "The node accepts a head only after `wagtenib_node_accept` returned 0 for this head, over the newest head that the node accepted before (`AreActs`).",
             "The node has a head signed only if this head is the newest that the node accepted. It has receipts signed only after `wagtenib_guard_receipts` returned 0 for them over the state of the newest accepted head (`AreActs`).",
@@ -145,7 +145,7 @@ CLAIMS = [
         "What a witness cosigns",
         "All trees that a witness cosigned over one register are those of beginnings of one list. If enough of n witnesses cosigned each of two trees, the smaller tree's list is a beginning of the larger one's,"
         " and no two clients can be shown two different leaves at one index under them."
-        " Otherwise two of the strings that were hashed have one digest.",
+        " There is one exception to all of this: two different strings of a set that the contract names have one digest.",
         [
             "A message is signed only after the register took it as the new state, in place of the state that the call was handed.",
             "The register is not rolled back.",
@@ -166,9 +166,9 @@ CLAIMS = [
         "What a proof is worth",
         "An audit path is accepted exactly if it leads from the leaf to the root (RFC 9162, section 2.1.3.2), and a consistency proof exactly if it leads to both roots (section 2.1.4.2)."
         " Every honest proof is accepted. Compared with a list of leaves that has the root, an accepted path shows that the leaf is in the list at its index. Under consistent heads no two clients are shown two different leaves at one index."
-        " Otherwise two of the strings that were hashed have one digest.",
+        " There is one exception to all of this: two different strings of a set that the contract names have one digest.",
         [
-            "For `explain`, the leaves that are handed in are those of the head. The verdicts have no premise.",
+            "For `explain`, the leaves that are handed in are those of the head. What `verify_inclusion` and `verify_consistency` return has no premise.",
         ],
         [
             Contract("ct_tree/src/laws.rt", "mth_of_leaves", [], "MTH is defined by the equations of RFC 6962, section 2.1."),
