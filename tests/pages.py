@@ -244,7 +244,7 @@ def report(clone, left):
     print("Not run here: " + ", ".join(f"{len(given)} by {runs}" for runs, given in by.items()) + ".")
     for command, why in clone.left_out.items():
         print(f"Left out: {command} ({why}).")
-    of, kit = (subprocess.run(words, cwd=ROOT, capture_output=True, text=True).stdout.strip() for words in (["git", "rev-parse", "--short=12", "HEAD"], ["rt", "version"]))
+    of, kit = (subprocess.run(words, cwd=clone.top, capture_output=True, text=True).stdout.strip() for words in (["git", "rev-parse", "--short=12", "HEAD"], ["rt", "version"]))
     where = f"in a fresh clone of {of}, with {kit}"
     if clone.failed:
         print(f"pages.py: {len(clone.failed)} of {clone.count} commands failed {where}:")
