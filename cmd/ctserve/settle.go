@@ -1,0 +1,264 @@
+package main
+
+import (
+	"errors"
+	"fmt"
+	"net"
+	"net/url"
+	"path/filepath"
+	"strings"
+	"time"
+
+	"wagtenib/internal/settingsfile"
+	"wagtenib/internal/stores"
+	"wagtenib/internal/web"
+	"wagtenib/internal/witness"
+)
+
+// settle checks which settings need one another, and fills in the defaults that follow from others.
+func (s *settings) settle() error {
+	n := &s.node
+	for _, check := range []func() error{s.settleArchive, s.checkNeeded, s.settleAddresses, s.settleRules,
+		s.checkDurations, n.settleMergeDelay, s.settleLimits, n.settleStores, n.settleWitnesses} {
+		if err := check(); err != nil {
+			return err
+		}
+	}
+	return nil
+}
+
+// checkNeeded reports settings that are missing, and those that are of no use beside others.
+func (s *settings) checkNeeded() error {
+	n := &s.node
+	for _, needed := range []struct{ name, value string }{
+		{"roots", strings.Join(s.roots.Paths, "")},
+		{"origin", n.origin},
+		{"signing-key or --signer-socket", n.signingKey + n.signerAt},
+	} {
+		if needed.value == "" && n.archive == "" {
+			return fmt.Errorf("--%s is missing", needed.name)
+		}
+	}
+	if n.signerAt != "" && (n.signingKey != "" || n.guard != nil || n.guardState != "") {
+		return errors.New("--signer-socket replaces --signing-key, --guard and --guard-state: remove either")
+	}
+	if (s.certificate == "") != (s.key == "") {
+		return errors.New("--tls-certificate and --tls-key need each other")
+	}
+	return nil
+}
+
+// settleAddresses checks the names and addresses under which the log is read, and at which it listens.
+func (s *settings) settleAddresses() error {
+	if err := checkOrigin(s.node.origin); err != nil {
+		return err
+	}
+	if s.monitoringURL == "" {
+		s.monitoringURL = "https://" + s.node.origin + "/"
+	}
+	if err := checkMonitoringURL(s.monitoringURL); err != nil {
+		return err
+	}
+	return checkListeners(s.listen, s.node.peers.listen, s.operator)
+}
+
+// settleRules fills in which certificates are accepted.
+func (s *settings) settleRules() error {
+	s.rules.ServerAuthentication, s.roots.AnyPurpose = !s.anyPurpose, s.anyPurpose
+	if window := s.rules.Window; !window.From.IsZero() && !window.To.IsZero() && !window.From.Before(window.To) {
+		return errors.New("--not-after-start must be before --not-after-limit")
+	}
+	return nil
+}
+
+// checkDurations refuses durations that are not above 0. The zero value is no default of theirs.
+func (s *settings) checkDurations() error {
+	n, l := &s.node, &s.limits
+	for _, of := range []struct {
+		name  string
+		value time.Duration
+	}{
+		{"shutdown-timeout", s.endWithin},
+		{"header-timeout", l.Headers},
+		{"request-timeout", l.Request},
+		{"submission-timeout", l.Submission},
+		{"response-timeout", l.Answer},
+		{"idle-timeout", l.Idle},
+		{"max-merge-delay", n.maxMergeDelay},
+		{"open-timeout", n.openWithin},
+		{"delete-heads-after", n.sweepAfter},
+		{"delete-tiles-after", n.sweepTilesAfter},
+		{"scrub-interval", n.readEvery},
+		{"scrub-period", n.readAllWithin},
+		{"max-clock-skew", n.maxSkew},
+	} {
+		if err := settingsfile.Positive(of.name, of.value); err != nil {
+			return err
+		}
+	}
+	return nil
+}
+
+// settleLimits checks what clients and steps may use.
+func (s *settings) settleLimits() error {
+	n, l := &s.node, &s.limits
+	// One address may use a quarter of the proofs.
+	l.ProofsByAddress = max(n.maxProofs/4, 1)
+	for _, of := range []struct {
+		name       string
+		value, min int64
+	}{
+		{"max-connections", int64(l.Connections), 1},
+		{"max-connections-per-address", int64(l.ConnectionsByAddress), 1},
+		{"submission-rate-per-address", int64(l.SubmissionRate), 0},
+		{"read-rate-per-address", int64(l.ReadRate), 0},
+		{"max-checks", int64(l.Checks), 1},
+		{"max-queued-bytes", l.WaitingBytes, web.MaxBody},
+		{"max-response-bytes", l.AnswerBytes, stores.MaxObject},
+		{"max-queue", int64(n.maxQueue), 1},
+		{"max-batch", int64(n.maxBatch), 1},
+		{"max-write-rate", int64(n.maxWritten), 1},
+		{"max-proofs", int64(n.maxProofs), 1},
+	} {
+		if of.value < of.min {
+			return fmt.Errorf("--%s %d is too small (write at least %d, or leave %s out)", of.name, of.value, of.min, of.name)
+		}
+	}
+	return nil
+}
+
+// settleStores fills in the addresses of stores and the names of files that follow from the folder.
+func (n *node) settleStores() error {
+	for _, address := range []struct {
+		of   *string
+		text string
+	}{
+		{&n.store, "folder:" + filepath.Join(n.folder, "objects")},
+		{&n.register, "file:" + filepath.Join(n.folder, "register")},
+		{&n.places, "sqlite:" + filepath.Join(n.folder, "places")},
+	} {
+		if *address.of == "" {
+			*address.of, n.makesFolder = address.text, true
+		}
+	}
+	if n.guardState == "" && n.signerAt == "" {
+		n.guardState = "file:" + beside(n.folder, ".guard")
+	}
+	if n.latestHead == "" {
+		n.latestHead = beside(n.folder, ".latest-head")
+	}
+	n.namedDay = strings.TrimSuffix(n.latestHead, ".latest-head") + ".day"
+	if err := n.peers.check(); err != nil {
+		return err
+	}
+	if n.peers.isSet() && strings.HasPrefix(n.places, "sqlite:") && !strings.HasPrefix(n.register, "file:") {
+		return errors.New("--nodes-address: nodes on several machines must share one index: " +
+			"use PostgreSQL (--index postgres://HOST/DATABASE?log=NAME) instead of a file on each machine")
+	}
+	return nil
+}
+
+// checkMonitoringURL refuses what is no monitoring prefix (C2SP static-ct-api, "Parameters"): readers append paths to
+// it.
+func checkMonitoringURL(text string) error {
+	at, err := url.Parse(text)
+	if err != nil || at.Scheme != "https" || at.Host == "" || at.User != nil || at.RawQuery != "" || at.Fragment != "" ||
+		!strings.HasSuffix(at.Path, "/") {
+		return fmt.Errorf("--monitoring-url %q is no https URL that ends with a slash "+
+			"(write for example https://read.log.example/2027h1/)", text)
+	}
+	return nil
+}
+
+// settleMergeDelay refuses a merge delay that a log list cannot have, and an age of heads with which an idle log would
+// not keep it (RFC 6962, section 3.5).
+func (n *node) settleMergeDelay() error {
+	if n.maxMergeDelay%time.Second != 0 {
+		return fmt.Errorf("--max-merge-delay %v is no whole number of seconds, as a log list needs it (write for example 1m)",
+			n.maxMergeDelay)
+	}
+	if n.refresh == 0 {
+		n.refresh = n.maxMergeDelay / 2
+	}
+	if n.refresh >= n.maxMergeDelay {
+		return fmt.Errorf("--refresh-interval %v is not below --max-merge-delay %v, "+
+			"so an idle log would serve heads that are older than it publishes (leave refresh-interval out)",
+			n.refresh, n.maxMergeDelay)
+	}
+	return nil
+}
+
+// checkOrigin refuses a name that cannot be a log's origin. An origin is the submission prefix as a URL, without the
+// scheme and without a slash at the end (C2SP static-ct-api). It is signed with each head, and so cannot be changed
+// later.
+func checkOrigin(origin string) error {
+	wrong := func(why, remedy string) error { return fmt.Errorf("--origin %q: %s (%s)", origin, why, remedy) }
+	switch {
+	case strings.Contains(origin, "://"):
+		return wrong("it has a scheme", "leave https:// out")
+	case strings.HasPrefix(origin, "/") || strings.HasSuffix(origin, "/"):
+		return wrong("it begins or ends with a slash", "leave that out")
+	case strings.ContainsAny(origin, "+?#"):
+		return wrong("it has a character that a submission prefix cannot have", "leave +, ? and # out")
+	}
+	for _, sign := range origin {
+		if sign <= ' ' || sign > '~' {
+			return wrong("it has a space or a character that is not ASCII", "write a domain name in its xn-- form")
+		}
+	}
+	return nil
+}
+
+// checkListeners checks that each address is a host and a port, and that no two are the same.
+func checkListeners(addresses ...string) error {
+	taken := map[string]bool{}
+	for _, address := range addresses {
+		if address == "" {
+			continue
+		}
+		_, port, err := net.SplitHostPort(address)
+		if err != nil {
+			return fmt.Errorf("%q is not an address to listen at: %w (write HOST:PORT)", address, err)
+		}
+		number, err := net.LookupPort("tcp", port)
+		if err != nil {
+			return fmt.Errorf("%q is not an address to listen at: %w (a port is 0 to 65535)", address, err)
+		}
+		if number != 0 && taken[address] {
+			return fmt.Errorf("two listeners have the address %s (--listen, --operator-listen and --nodes-listen must differ)",
+				address)
+		}
+		taken[address] = true
+	}
+	return nil
+}
+
+// settleWitnesses fills in the quorums, and checks that they are possible.
+func (n *node) settleWitnesses() error {
+	q := &n.quorums
+	if len(n.witnesses) == 0 {
+		if *q != (witness.Quorums{}) {
+			return errors.New("--publish-quorum, --start-quorum and --faulty-witnesses need --witnesses")
+		}
+		return nil
+	}
+	for _, of := range []*int{&q.Publish, &q.Start} {
+		if *of == 0 {
+			*of = (len(n.witnesses)+q.Faults)/2 + 1
+		}
+	}
+	if err := witness.CheckDistinct(n.witnesses); err != nil {
+		return err
+	}
+	return q.Check(len(n.witnesses))
+}
+
+// beside returns the name of a file that belongs to a log's folder and is not in it, so that a copy of the folder does
+// not have it and an older copy does not restore it.
+func beside(folder, kind string) string {
+	if whole, err := filepath.Abs(folder); err == nil && filepath.Base(filepath.Clean(folder)) != filepath.Base(whole) {
+		// (. and .. have no name of their own)
+		folder = whole
+	}
+	return filepath.Clean(folder) + kind
+}

@@ -1,0 +1,88 @@
+package main
+
+import (
+	"fmt"
+	"net/netip"
+	"strconv"
+	"strings"
+	"time"
+
+	"wagtenib/internal/settingsfile"
+	"wagtenib/internal/web"
+)
+
+func prefixes(text string) (found []netip.Prefix, err error) {
+	for _, part := range strings.Split(text, ",") {
+		prefix, err := prefixOf(part)
+		if err != nil {
+			return nil, err
+		}
+		found = append(found, prefix)
+	}
+	return found, nil
+}
+
+// prefixOf reads a prefix, or an address as the prefix with only this address.
+func prefixOf(text string) (netip.Prefix, error) {
+	text = strings.TrimSpace(text)
+	if address, err := netip.ParseAddr(text); err == nil {
+		return address.Prefix(address.BitLen())
+	}
+	prefix, err := netip.ParsePrefix(text)
+	return prefix.Masked(), err
+}
+
+// submitters reads prefixes, each with a bound. No prefix may occur twice.
+func submitters(text string) (found []web.Submitter, err error) {
+	for _, part := range strings.Split(text, ",") {
+		of, bound, _ := strings.Cut(part, "=")
+		prefix, err := prefixOf(of)
+		if err != nil {
+			return nil, err
+		}
+		most, err := strconv.Atoi(strings.TrimSpace(bound))
+		if err != nil || most < 1 {
+			return nil, fmt.Errorf("%s has no bound above 0: PREFIX=NUMBER", strings.TrimSpace(part))
+		}
+		for _, other := range found {
+			if other.Prefix == prefix {
+				return nil, fmt.Errorf("%s occurs twice", prefix)
+			}
+		}
+		found = append(found, web.Submitter{Prefix: prefix, Most: most})
+	}
+	return found, nil
+}
+
+// isOn reads true or false.
+func isOn(into **bool) func(string) error {
+	return func(text string) error {
+		on, err := strconv.ParseBool(text)
+		if err != nil {
+			return fmt.Errorf("%q is neither true nor false (the guard is part of this program, and on if nothing is set)", text)
+		}
+		*into = &on
+		return nil
+	}
+}
+
+// above0 reads a duration, which must be above 0.
+func above0(into *time.Duration) func(string) error {
+	return func(text string) error {
+		set, err := settingsfile.Duration(text)
+		if err == nil && set <= 0 {
+			err = fmt.Errorf("%v is not above 0 (write for example 50ms or 30s)", set)
+		}
+		*into = set
+		return err
+	}
+}
+
+func timestamp(into *time.Time) func(string) error {
+	return func(text string) (err error) {
+		if *into, err = time.Parse("2006-01-02", text); err != nil {
+			*into, err = time.Parse(time.RFC3339, text)
+		}
+		return err
+	}
+}
