@@ -300,7 +300,7 @@ uint32_t wagtenib_step_begin(uint64_t timestamp, uint8_t *out, size_t room, uint
 uint32_t wagtenib_step_needs(const uint8_t *state, size_t state_length, uint8_t *out, size_t room, uint64_t *length);
 
 /* A step from this state, a Step, at the timestamp `now`, which is at most max_ahead milliseconds beyond the state's. 0, 8, 9 or the first reason in this
- * order: 10, 55, 56, 48 (the edge is no list), 36, 35, 48, 49, 50, 51, 52. */
+ * order: 10, 55, 56, 36, 35, 48, 49, 50, 51, 52. */
 uint32_t wagtenib_step(const uint8_t *origin, size_t origin_length, const uint8_t *state, size_t state_length, const uint8_t *edge, size_t edge_length,
                        const uint8_t *batch, size_t batch_length, uint64_t now, uint64_t max_ahead, uint8_t *out, size_t room, uint64_t *length);
 
@@ -399,10 +399,10 @@ uint32_t wagtenib_lock_text(const uint8_t *line, size_t line_length, const uint8
 /* Reads a lock's text. 0: its state and number of entries are written. 114: nothing is written. */
 uint32_t wagtenib_lock_state(const uint8_t *text, size_t text_length, struct wagtenib_node_state *state, uint64_t *tree_size);
 
-/* Writes the name of a state's staged batch, `staging/` and 48 hexadecimal digits. */
+/* Writes the name of a state's staged batch, `staging/` and 48 hexadecimal digits in lower case. */
 void wagtenib_batch_name(const struct wagtenib_node_state *state, uint8_t name[56]);
 
-/* Reads the name of a staged batch. 0: its state is written. 115: nothing is written. */
+/* Reads the name of a staged batch. 0: its state is written, and wagtenib_batch_name writes this very name for it. 115: nothing is written. */
 uint32_t wagtenib_batch_state(const uint8_t *name, size_t name_length, struct wagtenib_node_state *state);
 
 /* Tiles of hashes (C2SP tlog-tiles). A reader asks for the names of the tiles that a root, an audit path or a consistency proof is made of, fetches these

@@ -4,9 +4,9 @@ import re
 
 from explore import State
 
-# A lock's text, whose second line may be anything. Digits are read in either case.
+# A lock's text, whose second line may be anything. Its digits are read in either case, and those of a name only in lower case.
 TEXT = re.compile(rb"growth ([0-9a-fA-F]{16})([0-9a-fA-F]{16}).{256}\nnode .*\nsalt ([0-9a-fA-F]{16})([0-9a-fA-F]{16})\n", re.DOTALL)
-NAME = re.compile(rb"staging/([0-9a-fA-F]{16})([0-9a-fA-F]{16})([0-9a-fA-F]{16})")
+NAME = re.compile(rb"staging/([0-9a-f]{16})([0-9a-f]{16})([0-9a-f]{16})")
 
 
 def said(text):

@@ -324,7 +324,7 @@ func FuzzBatchName(f *testing.F) {
 		digits, hasFolder := strings.CutPrefix(name, "staging/")
 		numbers, err := hex.DecodeString(digits)
 		state, got := wagtenib.BatchState([]byte(name))
-		if !hasFolder || err != nil || len(numbers) != 24 {
+		if !hasFolder || err != nil || len(numbers) != 24 || digits != strings.ToLower(digits) {
 			if !errors.Is(got, wagtenib.ErrBatchName) || state != (wagtenib.NodeState{}) {
 				t.Fatalf("%q: %+v, %v", name, state, got)
 			}
@@ -332,7 +332,7 @@ func FuzzBatchName(f *testing.F) {
 		}
 		at := func(i int) uint64 { return binary.BigEndian.Uint64(numbers[8*i:]) }
 		if want := (wagtenib.NodeState{Timestamp: at(0), PreviousTimestamp: at(1), Salt: at(2)}); got != nil ||
-			state != want || wagtenib.BatchName(state) != strings.ToLower(name) {
+			state != want || wagtenib.BatchName(state) != name {
 			t.Fatalf("%q: %+v, %v, but %+v is due", name, state, got, want)
 		}
 	})

@@ -200,7 +200,8 @@ func BatchName(of NodeState) string {
 	return string(name[:])
 }
 
-// BatchState returns the state whose staged batch has a name. The error is nil or ErrBatchName.
+// BatchState returns the state whose staged batch has a name, which BatchName returns for it. The error is nil or
+// ErrBatchName.
 func BatchState(name []byte) (NodeState, error) {
 	var state C.struct_wagtenib_node_state
 	err := result(C.wagtenib_batch_state(ofBytes(name), C.size_t(len(name)), &state))

@@ -102,7 +102,7 @@ func TestBatchNames(t *testing.T) {
 	if state, err := wagtenib.BatchState([]byte(name)); err != nil || state != made {
 		t.Errorf("%+v, %v", state, err)
 	}
-	for _, bad := range []string{"", name[1:], name + "0", "stagin./" + name[8:], name[:55] + "x"} {
+	for _, bad := range []string{"", name[1:], name + "0", "stagin./" + name[8:], name[:55] + "x", name[:55] + "A"} {
 		if _, err := wagtenib.BatchState([]byte(bad)); !errors.Is(err, wagtenib.ErrBatchName) {
 			t.Errorf("%q: %v", bad, err)
 		}

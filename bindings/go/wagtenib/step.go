@@ -177,9 +177,9 @@ func StepNeeds(state string) (names []string, err error) {
 // appended by AppendContent in the order of StepNeeds, and the batch has the submissions, appended by AppendSubmission.
 // The timestamp now is in milliseconds.
 //
-// The error is nil or the first reason of ErrOrigin, ErrBatch, ErrTooMany, ErrEdge (the edge is no list), ErrState,
-// ErrTimestampTooFar (now is more than maxAhead beyond the state's timestamp), ErrEdge, ErrEntries, ErrClockBack,
-// ErrLogFull, ErrDataTileTooLong and ErrMemory.
+// The error is nil or the first reason of ErrOrigin, ErrBatch, ErrTooMany, ErrState, ErrTimestampTooFar (now is more
+// than maxAhead beyond the state's timestamp), ErrEdge, ErrEntries, ErrClockBack, ErrLogFull, ErrDataTileTooLong and
+// ErrMemory.
 func MakeStep(origin, state string, edge, batch []byte, now, maxAhead uint64) (*Step, error) {
 	reply, err := answered(len(edge)+2*len(batch)+len(batch)/4+32768,
 		func(out *C.uint8_t, room C.size_t, length *C.uint64_t) C.uint32_t {

@@ -3,14 +3,17 @@ use Rattle.std.proofs.Common.{◌≡◌, ◌∙◌, ℕ, zero, suc, ◌+◌, ◌
 use Rattle.std.specs.Prelude.{codes, bytes_eq, option_map, option_and_then, Err, Bool, true, false, ◌==◌, ◌&&◌, nat_lt, if◌then◌else◌}
 use Rattle.std.specs.Int.{w64, from_be_bytes}
 use Rattle.std.proofs.lemmas.Nat.{from_be_bytes-to_be_bytes_8}
+use Rattle.std.proofs.lemmas.Option.{none-some}
+use Rattle.std.proofs.lemmas.Slice.Eq.{bytes_eq-Decides}
 use Rattle.hex.specs.Hex.{lower_digits, decode_of, decode_pairs, decode_sized, IsBytes}
 use Rattle.hex.specs.declared.error.FromHexError.TheVariants.{OddLength, InvalidStringLength}
 use Rattle.hex.proofs.HexLemmas.{length-encode_with, decode_of-encode_lower}
 use Rattle.ct_codec.specs.Bytes.{num}
 use Rattle.ct_codec.proofs.Refusals.{length-num}
 use Rattle.ct_log_state.proofs.Lines.{num_small, indexed}
-use Rattle.ct_lock_text.specs.LockText.{digits_number, decoded_number, number_digits, number_from, has_word, has_words, numbers_said, text_said, said_of, bundle_name, numbers_state}
-use Rattle.ct_lock_text.specs.Laws.{NamesSayTheirState, TextsSayTheirState}
+use Rattle.ct_node.specs.declared.state.State.{State}
+use Rattle.ct_lock_text.specs.LockText.{digits_number, decoded_number, number_digits, number_from, has_word, has_words, numbers_said, text_said, said_of, bundle_name, if_named, numbers_state}
+use Rattle.ct_lock_text.specs.Laws.{NamesSayTheirState, ReadNamesAreWritten, TextsSayTheirState}
 
 -- ---- a number's digits
 
@@ -76,7 +79,27 @@ names_say_their_state s h =
     (number_at s.moment 8 name (b ++ c) h.0 (append_assoc m b c))
     (number_at s.before 24 name c h.1 (ap (λ z. drop 16 z) (append_assoc m b c) ∙ drop_past m (b ++ c) 16 0 (omega (arith, digits_long s.moment))))
     (number_last s.salt 40 name h.2 (drop_past (m ++ b) c 32 0 (omega (arith, digits_long s.moment, digits_long s.before, length-append m b)))) in
-    ap (λ t. if t then (if has_word 0 (codes "staging/") name then numbers_state name else None) else None) (eq-eqb (length name) 56 long) ∙ read
+    ap (λ t. if t then option_and_then (if_named name) (numbers_state name) else None) (eq-eqb (length name) 56 long)
+    ∙ ap (option_and_then (if_named name)) read ∙ ap (λ t. if t then Some s else None) ((bytes_eq-Decides name name).1 refl)
+
+-- the state in an Option, or another one if there is none
+abbrev state_or : State → Option State → State
+state_or other None = other
+state_or other (Some s) = s
+
+named : (name : List ℕ) (found s : State) (same : Bool) → bytes_eq (bundle_name found) name ≡ same → (if same then Some found else None) ≡ Some s
+    → name ≡ bundle_name s
+named name found s true same e = sym ((bytes_eq-Decides (bundle_name found) name).0 same) ∙ ap bundle_name (ap (state_or s) e)
+named name found s false same e = absurd (none-some s e)
+
+numbered_name : (name : List ℕ) (s : State) (long : Bool) (numbers : Option State)
+    → (if long then option_and_then (if_named name) numbers else None) ≡ Some s → name ≡ bundle_name s
+numbered_name name s true (Some found) e = named name found s (bytes_eq (bundle_name found) name) refl e
+numbered_name name s true None e = absurd (none-some s e)
+numbered_name name s false numbers e = absurd (none-some s e)
+
+pub read_names_are_written : ReadNamesAreWritten
+read_names_are_written name s e = numbered_name name s (length name == 56) (numbers_state name) e
 
 -- ---- texts
 

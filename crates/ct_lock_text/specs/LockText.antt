@@ -81,6 +81,10 @@ numbers_state name =
     option_and_then (λ m. option_and_then (λ b. option_map (λ s. record { moment = m; before = b; salt = s }) (number_from 40 name))
     (number_from 24 name)) (number_from 8 name)
 
--- the state whose staged batch has this name
+-- this state, if its staged batch has this name
+abbrev pub if_named : List ℕ → State → Option State
+if_named name s = if bytes_eq (bundle_name s) name then Some s else None
+
+-- the state whose staged batch has this name: it has the three numbers that the name writes, in lower case
 abbrev pub name_state : List ℕ → Option State
-name_state name = if length name == 56 then (if has_word 0 (codes "staging/") name then numbers_state name else None) else None
+name_state name = if length name == 56 then option_and_then (if_named name) (numbers_state name) else None

@@ -1,10 +1,12 @@
 //! Theorems about the definitions. Each is the contract of a function that does nothing.
 
-ghost use Rattle.ct_lock_text.specs.Laws.{NamesSayTheirState, TextsSayTheirState};
+ghost use Rattle.ct_lock_text.specs.Laws.{NamesSayTheirState, ReadNamesAreWritten, TextsSayTheirState};
 
-/// Everything that is written for a state is read again: its name (`names`), and the next text of its line (`texts`).
-#[tactic(auto, using(crate::proofs::Names::names_say_their_state, crate::proofs::Names::texts_say_their_state))]
+/// Everything that is written for a state is read again: its name (`names`), and the next text of its line (`texts`). A state is read only
+/// from the name that is written for it (`only_names`).
+#[tactic(auto, using(crate::proofs::Names::names_say_their_state, crate::proofs::Names::read_names_are_written, crate::proofs::Names::texts_say_their_state))]
 pub fn written_is_read()
     ensures names { NamesSayTheirState }
+    ensures only_names { ReadNamesAreWritten }
     ensures texts { TextsSayTheirState }
 {}

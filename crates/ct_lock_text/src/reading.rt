@@ -1,8 +1,9 @@
 //! Reads a lock's text, and the name of a staged batch.
 
-ghost use Rattle.std.specs.Prelude.{◌≡◌, ◌≤◌, ◌+◌, length};
-ghost use Rattle.ct_lock_text.specs.LockText.{digits_number, number_from, has_word, has_words, moment_before, numbers_said, text_said, says_root, numbers_state, name_state};
+ghost use Rattle.std.specs.Prelude.{◌≡◌, ◌≤◌, ◌+◌, length, bytes_eq};
+ghost use Rattle.ct_lock_text.specs.LockText.{digits_number, number_from, has_word, has_words, moment_before, numbers_said, text_said, says_root, numbers_state, bundle_name, name_state};
 
+use crate::writing::write_name;
 use ct_node::State;
 
 /// The content of a lock's text.
@@ -123,15 +124,25 @@ fn state_in(name: &[u8]) -> Option<State>
     })
 }
 
-/// Returns the state whose staged batch has this name, or None if no batch has it.
+// Reports whether a state's staged batch has this name.
+fn has_name(state: &State, name: &[u8]) -> bool
+    ensures { result ≡ bytes_eq (bundle_name state.now) name.now }
+{
+    let mut written = [0u8; 56];
+    write_name(state, &mut written);
+    written.as_slice() == name
+}
+
+/// Returns the state whose staged batch has this name, or None if no batch has it. A name with digits in upper case is that of no batch.
 pub fn state_of_name(name: &[u8]) -> Option<State>
     ensures state { result ≡ name_state name.now }
 {
     if name.len() != 56 {
         return None;
     }
-    if has(name, 0, b"staging/") {
-        state_in(name)
+    let state = state_in(name)?;
+    if has_name(&state, name) {
+        Some(state)
     } else {
         None
     }

@@ -10,7 +10,8 @@ use Rattle.ct_step_calls.specs.StepRepeats.{BatchEntry}
 use Rattle.ct_step_calls.specs.StepReplies.{IsReplyText, answer_parts}
 use Rattle.ct_step_calls.specs.StepWords.{StepReply, refuses}
 use Rattle.ct_step_calls.specs.declared.answer.Answer.{Answer}
-use Rattle.ct_step_calls.specs.declared.answer.StepRefusal.TheVariants.{BadBatch, TooMany, Edge}
+use Rattle.ct_step_calls.specs.declared.answer.StepRefusal.{StepRefusal}
+use Rattle.ct_step_calls.specs.declared.answer.StepRefusal.TheVariants.{BadBatch, TooMany}
 use Rattle.ct_step_calls.proofs.StepKept.{by_reply, by_less}
 
 module _ {F : Type 0} (r : Result Answer F) (origin batch edge : List ℕ) (now : ℕ) (state : List ℕ) (most : ℕ) where
@@ -27,12 +28,14 @@ module _ {F : Type 0} (r : Result Answer F) (origin batch edge : List ℕ) (now 
       let asked : for_too_many ≡ step_of_batch (Some B) C now state most = rw (lt-ltb 4096 (length B) many) refl in
       by_reply r origin (refuses TooMany) (IsReplyToStep batch edge now state most) (for_too_many, (Some B, C, is, read, asked), refl) told
 
-  -- the bytes are not contents
-  pub no_edge : (B : List BatchEntry) → IsBatchText batch (Some B) → IsContentsText edge None → length B ≤ 4096
-      → IfOk r (λ t. answer_parts t ≡ Err Edge) → IfOk r (λ t. IsReplyText origin t (IsReplyToStep batch edge now state most))
-  no_edge B is none few told =
-      let asked : for_no_edge ≡ step_of_batch (Some B) None now state most = rw (le-ltb 4096 (length B) few) refl in
-      by_reply r origin (refuses Edge) (IsReplyToStep batch edge now state most) (for_no_edge, (Some B, None, is, none, asked), refl) told
+  -- the bytes are not contents, and this is why there is no step
+  pub no_edge : (B : List BatchEntry) (refusal : StepRefusal) → IsBatchText batch (Some B) → IsContentsText edge None → length B ≤ 4096
+      → IsReplyTo (for_no_edge now state most) (refuses refusal) → IfOk r (λ t. answer_parts t ≡ Err refusal)
+      → IfOk r (λ t. IsReplyText origin t (IsReplyToStep batch edge now state most))
+  no_edge B refusal is none few to told =
+      let asked : for_no_edge now state most ≡ step_of_batch (Some B) None now state most = rw (le-ltb 4096 (length B) few) refl in
+      by_reply r origin (refuses refusal) (IsReplyToStep batch edge now state most)
+      (for_no_edge now state most, (Some B, None, is, none, asked), to) told
 
   -- the reply to a step
   pub is_step : (B : List BatchEntry) (C : List (List ℕ)) → IsBatchText batch (Some B) → IsContentsText edge (Some C) → length B ≤ 4096

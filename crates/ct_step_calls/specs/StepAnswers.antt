@@ -169,7 +169,8 @@ IsClaimReplyBy H line claim path s reply =
 abbrev pub IsClaimReply : StateLine → Claim → List (List ℕ) → Submitted → StepReply → Type 0
 IsClaimReply line claim path s reply = IsClaimReplyBy sha256 line claim path s reply
 
--- The reply to each request. Every other reply is wrong.
+-- The reply to each request. Every other reply is wrong. An edge that is not a list of contents is refused as one with more or fewer contents
+-- than are needed: the state and the timestamp are judged before it.
 abbrev pub IsReplyToBy : (List ℕ → List ℕ) → StepAsk → StepReply → Type 0
 IsReplyToBy H (for_begin moment) reply = reply ≡ begins (first_line_by H moment)
 IsReplyToBy H (for_needs state) reply = OfState state reply (λ line. reply ≡ names_edge (needed_names line.tree_size))
@@ -178,7 +179,7 @@ IsReplyToBy H (for_step batch contents now state most) reply =
 IsReplyToBy H for_too_many reply = reply ≡ refuses name.TooMany
 IsReplyToBy H (for_resume bundle state) reply = OfState state reply (λ line. IsResumeReplyBy H line bundle reply)
 IsReplyToBy H (for_claim claim path state s) reply = OfState state reply (λ line. IsClaimReplyBy H line claim path s reply)
-IsReplyToBy H for_no_edge reply = reply ≡ refuses name.Edge
+IsReplyToBy H (for_no_edge now state most) reply = OfState state reply (λ line. IsBoundedReplyBy H line None [] now most reply)
 IsReplyToBy H for_no_batch reply = reply ≡ refuses name.BadBatch
 
 -- the same by SHA-256

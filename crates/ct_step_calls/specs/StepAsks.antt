@@ -11,7 +11,7 @@ use Rattle.ct_step_calls.specs.StepRepeats.{BatchEntry}
 -- - `for_step`: a step, of submissions with their chains' fingerprints, the contents at the edge, a timestamp, a state and the maximum
 --   number of milliseconds by which the timestamp may be after that of the state
 -- - `for_too_many`: a step of more submissions than a call may have
--- - `for_no_edge`: a step with an edge that is not a list of contents
+-- - `for_no_edge`: a step with an edge that is not a list of contents, by its timestamp, its state and the maximum number of milliseconds
 -- - `for_resume`: the objects of a step that was decided, by its staged batch and its state
 -- - `for_claim`: the receipt of a submission's entry, by the index and timestamp that are claimed for it, an audit path and a state
 -- - `for_no_batch`: a step or a receipt for bytes that are not submissions
@@ -20,14 +20,14 @@ pub data StepAsk : Type 0 where
   for_needs : List ℕ → StepAsk
   for_step : List BatchEntry → List (List ℕ) → ℕ → List ℕ → ℕ → StepAsk
   for_too_many : StepAsk
-  for_no_edge : StepAsk
+  for_no_edge : ℕ → List ℕ → ℕ → StepAsk
   for_resume : List ℕ → List ℕ → StepAsk
   for_claim : Claim → List (List ℕ) → List ℕ → Submitted → StepAsk
   for_no_batch : StepAsk
 
 -- a step with the contents at the edge, if there are any
 abbrev pub step_of_edge : List BatchEntry → Option (List (List ℕ)) → ℕ → List ℕ → ℕ → StepAsk
-step_of_edge batch None now state most = for_no_edge
+step_of_edge batch None now state most = for_no_edge now state most
 step_of_edge batch (Some contents) now state most = for_step batch contents now state most
 
 -- a step of this batch, of at most 4,096 submissions

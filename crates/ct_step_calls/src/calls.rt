@@ -12,7 +12,9 @@ use crate::answer::{Answer, StepRefusal};
 use crate::entry::Entry;
 use crate::reading::{batch_of, contents_of};
 use crate::replies::{begun_line, refused_line};
-use crate::stepping::{claim_reply, first_line, needs_reply, resume_reply, step_reply};
+use crate::stepping::{
+    claim_reply, edge_refusal, first_line, needs_reply, resume_reply, step_reply,
+};
 use ct_codec::Submission;
 use ct_growth::Claim;
 use std::alloc::{AllocError, Global};
@@ -56,7 +58,7 @@ pub fn step(
     }
     match contents {
         Some(contents) => step_reply(alloc, origin, entries, &contents, now, most, state),
-        None => refused_line(StepRefusal::Edge),
+        None => refused_line(edge_refusal(state, now, most)),
     }
 }
 

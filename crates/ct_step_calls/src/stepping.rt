@@ -1,15 +1,15 @@
 //! Replies to requests.
 
-ghost use Rattle.std.specs.Prelude.{◌≡◌, ◌+◌, ◌^◌, ◌<◌, ◌≤◌, ℕ, List, [], All, IfOk, map, Some};
+ghost use Rattle.std.specs.Prelude.{◌≡◌, ◌+◌, ◌^◌, ◌<◌, ◌≤◌, ℕ, List, [], All, IfOk, map, None, Some};
 ghost use Rattle.std.specs.Bool.{MatchBool};
 ghost use Rattle.sha2.specs.Sha256.{sha256};
 ghost use Rattle.ct_log_state.specs.Resumed.{object_parts};
 ghost use Rattle.ct_log_state.specs.Lines.{IsStateLine};
-ghost use Rattle.ct_step_calls.specs.StepAsks.{for_needs, for_step, for_resume, for_claim};
+ghost use Rattle.ct_step_calls.specs.StepAsks.{for_needs, for_no_edge, for_step, for_resume, for_claim};
 ghost use Rattle.ct_step_calls.specs.StepBytes.{entry_parts};
 ghost use Rattle.ct_step_calls.specs.StepAnswers.{first_line, edge_of, AreObjectsIn, IsStepReply, TellsObjects, IsBoundedReply, IsResumeReply, IsClaimReply, IsReplyTo};
 ghost use Rattle.ct_step_calls.specs.StepReplies.{IsReplyText};
-ghost use Rattle.ct_step_calls.specs.StepWords.{IsTileName, bundle_size, names_edge, StepReply};
+ghost use Rattle.ct_step_calls.specs.StepWords.{IsTileName, bundle_size, names_edge, refuses, StepReply};
 ghost use Rattle.ct_log_state.specs.Needed.{needed_names};
 
 use crate::answer::{Answer, StepRefusal};
@@ -210,6 +210,27 @@ pub(crate) fn step_reply(
     match StateLine::read(state) {
         Some(line) => bounded(alloc, origin, &line, batch, contents, now, most),
         None => refused_line(StepRefusal::BadState),
+    }
+}
+
+// Returns why there is no step from a line with an edge that is not a list of contents.
+fn line_refusal(line: &StateLine, now: u64, most: u64) -> StepRefusal
+    ensures { IsBoundedReply line.now None [] now most (refuses result) }
+{
+    if is_too_far(line, now, most) {
+        StepRefusal::TooFar
+    } else {
+        StepRefusal::Edge
+    }
+}
+
+// Returns why there is no step with an edge that is not a list of contents: the state and the timestamp are judged before the edge.
+pub(crate) fn edge_refusal(state: &[u8], now: u64, most: u64) -> StepRefusal
+    ensures { IsReplyTo (for_no_edge now state.now most) (refuses result) }
+{
+    match StateLine::read(state) {
+        Some(line) => line_refusal(&line, now, most),
+        None => StepRefusal::BadState,
     }
 }
 

@@ -7,7 +7,7 @@ use Rattle.ct_log_state.specs.Lines.{IsStateLine, NoStateLine, state_line_text}
 use Rattle.ct_log_state.specs.declared.line.StateLine.{StateLine}
 use Rattle.ct_step.specs.declared.step.Step.{Step}
 use Rattle.ct_step_calls.specs.StepAnswers.{edge_of, first_line_by, IsBoundedReplyBy, IsClaimReplyBy, IsReplyTo, IsReplyToBy, IsResumeReplyBy, IsStepReplyBy, TellsClaimBy, TellsNoStepBy, TellsObjectsBy, TellsStepBy}
-use Rattle.ct_step_calls.specs.StepAsks.{StepAsk, for_begin, for_claim, for_resume, for_step, for_too_many, claim_of_batch, step_of_batch, step_of_edge}
+use Rattle.ct_step_calls.specs.StepAsks.{StepAsk, for_begin, for_claim, for_no_edge, for_resume, for_step, for_too_many, claim_of_batch, step_of_batch, step_of_edge}
 use Rattle.ct_step_calls.specs.StepBytes.{IsBatchText, IsContentsText}
 use Rattle.ct_step_calls.specs.StepCalls.{IsReplyToClaim, IsReplyToStep}
 use Rattle.ct_step_calls.specs.StepLaws.{RepliedStepsAreAttempts}
@@ -107,13 +107,21 @@ module _ (origin state : List ℕ) (now ahead : ℕ) (reply : StepReply) (t : Li
       (λ (x : NoStateLine state × (reply ≡ refuses BadState)). none BadState x.1)
       r
 
+  of_no_edge : {A : Type 0} → IsReplyTo (for_no_edge now state ahead) reply → A
+  of_no_edge r =
+      ⊎_elim
+      (λ (x : (line : StateLine) × IsStateLine line × (state_line_text line ≡ state) × IsBoundedReplyBy sha256 line None [] now ahead reply).
+      ⊎_elim (λ y. none TooFar y.1) (λ y. none Edge y.1) x.3)
+      (λ (x : NoStateLine state × (reply ≡ refuses BadState)). none BadState x.1)
+      r
+
   abbrev pub IsMade : List ℕ → List ℕ → Type 0
   IsMade batch edge = (B : List BatchEntry) × (C : List (List ℕ)) × IsBatchText batch (Some B) × IsContentsText edge (Some C)
       × IsReplyTo (for_step B C now state ahead) reply × Made
 
   of_contents : (batch edge : List ℕ) (B : List BatchEntry) (contents : Option (List (List ℕ))) → IsBatchText batch (Some B) → IsContentsText edge contents
       → IsReplyTo (step_of_edge B contents now state ahead) reply → IsMade batch edge
-  of_contents batch edge B None b c r = none Edge r
+  of_contents batch edge B None b c r = of_no_edge r
   of_contents batch edge B (Some C) b c r = (B, C, b, c, r, of_state B C r)
 
   of_count : (batch edge : List ℕ) (B : List BatchEntry) (contents : Option (List (List ℕ))) (many : Bool) → IsBatchText batch (Some B) → IsContentsText edge contents

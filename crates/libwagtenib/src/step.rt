@@ -80,7 +80,7 @@ pub extern "C" fn wagtenib_step_needs(
 }
 
 /// A step from a state: of a batch, with the contents of the objects that it needs, at a timestamp that is at most `max_ahead` milliseconds beyond the
-/// state's. 0, 8, 9 or the number of the first reason why there is none, in this order: 10, 55, 56, 48 (the edge is no list), 36, 35, 48 to 52.
+/// state's. 0, 8, 9 or the number of the first reason why there is none, in this order: 10, 55, 56, 36, 35, 48 to 52.
 #[tactic(auto, using(crate::proofs::Told::told))]
 #[unsafe(no_mangle)]
 pub extern "C" fn wagtenib_step(

@@ -210,7 +210,7 @@ pub fn needs(state: &str) -> Result<Vec<String>, Error> {
 ///
 /// # Errors
 ///
-/// The first reason of [`Error::BadOrigin`], [`Error::BadBatch`], [`Error::TooMany`], [`Error::Edge`] (the edge is no list), [`Error::BadState`],
+/// The first reason of [`Error::BadOrigin`], [`Error::BadBatch`], [`Error::TooMany`], [`Error::BadState`],
 /// [`Error::TimestampTooFar`] (`now` is more than `max_ahead` beyond the state's timestamp), [`Error::Edge`], [`Error::Entries`], [`Error::ClockBack`],
 /// [`Error::LogFull`] and [`Error::DataTileTooLong`]; or [`Error::OutOfMemory`].
 pub fn step(origin: &str, state: &str, edge: &[u8], batch: &[u8], now: u64, max_ahead: u64) -> Result<Step, Error> {

@@ -63,7 +63,8 @@ fn batches_have_names() {
     let name = "staging/000000000000000900000000000000070000000000000002";
     assert_eq!(lock::batch_name(MADE), name);
     assert_eq!(lock::batch_state(name.as_bytes()), Ok(MADE));
-    for wrong in ["", &name[1..], "stagin./000000000000000900000000000000070000000000000002"] {
+    let upper = "staging/00000000000000090000000000000007000000000000000A";
+    for wrong in ["", &name[1..], "stagin./000000000000000900000000000000070000000000000002", upper] {
         assert_eq!(lock::batch_state(wrong.as_bytes()), Err(Error::BadBatchName));
     }
 }

@@ -33,5 +33,6 @@ returns-in-None c =
     let batch = map entry_parts c.in-Some.entries.items in
     let is = rw c.in-Some.is at c.in_ok-entries.ensures in
     let none = rw c.in-None.is at c.in_ok-contents.ensures in
-    no_edge c.refused_line-in-None.result c.args.origin.now c.args.batch.now c.args.edge.now c.args.now c.args.state.now c.args.most batch is none
-    (omega (arith, length-map c.in-Some.entries.items entry_parts, c.len.ensures, c.if-len-gt-MOST.false)) c.refused_line-in-None.ensures
+    no_edge c.refused_line-in-None.result c.args.origin.now c.args.batch.now c.args.edge.now c.args.now c.args.state.now c.args.most batch
+    c.edge_refusal.result is none (omega (arith, length-map c.in-Some.entries.items entry_parts, c.len.ensures, c.if-len-gt-MOST.false))
+    c.edge_refusal.ensures c.refused_line-in-None.ensures
