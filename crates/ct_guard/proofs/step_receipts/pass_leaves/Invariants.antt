@@ -1,7 +1,7 @@
 use Rattle.std.proofs.Common.{◌+◌, ◌-◌, ◌≤◌, drop, length, map}
-use Rattle.ct_step_receipts.specs.StepReceipts.{AreLeavesOf, StopsLeaves}
+use Rattle.ct_guard.specs.StepReceipts.{AreLeavesOf, StopsLeaves}
 use Rattle.ct_guard.specs.declared.refusal.ReceiptRefusal.{ReceiptRefusal}
-use Rattle.ct_step_receipts.proofs.receipts.pass_leaves.Given as goal
+use Rattle.ct_guard.proofs.step_receipts.pass_leaves.Given as goal
 
 -- If all leaves that are left are let through, all leaves are. A refusal of one that is left is a refusal of all leaves.
 abbrev pub invariant-place : goal.invariant-place

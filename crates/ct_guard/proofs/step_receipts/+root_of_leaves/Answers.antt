@@ -1,7 +1,7 @@
 use Rattle.std.specs.Borrow.{Bor}
 use Rattle.std.proofs.Common.{ℕ, List, arith, ◌∙◌}
-use Rattle.ct_step_receipts.proofs.StepBodies.{root_of_one, root_of_both}
-use Rattle.ct_step_receipts.proofs.receipts.+root_of_leaves.Goals as goal
+use Rattle.ct_guard.proofs.StepBodies.{root_of_one, root_of_both}
+use Rattle.ct_guard.proofs.step_receipts.+root_of_leaves.Goals as goal
 
 abbrev bytes : Bor (List ℕ) → List ℕ
 bytes leaf = leaf.now

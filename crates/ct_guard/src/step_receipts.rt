@@ -2,12 +2,12 @@
 ghost use Rattle.std.specs.Prelude.{◌≡◌, ◌+◌, ◌<◌, ◌^◌, length, map, MatchResult, Some, true};
 ghost use Rattle.std.specs.Bool.{MatchBool};
 ghost use Rattle.ct_guard.specs.Guarded.{IsLeafOf};
-ghost use Rattle.ct_step_receipts.specs.StepReceipts.{AreLeavesOf, EndsWithTree, PassesReceipts, root_after as root_of_step};
-ghost use Rattle.ct_step_receipts.specs.StepReceipts.{StopsLeaf, StopsLeaves, StopsReceipts};
+ghost use Rattle.ct_guard.specs.StepReceipts.{AreLeavesOf, EndsWithTree, PassesReceipts, root_after as root_of_step};
+ghost use Rattle.ct_guard.specs.StepReceipts.{StopsLeaf, StopsLeaves, StopsReceipts};
 ghost use Rattle.ct_tree.specs.Tree.{mth_of_leaves};
 
+use crate::{Guard, ReceiptRefusal, is_own_index};
 use ct_codec::lend_leaf;
-use ct_guard::{Guard, ReceiptRefusal, is_own_index};
 use ct_tree::{Head, NodeHash, is_same_digest, largest_power_below, leaf_hash, node_hash};
 use ct_verify::ProofFault;
 
@@ -130,7 +130,7 @@ fn pass_leaves(last: &Head, first: u64, leaves: &[&[u8]]) -> Result<(), ReceiptR
 /// before, largest first ([`ct_tree::Stack`] keeps them). The receipts are let through if the subtrees and the leaves
 /// give the root of the last head, and each leaf is not later than that head (RFC 6962, section 3.5) and has no
 /// extensions, or only its index (leaf_index, C2SP static-ct-api). The bytes to sign are then those of each leaf, as
-/// for [`ct_guard::pass_receipt`].
+/// for [`crate::pass_receipt`].
 ///
 /// # Errors
 /// The first of these: `NoHead`, `NotThere(IndexOutOfRange)` (there are no leaves, or they end elsewhere),

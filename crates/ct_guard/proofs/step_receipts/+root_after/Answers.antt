@@ -2,9 +2,9 @@ use Rattle.std.specs.Borrow.{Bor}
 use Rattle.std.proofs.Common.{ℕ, List, length, arith, sym, ◌∙◌, map}
 use Rattle.std.proofs.lemmas.Bool.{eqb-true}
 use Rattle.std.proofs.lemmas.List.{nil_from_length}
-use Rattle.ct_step_receipts.proofs.StepBodies.{nothing_before, something_before, low_none, low_some, no_subtree}
-use Rattle.ct_step_receipts.proofs.StepBodies.{high_none, high_some}
-use Rattle.ct_step_receipts.proofs.receipts.+root_after.Goals as goal
+use Rattle.ct_guard.proofs.StepBodies.{nothing_before, something_before, low_none, low_some, no_subtree}
+use Rattle.ct_guard.proofs.StepBodies.{high_none, high_some}
+use Rattle.ct_guard.proofs.step_receipts.+root_after.Goals as goal
 
 abbrev bytes : Bor (List ℕ) → List ℕ
 bytes leaf = leaf.now

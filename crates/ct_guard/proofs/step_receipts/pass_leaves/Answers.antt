@@ -1,7 +1,7 @@
 use Rattle.std.specs.Borrow.{Bor}
 use Rattle.std.proofs.Common.{ℕ, List, arith}
-use Rattle.ct_step_receipts.proofs.StepBodies.{passes_at, stops_at, stops_after, none_after}
-use Rattle.ct_step_receipts.proofs.receipts.pass_leaves.Goals as goal
+use Rattle.ct_guard.proofs.StepBodies.{passes_at, stops_at, stops_after, none_after}
+use Rattle.ct_guard.proofs.step_receipts.pass_leaves.Goals as goal
 
 abbrev bytes : Bor (List ℕ) → List ℕ
 bytes leaf = leaf.now

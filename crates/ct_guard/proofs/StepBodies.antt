@@ -9,8 +9,8 @@ use Rattle.ct_tree.specs.declared.head.Head.{Head}
 use Rattle.ct_verify.proofs.Shown.{leaves_one, leaves_split}
 use Rattle.ct_guard.specs.Guarded.{IsLeafOf}
 use Rattle.ct_guard.specs.declared.refusal.ReceiptRefusal.{ReceiptRefusal}
-use Rattle.ct_step_receipts.specs.StepReceipts.{node_of, root_after, AreLeavesOf, StopsLeaf, StopsLeaves}
-use Rattle.ct_step_receipts.proofs.StepReceipts.{after_none, after_low, after_no_first, after_first}
+use Rattle.ct_guard.specs.StepReceipts.{node_of, root_after, AreLeavesOf, StopsLeaf, StopsLeaves}
+use Rattle.ct_guard.proofs.StepReceipts.{after_none, after_low, after_no_first, after_first}
 
 -- ---- leaves one after the other
 pub none_left : {X : Type 0} (f : X → List ℕ) (last : Head) (m : ℕ) (leaves : List X) → leaves ≡ []

@@ -15,10 +15,10 @@ use Rattle.ct_older_tree.proofs.ListProofs.{same_lists}
 use Rattle.ct_older_tree.proofs.OlderTree.{HasTree}
 use Rattle.ct_older_tree.specs.Hashed.{CollideAmong, IsHashedIn}
 use Rattle.ct_older_tree.specs.Hashed.IsHashedIn.{node, left, right}
-use Rattle.ct_step_receipts.specs.StepReceipts.{node_of, with_first, whole_root, root_within, root_after}
-use Rattle.ct_step_receipts.specs.StepReceipts.{IsHashedAfter, StepReceiptsStand}
-use Rattle.ct_step_receipts.specs.StepReceipts.IsHashedAfter.{whole, left_node, in_left, in_right, right_node}
-use Rattle.ct_step_receipts.specs.StepReceipts.IsHashedAfter.{after_left}
+use Rattle.ct_guard.specs.StepReceipts.{node_of, with_first, whole_root, root_within, root_after}
+use Rattle.ct_guard.specs.StepReceipts.{IsHashedAfter, StepReceiptsStand}
+use Rattle.ct_guard.specs.StepReceipts.IsHashedAfter.{whole, left_node, in_left, in_right, right_node}
+use Rattle.ct_guard.specs.StepReceipts.IsHashedAfter.{after_left}
 
 -- ---- the recursion without its bound
 module _ (H : List ℕ → List ℕ) where
