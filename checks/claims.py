@@ -219,7 +219,7 @@ CLAIMS = [
             Contract("ct_names/src/laws.rt", "read_certificates_are_there", [], "Nothing else is read."),
             Contract("ct_names/src/laws.rt", "covering_is_by_labels", [], "A name covers a watched one by labels."),
             Contract("ct_names/src/laws.rt", "names_stay_under_the_cut", [], "A precertificate has the names of its certificate."),
-            Contract("ct_name_calls/src/in_bytes.rt", "in_bytes_text", [], "The watched names whose text is in some bytes, as the library writes them."),
+            Contract("ct_names/src/found_in_bytes.rt", "in_bytes_text", [], "The watched names whose text is in some bytes, as the library writes them."),
         ],
         "There are none. Names in other fields (otherName, directoryName) are not names of this claim: only the search in bytes finds them.",
     ),

@@ -31,8 +31,8 @@ use Rattle.ct_monitor_calls.specs.declared.answer.Answer.{Answer}
 use Rattle.ct_monitor_calls.specs.declared.answer.EntriesAnswer.{EntriesAnswer}
 use Rattle.ct_monitor_calls.specs.declared.entries.FaultyEntry.{FaultyEntry}
 use Rattle.ct_monitor_calls.specs.declared.entries.LaterEntry.{LaterEntry}
-use Rattle.ct_name_calls.specs.declared.names.EntryKind.{EntryKind}
-use Rattle.ct_name_calls.specs.declared.names.EntryKind.TheVariants.{X509, Precert}
+use Rattle.ct_names.specs.declared.name_bytes.EntryKind.{EntryKind}
+use Rattle.ct_names.specs.declared.name_bytes.EntryKind.TheVariants.{X509, Precert}
 use Rattle.ct_tile_names.specs.declared.tile.Tile.{Tile}
 use Rattle.libwagtenib.specs.Codes.{DecodesLeaf, Describes, leaf_code}
 use Rattle.libwagtenib.specs.DataTiles.{ComparesTile, IsAnswerTold, WritesTileEntries, tile_code}

@@ -10,7 +10,7 @@ use Rattle.ct_monitor_calls.specs.Entries.{IsFirstFaulty, IsFirstLater, leaves_t
 use Rattle.ct_monitor_calls.specs.StateText.{IsMonitorState}
 use Rattle.ct_monitor_calls.specs.declared.entries.FaultyEntry.{FaultyEntry}
 use Rattle.ct_monitor_calls.specs.declared.entries.LaterEntry.{LaterEntry}
-use Rattle.ct_name_calls.specs.declared.names.EntryKind.{EntryKind}
+use Rattle.ct_names.specs.declared.name_bytes.EntryKind.{EntryKind}
 use Rattle.ct_tile_names.specs.declared.tile.Tile.{Tile}
 use Rattle.libwagtenib.specs.Codes.{DecodesLeaf}
 use Rattle.libwagtenib.specs.DataTiles.{ComparesTile, WritesTileEntries}
