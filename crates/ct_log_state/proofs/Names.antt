@@ -1,10 +1,10 @@
 -- A tile's name is short, and the names of the objects at the right edge.
 use Rattle.std.proofs.Common.{◌≡◌, ℕ, zero, suc, ◌+◌, ◌*◌, ◌/◌, ◌%◌, ◌<◌, ◌≤◌, ◌^◌, true, false, Bool, cond, List, [], ◌∷◌, ◌++◌, length, ap, arith, codes, nat_lt, add-one, refl, length-append, ◌∙◌, sym, Vec, Global}
 use Rattle.std.proofs.Math.Nat.{pow-suc, div-div-eq-div-mul}
-use Rattle.ct_tile_names.specs.Names.{three_digits, decimal, group, leading_groups, index_text, content_text, width_text, name_text}
-use Rattle.ct_tile_names.specs.declared.tile.Content.{Content}
-use Rattle.ct_tile_names.specs.declared.tile.Content.TheVariants.{Hashes, Entries}
-use Rattle.ct_tile_names.specs.declared.tile.Tile.{Tile}
+use Rattle.ct_data_tiles.specs.TileNames.{three_digits, decimal, group, leading_groups, index_text, content_text, width_text, name_text}
+use Rattle.ct_data_tiles.specs.declared.tile.Content.{Content}
+use Rattle.ct_data_tiles.specs.declared.tile.Content.TheVariants.{Hashes, Entries}
+use Rattle.ct_data_tiles.specs.declared.tile.Tile.{Tile}
 use Rattle.ct_log_state.specs.Needed.{level_names, partial_name}
 
 either : (b : Bool) (x y : List ℕ) (n : ℕ) → length x ≤ n → length y ≤ n → length (cond b x y) ≤ n

@@ -1,8 +1,8 @@
 -- The names of the objects at a log's right edge.
 use Rattle.std.specs.Prelude.{ℕ, zero, suc, ◌/◌, ◌%◌, ◌^◌, nat_lt, if◌then◌else◌, List, [], ◌∷◌, ◌++◌}
-use Rattle.ct_tile_names.specs.Names.{name_text}
-use Rattle.ct_tile_names.specs.declared.tile.Content.{Content}
-use Rattle.ct_tile_names.specs.declared.tile.Content.TheVariants.{Hashes, Entries}
+use Rattle.ct_data_tiles.specs.TileNames.{name_text}
+use Rattle.ct_data_tiles.specs.declared.tile.Content.{Content}
+use Rattle.ct_data_tiles.specs.declared.tile.Content.TheVariants.{Hashes, Entries}
 
 -- the name of the partial tile after the full ones if n hashes or entries leave one, and otherwise no name
 abbrev pub partial_name : Content → ℕ → List (List ℕ)

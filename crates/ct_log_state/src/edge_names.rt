@@ -1,11 +1,11 @@
 //! The names of the objects that a step needs in addition to the line.
 
 ghost use Rattle.std.specs.Prelude.{◌≡◌, ◌++◌, ◌≤◌, ℕ, map, IfOk, OnOk};
-ghost use Rattle.ct_tile_names.specs.Names.{IsContent};
+ghost use Rattle.ct_data_tiles.specs.TileNames.{IsContent};
 ghost use Rattle.ct_log_state.specs.Needed.{partial_name, needed_names};
 
 use crate::line::StateLine;
-use ct_tile_names::{Content, Tile};
+use ct_data_tiles::{Content, Tile};
 use std::alloc::{AllocError, Global};
 
 // Appends the name of the partial tile after the full ones, if `count` hashes or entries leave one.

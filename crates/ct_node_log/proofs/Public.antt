@@ -5,8 +5,8 @@ use Rattle.hex.specs.Hex.{encode_lower, decode_of, IsBytes}
 use Rattle.hex.specs.declared.error.FromHexError.{FromHexError}
 use Rattle.hex.proofs.HexLemmas.{decode_of-encode_lower}
 use Rattle.ct_data_tiles.specs.TileLeaf.{Tiled}
-use Rattle.ct_tile_names.specs.Names.{name_text}
-use Rattle.ct_tile_names.specs.declared.tile.Tile.{Tile}
+use Rattle.ct_data_tiles.specs.TileNames.{name_text}
+use Rattle.ct_data_tiles.specs.declared.tile.Tile.{Tile}
 use Rattle.ct_older_tree.proofs.Agreeing.{collide_more, one_hash}
 use Rattle.ct_older_tree.specs.Hashed.{CollideAmong}
 use Rattle.ct_node.specs.Worlds.{Has, Object, World}

@@ -2,8 +2,8 @@
 use Rattle.std.specs.Prelude.{◌≡◌, ◌⊎◌, ℕ, ◌<◌, ◌≤◌, List, length, take}
 use Rattle.ct_data_tiles.specs.TileLeaf.{Tiled}
 use Rattle.ct_log_state.specs.declared.line.StateLine.{StateLine}
-use Rattle.ct_tile_names.specs.Names.{IsTile, name_text}
-use Rattle.ct_tile_names.specs.declared.tile.Tile.{Tile}
+use Rattle.ct_data_tiles.specs.TileNames.{IsTile, name_text}
+use Rattle.ct_data_tiles.specs.declared.tile.Tile.{Tile}
 use Rattle.ct_older_tree.specs.Hashed.{CollideAmong}
 use Rattle.ct_node.specs.declared.state.State.{State}
 use Rattle.ct_node.specs.Worlds.{Has, Made, Object, World, IsFirstState}

@@ -55,7 +55,7 @@ pub fn kept()
     nodes();
     ct_node::laws::sweeps();
     ct_node::laws::worlds();
-    ct_tile_names::laws::names();
+    ct_data_tiles::name_laws::names();
 }
 
 /// Beside such nodes, any guards may protect the log's key, over one lock of their own. Take the heads that they let through one after the
@@ -76,7 +76,7 @@ pub fn names()
     ensures one_content { StepsHaveOneContent }
 {
     ct_tiles::laws::tiles();
-    ct_tile_names::laws::names();
+    ct_data_tiles::name_laws::names();
 }
 
 /// Suppose that waiting entries are looked up before each step, that the deduplication index misses no entry that was added, and that no

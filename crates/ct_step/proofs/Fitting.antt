@@ -5,7 +5,7 @@ use Rattle.std.proofs.lemmas.List.{get_or_append_left, get_or_at, length-take}
 use Rattle.std.proofs.lemmas.List.Elements.{All-nil, All-push, All-append, All-take, All-drop, All-get_or}
 use Rattle.ct_tiles.specs.Tiles.{hashes, tile}
 use Rattle.ct_data_tiles.specs.Rows.{data_tile, data_tiles_from}
-use Rattle.ct_tile_names.specs.declared.tile.Content.TheVariants.{Hashes, Entries}
+use Rattle.ct_data_tiles.specs.declared.tile.Content.TheVariants.{Hashes, Entries}
 use Rattle.ct_growth.proofs.EdgesTell.{hashes_32}
 use Rattle.ct_growth.proofs.Roots.{has_32}
 use Rattle.ct_log_state.specs.Bundle.{IsObject}

@@ -3,10 +3,10 @@ use Rattle.std.proofs.Common.{◌≡◌, ◌∙◌, ◌⊎◌, inl, inr, ⊎_eli
 use Rattle.std.specs.Prelude.{true, false, nat_lt, if◌then◌else◌, ◌^◌}
 use Rattle.std.proofs.lemmas.List.{length-drop}
 use Rattle.std.proofs.lemmas.List.Elements.{All-nil, All-cons, All-append}
-use Rattle.ct_tile_names.specs.Names.{IsContent}
-use Rattle.ct_tile_names.specs.declared.tile.Content.{Content}
-use Rattle.ct_tile_names.specs.declared.tile.Content.TheVariants.{Hashes, Entries}
-use Rattle.ct_tile_names.specs.declared.tile.Tile.{Tile}
+use Rattle.ct_data_tiles.specs.TileNames.{IsContent}
+use Rattle.ct_data_tiles.specs.declared.tile.Content.{Content}
+use Rattle.ct_data_tiles.specs.declared.tile.Content.TheVariants.{Hashes, Entries}
+use Rattle.ct_data_tiles.specs.declared.tile.Tile.{Tile}
 use Rattle.ct_tiles.specs.Tiles.{hashes}
 use Rattle.ct_tiles.proofs.Cuts.{cut_width, hashes_short}
 use Rattle.ct_data_tiles.specs.TileLeaf.{Tiled}

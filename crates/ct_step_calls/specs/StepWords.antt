@@ -3,8 +3,8 @@ use Rattle.std.specs.Prelude.{◌≡◌, ◌+◌, ◌∷◌, [], ℕ, List, leng
 use Rattle.ct_growth.specs.Leaves.{receipt_parts}
 use Rattle.ct_log_state.specs.declared.line.StateLine.{StateLine}
 use Rattle.ct_step.specs.declared.step.Step.{Step}
-use Rattle.ct_tile_names.specs.Names.{IsTile, name_text}
-use Rattle.ct_tile_names.specs.declared.tile.Tile.{Tile}
+use Rattle.ct_data_tiles.specs.TileNames.{IsTile, name_text}
+use Rattle.ct_data_tiles.specs.declared.tile.Tile.{Tile}
 use Rattle.ct_step_calls.specs.declared.places.Place.{Place}
 use Rattle.ct_step_calls.specs.declared.answer.StepRefusal.{StepRefusal}
 

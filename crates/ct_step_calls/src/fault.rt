@@ -8,16 +8,15 @@ ghost use Rattle.ct_growth.specs.declared.growth.GrowthFault.TheVariants.{Refuse
 ghost use Rattle.ct_growth.specs.declared.claim.ClaimFault.TheVariants.{Refused as ClaimRefused};
 ghost use Rattle.ct_step.specs.declared.step.StepFault.TheVariants.{Growth};
 ghost use Rattle.ct_data_tiles.specs.declared.fault.DataTileFault.TheVariants.{Memory as DataTileMemory};
-ghost use Rattle.ct_tile_names.specs.declared.tile.NameFault.TheVariants.{NoSuchTile, Memory as NameMemory};
+ghost use Rattle.ct_data_tiles.specs.declared.tile.NameFault.TheVariants.{NoSuchTile, Memory as NameMemory};
 ghost use Rattle.ct_step_calls.specs.StepAnswers.{NamesStepFault};
 
 use crate::answer::StepRefusal;
 use ct_codec::Refusal;
-use ct_data_tiles::DataTileFault;
+use ct_data_tiles::{DataTileFault, NameFault};
 use ct_growth::{ClaimFault, GrowthFault};
 use ct_log_state::ResumeFault;
 use ct_step::StepFault;
-use ct_tile_names::NameFault;
 use std::alloc::AllocError;
 
 // The meaning of a step that was not made: the name of the refusal, unless memory could not be allocated. Another refusal of the codec has

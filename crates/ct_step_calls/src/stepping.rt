@@ -20,10 +20,10 @@ use crate::places::places_of;
 use crate::repeats::split_batch;
 use crate::replies::{claimed_line, names_line, refused_line, resumed_line, stepped_line};
 use ct_codec::Submission;
+use ct_data_tiles::Tile;
 use ct_growth::{Claim, answer_repeat};
 use ct_log_state::{Object, StateLine, needed, resume};
 use ct_step::{Step, take_step};
-use ct_tile_names::Tile;
 use ct_tree::{Head, NodeHash, Sha256Hash};
 use std::alloc::{AllocError, Global};
 

@@ -7,9 +7,9 @@ use Rattle.ct_verify.specs.Evidence.{IsAudited}
 use Rattle.ct_verify.specs.InclusionEvidence.{IsAccepted}
 use Rattle.ct_older_tree.specs.Hashed.{CollideAmong}
 use Rattle.ct_older_tree.specs.ListLaws.{IsHashedInAudit, IsHashedBetween}
-use Rattle.ct_tile_names.specs.Names.{IsTile, name_text}
-use Rattle.ct_tile_names.specs.declared.tile.Content.TheVariants.{Hashes}
-use Rattle.ct_tile_names.specs.declared.tile.Tile.{Tile}
+use Rattle.ct_data_tiles.specs.TileNames.{IsTile, name_text}
+use Rattle.ct_data_tiles.specs.declared.tile.Content.TheVariants.{Hashes}
+use Rattle.ct_data_tiles.specs.declared.tile.Tile.{Tile}
 use Rattle.ct_tile_reader.specs.Needed.{root_tiles, path_tiles, proof_tiles}
 use Rattle.ct_tile_reader.specs.Handed.{handed_fault, AreTilesOf}
 use Rattle.ct_tile_reader.specs.declared.handed.HandedFault.{HandedFault}

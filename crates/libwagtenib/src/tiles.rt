@@ -10,7 +10,7 @@ ghost use Rattle.libwagtenib.specs.Output.{WritesOutput};
 use crate::codes;
 use crate::codes::OUT_OF_MEMORY;
 use crate::output::{write_hashes, write_output};
-use ct_tile_names::{Content, Tile};
+use ct_data_tiles::{Content, Tile};
 use ct_tile_reader::{
     HandedFault, NeededTile, path_of_handed, proof_of_handed, root_of_handed, tiles_for_path,
     tiles_for_proof, tiles_for_root,

@@ -1,7 +1,7 @@
 use Rattle.std.proofs.Common.{◌∙◌, ◌++◌, ℕ, List, map, arith, sym, ap}
 use Rattle.ct_log_state.proofs.Names.{text_in}
 use Rattle.ct_log_state.proofs.Names.{rest-step}
-use Rattle.ct_tile_names.specs.declared.tile.Content.TheVariants.{Hashes}
+use Rattle.ct_data_tiles.specs.declared.tile.Content.TheVariants.{Hashes}
 use Rattle.ct_log_state.specs.Needed.{level_names, partial_name}
 use Rattle.ct_log_state.proofs.Names.{names-none, names-more}
 use Rattle.ct_log_state.proofs.edge_names.needed.Goals as goal
