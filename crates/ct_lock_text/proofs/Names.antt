@@ -8,7 +8,7 @@ use Rattle.hex.specs.declared.error.FromHexError.TheVariants.{OddLength, Invalid
 use Rattle.hex.proofs.HexLemmas.{length-encode_with, decode_of-encode_lower}
 use Rattle.ct_codec.specs.Bytes.{num}
 use Rattle.ct_codec.proofs.Refusals.{length-num}
-use Rattle.ct_log_state.proofs.Lines.{num_small, indexed}
+use Rattle.ct_step.proofs.StateLines.{num_small, indexed}
 use Rattle.ct_lock_text.specs.LockText.{digits_number, decoded_number, number_digits, number_from, has_word, has_words, numbers_said, text_said, said_of, bundle_name, numbers_state}
 use Rattle.ct_lock_text.specs.Laws.{NamesSayTheirState, TextsSayTheirState}
 

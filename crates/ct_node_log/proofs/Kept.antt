@@ -4,7 +4,7 @@ use Rattle.std.proofs.lemmas.List.{take-append-drop, take-append-le, take-take, 
 use Rattle.std.proofs.lemmas.List.Concat.{flat_map-append}
 use Rattle.ct_codec.specs.Parts.{joined}
 use Rattle.ct_data_tiles.specs.TileLeaf.{Tiled}
-use Rattle.ct_log_state.specs.declared.line.StateLine.{StateLine}
+use Rattle.ct_step.specs.declared.line.StateLine.{StateLine}
 use Rattle.ct_data_tiles.specs.NameAnswers.{NamesDiffer}
 use Rattle.ct_data_tiles.specs.TileNames.{IsTile, name_text}
 use Rattle.ct_data_tiles.specs.declared.tile.Tile.{Tile}

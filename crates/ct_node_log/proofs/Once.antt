@@ -5,9 +5,9 @@ use Rattle.std.proofs.lemmas.List.{take_at, map-append, length-map}
 use Rattle.std.proofs.lemmas.List.Elements.{All-nil, All-head, All-tail, All-append}
 use Rattle.ct_codec.specs.Submitted.{Submitted, identity_of}
 use Rattle.ct_data_tiles.specs.TileLeaf.{Tiled, leaf_of}
-use Rattle.ct_growth.specs.Identities.{identity_of_leaf, LeavesKeepIdentities, AreApart, AreNewFrom}
-use Rattle.ct_growth.proofs.Lists.{AllPairs-first, AllPairs-rest, AllPairs-append, pairs_behind}
-use Rattle.ct_log_state.specs.declared.line.StateLine.{StateLine}
+use Rattle.ct_step.specs.Identities.{identity_of_leaf, LeavesKeepIdentities, AreApart, AreNewFrom}
+use Rattle.ct_step.proofs.Lists.{AllPairs-first, AllPairs-rest, AllPairs-append, pairs_behind}
+use Rattle.ct_step.specs.declared.line.StateLine.{StateLine}
 use Rattle.ct_older_tree.specs.Hashed.{CollideAmong}
 use Rattle.ct_node.specs.declared.state.State.{State}
 use Rattle.ct_node.specs.Worlds.{Has, Made, IsChain, PastsAreChains, HoldsNewest}

@@ -4,13 +4,13 @@ use Rattle.std.specs.Prelude.{Ok, ⊤, Bool, true, false, if◌then◌else◌, C
 use Rattle.std.proofs.lemmas.List.Elements.{recursion_from_All}
 use Rattle.std.specs.List.{AllByRecursion}
 use Rattle.ct_data_tiles.specs.TileLeaf.{Tiled}
-use Rattle.ct_log_state.specs.declared.line.StateLine.{StateLine}
+use Rattle.ct_step.specs.declared.line.StateLine.{StateLine}
 use Rattle.ct_older_tree.proofs.Agreeing.{one_hash}
 use Rattle.ct_older_tree.specs.Hashed.{CollideAmong}
 use Rattle.ct_node.specs.declared.state.State.{State}
 use Rattle.ct_node.specs.Worlds.{Has, Made, Object, World, IsChain, IsSoundWorld, WorldsAreSound, PastsAreChains}
-use Rattle.ct_log_state.specs.Bundle.{IsBundleOf}
-use Rattle.ct_log_state.specs.Resumed.{BundlesAreResumed, object_parts}
+use Rattle.ct_step.specs.Bundle.{IsBundleOf}
+use Rattle.ct_step.specs.Resumed.{BundlesAreResumed, object_parts}
 use Rattle.ct_step.specs.Lines.{LineAttempt, IsMadeOfLine, AreLineAttempts, LineSequencersAgree, entries_after, IsHashedBySteps, taken_lines, IsStepOf, CarryOnLines}
 use Rattle.ct_step.specs.Steps.{new_entries}
 use Rattle.ct_node_log.specs.Logs.{IsAttempt, AreStepsMade, IsOf, IsResumed, log_of_past, NodesWriteOneLog}

@@ -2,9 +2,9 @@
 use Rattle.std.proofs.Common.{◌≡◌, ◌∙◌, ◌⊎◌, ⊎_elim, inl, inr, refl, sym, ap, subst, ℕ, List, map}
 use Rattle.std.specs.Prelude.{Ok, Contains, take, length}
 use Rattle.ct_data_tiles.specs.TileLeaf.{Tiled}
-use Rattle.ct_log_state.specs.Bundle.{IsBundleOf}
-use Rattle.ct_log_state.specs.Resumed.{BundlesAreResumed, object_parts}
-use Rattle.ct_log_state.specs.declared.line.StateLine.{StateLine}
+use Rattle.ct_step.specs.Bundle.{IsBundleOf}
+use Rattle.ct_step.specs.Resumed.{BundlesAreResumed, object_parts}
+use Rattle.ct_step.specs.declared.line.StateLine.{StateLine}
 use Rattle.ct_node.specs.declared.state.State.{State}
 use Rattle.ct_node.specs.Worlds.{Has, Made, World, IsSoundWorld, WorldsAreSound}
 use Rattle.ct_node_log.specs.Logs.{NodesWriteOneLog, StandsOf, log_of_past}

@@ -4,7 +4,7 @@ use Rattle.std.specs.declared.option.Option.{Option}
 use Rattle.ct_tree.specs.declared.head.Head.{Head}
 use Rattle.ct_data_tiles.specs.TileLeaf.{Tiled}
 use Rattle.ct_guard.specs.NewestHead.{HeadStep, AreHeadSteps, IsHeadOfFirst, IsHashedForHeads}
-use Rattle.ct_log_state.specs.declared.line.StateLine.{StateLine}
+use Rattle.ct_step.specs.declared.line.StateLine.{StateLine}
 use Rattle.ct_older_tree.specs.Hashed.{CollideAmong}
 use Rattle.ct_node.specs.declared.state.State.{State}
 use Rattle.ct_node.specs.declared.node.Node.TheVariants.{Heading}

@@ -1,7 +1,7 @@
 -- The part of a log's tiles that is left if partial ones are deleted. H is any hash function on byte lists.
 use Rattle.std.specs.Prelude.{◌≡◌, ◌⊎◌, ℕ, ◌<◌, ◌≤◌, List, length, take}
 use Rattle.ct_data_tiles.specs.TileLeaf.{Tiled}
-use Rattle.ct_log_state.specs.declared.line.StateLine.{StateLine}
+use Rattle.ct_step.specs.declared.line.StateLine.{StateLine}
 use Rattle.ct_data_tiles.specs.TileNames.{IsTile, name_text}
 use Rattle.ct_data_tiles.specs.declared.tile.Tile.{Tile}
 use Rattle.ct_older_tree.specs.Hashed.{CollideAmong}

@@ -1,13 +1,13 @@
 -- The log that any number of nodes write: everything in the stores belongs to one list of entries. H is any hash function on byte lists.
 use Rattle.std.specs.Prelude.{◌≡◌, ◌⊎◌, ℕ, ◌<◌, List, [], ◌∷◌, ◌++◌, Contains, map, Ok, Vec, length, take}
 use Rattle.ct_data_tiles.specs.TileLeaf.{Tiled}
-use Rattle.ct_log_state.specs.declared.line.StateLine.{StateLine}
+use Rattle.ct_step.specs.declared.line.StateLine.{StateLine}
 use Rattle.ct_older_tree.specs.Hashed.{CollideAmong}
 use Rattle.ct_node.specs.declared.state.State.{State}
 use Rattle.ct_node.specs.Worlds.{Has, Made, Object, World, Happening, beginning, IsFirstState, LeadTo}
 use Rattle.std.specs.Global.{Global}
-use Rattle.ct_log_state.specs.Resumed.{AnswersResume, object_parts}
-use Rattle.ct_log_state.specs.declared.bundle.Object.{Object as Found}
+use Rattle.ct_step.specs.Resumed.{AnswersResume, object_parts}
+use Rattle.ct_step.specs.declared.bundle.Object.{Object as Found}
 use Rattle.ct_step.specs.Lines.{LineAttempt, IsHashedBySteps, IsMadeOfLine, IsStepOf}
 use Rattle.ct_step.specs.Steps.{new_entries, IsLog}
 use Rattle.ct_node_log.specs.Names.{IsTileOfEntries}

@@ -2,9 +2,9 @@
 use Rattle.std.specs.Prelude.{◌≡◌, ◌⊎◌, ℕ, ◌<◌, List, Contains, map, Ok, Vec}
 use Rattle.std.specs.Global.{Global}
 use Rattle.ct_data_tiles.specs.TileLeaf.{Tiled}
-use Rattle.ct_log_state.specs.Resumed.{AnswersResume, object_parts}
-use Rattle.ct_log_state.specs.declared.bundle.Object.{Object as Found}
-use Rattle.ct_log_state.specs.declared.line.StateLine.{StateLine}
+use Rattle.ct_step.specs.Resumed.{AnswersResume, object_parts}
+use Rattle.ct_step.specs.declared.bundle.Object.{Object as Found}
+use Rattle.ct_step.specs.declared.line.StateLine.{StateLine}
 use Rattle.ct_node.specs.declared.state.State.{State}
 use Rattle.ct_node.specs.Worlds.{Has, Made, Object, World, Happening, beginning, IsFirstState, LeadTo}
 use Rattle.ct_node_log.specs.Logs.{AreStepsMade, log_of_past}

@@ -22,7 +22,7 @@ pub fn nodes()
     ct_step::laws::sequencers_over_lines();
     ct_node::laws::worlds();
     names();
-    ct_log_state::laws::bundles();
+    ct_step::state_laws::bundles();
 }
 
 /// Suppose that the number of objects that such nodes learn of a state's staged batch is the number of objects in it. Then each object of the step of a published head
@@ -32,7 +32,7 @@ pub fn whole()
 {
     nodes();
     ct_node::laws::worlds();
-    ct_log_state::laws::bundles();
+    ct_step::state_laws::bundles();
 }
 
 /// Beside such nodes, anybody may put certificates of issuers, each under the name of its own digest. If any two objects (tiles, data tiles
@@ -87,5 +87,5 @@ pub fn no_identity_twice()
     ensures { NodesAddOnce }
 {
     ct_node::laws::worlds();
-    ct_growth::laws::leaves();
+    ct_step::growth_laws::leaves();
 }

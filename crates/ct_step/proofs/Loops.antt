@@ -11,7 +11,7 @@ use Rattle.ct_tiles.proofs.Stays.{row_is_tiles}
 use Rattle.ct_tiles.proofs.Words.{level_has_length}
 use Rattle.ct_data_tiles.specs.TileNames.{name_text}
 use Rattle.ct_data_tiles.specs.declared.tile.Tile.{Tile}
-use Rattle.ct_log_state.proofs.Names.{short_name}
+use Rattle.ct_step.proofs.Names.{short_name}
 use Rattle.ct_data_tiles.specs.declared.tile.Content.TheVariants.{Hashes, Entries}
 use Rattle.ct_data_tiles.specs.Rows.{data_tile, data_tiles_from}
 use Rattle.ct_data_tiles.proofs.Rows.{text_in}
