@@ -74,11 +74,11 @@ CLAIMS = [
             "For `no_identity_twice`: no batch has an identity twice (`AreStepsAdding`), and a step is made only after a look into the index that missed nothing that had been added to it, and found no identity of the batch (`AllLookUp`).",
         ],
         [
-            Contract("ct_node_log/src/laws.rt", "nodes", [], "The lock's states, the tiles and the receipts belong to the list of the known entries and of those that the steps added."),
-            Contract("ct_node_log/src/laws.rt", "heads", [], "The heads that guards approved belong to that list too, if their tree size is above 0 and a node asked for the last of them."),
-            Contract("ct_node_log/src/laws.rt", "whole", [], "Each object of the step of a published head was stored."),
-            Contract("ct_node_log/src/laws.rt", "kept", [], "After garbage collection, every tile that was put can still be read, under its own name or as the beginning of the full tile."),
-            Contract("ct_node_log/src/laws.rt", "no_identity_twice", [], "No identity is in the list twice after the known entries."),
+            Contract("ct_node/src/log_laws.rt", "nodes", [], "The lock's states, the tiles and the receipts belong to the list of the known entries and of those that the steps added."),
+            Contract("ct_node/src/log_laws.rt", "heads", [], "The heads that guards approved belong to that list too, if their tree size is above 0 and a node asked for the last of them."),
+            Contract("ct_node/src/log_laws.rt", "whole", [], "Each object of the step of a published head was stored."),
+            Contract("ct_node/src/log_laws.rt", "kept", [], "After garbage collection, every tile that was put can still be read, under its own name or as the beginning of the full tile."),
+            Contract("ct_node/src/log_laws.rt", "no_identity_twice", [], "No identity is in the list twice after the known entries."),
             Contract(
                 "libwagtenib/src/node_laws.rt",
                 "nodes_by_calls_write_one_log",

@@ -3,7 +3,7 @@ use Rattle.std.specs.Prelude.{◌≡◌, ◌↔◌, ◌⊎◌, ⊤, ℕ, ◌<◌
 use Rattle.std.specs.List.{AllZip}
 use Rattle.ct_data_tiles.specs.TileLeaf.{Tiled}
 use Rattle.ct_step.specs.Identities.{AreNewFrom}
-use Rattle.ct_lock_text.specs.LockText.{text_state}
+use Rattle.ct_node.specs.LockText.{text_state}
 use Rattle.ct_step.specs.StateLines.{state_line_text}
 use Rattle.ct_step.specs.declared.line.StateLine.{StateLine}
 use Rattle.ct_node.specs.declared.state.State.{State}
@@ -16,9 +16,9 @@ use Rattle.ct_node.specs.LookUps.{LooksUp}
 use Rattle.ct_node.specs.Nodes.{after}
 use Rattle.ct_node.specs.Starts.{NoneIsAhead}
 use Rattle.ct_node.specs.Worlds.{Has, Made, Object, World, Happening, Told, happens, beginning, MayHappen, MayBeTold, IsFirstState}
-use Rattle.ct_node_log.specs.Logs.{IsOf, AreStepsMade, StandsOf, log_of_past}
-use Rattle.ct_node_log.specs.Once.{entry_identities, AreStepsAdding}
-use Rattle.ct_node_log.specs.Whole.{AreAllPut, HasAllObjects}
+use Rattle.ct_node.specs.Logs.{IsOf, AreStepsMade, StandsOf, log_of_past}
+use Rattle.ct_node.specs.Once.{entry_identities, AreStepsAdding}
+use Rattle.ct_node.specs.Whole.{AreAllPut, HasAllObjects}
 use Rattle.ct_step.specs.Lines.{LineAttempt, IsHashedBySteps}
 use Rattle.ct_step.specs.declared.step.Step.{Step}
 use Rattle.ct_step.specs.StepAnswers.{IsReplyTo}
