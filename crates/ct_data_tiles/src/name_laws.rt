@@ -1,4 +1,4 @@
-//! Theorems about the definitions in `specs/Names.antt`.
+//! Theorems about the definitions in `specs/TileNames.antt`.
 ghost use Rattle.ct_data_tiles.specs.NameAnswers.{NamesDiffer};
 
 /// No two tiles have one name.

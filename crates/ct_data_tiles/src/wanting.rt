@@ -1,4 +1,4 @@
-//! The meaning of the errors of other crates in this one. Each is a value, unless memory could not be allocated.
+//! The meaning of the errors of names and of leaves in an answer. Each is a value, unless memory could not be allocated.
 
 ghost use Rattle.std.specs.Prelude.{◌≡◌, None, MatchResult};
 ghost use Rattle.ct_data_tiles.specs.declared.fault.DataTileFault.TheVariants.{Memory as TileMemory};

@@ -9,7 +9,7 @@ pub fn first_line_begins()
     ensures { FirstLineBegins }
 {}
 
-/// Each step in a reply is one to which the theorem about sequencers (`crate::laws::sequencers_over_lines`) applies, whoever passed the
+/// Each step in a reply is one to which the theorem about sequencers ([`crate::laws::sequencers_over_lines`]) applies, whoever passed the
 /// edge.
 pub fn replied_steps_are_attempts()
     ensures { RepliedStepsAreAttempts }
