@@ -76,7 +76,7 @@ TOLD = {
     "ct_lines/src/plan_reading.rt": {"Read": (1, "after the last turn over the lines")},
     "ct_parties/src/script.rt": {"Write": (2, "a reply of the closed log could not be written whole, or the output not handed on")},
     "ct_parties/src/threads.rt": {"Threads": (1, "a front's thread could not be started")},
-    "ct_data_tile_calls/src/entries.rt": {"Unwritten": (1, "of a leaf's bytes that were not made, a conversion of its own")},
+    "ct_data_tiles/src/entry_bytes.rt": {"Unwritten": (1, "of a leaf's bytes that were not made, a conversion of its own")},
     "ct_house/src/shelf.rt": {"NotAppended": (2, "`append` handed it back")},
     "ct_house/src/viewer.rt": {"Closed": (3, "no state is shown, or the state shown is older than the one learned")},
 }

@@ -1,7 +1,7 @@
 """Audit paths, consistency proofs and roots out of a log's tiles, by hashlib: the model of the calls of libwagtenib over tiles.
 
-path_tiles, proof_tiles and root_tiles give the tiles that each is made of in the tree of so many leaves (C2SP tlog-tiles), in the order of ct_tile_reader's
-tiles_for_path, tiles_for_proof and tiles_for_root. A Tree of their contents, in that order, gives PATH, PROOF and MTH (RFC 6962, section 2.1). The first tile
+path_tiles, proof_tiles and root_tiles give the tiles that each is made of in the tree of so many leaves (C2SP tlog-tiles), in the order of tiles_for_path,
+tiles_for_proof and tiles_for_root in ct_tiles. A Tree of their contents, in that order, gives PATH, PROOF and MTH (RFC 6962, section 2.1). The first tile
 that has no contents is a missing-tile, and one whose bytes aren't 32 for each of its hashes is a bad-tile. The caller must check the answer against roots
 that it has: nothing here decides whether the tiles are a log's.
 """
@@ -14,7 +14,7 @@ class BadTile(Exception):
 
 
 def level_tiles(level, first, own, last, size):
-    """The tiles of one level with so many hashes (level_tiles in ct_tile_reader/specs/Needed.antt)."""
+    """The tiles of one level with so many hashes (level_tiles in ct_tiles/specs/Needed.antt)."""
     indexes = [own // 256] if own // 256 < last // 256 and first // 256 == own // 256 else []
     if last % 256 or level == 0:
         indexes.append(last // 256)

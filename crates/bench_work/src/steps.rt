@@ -3,8 +3,7 @@
 use crate::prepared::submission;
 use anyhow::Context;
 use ct_codec::{Refusal, Submission};
-use ct_log_state::StateLine;
-use ct_step::{Batch, take_step};
+use ct_step::{Batch, StateLine, take_step};
 use ct_tiles::Edge;
 use ct_tree::{NodeHash, Sha256Hash};
 use std::alloc::{AllocError, Global};

@@ -3,8 +3,10 @@
 ghost use Rattle.std.specs.Prelude.{◌<◌};
 
 use crate::report::show_root;
-use ct_tile_reader::{HandedFault, NeededTile, path_of_handed, tiles_for_path};
-use ct_tiles::{Advance, Edge, Row, take_in as take_leaves_in};
+use ct_tiles::{
+    Advance, Edge, HandedFault, NeededTile, Row, path_of_handed, take_in as take_leaves_in,
+    tiles_for_path,
+};
 use ct_tree::{Sha256Hash, leaf_hash};
 use std::alloc::{AllocError, Global};
 use std::io;

@@ -12,10 +12,10 @@ use Rattle.ct_data_tiles.specs.DataTile.{DataTileFaulty}
 use Rattle.ct_data_tiles.specs.declared.leaf.TileLeaf.{TileLeaf}
 use Rattle.ct_data_tiles.specs.declared.fault.DataTileFault.{DataTileFault}
 use Rattle.ct_data_tiles.specs.declared.fault.DataTileFault.TheVariants.{AtLeaf, Memory}
-use Rattle.ct_tile_names.specs.Answers.{NotRead}
-use Rattle.ct_tile_names.specs.declared.tile.NameFault.{NameFault}
-use Rattle.ct_tile_names.specs.declared.tile.NameFault.TheVariants.{NoSuchTile, Memory as NameMemory}
-use Rattle.ct_tile_names.specs.declared.tile.Tile.{Tile}
+use Rattle.ct_data_tiles.specs.NameAnswers.{NotRead}
+use Rattle.ct_data_tiles.specs.declared.tile.NameFault.{NameFault}
+use Rattle.ct_data_tiles.specs.declared.tile.NameFault.TheVariants.{NoSuchTile, Memory as NameMemory}
+use Rattle.ct_data_tiles.specs.declared.tile.Tile.{Tile}
 use Rattle.ct_data_tiles.specs.declared.answer.Damage.{Damage}
 use Rattle.ct_data_tiles.specs.TileAnswers.{IsDamageOf, IsDamaged}
 use Rattle.ct_data_tiles.specs.Entries.{IsDataTileName, HasEntry, IsFirstWrong}

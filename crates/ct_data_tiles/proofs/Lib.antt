@@ -5,3 +5,5 @@ pub mod Verdict
 pub mod Tiles
 pub mod Rows
 pub mod LeafByLeaf
+pub mod NamesRead
+pub mod Places

@@ -3,9 +3,9 @@ use Rattle.std.specs.Prelude.{◌≡◌, ◌⊎◌, ◌<◌, ◌≤◌, ◌^◌,
 use Rattle.std.specs.declared.option.Option.{Option}
 use Rattle.ct_codec.specs.Leaf.{index_extension}
 use Rattle.ct_data_tiles.specs.TileLeaf.{Tiled}
-use Rattle.ct_tile_names.specs.Names.{IsTile, name_text}
-use Rattle.ct_tile_names.specs.declared.tile.Content.TheVariants.{Entries}
-use Rattle.ct_tile_names.specs.declared.tile.Tile.{Tile}
+use Rattle.ct_data_tiles.specs.TileNames.{IsTile, name_text}
+use Rattle.ct_data_tiles.specs.declared.tile.Content.TheVariants.{Entries}
+use Rattle.ct_data_tiles.specs.declared.tile.Tile.{Tile}
 
 -- the name is that of this data tile: the tile has a name (`named`), it has entries (`entries`), and this is its name (`text`)
 pub record IsDataTileName (name : List ℕ) (tile : Tile) : Type 0 where

@@ -6,3 +6,7 @@ pub mod Laws
 pub mod Rows
 pub mod Entries
 pub mod TileAnswers
+pub mod TileNames
+pub mod NameAnswers
+pub mod NameReading
+pub mod TileEntries

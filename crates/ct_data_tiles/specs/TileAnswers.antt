@@ -4,7 +4,7 @@ use Rattle.ct_data_tiles.specs.TileLeaf.{Tiled}
 use Rattle.ct_data_tiles.specs.DataTile.{IsDataTile, DataTileFaulty}
 use Rattle.ct_data_tiles.specs.declared.fault.DataTileFault.{DataTileFault}
 use Rattle.ct_data_tiles.specs.declared.fault.DataTileFault.TheVariants as tile_fault
-use Rattle.ct_tile_names.specs.declared.tile.Tile.{Tile}
+use Rattle.ct_data_tiles.specs.declared.tile.Tile.{Tile}
 use Rattle.ct_data_tiles.specs.Entries.{IsDataTileName, first_entry, HasEntry, entries_from, IsFirstWrong}
 use Rattle.ct_data_tiles.specs.declared.answer.DataTileAnswer.{DataTileAnswer}
 use Rattle.ct_data_tiles.specs.declared.answer.DataTileAnswer.TheVariants.{Gap, Known, Damaged, Entries}

@@ -6,15 +6,15 @@ ghost use Rattle.ct_data_tiles.specs.Lent.{tiled};
 ghost use Rattle.ct_data_tiles.specs.DataTile.{tiled_all};
 ghost use Rattle.ct_data_tiles.specs.Entries.{IsDataTileName, first_entry, HasEntry, NamesOwnIndex, IsFirstWrong};
 ghost use Rattle.ct_data_tiles.specs.TileAnswers.{IsDamageOf, IsTileAnswer};
-ghost use Rattle.ct_tile_names.specs.declared.tile.Tile.{Tile as TileOf};
+ghost use Rattle.ct_data_tiles.specs.declared.tile.Tile.{Tile as TileOf};
 
 use crate::answer::{Damage, DataTileAnswer};
 use crate::data_tile::tile_leaves;
 use crate::fault::DataTileFault;
 use crate::leaf::TileLeaf;
 use crate::wanting::{Unnamed, Unread};
+use crate::{Content, Tile};
 use ct_codec::index_extension;
-use ct_tile_names::{Content, Tile};
 use std::alloc::{AllocError, Global};
 
 // Reports whether the extensions of a leaf are exactly its own index.

@@ -1,13 +1,13 @@
-//! The meaning of the errors of other crates in this one. Each is a value, unless memory could not be allocated.
+//! The meaning of the errors of names and of leaves in an answer. Each is a value, unless memory could not be allocated.
 
 ghost use Rattle.std.specs.Prelude.{◌≡◌, None, MatchResult};
 ghost use Rattle.ct_data_tiles.specs.declared.fault.DataTileFault.TheVariants.{Memory as TileMemory};
-ghost use Rattle.ct_tile_names.specs.declared.tile.NameFault.TheVariants.{NoSuchTile, Memory as NameMemory};
+ghost use Rattle.ct_data_tiles.specs.declared.tile.NameFault.TheVariants.{NoSuchTile, Memory as NameMemory};
 ghost use Rattle.ct_data_tiles.specs.TileAnswers.{IsDamageOf};
 
 use crate::answer::Damage;
 use crate::fault::DataTileFault;
-use ct_tile_names::{NameFault, Tile};
+use crate::{NameFault, Tile};
 use std::alloc::AllocError;
 
 // The meaning of a name that is not read: it is no tile's, unless memory could not be allocated.

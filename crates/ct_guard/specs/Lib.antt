@@ -2,3 +2,4 @@ pub mod Guarded
 pub mod History
 pub mod NewestHead
 pub mod Register
+pub mod StepReceipts

@@ -1,12 +1,12 @@
 -- Anything in the grammar is read.
 use Rattle.std.proofs.Common.{◌≡◌, ◌<◌, ◌≤◌, ℕ, zero, suc, Bool, true, false, cond, List, [], ◌∷◌, ◌++◌, length, Option, Some, None, Result, Ok, Err, refl, sym, ap, subst, ◌∙◌, inl, inr, arith}
 use Rattle.std.proofs.lemmas.List.{append-nil, length-append}
-use Rattle.ct_der.specs.declared.fault.DerFault.TheVariants.{Truncated}
-use Rattle.ct_der.specs.Element.{IsTlv}
-use Rattle.ct_der.specs.Reading.{◌>>=◌, element_at, expected_at, only_at, optional_at}
-use Rattle.ct_der.proofs.Elements.{elements_are_read}
-use Rattle.ct_der.proofs.Readings.{NotFirst, absent, expected_here, only_here, other_first, present, some_bytes}
-use Rattle.ct_der.proofs.Prefixes.{beginnings_are_truncated}
+use Rattle.ct_promise.specs.declared.der_fault.DerFault.TheVariants.{Truncated}
+use Rattle.ct_promise.specs.Element.{IsTlv}
+use Rattle.ct_promise.specs.DerReading.{◌>>=◌, element_at, expected_at, only_at, optional_at}
+use Rattle.ct_promise.proofs.Elements.{elements_are_read}
+use Rattle.ct_promise.proofs.Readings.{NotFirst, absent, expected_here, only_here, other_first, present, some_bytes}
+use Rattle.ct_promise.proofs.Prefixes.{beginnings_are_truncated}
 use Rattle.ct_promise.specs.declared.field.Place.TheVariants as at
 use Rattle.ct_promise.specs.declared.field.Unread.{Unread}
 use Rattle.ct_names.specs.Names.{Named, is_alt}

@@ -2,13 +2,13 @@
 use Rattle.std.proofs.Common.{◌≡◌, ◌<◌, ◌≤◌, ℕ, zero, suc, Bool, true, false, cond, eqb, List, [], ◌∷◌, ◌++◌, length, Option, Result, Ok, Err, refl, sym, ap, subst, ◌∙◌, inl, inr, arith}
 use Rattle.std.proofs.lemmas.Bool.{eqb-true}
 use Rattle.std.proofs.lemmas.List.{length-append}
-use Rattle.ct_der.specs.declared.fault.DerFault.{DerFault}
-use Rattle.ct_der.specs.declared.fault.DerFault.TheVariants.{OtherTag, Trailing}
-use Rattle.ct_der.specs.Element.{IsTlv}
-use Rattle.ct_der.specs.Reading.{◌>>=◌, element_at, expected_at, only_at, optional_at}
-use Rattle.ct_der.specs.Laws.{IsBytes}
-use Rattle.ct_der.proofs.Elements.{bind_ok}
-use Rattle.ct_der.proofs.Readings.{Front, element_found, expected_found, whole_of, only_found, optional_found, one_ok, some_bytes}
+use Rattle.ct_promise.specs.declared.der_fault.DerFault.{DerFault}
+use Rattle.ct_promise.specs.declared.der_fault.DerFault.TheVariants.{OtherTag, Trailing}
+use Rattle.ct_promise.specs.Element.{IsTlv}
+use Rattle.ct_promise.specs.DerReading.{◌>>=◌, element_at, expected_at, only_at, optional_at}
+use Rattle.ct_promise.specs.DerLaws.{IsBytes}
+use Rattle.ct_promise.proofs.Elements.{bind_ok}
+use Rattle.ct_promise.proofs.Readings.{Front, element_found, expected_found, whole_of, only_found, optional_found, one_ok, some_bytes}
 use Rattle.ct_promise.specs.declared.field.Place.{Place}
 use Rattle.ct_promise.specs.declared.field.Place.TheVariants as at
 use Rattle.ct_promise.specs.declared.field.Unread.{Unread}

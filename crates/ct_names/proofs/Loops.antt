@@ -1,7 +1,7 @@
 -- One item after the other, as a loop adds them.
 use Rattle.std.proofs.Common.{◌≡◌, ℕ, zero, suc, ◌≤◌, ◌<◌, List, [], ◌∷◌, ◌++◌, length, Result, Ok, Err, refl, sym, ap, ◌∙◌, append_assoc, arith}
 use Rattle.std.proofs.lemmas.List.{append-nil}
-use Rattle.ct_der.specs.Reading.{◌>>=◌}
+use Rattle.ct_promise.specs.DerReading.{◌>>=◌}
 use Rattle.ct_promise.specs.declared.field.Unread.{Unread}
 use Rattle.ct_names.specs.declared.fault.NamesFault.{NamesFault}
 use Rattle.ct_names.specs.declared.fault.NamesFault.TheVariants as faults

@@ -2,9 +2,9 @@
 use Rattle.std.proofs.Common.{◌≡◌, ◌⊎◌, ◌∙◌, ◌++◌, ℕ, List, [], ◌∷◌, length, Bool, true, false, Ok, sym, refl, ap, subst, inl, inr, arith}
 use Rattle.std.proofs.lemmas.List.{append_assoc, append_cancel_right}
 use Rattle.std.specs.List.{AllByRecursion}
-use Rattle.ct_der.specs.Element.{IsTlv}
-use Rattle.ct_der.proofs.Elements.{elements_stand_apart}
-use Rattle.ct_der.proofs.Readings.{one_ok, some_bytes}
+use Rattle.ct_promise.specs.Element.{IsTlv}
+use Rattle.ct_promise.proofs.Elements.{elements_stand_apart}
+use Rattle.ct_promise.proofs.Readings.{one_ok, some_bytes}
 use Rattle.ct_promise.specs.Reading.{after_fields}
 use Rattle.ct_promise.specs.Tbs.{may, IsFieldOf, AreFields, tbs_fields, IsExtensionWith, IsOther, all_joined, IsExtensionsField}
 use Rattle.ct_promise.specs.declared.field.Place.{Place}

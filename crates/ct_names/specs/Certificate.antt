@@ -1,6 +1,6 @@
 -- The grammar of certificates as far as their names need it (RFC 5280, 4.1 and 4.2), in elements of DER (X.690).
 use Rattle.std.specs.Prelude.{◌≡◌, ◌++◌, ◌⊎◌, ℕ, List, [], ◌∷◌, Bool, true, false}
-use Rattle.ct_der.specs.Element.{IsTlv}
+use Rattle.ct_promise.specs.Element.{IsTlv}
 use Rattle.ct_names.specs.Names.{Named, is_alt, is_bad_alt, is_bad_common, alt_of, common_of}
 
 -- ---- one item after the other, each with its names

@@ -1,11 +1,11 @@
 -- Laws of certificates' names.
 use Rattle.std.specs.Prelude.{◌≡◌, ◌<◌, ◌++◌, ℕ, List, length, false, Ok, Err}
-use Rattle.ct_der.specs.declared.fault.DerFault.TheVariants.{Truncated}
+use Rattle.ct_promise.specs.declared.der_fault.DerFault.TheVariants.{Truncated}
 use Rattle.ct_promise.specs.declared.field.Place.TheVariants as at
 use Rattle.ct_promise.specs.Tbs.{Parts, IsParted, IsWithout, IsTbsOf}
 use Rattle.ct_names.specs.Names.{Named, is_alt}
 use Rattle.ct_names.specs.Reading.{certificate_names, bare_names}
-use Rattle.ct_der.specs.Laws.{IsBytes}
+use Rattle.ct_promise.specs.DerLaws.{IsBytes}
 use Rattle.std.specs.Bool.{Decides}
 use Rattle.ct_names.specs.Covers.{covered, Covers}
 use Rattle.ct_names.specs.Certificate.{NamesOf, BareNamesOf}

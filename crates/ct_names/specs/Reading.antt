@@ -1,8 +1,8 @@
 -- Names read from a certificate, with the first fault that reading finds (RFC 5280, section 4).
 use Rattle.std.specs.Prelude.{◌≡◌, ◌++◌, ℕ, zero, suc, List, [], ◌∷◌, length, Result, Ok, Err, ◌==◌, if◌then◌else◌}
-use Rattle.ct_der.specs.Reading.{◌>>=◌, element_at, expected_at, only_at, optional_at}
-use Rattle.ct_der.specs.declared.fault.DerFault.{DerFault}
-use Rattle.ct_der.specs.declared.fault.DerFault.TheVariants.{OtherTag, Trailing}
+use Rattle.ct_promise.specs.DerReading.{◌>>=◌, element_at, expected_at, only_at, optional_at}
+use Rattle.ct_promise.specs.declared.der_fault.DerFault.{DerFault}
+use Rattle.ct_promise.specs.declared.der_fault.DerFault.TheVariants.{OtherTag, Trailing}
 use Rattle.ct_promise.specs.declared.field.Place.{Place}
 use Rattle.ct_promise.specs.declared.field.Place.TheVariants as at
 use Rattle.ct_promise.specs.declared.field.Unread.{Unread}

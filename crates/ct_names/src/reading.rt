@@ -2,7 +2,7 @@
 
 ghost use Rattle.std.specs.Prelude.{◌≡◌, ◌&&◌, ◌||◌, ◌<◌, ◌++◌, List, length, OnOk, IfOk};
 ghost use Rattle.std.specs.Option.{option_map};
-ghost use Rattle.ct_der.specs.Reading.{Gives, element_at, expected_at, only_at, optional_at};
+ghost use Rattle.ct_promise.specs.DerReading.{Gives, element_at, expected_at, only_at, optional_at};
 ghost use Rattle.ct_names.specs.Certificate.{NamesOf, BareNamesOf};
 ghost use Rattle.ct_names.specs.Names.{Named, named_all, is_common, is_alt, is_bad_alt, is_bad_common, alt_of, common_of};
 ghost use Rattle.ct_names.specs.Reading.{placed, GivesNames, Adds, AddsAll, all_of, alt_at, attribute_at, rdn_at, extension_at};
@@ -10,8 +10,7 @@ ghost use Rattle.ct_names.specs.Reading.{extensions_at, front_at, behind_at, par
 
 use crate::fault::NamesFault;
 use crate::name::{Name, NameKind};
-use ct_der::{DerFault, Element, expected, next_element, only, optional};
-use ct_promise::{Place, Unread};
+use ct_promise::{DerFault, Element, Place, Unread, expected, next_element, only, optional};
 use std::alloc::{AllocError, Global};
 
 // The element that the bytes of a field begin with, and the bytes after it.

@@ -1,7 +1,7 @@
 //! Decides what a node of a log does next: which of eleven commands, given the outcome of the one before.
 //!
 //! Any number of nodes carry on one log on tiles over one lock (here called the register) and one object store. A [`Node`] is its current
-//! command, and [`Node::next`] returns the command after it. This crate reads and writes nothing and sees no bytes. A [`State`] represents
+//! command, and [`Node::next`] returns the command after it. These decisions read and write nothing and see no bytes. A [`State`] represents
 //! what the lock holds. An object is represented by its index in a state's staged batch (here called a bundle).
 //!
 //! A command may take effect late, more than once, or never. Its node may or may not learn of it, may be killed, or may continue from an
@@ -20,13 +20,34 @@
 //! [`start`] decides whether a node that starts continues from the lock's state, and [`show`] decides which head it shows
 //! ([`laws::starts`]). [`laws::take_ups`] relates these answers to what exists. [`laws::sweeps`] says which objects that nobody reads any
 //! more may be deleted.
+//!
+//! # The text of the lock
+//!
+//! The text that a log's lock holds and the names of staged batches identify states. [`said_in`] reads a lock's text, and [`text_of`] writes
+//! one. [`state_of_name`] reads the name of a staged batch, and [`write_name`] writes one. [`lock_laws`] proves that what is written of a
+//! state is read as this state.
+//!
+//! # The log that nodes write
+//!
+//! Whatever happens to the commands of any number of nodes, everything in the stores belongs to one list of entries ([`log_laws::nodes`]).
+//!
+//! The law of a node's order ([`laws::worlds`]) is joined with those of steps, staged batches, tiles and names (`ct_step`, `ct_tiles`,
+//! `ct_data_tiles`), only by their public contracts. It is also joined with the law of the guards that protect the log's key (`ct_guard`;
+//! [`log_laws::heads`]). All of this holds for every hash function on byte lists, except that [`log_laws::heads`] needs digests of 32 bytes,
+//! and [`log_laws::public_names`] needs digests that are bytes.
 #![tactic(auto)]
 
 pub mod laws;
+pub mod lock_laws;
+mod lock_reading;
+mod lock_writing;
+pub mod log_laws;
 mod node;
 mod starting;
 mod state;
 
+pub use lock_reading::{Said, has_root, said_in, state_of_name};
+pub use lock_writing::{text_of, write_name};
 pub use node::{Node, Outcome};
 pub use starting::{Beginning, Found, Other, Point, show, start};
 pub use state::State;

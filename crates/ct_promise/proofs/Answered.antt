@@ -1,8 +1,8 @@
 -- The meaning of a result in terms of the grammar.
 use Rattle.std.proofs.Common.{ℕ, List, Result, Ok, Err, Bor}
 use Rattle.std.specs.Prelude.{IfOk}
-use Rattle.ct_der.specs.Laws.{IsBytes}
-use Rattle.ct_der.specs.Reading.{Gives}
+use Rattle.ct_promise.specs.DerLaws.{IsBytes}
+use Rattle.ct_promise.specs.DerReading.{Gives}
 use Rattle.ct_promise.specs.declared.cutting.Cut.{Cut}
 use Rattle.ct_promise.specs.declared.fault.CutFault.{CutFault}
 use Rattle.ct_promise.specs.Tbs.{IsParted, IsTbsOf, IsKeyOf}

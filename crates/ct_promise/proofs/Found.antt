@@ -5,12 +5,12 @@ use Rattle.std.specs.Prelude.{bytes_eq}
 use Rattle.std.proofs.lemmas.List.{length-append}
 use Rattle.std.proofs.lemmas.Slice.Eq.{bytes_eq-Decides}
 use Rattle.std.proofs.Math.Seq.{take-append_seam}
-use Rattle.ct_der.specs.declared.fault.DerFault.{DerFault}
-use Rattle.ct_der.specs.Element.{IsTlv}
-use Rattle.ct_der.specs.Reading.{◌>>=◌, expected_at, only_at, optional_at}
-use Rattle.ct_der.specs.Laws.{IsBytes}
-use Rattle.ct_der.proofs.Elements.{bind_ok}
-use Rattle.ct_der.proofs.Readings.{Whole, expected_found, only_found, optional_found, one_ok, some_bytes}
+use Rattle.ct_promise.specs.declared.der_fault.DerFault.{DerFault}
+use Rattle.ct_promise.specs.Element.{IsTlv}
+use Rattle.ct_promise.specs.DerReading.{◌>>=◌, expected_at, only_at, optional_at}
+use Rattle.ct_promise.specs.DerLaws.{IsBytes}
+use Rattle.ct_promise.proofs.Elements.{bind_ok}
+use Rattle.ct_promise.proofs.Readings.{Whole, expected_found, only_found, optional_found, one_ok, some_bytes}
 use Rattle.ct_promise.specs.declared.field.Place.{Place}
 use Rattle.ct_promise.specs.declared.field.Place.TheVariants as at
 use Rattle.ct_promise.specs.declared.fault.CutFault.{CutFault}

@@ -5,9 +5,9 @@ use Rattle.std.specs.Prelude.{bytes_eq}
 use Rattle.std.specs.List.{AllByRecursion}
 use Rattle.std.proofs.lemmas.List.{append-nil, length-append}
 use Rattle.std.proofs.lemmas.Slice.Eq.{bytes_eq-Decides}
-use Rattle.ct_der.specs.Element.{IsTlv}
-use Rattle.ct_der.specs.Reading.{◌>>=◌, only_at, optional_at}
-use Rattle.ct_der.proofs.Readings.{expected_here, only_here, NotFirst, absent, present, other_first, some_bytes, one_ok}
+use Rattle.ct_promise.specs.Element.{IsTlv}
+use Rattle.ct_promise.specs.DerReading.{◌>>=◌, only_at, optional_at}
+use Rattle.ct_promise.proofs.Readings.{expected_here, only_here, NotFirst, absent, present, other_first, some_bytes, one_ok}
 use Rattle.ct_promise.specs.declared.field.Place.{Place}
 use Rattle.ct_promise.specs.declared.field.Place.TheVariants as at
 use Rattle.ct_promise.specs.declared.fault.CutFault.{CutFault}

@@ -5,3 +5,7 @@ pub mod Shorter
 pub mod Written
 pub mod Answered
 pub mod Promised
+pub mod Elements
+pub mod Prefixes
+pub mod Readings
+pub mod DerWritten

@@ -1,7 +1,7 @@
 -- One extension after the other, as a loop reads them.
 use Rattle.std.proofs.Common.{◌≡◌, ℕ, zero, suc, ◌≤◌, ◌<◌, Bool, true, false, cond, List, [], ◌∷◌, length, Result, Ok, Err, refl, sym, ap, ◌∙◌, arith}
 use Rattle.std.specs.Prelude.{bytes_eq}
-use Rattle.ct_der.specs.Reading.{◌>>=◌}
+use Rattle.ct_promise.specs.DerReading.{◌>>=◌}
 use Rattle.ct_promise.specs.declared.fault.CutFault.{CutFault}
 use Rattle.ct_promise.specs.declared.fault.CutFault.TheVariants.{NoExtension, SecondExtension}
 use Rattle.ct_promise.specs.Reading.{extension_with_at, others_at, sole_at}

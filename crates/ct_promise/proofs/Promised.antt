@@ -6,9 +6,9 @@ use Rattle.std.proofs.lemmas.Bool.{ltb-true, lt-ltb}
 use Rattle.std.proofs.lemmas.Slice.Eq.{bytes_eq-Decides}
 use Rattle.sha2.specs.Sha256.{sha256}
 use Rattle.sha2.proofs.Facts256.{length-sha256}
-use Rattle.ct_der.specs.Laws.{IsBytes}
-use Rattle.ct_der.specs.Reading.{◌>>=◌}
-use Rattle.ct_der.proofs.Readings.{content_bytes, bytes_before}
+use Rattle.ct_promise.specs.DerLaws.{IsBytes}
+use Rattle.ct_promise.specs.DerReading.{◌>>=◌}
+use Rattle.ct_promise.proofs.Readings.{content_bytes, bytes_before}
 use Rattle.ct_codec.specs.Leaf.{precertificate, leaf_text, LeafText}
 use Rattle.ct_tree.specs.Tree.{hash_leaf, mth_of_leaves}
 use Rattle.ct_verify.specs.Verdict.{AcceptsInclusion}

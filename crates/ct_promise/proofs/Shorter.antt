@@ -1,9 +1,9 @@
 -- Removing an extension does not make a TBSCertificate longer.
 use Rattle.std.proofs.Common.{◌<◌, ◌≤◌, ◌+◌, ℕ, Bool, true, false, cond, eqb, List, [], ◌++◌, length, ap, ◌∙◌, arith}
 use Rattle.std.proofs.lemmas.List.{length-append}
-use Rattle.ct_der.specs.Element.{IsTlv}
-use Rattle.ct_der.specs.Writing.{element_text}
-use Rattle.ct_der.proofs.Written.{contents_fit, elements_grow}
+use Rattle.ct_promise.specs.Element.{IsTlv}
+use Rattle.ct_promise.specs.DerWriting.{element_text}
+use Rattle.ct_promise.proofs.DerWritten.{contents_fit, elements_grow}
 use Rattle.ct_promise.specs.Tbs.{Parts, IsParted}
 use Rattle.ct_promise.specs.Reading.{extensions_text}
 

@@ -3,11 +3,11 @@ use Rattle.std.proofs.Common.{◌≡◌, ◌<◌, ℕ, Bool, true, false, cond, 
 use Rattle.std.proofs.lemmas.Bool.{eqb-true, eqb-false, ne_eqb}
 use Rattle.std.proofs.lemmas.List.{append-nil, length-append, nil_from_length}
 use Rattle.std.proofs.Math.Seq.{take-append_seam, drop-append_seam}
-use Rattle.ct_der.specs.Element.{IsTlv}
-use Rattle.ct_der.specs.Writing.{element_text}
-use Rattle.ct_der.proofs.Elements.{elements_stand_apart}
-use Rattle.ct_der.proofs.Readings.{one_ok}
-use Rattle.ct_der.proofs.Written.{elements_are_written, written_elements_are_there}
+use Rattle.ct_promise.specs.Element.{IsTlv}
+use Rattle.ct_promise.specs.DerWriting.{element_text}
+use Rattle.ct_promise.proofs.Elements.{elements_stand_apart}
+use Rattle.ct_promise.proofs.Readings.{one_ok}
+use Rattle.ct_promise.proofs.DerWritten.{elements_are_written, written_elements_are_there}
 use Rattle.ct_promise.specs.declared.fault.CutFault.{CutFault}
 use Rattle.ct_promise.specs.Tbs.{AreFields, tbs_fields, IsExtensionsField, Parts}
 use Rattle.ct_promise.specs.Reading.{after_fields, extensions_text, parts_cut_at, without}

@@ -1,6 +1,6 @@
 -- Laws of the cut.
 use Rattle.std.specs.Prelude.{◌≡◌, ℕ, List, length, Ok}
-use Rattle.ct_der.specs.Laws.{IsBytes}
+use Rattle.ct_promise.specs.DerLaws.{IsBytes}
 use Rattle.ct_promise.specs.Tbs.{Parts, IsParted, IsWithout, IsCutOut, IsTbsOf, IsKeyOf}
 use Rattle.ct_promise.specs.Reading.{parts_cut_at, without}
 

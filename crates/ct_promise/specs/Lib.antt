@@ -5,3 +5,8 @@ pub mod Laws
 pub mod Cuts
 pub mod Promise
 pub mod Unkept
+pub mod Element
+pub mod DerReading
+pub mod DerWriting
+pub mod DerLaws
+pub mod DerFaultName

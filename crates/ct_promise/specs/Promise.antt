@@ -1,7 +1,7 @@
 -- The entry of a precertificate, and the leaf that a timestamp embedded in a certificate promises (RFC 6962, 3.1 to 3.4).
 use Rattle.std.specs.Prelude.{◌≡◌, ◌⊎◌, ℕ, List, [], ◌∷◌, length, Result, Ok, Err, nat_lt, bytes_eq, if◌then◌else◌}
 use Rattle.sha2.specs.Sha256.{sha256}
-use Rattle.ct_der.specs.Reading.{◌>>=◌}
+use Rattle.ct_promise.specs.DerReading.{◌>>=◌}
 use Rattle.ct_codec.specs.Leaf.{precertificate, leaf_text, LeafText}
 use Rattle.ct_tree.specs.Tree.{hash_leaf, mth_of_leaves}
 use Rattle.ct_verify.specs.Verdict.{AcceptsInclusion, RefusesInclusion}

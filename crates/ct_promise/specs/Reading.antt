@@ -1,8 +1,8 @@
 -- The cut read from left to right, with the first fault that reading finds.
 use Rattle.std.specs.Prelude.{◌++◌, ◌-◌, ℕ, zero, suc, List, [], ◌∷◌, length, take, Result, Ok, Err, ◌==◌, bytes_eq, if◌then◌else◌}
-use Rattle.ct_der.specs.Reading.{◌>>=◌, expected_at, only_at, optional_at}
-use Rattle.ct_der.specs.Writing.{element_text}
-use Rattle.ct_der.specs.declared.fault.DerFault.{DerFault}
+use Rattle.ct_promise.specs.DerReading.{◌>>=◌, expected_at, only_at, optional_at}
+use Rattle.ct_promise.specs.DerWriting.{element_text}
+use Rattle.ct_promise.specs.declared.der_fault.DerFault.{DerFault}
 use Rattle.ct_promise.specs.declared.field.Place.{Place}
 use Rattle.ct_promise.specs.declared.field.Place.TheVariants as at
 use Rattle.ct_promise.specs.declared.fault.CutFault.{CutFault}

@@ -1,7 +1,7 @@
 -- Certificates and TBSCertificates as far as the cut of an extension needs them (RFC 5280, 4.1 and 4.2), in elements of DER (X.690).
 use Rattle.std.specs.Prelude.{◌≡◌, ◌<◌, ◌++◌, ◌⊎◌, ℕ, List, [], ◌∷◌, length, Bool, true, false}
 use Rattle.std.specs.List.{AllByRecursion}
-use Rattle.ct_der.specs.Element.{IsTlv}
+use Rattle.ct_promise.specs.Element.{IsTlv}
 use Rattle.ct_promise.specs.declared.field.Place.{Place}
 use Rattle.ct_promise.specs.declared.field.Place.TheVariants as at
 

@@ -1,16 +1,16 @@
 //! One extension cut out (RFC 6962, sections 3.2 and 3.3).
 
 ghost use Rattle.std.specs.Prelude.{◌≡◌, ◌<◌, ◌++◌, ℕ, List, length, Ok, IfOk, OnOk};
-ghost use Rattle.ct_der.specs.Reading.{Gives};
-ghost use Rattle.ct_der.specs.Writing.{element_text};
+ghost use Rattle.ct_promise.specs.DerReading.{Gives};
+ghost use Rattle.ct_promise.specs.DerWriting.{element_text};
 ghost use Rattle.ct_promise.specs.Tbs.{Parts, IsParted, IsCutOut};
 ghost use Rattle.ct_promise.specs.Reading.{before, extension_with_at, others_at, sole_at, list_at, parts_cut_at, extensions_text, without};
 ghost use Rattle.ct_promise.specs.Cuts.{parts_of, IsCutOf};
 
 use crate::fault::CutFault;
 use crate::field::Place;
+use crate::push_element;
 use crate::reading::{after_subject_id, before, extensions_in, next_extension, only_in};
-use ct_der::push_element;
 use std::alloc::{AllocError, Global};
 
 /// A TBSCertificate with one extension cut out, as views of the input.

@@ -1,7 +1,7 @@
 //! The entry of a precertificate (RFC 6962, section 3.2).
 
 ghost use Rattle.std.specs.Prelude.{◌≡◌, ◌++◌, ℕ, List, Ok, IfOk};
-ghost use Rattle.ct_der.specs.Reading.{Gives};
+ghost use Rattle.ct_promise.specs.DerReading.{Gives};
 ghost use Rattle.ct_promise.specs.Cuts.{parts_of, IsCutOf};
 ghost use Rattle.ct_promise.specs.Reading.{parts_cut_at, without};
 ghost use Rattle.ct_promise.specs.Promise.{poison_identifier, poison_text, in_document, promised_entry_at, GivesPromise, IsEntryOf};

@@ -3,7 +3,7 @@
 ghost use Rattle.std.specs.Prelude.{◌≡◌};
 ghost use Rattle.ct_promise.specs.FieldName.{field_name};
 
-use ct_der::DerFault;
+use crate::DerFault;
 use thiserror::Error;
 
 /// The field of a certificate (RFC 5280, section 4.1) that has a fault. A place's text is its name.

@@ -3,7 +3,7 @@
 ghost use Rattle.std.specs.Prelude.{◌≡◌, ◌<◌, ◌^◌, ◌++◌, ℕ, List, length, Ok, IfOk};
 ghost use Rattle.sha2.specs.Sha256.{sha256};
 ghost use Rattle.ct_codec.specs.Leaf.{precertificate, leaf_text};
-ghost use Rattle.ct_der.specs.Reading.{Gives};
+ghost use Rattle.ct_promise.specs.DerReading.{Gives};
 ghost use Rattle.ct_promise.specs.Reading.{whole_tbs_at, key_at};
 ghost use Rattle.ct_promise.specs.Promise.{in_document, promised_leaf_at, promised_at, GivesPromise, IsPromised};
 

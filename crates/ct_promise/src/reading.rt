@@ -2,13 +2,13 @@
 
 ghost use Rattle.std.specs.Prelude.{◌≡◌, ◌<◌, ℕ, List, length, Ok, IfOk};
 ghost use Rattle.std.specs.Option.{option_map};
-ghost use Rattle.ct_der.specs.Reading.{Gives, expected_at, only_at, optional_at};
+ghost use Rattle.ct_promise.specs.DerReading.{Gives, expected_at, only_at, optional_at};
 ghost use Rattle.ct_promise.specs.Tbs.{must, may, before_key, tbs_fields, IsTbsOf, IsKeyOf};
 ghost use Rattle.ct_promise.specs.Reading.{put_at, before, field_after, after_fields, extension_with_at, others_at, sole_at, list_at, whole_tbs_at, key_at};
 
 use crate::fault::CutFault;
 use crate::field::{Place, Unread};
-use ct_der::{expected, only, optional};
+use crate::{expected, only, optional};
 
 // The content of the element with this tag that the bytes of a field begin with, and the bytes after it.
 fn expected_in(place: Place, tag: u8, bytes: &[u8]) -> Result<(&[u8], &[u8]), CutFault>

@@ -5,7 +5,7 @@ use Rattle.std.proofs.lemmas.List.{map_push, take_more, length-map, length-take-
 use Rattle.std.proofs.lemmas.Slice.Zip.{firsts-zip, get_or-zip}
 use Rattle.ct_codec.specs.Submitted.{Submitted}
 use Rattle.ct_data_tiles.proofs.Rows.{text_in}
-use Rattle.ct_growth.proofs.Widths.{hashes_in}
+use Rattle.ct_step.proofs.Widths.{hashes_in}
 use Rattle.ct_data_tiles.specs.TileLeaf.{Tiled, tile_leaf_text}
 use Rattle.ct_step.specs.Entries.{tiled_at, tiled_leaves, texts_of}
 

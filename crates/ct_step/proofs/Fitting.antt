@@ -5,11 +5,11 @@ use Rattle.std.proofs.lemmas.List.{get_or_append_left, get_or_at, length-take}
 use Rattle.std.proofs.lemmas.List.Elements.{All-nil, All-push, All-append, All-take, All-drop, All-get_or}
 use Rattle.ct_tiles.specs.Tiles.{hashes, tile}
 use Rattle.ct_data_tiles.specs.Rows.{data_tile, data_tiles_from}
-use Rattle.ct_tile_names.specs.declared.tile.Content.TheVariants.{Hashes, Entries}
-use Rattle.ct_growth.proofs.EdgesTell.{hashes_32}
-use Rattle.ct_growth.proofs.Roots.{has_32}
-use Rattle.ct_log_state.specs.Bundle.{IsObject}
-use Rattle.ct_log_state.proofs.Names.{short_name}
+use Rattle.ct_data_tiles.specs.declared.tile.Content.TheVariants.{Hashes, Entries}
+use Rattle.ct_step.proofs.EdgesTell.{hashes_32}
+use Rattle.ct_step.proofs.Roots.{has_32}
+use Rattle.ct_step.specs.Bundle.{IsObject}
+use Rattle.ct_step.proofs.Names.{short_name}
 use Rattle.ct_verify.specs.Laws.{AreHashes}
 use Rattle.ct_step.specs.Objects.{hash_object, entry_object, each_from, changed, level_objects, data_objects, FitsInBundle}
 use Rattle.ct_step.specs.Steps.{last_tiles}

@@ -5,12 +5,12 @@ use Rattle.std.proofs.lemmas.List.{map_push, take_more, take-append-drop, take_a
 use Rattle.std.proofs.lemmas.List.Elements.{All-nil, All-cons, All-head, All-tail}
 use Rattle.ct_codec.specs.Parts.{joined}
 use Rattle.ct_data_tiles.proofs.Rows.{text_in}
-use Rattle.ct_growth.proofs.Widths.{hashes_in}
-use Rattle.ct_growth.proofs.Roots.{has_32}
-use Rattle.ct_growth.specs.Believed.{HaveWidths, edge_root, StopsBelief}
-use Rattle.ct_growth.specs.declared.believed.EdgeFault.{EdgeFault}
-use Rattle.ct_growth.specs.declared.believed.EdgeFault.TheVariants.{OtherWidths, OtherRoot, Memory}
-use Rattle.ct_log_state.specs.declared.line.StateLine.{StateLine}
+use Rattle.ct_step.proofs.Widths.{hashes_in}
+use Rattle.ct_step.proofs.Roots.{has_32}
+use Rattle.ct_step.specs.Believed.{HaveWidths, edge_root, StopsBelief}
+use Rattle.ct_step.specs.declared.believed.EdgeFault.{EdgeFault}
+use Rattle.ct_step.specs.declared.believed.EdgeFault.TheVariants.{OtherWidths, OtherRoot, Memory}
+use Rattle.ct_step.specs.declared.line.StateLine.{StateLine}
 use Rattle.ct_verify.specs.Laws.{AreHashes}
 use Rattle.ct_step.specs.Steps.{tile_hashes, AreBytesOf, StopsState, line_head, of_edge}
 

@@ -6,7 +6,7 @@ use Rattle.std.proofs.lemmas.List.Kept.{AllPairs-cons}
 use Rattle.std.specs.Prelude.{All, Bool, true, false, if◌then◌else◌, Contains}
 use Rattle.ct_codec.specs.Submitted.{Submitted}
 use Rattle.ct_data_tiles.specs.TileLeaf.{Tiled}
-use Rattle.ct_log_state.specs.declared.line.StateLine.{StateLine}
+use Rattle.ct_step.specs.declared.line.StateLine.{StateLine}
 use Rattle.ct_older_tree.proofs.Agreeing.{collide_more}
 use Rattle.ct_older_tree.specs.Hashed.{CollideAmong}
 use Rattle.ct_step.specs.Entries.{tiled_leaves}

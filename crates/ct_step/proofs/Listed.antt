@@ -6,7 +6,7 @@ use Rattle.std.specs.Prelude.{Contains}
 use Rattle.ct_tree.proofs.Split.{split_lt, split_pos}
 use Rattle.ct_tree.specs.Tree.{split, mth}
 use Rattle.ct_tiles.specs.Tiles.{lone_root}
-use Rattle.ct_growth.specs.EdgeStrings.{IsHashedAbove, node, left, right, IsHashedOverTiles, top, here, higher}
+use Rattle.ct_step.specs.EdgeStrings.{IsHashedAbove, node, left, right, IsHashedOverTiles, top, here, higher}
 use Rattle.ct_step.specs.Steps.{tile_hashes}
 use Rattle.ct_step.specs.Lines.{HandedLineAttempt, HashedStringsAreListed, IsHashedByMaker}
 

@@ -9,10 +9,10 @@ use Rattle.ct_tiles.specs.declared.row.Row.{Row}
 use Rattle.ct_tiles.proofs.Chunks.{rows-at, length-rows, hashes-append, added}
 use Rattle.ct_tiles.proofs.Stays.{row_is_tiles}
 use Rattle.ct_tiles.proofs.Words.{level_has_length}
-use Rattle.ct_tile_names.specs.Names.{name_text}
-use Rattle.ct_tile_names.specs.declared.tile.Tile.{Tile}
-use Rattle.ct_log_state.proofs.Names.{short_name}
-use Rattle.ct_tile_names.specs.declared.tile.Content.TheVariants.{Hashes, Entries}
+use Rattle.ct_data_tiles.specs.TileNames.{name_text}
+use Rattle.ct_data_tiles.specs.declared.tile.Tile.{Tile}
+use Rattle.ct_step.proofs.Names.{short_name}
+use Rattle.ct_data_tiles.specs.declared.tile.Content.TheVariants.{Hashes, Entries}
 use Rattle.ct_data_tiles.specs.Rows.{data_tile, data_tiles_from}
 use Rattle.ct_data_tiles.proofs.Rows.{text_in}
 use Rattle.ct_step.specs.Objects.{named, hash_object, entry_object, each_from, changed, level_objects, data_objects, cut_object, cut_level}

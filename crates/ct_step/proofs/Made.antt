@@ -7,14 +7,14 @@ use Rattle.ct_tree.specs.Tree.{hash_leaf}
 use Rattle.ct_data_tiles.specs.Rows.{data_tile, data_tiles_from, IsPartialTile, IsDataRow}
 use Rattle.ct_data_tiles.specs.declared.row.DataRow.{DataRow}
 use Rattle.ct_data_tiles.proofs.Rows.{text_in}
-use Rattle.ct_growth.specs.Believed.{BelievesState, IsHeadOver, IsHashedInEdgeOf}
-use Rattle.ct_growth.specs.EdgeStrings.{IsHashedInEdge}
-use Rattle.ct_growth.specs.Growths.{IsState}
-use Rattle.ct_growth.specs.Leaves.{indexed_leaves}
-use Rattle.ct_growth.specs.declared.growth.State.{State}
-use Rattle.ct_growth.specs.declared.growth.GrowthFault.TheVariants.{ClockBack, Full, Refused}
-use Rattle.ct_growth.proofs.EdgesTell.{believed_edges_tell, edges_are_believed, edge_32, leaves_32}
-use Rattle.ct_log_state.specs.declared.line.StateLine.{StateLine}
+use Rattle.ct_step.specs.Believed.{BelievesState, IsHeadOver, IsHashedInEdgeOf}
+use Rattle.ct_step.specs.EdgeStrings.{IsHashedInEdge}
+use Rattle.ct_step.specs.Growths.{IsState}
+use Rattle.ct_step.specs.Leaves.{indexed_leaves}
+use Rattle.ct_step.specs.declared.growth.State.{State}
+use Rattle.ct_step.specs.declared.growth.GrowthFault.TheVariants.{ClockBack, Full, Refused}
+use Rattle.ct_step.proofs.EdgesTell.{believed_edges_tell, edges_are_believed, edge_32, leaves_32}
+use Rattle.ct_step.specs.declared.line.StateLine.{StateLine}
 use Rattle.ct_tiles.specs.Edge.{IsEdge}
 use Rattle.ct_data_tiles.specs.TileLeaf.{Tiled, leaf_of, tile_leaf_text}
 use Rattle.ct_verify.specs.Laws.{AreHashes}

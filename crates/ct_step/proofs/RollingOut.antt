@@ -1,13 +1,13 @@
 -- The objects in the staged batch of a step are those that the step writes.
 use Rattle.std.proofs.Common.{◌≡◌, ◌∙◌, ap, sym, subst, ℕ, List, Vec, Global}
 use Rattle.std.specs.Prelude.{◌≢◌, Result, Ok, Err}
-use Rattle.ct_log_state.specs.Bundle.{IsBundleOf}
-use Rattle.ct_log_state.specs.Resumed.{AnswersResume}
-use Rattle.ct_log_state.specs.declared.bundle.Object.{Object}
-use Rattle.ct_log_state.specs.declared.rolling_out.ResumeFault.{ResumeFault}
-use Rattle.ct_log_state.proofs.Bundles.{bundles_are_resumed, bundles_tell}
+use Rattle.ct_step.specs.Bundle.{IsBundleOf}
+use Rattle.ct_step.specs.Resumed.{AnswersResume}
+use Rattle.ct_step.specs.declared.bundle.Object.{Object}
+use Rattle.ct_step.specs.declared.rolling_out.ResumeFault.{ResumeFault}
+use Rattle.ct_step.proofs.Bundles.{bundles_are_resumed, bundles_tell}
 use Rattle.ct_codec.specs.Submitted.{Submitted}
-use Rattle.ct_log_state.specs.declared.line.StateLine.{StateLine}
+use Rattle.ct_step.specs.declared.line.StateLine.{StateLine}
 use Rattle.ct_data_tiles.specs.TileLeaf.{Tiled}
 use Rattle.ct_verify.specs.Evidence.{Collides}
 use Rattle.ct_step.specs.RollingOut.{IsRolledOut, StepsAreRolledOut}

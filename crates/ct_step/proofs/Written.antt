@@ -1,9 +1,9 @@
 -- Objects that are written one after the other.
 use Rattle.std.proofs.Common.{◌≡◌, ◌∙◌, ◌+◌, ◌<◌, ℕ, zero, suc, List, add-one, [], ◌∷◌, ◌++◌, sym, refl, ap, arith, append_assoc}
 use Rattle.std.proofs.lemmas.List.{append-nil}
-use Rattle.ct_log_state.specs.Bundle.{bundled_text, bundle_text}
+use Rattle.ct_step.specs.Bundle.{bundled_text, bundle_text}
 use Rattle.ct_step.specs.Objects.{each_from}
-use Rattle.ct_log_state.proofs.Bundles.{bundle-push, bundle-append}
+use Rattle.ct_step.proofs.Bundles.{bundle-push, bundle-append}
 
 pub each-none : (f : ℕ → List ℕ × List ℕ) (first : ℕ) → each_from f first 0 ≡ []
 unfolding each_from

@@ -3,7 +3,7 @@
 use Rattle.std.specs.Prelude.{◌≡◌, ◌⊎◌, ⊤, Bool, true, false, ℕ, ◌<◌, ◌≤◌, if◌then◌else◌, Contains, List, [], ◌∷◌, ◌++◌, length, map, take, drop, filter, All, AllPairs}
 use Rattle.ct_codec.specs.Submitted.{Submitted}
 use Rattle.ct_data_tiles.specs.TileLeaf.{Tiled}
-use Rattle.ct_log_state.specs.declared.line.StateLine.{StateLine}
+use Rattle.ct_step.specs.declared.line.StateLine.{StateLine}
 use Rattle.ct_older_tree.specs.Hashed.{CollideAmong}
 use Rattle.ct_step.specs.Entries.{tiled_leaves}
 use Rattle.ct_step.specs.Steps.{new_entries, IsEdgeOf, IsHashedOfHanded, IsHashedOfLog, IsLog, IsStepFrom, IsTiledStep, MayStep}

@@ -4,9 +4,9 @@ use Rattle.std.specs.Prelude.{ℕ, zero, suc, ◌+◌, ◌-◌, ◌*◌, ◌/◌
 use Rattle.ct_codec.specs.Parts.{joined}
 use Rattle.ct_tiles.specs.Tiles.{hashes, tile}
 use Rattle.ct_tiles.specs.declared.row.Row.{Row}
-use Rattle.ct_tile_names.specs.Names.{name_text}
-use Rattle.ct_tile_names.specs.declared.tile.Content.{Content}
-use Rattle.ct_tile_names.specs.declared.tile.Content.TheVariants.{Hashes, Entries}
+use Rattle.ct_data_tiles.specs.TileNames.{name_text}
+use Rattle.ct_data_tiles.specs.declared.tile.Content.{Content}
+use Rattle.ct_data_tiles.specs.declared.tile.Content.TheVariants.{Hashes, Entries}
 
 -- a tile under its name: its parts are hashes of a level or texts of entries, and their number is its width
 abbrev pub named : Content → ℕ → List (List ℕ) → List ℕ × List ℕ

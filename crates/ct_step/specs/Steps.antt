@@ -11,19 +11,19 @@ use Rattle.ct_tree.specs.declared.head.Head.{Head}
 use Rattle.ct_tiles.specs.Edge.{IsEdge}
 use Rattle.ct_data_tiles.specs.Rows.{data_tile, data_tiles_from, IsPartialTile}
 use Rattle.ct_data_tiles.specs.TileLeaf.{Tiled}
-use Rattle.ct_log_state.specs.Lines.{state_line_text}
-use Rattle.ct_log_state.specs.declared.line.StateLine.{StateLine}
-use Rattle.ct_growth.specs.Believed.{AreBelieved, IsHashedInEdgeOf}
-use Rattle.ct_growth.specs.EdgeStrings.{IsHashedInEdge}
-use Rattle.ct_growth.specs.Growths.{IsState, MayGrow, StopsGrowth}
-use Rattle.ct_growth.specs.Leaves.{receipts_from, receipt_parts}
-use Rattle.ct_growth.specs.declared.believed.EdgeFault.{EdgeFault}
-use Rattle.ct_growth.specs.declared.believed.EdgeFault.TheVariants.{OtherWidths, OtherRoot, Memory}
-use Rattle.ct_growth.specs.declared.growth.State.{State}
-use Rattle.ct_growth.specs.declared.growth.GrowthFault.TheVariants.{ClockBack, Full, Refused}
+use Rattle.ct_step.specs.StateLines.{state_line_text}
+use Rattle.ct_step.specs.declared.line.StateLine.{StateLine}
+use Rattle.ct_step.specs.Believed.{AreBelieved, IsHashedInEdgeOf}
+use Rattle.ct_step.specs.EdgeStrings.{IsHashedInEdge}
+use Rattle.ct_step.specs.Growths.{IsState, MayGrow, StopsGrowth}
+use Rattle.ct_step.specs.Leaves.{receipts_from, receipt_parts}
+use Rattle.ct_step.specs.declared.believed.EdgeFault.{EdgeFault}
+use Rattle.ct_step.specs.declared.believed.EdgeFault.TheVariants.{OtherWidths, OtherRoot, Memory}
+use Rattle.ct_step.specs.declared.growth.State.{State}
+use Rattle.ct_step.specs.declared.growth.GrowthFault.TheVariants.{ClockBack, Full, Refused}
 use Rattle.ct_verify.specs.Laws.{AreHashes}
 use Rattle.ct_older_tree.specs.Hashed.{CollideAmong}
-use Rattle.ct_log_state.specs.Bundle.{IsBundleOf}
+use Rattle.ct_step.specs.Bundle.{IsBundleOf}
 use Rattle.ct_step.specs.Entries.{tiled_leaves, texts_of, tree_leaves, hashes_of}
 use Rattle.ct_step.specs.Objects.{level_objects, data_objects, FitsInBundle}
 use Rattle.ct_step.specs.declared.step.Step.{Step}

@@ -3,15 +3,14 @@
 ghost use Rattle.std.specs.Prelude.{◌≡◌, ◌⊎◌, ◌+◌, ◌-◌, ◌*◌, ◌/◌, ◌<◌, ◌≤◌, ◌^◌, ◌++◌, ◌∷◌, [], ℕ, List, length, map, All, OnOk, IfOk};
 ghost use Rattle.std.specs.Bool.{MatchBool};
 ghost use Rattle.ct_data_tiles.specs.Rows.{data_tile, data_tiles_from, IsDataRow};
-ghost use Rattle.ct_tile_names.specs.Names.{IsTile, name_text};
-ghost use Rattle.ct_tile_names.specs.declared.tile.Content.TheVariants.{Hashes, Entries};
+ghost use Rattle.ct_data_tiles.specs.TileNames.{IsTile, name_text};
+ghost use Rattle.ct_data_tiles.specs.declared.tile.Content.TheVariants.{Hashes, Entries};
 ghost use Rattle.ct_tiles.specs.Tiles.{rows};
-ghost use Rattle.ct_log_state.specs.Bundle.{bundled_text, bundle_text, IsBundleOf};
+ghost use Rattle.ct_step.specs.Bundle.{bundled_text, bundle_text, IsBundleOf};
 ghost use Rattle.ct_step.specs.Objects.{named, entry_object, each_from, cut_object, cut_level, level_objects, data_objects, FitsInBundle, row_tiles};
 
-use ct_data_tiles::DataRow;
-use ct_log_state::push_object;
-use ct_tile_names::{Content, Tile};
+use crate::push_object;
+use ct_data_tiles::{Content, DataRow, Tile};
 use ct_tiles::Row;
 use std::alloc::{AllocError, Global};
 

@@ -8,8 +8,8 @@ use Rattle.ct_guard.specs.NewestHead.{HeadStep, AreHeadSteps, IsHeadOfFirst, New
 use Rattle.ct_monitor.specs.Heads.{IsHeadOfAll}
 use Rattle.ct_older_tree.proofs.Agreeing.{collide_more}
 use Rattle.ct_older_tree.specs.Hashed.{CollideAmong}
-use Rattle.ct_step_receipts.proofs.StepReceipts.{step_receipts_stand}
-use Rattle.ct_step_receipts.specs.StepReceipts.{PassesReceipts, IsHashedForStep}
+use Rattle.ct_guard.proofs.StepReceipts.{step_receipts_stand}
+use Rattle.ct_guard.specs.StepReceipts.{PassesReceipts, IsHashedForStep}
 use Rattle.ct_tree.specs.declared.head.Head.{Head}
 use Rattle.ct_verify.specs.Laws.{AreHashes}
 use Rattle.libwagtenib.proofs.GuardLaws.{above_0-head, above_0-receipt, of_one, same_head, taken_go_back, wrote}

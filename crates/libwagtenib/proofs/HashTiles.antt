@@ -5,8 +5,8 @@ use Rattle.std.proofs.lemmas.Bool.{ltb-true, eqb-true}
 use Rattle.std.proofs.lemmas.List.Elements.{All-nil, All-cons, All-append}
 use Rattle.std.specs.Prelude.{⊤, Result, Ok, Err, Vec, IfOk}
 use Rattle.std.specs.Global.{Global}
-use Rattle.ct_tile_reader.specs.Needed.{tile_at, level_tiles, tiles_from, root_tiles, path_tiles, proof_tiles}
-use Rattle.ct_tile_reader.specs.declared.needed.NeededTile.{NeededTile}
+use Rattle.ct_tiles.specs.Needed.{tile_at, level_tiles, tiles_from, root_tiles, path_tiles, proof_tiles}
+use Rattle.ct_tiles.specs.declared.needed.NeededTile.{NeededTile}
 use Rattle.libwagtenib.specs.Tiles.{IsNamedTile}
 
 width_of : (b : Bool) (n : ℕ) → nat_lt n 256 ≡ b → 1 ≤ n → (1 ≤ (if b then n else 256)) × ((if b then n else 256) ≤ 256)

@@ -7,12 +7,12 @@ use Rattle.sha2.proofs.Facts256.{length-sha256}
 use Rattle.ct_verify.specs.Laws.{AreHashes}
 use Rattle.ct_older_tree.proofs.ListProofs.{accepted_path_is_path, accepted_proof_is_of_beginning}
 use Rattle.ct_tree.specs.Tree.{mth, path, proof}
-use Rattle.ct_tile_names.specs.Names.{name_text}
-use Rattle.ct_tile_reader.specs.Needed.{root_tiles, path_tiles, proof_tiles}
-use Rattle.ct_tile_reader.specs.Handed.{contents_in, handed_fault, IsHandedFault, AreTilesOf}
-use Rattle.ct_tile_reader.specs.declared.needed.NeededTile.{NeededTile}
-use Rattle.ct_tile_reader.specs.declared.handed.HandedFault.{HandedFault}
-use Rattle.ct_tile_reader.specs.declared.handed.HandedFault.TheVariants.{Missing, BadLength, Memory}
+use Rattle.ct_data_tiles.specs.TileNames.{name_text}
+use Rattle.ct_tiles.specs.Needed.{root_tiles, path_tiles, proof_tiles}
+use Rattle.ct_tiles.specs.Handed.{contents_in, handed_fault, IsHandedFault, AreTilesOf}
+use Rattle.ct_tiles.specs.declared.needed.NeededTile.{NeededTile}
+use Rattle.ct_tiles.specs.declared.handed.HandedFault.{HandedFault}
+use Rattle.ct_tiles.specs.declared.handed.HandedFault.TheVariants.{Missing, BadLength, Memory}
 use Rattle.libwagtenib.specs.Output.{WritesOutput}
 use Rattle.libwagtenib.specs.Tiles.{Reading, root_of, path_of, proof_of, HasReading, tiles_of_reading, named_tile, names_text, pieces, handed_code, WritesNames}
 use Rattle.libwagtenib.specs.Tiles.{AreHanded, RefusesContents, IsRootOf, IsPathOf, IsProofOf, PathTellsLeaf, ProofTellsBeginning, ByEveryHash}

@@ -3,7 +3,7 @@ use Rattle.std.proofs.Common.{◌≡◌, ◌∙◌, ◌⊎◌, ⊎_elim, inl, in
 use Rattle.std.specs.Prelude.{Bool, true, false, if◌then◌else◌, option_map, ⊤}
 use Rattle.std.proofs.lemmas.Option.{same_Some, none-some}
 use Rattle.ct_data_tiles.specs.TileLeaf.{Tiled}
-use Rattle.ct_log_state.specs.declared.line.StateLine.{StateLine}
+use Rattle.ct_step.specs.declared.line.StateLine.{StateLine}
 use Rattle.ct_older_tree.specs.Hashed.{CollideAmong}
 use Rattle.ct_node.specs.declared.state.State.{State}
 use Rattle.ct_node.specs.declared.node.Node.{Node}
@@ -18,10 +18,10 @@ use Rattle.ct_node.specs.Starts.{started, GoesBehindNone, NoneIsAhead}
 use Rattle.ct_node.specs.Worlds.{Has, World, Happening, Comes, Makes, Puts, Goes as GoesAway, Told, comes, happens, beginning, MayHappen, LeadTo, IsFirstState, IsSoundWorld, WorldsAreSound}
 use Rattle.ct_node.specs.LookUps.{AllLookUp}
 use Rattle.ct_step.specs.Lines.{IsHashedBySteps}
-use Rattle.ct_node_log.specs.Logs.{StandsOf, NodesWriteOneLog, log_of_past}
-use Rattle.ct_node_log.specs.Once.{NodesAddOnce}
-use Rattle.ct_node_log.specs.Whole.{HeadsHaveAllObjects}
-use Rattle.ct_lock_text.specs.declared.reading.Said.{Said}
+use Rattle.ct_node.specs.Logs.{StandsOf, NodesWriteOneLog, log_of_past}
+use Rattle.ct_node.specs.Once.{NodesAddOnce}
+use Rattle.ct_node.specs.Whole.{HeadsHaveAllObjects}
+use Rattle.ct_node.specs.declared.lock_reading.Said.{Said}
 use Rattle.libwagtenib.specs.declared.node.NodeCommand.{NodeCommand}
 use Rattle.libwagtenib.specs.declared.node.NodeFound.{NodeFound}
 use Rattle.libwagtenib.specs.declared.node.NodeState.{NodeState}

@@ -2,21 +2,21 @@
 use Rattle.std.proofs.Common.{◌≡◌, ◌∙◌, ◌⊎◌, ◌<◌, ⊎_elim, refl, arith, sym, ap, subst, ℕ, List, [], ◌∷◌, ◌++◌, length, take, drop, Option, Some, None}
 use Rattle.std.specs.Prelude.{Bool, true, false, nat_lt, if◌then◌else◌, ⊤, Result, Ok, Err}
 use Rattle.std.proofs.Math.Seq.{take-append_seam}
-use Rattle.ct_growth.specs.declared.claim.Claim.{Claim}
-use Rattle.ct_log_state.specs.Lines.{IsStateLine, NoStateLine, state_line_text}
-use Rattle.ct_log_state.specs.declared.line.StateLine.{StateLine}
+use Rattle.ct_step.specs.declared.claim.Claim.{Claim}
+use Rattle.ct_step.specs.StateLines.{IsStateLine, NoStateLine, state_line_text}
+use Rattle.ct_step.specs.declared.line.StateLine.{StateLine}
 use Rattle.ct_step.specs.declared.step.Step.{Step}
-use Rattle.ct_step_calls.specs.StepAnswers.{edge_of, first_line_by, IsBoundedReplyBy, IsClaimReplyBy, IsReplyTo, IsReplyToBy, IsResumeReplyBy, IsStepReplyBy, TellsClaimBy, TellsNoStepBy, TellsObjectsBy, TellsStepBy}
-use Rattle.ct_step_calls.specs.StepAsks.{StepAsk, for_begin, for_claim, for_no_edge, for_resume, for_step, for_too_many, claim_of_batch, step_of_batch, step_of_edge}
-use Rattle.ct_step_calls.specs.StepBytes.{IsBatchText, IsContentsText}
-use Rattle.ct_step_calls.specs.StepCalls.{IsReplyToClaim, IsReplyToStep}
-use Rattle.ct_step_calls.specs.StepLaws.{RepliedStepsAreAttempts}
-use Rattle.ct_step_calls.specs.StepRepeats.{BatchEntry, places_of_all}
-use Rattle.ct_step_calls.specs.StepReplies.{reply_parts}
-use Rattle.ct_step_calls.specs.StepWords.{Reference, StepReply, references_of, begins, steps, rolls_out, stands, refuses}
-use Rattle.ct_step_calls.specs.declared.answer.StepRefusal.{StepRefusal}
-use Rattle.ct_step_calls.specs.declared.answer.StepRefusal.TheVariants.{BadBatch, BadState, TooMany, TooFar, Edge, Entries, ClockBack, Full, TooLong, Bundle, Claim as NoClaim}
-use Rattle.ct_growth.specs.Leaves.{receipt_parts}
+use Rattle.ct_step.specs.StepAnswers.{edge_of, first_line_by, IsBoundedReplyBy, IsClaimReplyBy, IsReplyTo, IsReplyToBy, IsResumeReplyBy, IsStepReplyBy, TellsClaimBy, TellsNoStepBy, TellsObjectsBy, TellsStepBy}
+use Rattle.ct_step.specs.StepAsks.{StepAsk, for_begin, for_claim, for_no_edge, for_resume, for_step, for_too_many, claim_of_batch, step_of_batch, step_of_edge}
+use Rattle.ct_step.specs.StepBytes.{IsBatchText, IsContentsText}
+use Rattle.ct_step.specs.StepCalls.{IsReplyToClaim, IsReplyToStep}
+use Rattle.ct_step.specs.StepLaws.{RepliedStepsAreAttempts}
+use Rattle.ct_step.specs.StepRepeats.{BatchEntry, places_of_all}
+use Rattle.ct_step.specs.StepReplies.{reply_parts}
+use Rattle.ct_step.specs.StepWords.{Reference, StepReply, references_of, begins, steps, rolls_out, stands, refuses}
+use Rattle.ct_step.specs.declared.answer.StepRefusal.{StepRefusal}
+use Rattle.ct_step.specs.declared.answer.StepRefusal.TheVariants.{BadBatch, BadState, TooMany, TooFar, Edge, Entries, ClockBack, Full, TooLong, Bundle, Claim as NoClaim}
+use Rattle.ct_step.specs.Leaves.{receipt_parts}
 use Rattle.libwagtenib.specs.Step.{step_code, AnswersIn, AnswersOrigin, IsOrigin, IsToldIn}
 use Rattle.libwagtenib.specs.StepLaws.{CallsBeginLogs, CallsMakeSteps, CallsAnswerClaims, CallsResumeSteps}
 use Rattle.sha2.specs.Sha256.{sha256}

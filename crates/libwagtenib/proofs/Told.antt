@@ -1,10 +1,10 @@
 -- An answer that is reported is a reply.
 use Rattle.std.proofs.Common.{◌≡◌, ◌⊎◌, ℕ, List, inl, inr, subst}
 use Rattle.std.specs.Prelude.{Result, Ok, Err, IfOk}
-use Rattle.ct_step_calls.specs.StepReplies.{IsReplyText}
-use Rattle.ct_step_calls.specs.StepWords.{StepReply}
-use Rattle.ct_step_calls.specs.declared.answer.Answer.{Answer}
-use Rattle.ct_step_calls.specs.declared.answer.StepRefusal.{StepRefusal}
+use Rattle.ct_step.specs.StepReplies.{IsReplyText}
+use Rattle.ct_step.specs.StepWords.{StepReply}
+use Rattle.ct_step.specs.declared.answer.Answer.{Answer}
+use Rattle.ct_step.specs.declared.answer.StepRefusal.{StepRefusal}
 use Rattle.libwagtenib.specs.Step.{AnswersIn, IsAnswerTold, IsToldIn}
 
 pub told : {F : Type 0} (r : Result Answer F) (origin : List ℕ) (P : StepReply → Type 0) (code : ℕ) (before after : List ℕ) (count_before count : ℕ)

@@ -20,7 +20,7 @@ use Rattle.ct_data_tiles.specs.declared.answer.DataTileAnswer.{DataTileAnswer}
 use Rattle.ct_data_tiles.specs.declared.answer.DataTileAnswer.TheVariants as answer
 use Rattle.ct_data_tiles.specs.declared.fault.TileFault.{TileFault}
 use Rattle.ct_data_tiles.specs.declared.fault.TileFault.TheVariants.{Field, PartialFingerprint}
-use Rattle.ct_data_tile_calls.specs.TileEntries.{tile_entries_bytes, tile_entry_bytes}
+use Rattle.ct_data_tiles.specs.TileEntries.{tile_entries_bytes, tile_entry_bytes}
 use Rattle.ct_monitor.specs.WatcherState.{WatcherState}
 use Rattle.ct_monitor.specs.declared.verdict.Verdict.{Verdict}
 use Rattle.ct_monitor.specs.declared.verdict.Verdict.TheVariants.{Accepted, Pending, Again, Stale, Shrunk, Fork, TimeNotLater, RootMismatch, Gap, Consistent, Inconsistent}
@@ -31,9 +31,9 @@ use Rattle.ct_monitor_calls.specs.declared.answer.Answer.{Answer}
 use Rattle.ct_monitor_calls.specs.declared.answer.EntriesAnswer.{EntriesAnswer}
 use Rattle.ct_monitor_calls.specs.declared.entries.FaultyEntry.{FaultyEntry}
 use Rattle.ct_monitor_calls.specs.declared.entries.LaterEntry.{LaterEntry}
-use Rattle.ct_name_calls.specs.declared.names.EntryKind.{EntryKind}
-use Rattle.ct_name_calls.specs.declared.names.EntryKind.TheVariants.{X509, Precert}
-use Rattle.ct_tile_names.specs.declared.tile.Tile.{Tile}
+use Rattle.ct_names.specs.declared.name_bytes.EntryKind.{EntryKind}
+use Rattle.ct_names.specs.declared.name_bytes.EntryKind.TheVariants.{X509, Precert}
+use Rattle.ct_data_tiles.specs.declared.tile.Tile.{Tile}
 use Rattle.libwagtenib.specs.Codes.{DecodesLeaf, Describes, leaf_code}
 use Rattle.libwagtenib.specs.DataTiles.{ComparesTile, IsAnswerTold, WritesTileEntries, tile_code}
 use Rattle.libwagtenib.specs.Monitor.{JudgesEntries, JudgesEntry, JudgesPieces, TellsFaulty, TellsLater, TellsReport, TellsVerdict, verdict_code}

@@ -4,7 +4,7 @@ use Rattle.std.specs.Prelude.{◌≡◌, ◌⊎◌, ◌+◌, ◌≤◌, ⊤, ℕ
 use Rattle.ct_guard.specs.NewestHead.{HeadStep, AreHeadSteps, IsHeadOfFirst, NewestIsOf, IsHashedForHeads}
 use Rattle.ct_monitor.specs.Heads.{IsHeadOfAll}
 use Rattle.ct_older_tree.specs.Hashed.{CollideAmong}
-use Rattle.ct_step_receipts.specs.StepReceipts.{IsHashedForStep}
+use Rattle.ct_guard.specs.StepReceipts.{IsHashedForStep}
 use Rattle.ct_tree.specs.declared.head.Head.{Head}
 use Rattle.libwagtenib.specs.Guard.{AcceptsHead, GuardsReceipts, IsStateOf}
 use Rattle.libwagtenib.specs.GuardLaws.{HeadCall, AreTaken, HoldsStateOf, head_steps_of}

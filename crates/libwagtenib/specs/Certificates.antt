@@ -1,8 +1,8 @@
 -- The codes and the bytes that a call over certificates returns and writes (RFC 6962, sections 3.1 to 3.4).
 use Rattle.std.specs.Prelude.{◌≡◌, ◌⊎◌, ◌<◌, ◌≤◌, ◌+◌, ◌^◌, ℕ, List, length, Result, Err}
 use Rattle.sha2.specs.Sha256.{sha256}
-use Rattle.ct_der.specs.declared.fault.DerFault.{DerFault}
-use Rattle.ct_der.specs.declared.fault.DerFault.TheVariants as der
+use Rattle.ct_promise.specs.declared.der_fault.DerFault.{DerFault}
+use Rattle.ct_promise.specs.declared.der_fault.DerFault.TheVariants as der
 use Rattle.ct_promise.specs.Promise.{promised_entry_at, promised_at, IsEntryOf, IsPromised, IsPromiseKept, StandsInAll}
 use Rattle.ct_promise.specs.declared.fault.CutFault.{CutFault}
 use Rattle.ct_promise.specs.declared.fault.CutFault.TheVariants as cut

@@ -9,7 +9,7 @@ use Rattle.ct_data_tiles.specs.declared.answer.DataTileAnswer.TheVariants.{Gap, 
 use Rattle.ct_data_tiles.specs.declared.fault.DataTileFault.TheVariants.{AtLeaf}
 use Rattle.ct_data_tiles.specs.declared.fault.TileFault.{TileFault}
 use Rattle.ct_data_tiles.specs.declared.fault.TileFault.TheVariants.{Field, PartialFingerprint}
-use Rattle.ct_data_tile_calls.specs.TileEntries.{IsTileEntriesText}
+use Rattle.ct_data_tiles.specs.TileEntries.{IsTileEntriesText}
 use Rattle.libwagtenib.specs.Codes.{leaf_code}
 use Rattle.libwagtenib.specs.Output.{WritesOutput}
 

@@ -4,7 +4,7 @@ use Rattle.ct_codec.specs.Signed.{tree_head_text}
 use Rattle.ct_guard.specs.Guarded.{PassesHead, StopsHead, PassesReceipt, StopsReceipt}
 use Rattle.ct_guard.specs.declared.refusal.HeadRefusal.{HeadRefusal}
 use Rattle.ct_guard.specs.declared.refusal.ReceiptRefusal.{ReceiptRefusal}
-use Rattle.ct_step_receipts.specs.StepReceipts.{PassesReceipts, StopsReceipts}
+use Rattle.ct_guard.specs.StepReceipts.{PassesReceipts, StopsReceipts}
 use Rattle.ct_tree.specs.declared.head.Head.{Head}
 use Rattle.ct_verify.specs.Laws.{AreHashes}
 use Rattle.libwagtenib.specs.Codes.{head_code, receipt_code}

@@ -1,7 +1,7 @@
 -- The codes and the bytes that the calls over a lock's text and the name of a staged batch return and write.
 use Rattle.std.specs.Prelude.{◌≡◌, ◌⊎◌, ℕ, List, Some, None}
-use Rattle.ct_lock_text.specs.LockText.{text_said, next_text, name_state}
-use Rattle.ct_lock_text.specs.declared.reading.Said.{Said}
+use Rattle.ct_node.specs.LockText.{text_said, next_text, name_state}
+use Rattle.ct_node.specs.declared.lock_reading.Said.{Said}
 use Rattle.ct_node.specs.declared.state.State.{State}
 use Rattle.libwagtenib.specs.declared.node.NodeState.{NodeState}
 use Rattle.libwagtenib.specs.Node.{c_of_state}

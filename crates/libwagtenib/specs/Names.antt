@@ -2,11 +2,11 @@
 use Rattle.std.specs.Prelude.{◌≡◌, ◌⊎◌, ◌==◌, ℕ, List, Option, Some, None, Result, Err, if◌then◌else◌}
 use Rattle.ct_names.specs.Names.{Named}
 use Rattle.ct_promise.specs.declared.field.Unread.{Unread}
-use Rattle.ct_name_calls.specs.NameBytes.{names_read, IsNamesText}
-use Rattle.ct_name_calls.specs.FoundBytes.{AreWatched, IsWatchedList, IsFoundText}
-use Rattle.ct_name_calls.specs.InBytes.{IsInBytesText}
-use Rattle.ct_name_calls.specs.declared.names.EntryKind.{EntryKind}
-use Rattle.ct_name_calls.specs.declared.names.EntryKind.TheVariants.{X509, Precert}
+use Rattle.ct_names.specs.NameBytes.{names_read, IsNamesText}
+use Rattle.ct_names.specs.FoundBytes.{AreWatched, IsWatchedList, IsFoundText}
+use Rattle.ct_names.specs.FoundInBytes.{IsInBytesText}
+use Rattle.ct_names.specs.declared.name_bytes.EntryKind.{EntryKind}
+use Rattle.ct_names.specs.declared.name_bytes.EntryKind.TheVariants.{X509, Precert}
 use Rattle.libwagtenib.specs.Certificates.{der_code, place_number}
 use Rattle.libwagtenib.specs.Output.{WritesOutput}
 

@@ -1,7 +1,7 @@
 -- The commands of a node, as callers in C have them, and what a node finds when it starts.
 use Rattle.std.specs.Prelude.{◌≡◌, ◌⊎◌, ◌/◌, ◌%◌, ◌==◌, ℕ, Bool, List, [], ◌∷◌, Option, Some, None, option_map, if◌then◌else◌}
-use Rattle.ct_lock_text.specs.LockText.{text_said, says_root}
-use Rattle.ct_lock_text.specs.declared.reading.Said.{Said}
+use Rattle.ct_node.specs.LockText.{text_said, says_root}
+use Rattle.ct_node.specs.declared.lock_reading.Said.{Said}
 use Rattle.ct_node.specs.declared.state.State.{State}
 use Rattle.ct_node.specs.declared.node.Node.{Node}
 use Rattle.ct_node.specs.declared.node.Node.TheVariants.{Reading, Looking, Stepping, Staging, Swapping, Deleting, Putting, Placing, Heading, Answering}

@@ -2,10 +2,10 @@
 use Rattle.std.specs.Prelude.{◌≡◌, ◌↔◌, ◌⊎◌, ⊤, ℕ, ◌<◌, List, [], ◌∷◌, length, take, Some}
 use Rattle.std.specs.List.{AllZip}
 use Rattle.ct_data_tiles.specs.TileLeaf.{Tiled}
-use Rattle.ct_growth.specs.Identities.{AreNewFrom}
-use Rattle.ct_lock_text.specs.LockText.{text_state}
-use Rattle.ct_log_state.specs.Lines.{state_line_text}
-use Rattle.ct_log_state.specs.declared.line.StateLine.{StateLine}
+use Rattle.ct_step.specs.Identities.{AreNewFrom}
+use Rattle.ct_node.specs.LockText.{text_state}
+use Rattle.ct_step.specs.StateLines.{state_line_text}
+use Rattle.ct_step.specs.declared.line.StateLine.{StateLine}
 use Rattle.ct_node.specs.declared.state.State.{State}
 use Rattle.ct_node.specs.declared.node.Node.{Node}
 use Rattle.ct_node.specs.declared.node.Node.TheVariants.{Reading, Looking, Stepping, Staging, Swapping, Deleting, Putting, Placing, Heading, Answering}
@@ -16,16 +16,16 @@ use Rattle.ct_node.specs.LookUps.{LooksUp}
 use Rattle.ct_node.specs.Nodes.{after}
 use Rattle.ct_node.specs.Starts.{NoneIsAhead}
 use Rattle.ct_node.specs.Worlds.{Has, Made, Object, World, Happening, Told, happens, beginning, MayHappen, MayBeTold, IsFirstState}
-use Rattle.ct_node_log.specs.Logs.{IsOf, AreStepsMade, StandsOf, log_of_past}
-use Rattle.ct_node_log.specs.Once.{entry_identities, AreStepsAdding}
-use Rattle.ct_node_log.specs.Whole.{AreAllPut, HasAllObjects}
+use Rattle.ct_node.specs.Logs.{IsOf, AreStepsMade, StandsOf, log_of_past}
+use Rattle.ct_node.specs.Once.{entry_identities, AreStepsAdding}
+use Rattle.ct_node.specs.Whole.{AreAllPut, HasAllObjects}
 use Rattle.ct_step.specs.Lines.{LineAttempt, IsHashedBySteps}
 use Rattle.ct_step.specs.declared.step.Step.{Step}
-use Rattle.ct_step_calls.specs.StepAnswers.{IsReplyTo}
-use Rattle.ct_step_calls.specs.StepAsks.{for_step, for_resume}
-use Rattle.ct_step_calls.specs.StepRepeats.{BatchEntry}
-use Rattle.ct_step_calls.specs.StepReplies.{stepped_text, resumed_text}
-use Rattle.ct_step_calls.specs.StepWords.{Reference, steps, rolls_out}
+use Rattle.ct_step.specs.StepAnswers.{IsReplyTo}
+use Rattle.ct_step.specs.StepAsks.{for_step, for_resume}
+use Rattle.ct_step.specs.StepRepeats.{BatchEntry}
+use Rattle.ct_step.specs.StepReplies.{stepped_text, resumed_text}
+use Rattle.ct_step.specs.StepWords.{Reference, steps, rolls_out}
 use Rattle.ct_step.specs.Steps.{IsLog}
 use Rattle.ct_older_tree.specs.Hashed.{CollideAmong}
 use Rattle.libwagtenib.specs.declared.node.NodeCommand.{NodeCommand}

@@ -2,15 +2,15 @@
 use Rattle.std.specs.Prelude.{◌≡◌, ◌⊎◌, ◌&&◌, ◌==◌, ℕ, Bool, true, not, nat_eq, List, [], length, Result, Ok, Err}
 use Rattle.std.specs.List.{list_any}
 use Rattle.std.specs.Str.{IsUtf8}
-use Rattle.ct_growth.specs.declared.claim.Claim.{Claim}
-use Rattle.ct_step_calls.specs.StepAnswers.{IsReplyTo}
-use Rattle.ct_step_calls.specs.StepAsks.{for_begin, for_needs, for_resume}
-use Rattle.ct_step_calls.specs.StepCalls.{IsReplyToStep, IsReplyToClaim}
-use Rattle.ct_step_calls.specs.StepReplies.{answer_parts, reply_parts}
-use Rattle.ct_step_calls.specs.StepWords.{StepReply}
-use Rattle.ct_step_calls.specs.declared.answer.Answer.{Answer}
-use Rattle.ct_step_calls.specs.declared.answer.StepRefusal.{StepRefusal}
-use Rattle.ct_step_calls.specs.declared.answer.StepRefusal.TheVariants.{BadBatch, BadState, TooMany, TooFar, Edge, Entries, ClockBack, Full, TooLong, Bundle, Claim as NoClaim}
+use Rattle.ct_step.specs.declared.claim.Claim.{Claim}
+use Rattle.ct_step.specs.StepAnswers.{IsReplyTo}
+use Rattle.ct_step.specs.StepAsks.{for_begin, for_needs, for_resume}
+use Rattle.ct_step.specs.StepCalls.{IsReplyToStep, IsReplyToClaim}
+use Rattle.ct_step.specs.StepReplies.{answer_parts, reply_parts}
+use Rattle.ct_step.specs.StepWords.{StepReply}
+use Rattle.ct_step.specs.declared.answer.Answer.{Answer}
+use Rattle.ct_step.specs.declared.answer.StepRefusal.{StepRefusal}
+use Rattle.ct_step.specs.declared.answer.StepRefusal.TheVariants.{BadBatch, BadState, TooMany, TooFar, Edge, Entries, ClockBack, Full, TooLong, Bundle, Claim as NoClaim}
 use Rattle.libwagtenib.specs.Output.{WritesOutput}
 
 -- the number that a refusal has in C; include/wagtenib.h has the same

@@ -1,16 +1,16 @@
--- What calls of a step have written if they returned 0: replies of ct_step_calls, by SHA-256.
+-- What calls of a step have written if they returned 0: replies of ct_step, by SHA-256.
 use Rattle.std.specs.Prelude.{◌≡◌, ℕ, Bool, List, [], ◌∷◌, take, Option, Some, Ok}
-use Rattle.ct_growth.specs.declared.claim.Claim.{Claim}
-use Rattle.ct_log_state.specs.Lines.{IsStateLine, state_line_text}
-use Rattle.ct_log_state.specs.declared.line.StateLine.{StateLine}
+use Rattle.ct_step.specs.declared.claim.Claim.{Claim}
+use Rattle.ct_step.specs.StateLines.{IsStateLine, state_line_text}
+use Rattle.ct_step.specs.declared.line.StateLine.{StateLine}
 use Rattle.ct_step.specs.declared.step.Step.{Step}
-use Rattle.ct_step_calls.specs.StepAnswers.{IsReplyTo, first_line}
-use Rattle.ct_step_calls.specs.StepAsks.{for_step, for_claim, for_resume}
-use Rattle.ct_step_calls.specs.StepBytes.{IsBatchText, IsContentsText}
-use Rattle.ct_step_calls.specs.StepLaws.{IsStepAttempt}
-use Rattle.ct_step_calls.specs.StepRepeats.{BatchEntry}
-use Rattle.ct_step_calls.specs.StepReplies.{stepped_text, resumed_text}
-use Rattle.ct_step_calls.specs.StepWords.{Reference, steps, rolls_out, stands}
+use Rattle.ct_step.specs.StepAnswers.{IsReplyTo, first_line}
+use Rattle.ct_step.specs.StepAsks.{for_step, for_claim, for_resume}
+use Rattle.ct_step.specs.StepBytes.{IsBatchText, IsContentsText}
+use Rattle.ct_step.specs.StepLaws.{IsStepAttempt}
+use Rattle.ct_step.specs.StepRepeats.{BatchEntry}
+use Rattle.ct_step.specs.StepReplies.{stepped_text, resumed_text}
+use Rattle.ct_step.specs.StepWords.{Reference, steps, rolls_out, stands}
 use Rattle.libwagtenib.specs.Step.{BeginsLog, MakesStep, AnswersClaim, ResumesStep}
 use Rattle.sha2.specs.Sha256.{sha256}
 

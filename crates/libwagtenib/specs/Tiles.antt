@@ -7,14 +7,14 @@ use Rattle.ct_verify.specs.Evidence.{IsAudited}
 use Rattle.ct_verify.specs.InclusionEvidence.{IsAccepted}
 use Rattle.ct_older_tree.specs.Hashed.{CollideAmong}
 use Rattle.ct_older_tree.specs.ListLaws.{IsHashedInAudit, IsHashedBetween}
-use Rattle.ct_tile_names.specs.Names.{IsTile, name_text}
-use Rattle.ct_tile_names.specs.declared.tile.Content.TheVariants.{Hashes}
-use Rattle.ct_tile_names.specs.declared.tile.Tile.{Tile}
-use Rattle.ct_tile_reader.specs.Needed.{root_tiles, path_tiles, proof_tiles}
-use Rattle.ct_tile_reader.specs.Handed.{handed_fault, AreTilesOf}
-use Rattle.ct_tile_reader.specs.declared.handed.HandedFault.{HandedFault}
-use Rattle.ct_tile_reader.specs.declared.handed.HandedFault.TheVariants.{Missing, BadLength, Memory}
-use Rattle.ct_tile_reader.specs.declared.needed.NeededTile.{NeededTile}
+use Rattle.ct_data_tiles.specs.TileNames.{IsTile, name_text}
+use Rattle.ct_data_tiles.specs.declared.tile.Content.TheVariants.{Hashes}
+use Rattle.ct_data_tiles.specs.declared.tile.Tile.{Tile}
+use Rattle.ct_tiles.specs.Needed.{root_tiles, path_tiles, proof_tiles}
+use Rattle.ct_tiles.specs.Handed.{handed_fault, AreTilesOf}
+use Rattle.ct_tiles.specs.declared.handed.HandedFault.{HandedFault}
+use Rattle.ct_tiles.specs.declared.handed.HandedFault.TheVariants.{Missing, BadLength, Memory}
+use Rattle.ct_tiles.specs.declared.needed.NeededTile.{NeededTile}
 use Rattle.libwagtenib.specs.Output.{WritesOutput}
 
 -- a value that is read out of tiles: the root of the first n leaves, the audit path of the leaf m in the tree of n, or the consistency proof from m leaves to n

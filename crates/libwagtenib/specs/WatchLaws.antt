@@ -4,14 +4,14 @@ use Rattle.ct_codec.specs.Leaf.{SignedEntry, LeafText, signed_of, type_of}
 use Rattle.ct_data_tiles.specs.DataTile.{IsDataTile, tile_leaves_text}
 use Rattle.ct_data_tiles.specs.Entries.{IsDataTileName, HasEntry, IsFirstWrong, entries_from, first_entry}
 use Rattle.ct_data_tiles.specs.TileLeaf.{Tiled, leaf_of}
-use Rattle.ct_data_tile_calls.specs.TileEntries.{tile_entries_bytes}
+use Rattle.ct_data_tiles.specs.TileEntries.{tile_entries_bytes}
 use Rattle.ct_monitor.specs.WatcherState.{WatcherState}
 use Rattle.ct_monitor_calls.specs.Entries.{IsFirstFaulty, IsFirstLater, leaves_to_read, moment_awaited}
 use Rattle.ct_monitor_calls.specs.StateText.{IsMonitorState}
 use Rattle.ct_monitor_calls.specs.declared.entries.FaultyEntry.{FaultyEntry}
 use Rattle.ct_monitor_calls.specs.declared.entries.LaterEntry.{LaterEntry}
-use Rattle.ct_name_calls.specs.declared.names.EntryKind.{EntryKind}
-use Rattle.ct_tile_names.specs.declared.tile.Tile.{Tile}
+use Rattle.ct_names.specs.declared.name_bytes.EntryKind.{EntryKind}
+use Rattle.ct_data_tiles.specs.declared.tile.Tile.{Tile}
 use Rattle.libwagtenib.specs.Codes.{DecodesLeaf}
 use Rattle.libwagtenib.specs.DataTiles.{ComparesTile, WritesTileEntries}
 use Rattle.libwagtenib.specs.Monitor.{JudgesEntries, JudgesEntry, JudgesPieces, TellsFaulty, TellsLater}

@@ -7,10 +7,9 @@ ghost use Rattle.libwagtenib.specs.Certificates.{WritesEntry, WritesPromised, Ch
 use crate::codes::OUT_OF_MEMORY;
 use crate::output::write_output;
 use crate::{codes, proofs};
-use ct_der::DerFault;
 use ct_promise::{
-    CutFault, Document, Place, PromiseFault, Unfit, Unkept, check_promise, entry_of_precertificate,
-    promised_leaf,
+    CutFault, DerFault, Document, Place, PromiseFault, Unfit, Unkept, check_promise,
+    entry_of_precertificate, promised_leaf,
 };
 use std::alloc::Global;
 

@@ -1,4 +1,4 @@
-//! The entries of a data tile (`ct_data_tile_calls`).
+//! The entries of a data tile (`ct_data_tiles`).
 
 ghost use Rattle.std.specs.Prelude.{◌≡◌};
 ghost use Rattle.libwagtenib.specs.DataTiles.{ComparesTile, IsAnswerTold, IsDamageTold, WritesTileEntries, tile_code};
@@ -6,8 +6,9 @@ ghost use Rattle.libwagtenib.specs.DataTiles.{ComparesTile, IsAnswerTold, IsDama
 use crate::codes::OUT_OF_MEMORY;
 use crate::output::write_output;
 use crate::{codes, leaf};
-use ct_data_tile_calls::tile_entries_text;
-use ct_data_tiles::{Damage, DataTileAnswer, DataTileFault, TileFault, compare_data_tile};
+use ct_data_tiles::{
+    Damage, DataTileAnswer, DataTileFault, TileFault, compare_data_tile, tile_entries_text,
+};
 use std::alloc::{AllocError, Global};
 
 // The number of the fault of an entry.

@@ -12,8 +12,7 @@ use crate::codes::OUT_OF_MEMORY;
 use crate::head::{TreeHead, head_of, of_head, read_state, write_state};
 use crate::tiles::slices_of;
 use crate::{codes, leaf, proofs};
-use ct_guard::{Guard, HeadRefusal, ReceiptRefusal, pass_receipt};
-use ct_step_receipts::pass_receipts;
+use ct_guard::{Guard, HeadRefusal, ReceiptRefusal, pass_receipt, pass_receipts};
 use ct_tree::{Head, NodeHash, Sha256Hash, is_same_digest};
 use std::alloc::{AllocError, Global};
 

@@ -5,7 +5,7 @@
 
 ghost use Rattle.libwagtenib.specs.GuardLaws.{TakenAreSteps, TakenAgree, TakenGoBack, ReceiptsStandInNewest, ReceiptsAreNoHeads, StatesDiffer, StatesAreReadBack};
 
-/// Heads that were signed over one register were let through one after the other, as the laws of `ct_guard` and of `ct_node_log` speak of heads. Each
+/// Heads that were signed over one register were let through one after the other, as the laws of `ct_guard` and of `ct_node` speak of heads. Each
 /// was signed only after the register answered that it holds the head's state. Any number of processes may make calls, and may be killed anywhere.
 #[tactic(auto, using(crate::proofs::GuardLaws::taken_are_steps))]
 pub fn signed_by_calls_are_steps()

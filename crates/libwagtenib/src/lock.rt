@@ -1,15 +1,15 @@
-//! The text that a log's lock holds, and the names of staged batches (`ct_lock_text`).
+//! The text that a log's lock holds, and the names of staged batches (`ct_node`).
 
 ghost use Rattle.std.specs.Prelude.{◌≡◌, IfOk};
 ghost use Rattle.libwagtenib.specs.Lock.{WritesLockText, ReadsLockText, ReadsBatchName};
 ghost use Rattle.libwagtenib.specs.Node.{state_of_c};
-ghost use Rattle.ct_lock_text.specs.LockText.{bundle_name};
+ghost use Rattle.ct_node.specs.LockText.{bundle_name};
 
 use crate::codes;
 use crate::codes::OUT_OF_MEMORY;
 use crate::node::{NodeState, of_state, state_of};
 use crate::output::write_output;
-use ct_lock_text::{said_in, state_of_name, text_of, write_name};
+use ct_node::{said_in, state_of_name, text_of, write_name};
 use std::alloc::{AllocError, Global};
 
 /// Writes the lock's text of a step's state line, which the node sets in place of a state with the timestamp `previous_timestamp`, into `text`, and its length into

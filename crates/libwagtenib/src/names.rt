@@ -1,4 +1,4 @@
-//! The names of a certificate, and the watched names that are found in it or in any bytes (`ct_name_calls`).
+//! The names of a certificate, and the watched names that are found in it or in any bytes (`ct_names`).
 
 ghost use Rattle.std.specs.Prelude.{◌≡◌};
 ghost use Rattle.libwagtenib.specs.Names.{entry_kind, WritesNamesOf, WritesFoundOf, WritesCertificateNames, WritesWatchedNames, WritesNamesInBytes};
@@ -7,8 +7,7 @@ use crate::certificates::{number_of_der, number_of_place};
 use crate::codes;
 use crate::codes::OUT_OF_MEMORY;
 use crate::output::write_output;
-use ct_name_calls::{EntryKind, WatchedFault, found_text, in_bytes_text, names_text};
-use ct_names::NamesFault;
+use ct_names::{EntryKind, NamesFault, WatchedFault, found_text, in_bytes_text, names_text};
 use std::alloc::{AllocError, Global};
 
 // Returns the part of a certificate that an entry of this type contains.

@@ -5,8 +5,7 @@ ghost use Rattle.libwagtenib.specs.Node.{state_of_c, c_of_state, node_of_c, c_of
 
 use crate::codes;
 use crate::head::TreeHead;
-use ct_lock_text::{has_root, said_in};
-use ct_node::{Beginning, Found, Node, Other, Outcome, Point, State, start};
+use ct_node::{Beginning, Found, Node, Other, Outcome, Point, State, has_root, said_in, start};
 
 /// A state of a log, as far as the order of a node's commands goes.
 #[repr(C)]

@@ -29,7 +29,7 @@ pub fn commands_by_calls_have_texts()
 pub fn nodes_by_calls_write_one_log()
     ensures { CallsWriteOneLog }
 {
-    ct_node_log::laws::nodes();
+    ct_node::log_laws::nodes();
     ct_node::laws::worlds();
 }
 
@@ -38,21 +38,21 @@ pub fn nodes_by_calls_write_one_log()
 pub fn nodes_by_calls_put_all()
     ensures { CallsPutAll }
 {
-    ct_node_log::laws::whole();
+    ct_node::log_laws::whole();
 }
 
 /// Any two objects that calls say to put under one name have one content, or two of the strings that are hashed collide.
 pub fn nodes_by_calls_name_one_content()
     ensures { CallsNameOneContent }
 {
-    ct_node_log::laws::nodes();
+    ct_node::log_laws::nodes();
 }
 
 /// If each step is looked up and no place is missing, no identity is in the log twice after the known entries, or two of the strings that are hashed collide.
 pub fn nodes_by_calls_add_once()
     ensures { CallsAddOnce }
 {
-    ct_node_log::laws::no_identity_twice();
+    ct_node::log_laws::no_identity_twice();
 }
 
 /// A node that starts continues from a lock's text exactly if no head that it finds is ahead of the text's.

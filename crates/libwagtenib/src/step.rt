@@ -6,8 +6,7 @@ ghost use Rattle.libwagtenib.specs.Step.{step_code, AnswersClaim, BeginsLog, IsA
 use crate::codes;
 use crate::codes::OUT_OF_MEMORY;
 use crate::output::write_output;
-use ct_growth::Claim;
-use ct_step_calls::{Answer, StepRefusal};
+use ct_step::{Answer, Claim, StepRefusal};
 use std::alloc::{AllocError, Global};
 
 // The number of a refusal.
@@ -61,7 +60,7 @@ pub extern "C" fn wagtenib_step_begin(
 ) -> u32
     ensures { BeginsLog timestamp result out.old out.new length.old length.new }
 {
-    answer_in(ct_step_calls::begin(alloc, timestamp), out, length)
+    answer_in(ct_step::calls::begin(alloc, timestamp), out, length)
 }
 
 /// Returns the names of the objects whose contents a step from this state needs, in order, each a vector whose length is in 8 bytes. 0, 8, 9 or 36
@@ -76,7 +75,7 @@ pub extern "C" fn wagtenib_step_needs(
 ) -> u32
     ensures { NamesEdge state.now result out.old out.new length.old length.new }
 {
-    answer_in(ct_step_calls::needs(alloc, state), out, length)
+    answer_in(ct_step::calls::needs(alloc, state), out, length)
 }
 
 /// A step from a state: of a batch, with the contents of the objects that it needs, at a timestamp that is at most `max_ahead` milliseconds beyond the
@@ -100,7 +99,7 @@ pub extern "C" fn wagtenib_step(
         return codes::BAD_ORIGIN;
     };
     answer_in(
-        ct_step_calls::step(alloc, origin, state, edge, batch, now, max_ahead),
+        ct_step::calls::step(alloc, origin, state, edge, batch, now, max_ahead),
         out,
         length,
     )
@@ -127,7 +126,7 @@ pub extern "C" fn wagtenib_step_claim(
         timestamp,
     };
     answer_in(
-        ct_step_calls::claim(alloc, state, claim, path, submission),
+        ct_step::calls::claim(alloc, state, claim, path, submission),
         out,
         length,
     )
@@ -151,7 +150,7 @@ pub extern "C" fn wagtenib_step_resume(
         return codes::BAD_ORIGIN;
     };
     answer_in(
-        ct_step_calls::resume(alloc, origin, state, bundle),
+        ct_step::calls::resume(alloc, origin, state, bundle),
         out,
         length,
     )

@@ -1,4 +1,4 @@
-//! The laws of calls of a step. A call that returns 0 has written a reply of `ct_step_calls`, so the laws of that crate speak of what it wrote. Each law is the contract
+//! The laws of calls of a step. A call that returns 0 has written a reply of `ct_step`, so the laws of that crate speak of what it wrote. Each law is the contract
 //! of a function that does nothing but call other laws.
 
 ghost use Rattle.libwagtenib.specs.StepLaws.{CallsBeginLogs, CallsMakeSteps, CallsAnswerClaims, CallsResumeSteps};
@@ -12,7 +12,7 @@ pub fn begun_by_calls()
 pub fn steps_by_calls_are_attempts()
     ensures { CallsMakeSteps }
 {
-    ct_step_calls::laws::replied_steps_are_attempts();
+    ct_step::call_laws::replied_steps_are_attempts();
 }
 
 /// A call of `wagtenib_step_claim` that returned 0 wrote the bytes of the receipt of the one submission that it was handed.

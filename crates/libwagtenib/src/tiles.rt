@@ -1,8 +1,8 @@
 //! Roots, audit paths and consistency proofs out of the tiles of a log (C2SP tlog-tiles; RFC 6962, section 2.1).
 
 ghost use Rattle.std.specs.Prelude.{◌≡◌, ◌<◌, ◌≤◌, ◌⊎◌, All, IfOk, MatchResult, length, map, take, drop};
-ghost use Rattle.ct_tile_reader.specs.Handed.{contents_in};
-ghost use Rattle.ct_tile_reader.specs.Needed.{root_tiles, path_tiles, proof_tiles};
+ghost use Rattle.ct_tiles.specs.Handed.{contents_in};
+ghost use Rattle.ct_tiles.specs.Needed.{root_tiles, path_tiles, proof_tiles};
 ghost use Rattle.libwagtenib.specs.Tiles.{root_of, path_of, proof_of, named_tile, IsNamedTile, names_text, pieces, handed_code};
 ghost use Rattle.libwagtenib.specs.Tiles.{AreHanded, RefusesContents, IsRootOf, IsPathOf, IsProofOf, WritesNames, WritesRoot, WritesMade};
 ghost use Rattle.libwagtenib.specs.Output.{WritesOutput};
@@ -10,8 +10,8 @@ ghost use Rattle.libwagtenib.specs.Output.{WritesOutput};
 use crate::codes;
 use crate::codes::OUT_OF_MEMORY;
 use crate::output::{write_hashes, write_output};
-use ct_tile_names::{Content, Tile};
-use ct_tile_reader::{
+use ct_data_tiles::{Content, Tile};
+use ct_tiles::{
     HandedFault, NeededTile, path_of_handed, proof_of_handed, root_of_handed, tiles_for_path,
     tiles_for_proof, tiles_for_root,
 };

@@ -1,8 +1,6 @@
 // The text that `Display` writes for each fault of a step, of a claim and of a staged batch.
 use ct_codec::Refusal;
-use ct_growth::{ClaimFault, EdgeFault, GrowthFault};
-use ct_log_state::ResumeFault;
-use ct_step::StepFault;
+use ct_step::{ClaimFault, EdgeFault, GrowthFault, ResumeFault, StepFault};
 use ct_verify::ProofFault;
 use std::alloc::Global;
 use std::fmt::Display;

@@ -3,7 +3,7 @@
 ghost use Rattle.std.specs.Prelude.{◌<◌};
 
 use crate::hostile::{FIRST_ROOT, PATH, PROOF, ROOT, SMALL_ROOT, TILES};
-use ct_tile_reader::{
+use ct_tiles::{
     HandedFault, HandedTiles, NeededTile, checked_path, checked_proof, path, path_of_handed, proof,
     proof_of_handed, root_at, root_of_handed, tiles_for_path, tiles_for_proof, tiles_for_root,
 };

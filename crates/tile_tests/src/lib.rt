@@ -1,4 +1,4 @@
-//! Tests of the log on tiles (`ct_data_tiles`, `ct_checkpoint`, `ct_tile_reader` and `ct_step`), in a crate of their own so that each of
+//! Tests of the log on tiles (`ct_data_tiles`, `ct_checkpoint`, `ct_tiles` and `ct_step`), in a crate of their own so that each of
 //! these crates is proved once.
 //!
 //! - The bytes of leaves were written by Python's `struct` and `hashlib` after the page of C2SP static-ct-api: the timestamp

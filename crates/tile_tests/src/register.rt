@@ -1,8 +1,7 @@
 // A lock in memory that holds the line of a log. It takes a line only in place of the one that it holds.
 ghost use Rattle.std.specs.Prelude.{◌≡◌};
 
-use ct_growth::Receipt;
-use ct_log_state::StateLine;
+use ct_step::{Receipt, StateLine};
 use std::alloc::{AllocError, Global};
 use std::sync::OnceLock;
 use std::sync::atomic::{AtomicU64, Ordering};

@@ -2,9 +2,9 @@
 use crate::expected::{certificate, leaf_of, root_of, sha256};
 use crate::register::{Offer, Register};
 use ct_codec::{Refusal, Submission};
-use ct_growth::Receipt;
-use ct_log_state::{Object, ResumeFault, StateLine, needed, resume};
-use ct_step::{Batch, Step, StepFault, take_step};
+use ct_step::{
+    Batch, Object, Receipt, ResumeFault, StateLine, Step, StepFault, needed, resume, take_step,
+};
 use ct_tree::Sha256Hash;
 use std::alloc::{AllocError, AllocFailed, Global};
 use std::test::Fail;

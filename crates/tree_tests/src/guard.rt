@@ -2,9 +2,8 @@
 // README.md's first session.
 
 use crate::rows::{Row, Shown, right_rows};
-use ct_guard::{Guard, laws, pass_receipt};
-use ct_step_receipts::laws::step_receipts;
-use ct_step_receipts::pass_receipts;
+use ct_guard::step_receipts_laws::step_receipts;
+use ct_guard::{Guard, laws, pass_receipt, pass_receipts};
 use ct_tree::Sha256Hash;
 use std::alloc::{AllocError, Global};
 

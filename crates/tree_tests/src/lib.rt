@@ -1,5 +1,5 @@
-//! Tests of `ct_tree`, `ct_verify`, `ct_monitor`, `ct_guard` and `ct_step_receipts`, in a crate of their own so that each of
-//! those crates is proved once.
+//! Tests of `ct_tree`, `ct_verify`, `ct_monitor` and `ct_guard`, in a crate of their own so that each of those crates is
+//! proved once.
 #![tactic(auto)]
 
 #[cfg(test)]

@@ -1,5 +1,5 @@
 use Rattle.std.proofs.Common.{subst, arith}
-use Rattle.ct_der.specs.Reading.{Gives}
+use Rattle.ct_promise.specs.DerReading.{Gives}
 use Rattle.ct_promise.specs.Cuts.{parts_of}
 use Rattle.ct_promise.proofs.Answered.{is_parted}
 use Rattle.ct_promise.proofs.Here.{cuts_are_read}

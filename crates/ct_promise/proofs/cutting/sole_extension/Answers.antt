@@ -1,6 +1,6 @@
 use Rattle.std.proofs.Common.{◌≡◌, ◌<◌, ℕ, List, length, Result, Ok, sym, ap, ◌∙◌, rules}
 use Rattle.std.proofs.lemmas.Result.{err_from_is_err_and}
-use Rattle.ct_der.specs.Reading.{◌>>=◌}
+use Rattle.ct_promise.specs.DerReading.{◌>>=◌}
 use Rattle.ct_promise.specs.declared.fault.CutFault.{CutFault}
 use Rattle.ct_promise.proofs.Loops.{sole_goes_on, sole_here, sole_fails, sole_missing}
 use Rattle.ct_promise.proofs.cutting.sole_extension.Goals as goal

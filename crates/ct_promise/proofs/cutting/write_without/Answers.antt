@@ -1,5 +1,5 @@
 use Rattle.std.proofs.Common.{◌≡◌, ◌<◌, ◌++◌, ℕ, List, length, subst, sym, rules}
-use Rattle.ct_der.specs.Writing.{element_text}
+use Rattle.ct_promise.specs.DerWriting.{element_text}
 use Rattle.ct_promise.specs.Reading.{extensions_text}
 use Rattle.ct_promise.specs.Cuts.{parts_of}
 use Rattle.ct_promise.proofs.Shorter.{lists_fit, field_fits, fields_fit}

@@ -1,5 +1,5 @@
 use Rattle.std.proofs.Common.{subst, arith}
-use Rattle.ct_der.specs.Reading.{Gives}
+use Rattle.ct_promise.specs.DerReading.{Gives}
 use Rattle.ct_promise.proofs.Answered.{is_key}
 use Rattle.ct_promise.proofs.Here.{key_here}
 use Rattle.ct_promise.proofs.reading.key_of.Goals as goal

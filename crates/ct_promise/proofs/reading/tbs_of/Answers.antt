@@ -1,5 +1,5 @@
 use Rattle.std.proofs.Common.{subst, arith}
-use Rattle.ct_der.specs.Reading.{Gives}
+use Rattle.ct_promise.specs.DerReading.{Gives}
 use Rattle.ct_promise.proofs.Answered.{is_tbs}
 use Rattle.ct_promise.proofs.Here.{tbs_here}
 use Rattle.ct_promise.proofs.reading.tbs_of.Goals as goal

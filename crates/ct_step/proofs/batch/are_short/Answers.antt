@@ -1,5 +1,5 @@
 use Rattle.std.proofs.Common.{arith}
-use Rattle.ct_growth.proofs.Widths.{hashes_in}
+use Rattle.ct_step.proofs.Widths.{hashes_in}
 use Rattle.ct_step.specs.Entries.{AreShort}
 use Rattle.ct_step.proofs.Loops.{mapped-at, mapped-more, mapped-all}
 use Rattle.ct_step.proofs.batch.are_short.Goals as goal

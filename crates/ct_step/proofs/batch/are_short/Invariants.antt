@@ -1,5 +1,5 @@
 use Rattle.std.proofs.Common.{map, take, All}
-use Rattle.ct_growth.proofs.Widths.{hashes_in}
+use Rattle.ct_step.proofs.Widths.{hashes_in}
 use Rattle.ct_step.specs.Entries.{AreShort}
 use Rattle.ct_step.proofs.batch.are_short.Given as goal
 

@@ -1,7 +1,7 @@
 use Rattle.std.proofs.Common.{◌≡◌, ◌∙◌, ◌+◌, ◌-◌, ◌/◌, ◌%◌, ◌<◌, ℕ, List, ◌++◌, length, map, arith, sym, ap, length-append}
 use Rattle.std.proofs.lemmas.Result.{on_ok_weaker}
 use Rattle.ct_data_tiles.proofs.Rows.{text_in}
-use Rattle.ct_log_state.specs.Bundle.{bundle_text, bundled_text}
+use Rattle.ct_step.specs.Bundle.{bundle_text, bundled_text}
 use Rattle.ct_step.specs.Objects.{each_from, entry_object}
 use Rattle.ct_step.proofs.Loops.{full-tiles, last-object, data-even, data-odd, some_of, name_of}
 use Rattle.ct_step.proofs.Written.{written-push}

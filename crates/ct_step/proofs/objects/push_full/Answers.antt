@@ -1,7 +1,7 @@
 use Rattle.std.proofs.Common.{◌∙◌, ◌+◌, ◌++◌, ℕ, List, length, arith, refl, ap}
 use Rattle.ct_data_tiles.proofs.Rows.{text_in}
 use Rattle.ct_step.specs.Objects.{entry_object, FitsInBundle}
-use Rattle.ct_log_state.specs.Bundle.{bundled_text}
+use Rattle.ct_step.specs.Bundle.{bundled_text}
 use Rattle.ct_step.proofs.Loops.{mapped-at, full-object, name_of}
 use Rattle.ct_step.proofs.Written.{written-none, written-more}
 use Rattle.ct_step.proofs.objects.push_full.Goals as goal

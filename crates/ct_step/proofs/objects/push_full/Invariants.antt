@@ -1,7 +1,7 @@
 use Rattle.std.proofs.Common.{◌≡◌, ◌++◌, ◌+◌, ◌*◌, ◌≤◌, ℕ, List, length, map}
 use Rattle.ct_data_tiles.specs.Rows.{data_tiles_from}
 use Rattle.ct_data_tiles.proofs.Rows.{text_in}
-use Rattle.ct_log_state.specs.Bundle.{bundle_text}
+use Rattle.ct_step.specs.Bundle.{bundle_text}
 use Rattle.ct_step.specs.Objects.{each_from, entry_object}
 use Rattle.ct_step.proofs.objects.push_full.Given as goal
 

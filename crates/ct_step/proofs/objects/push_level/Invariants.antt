@@ -1,5 +1,5 @@
 use Rattle.std.proofs.Common.{◌≡◌, ◌++◌}
-use Rattle.ct_log_state.specs.Bundle.{bundle_text}
+use Rattle.ct_step.specs.Bundle.{bundle_text}
 use Rattle.ct_step.specs.Objects.{each_from, cut_object}
 use Rattle.ct_step.proofs.objects.push_level.Given as goal
 

@@ -1,8 +1,8 @@
 use Rattle.std.proofs.Common.{◌∙◌, ◌++◌, ℕ, List, arith, sym, ap, get_or}
 use Rattle.std.proofs.lemmas.List.{append-nil}
 use Rattle.ct_tiles.specs.declared.row.Row.{Row}
-use Rattle.ct_growth.proofs.Widths.{rest-step}
-use Rattle.ct_log_state.specs.Bundle.{bundle_text}
+use Rattle.ct_step.proofs.Widths.{rest-step}
+use Rattle.ct_step.specs.Bundle.{bundle_text}
 use Rattle.ct_step.specs.Objects.{level_objects, cut_level}
 use Rattle.ct_step.proofs.Loops.{levels-none, levels-step, rows-eight, under}
 use Rattle.ct_step.proofs.Written.{written-both}

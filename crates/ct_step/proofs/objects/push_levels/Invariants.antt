@@ -1,6 +1,6 @@
 use Rattle.std.proofs.Common.{◌≡◌, ◌++◌, ◌/◌, ◌^◌, ℕ, List, length}
 use Rattle.ct_tiles.specs.Tiles.{rows}
-use Rattle.ct_log_state.specs.Bundle.{bundle_text}
+use Rattle.ct_step.specs.Bundle.{bundle_text}
 use Rattle.ct_step.specs.Objects.{level_objects, row_tiles}
 use Rattle.ct_step.proofs.objects.push_levels.Given as goal
 

@@ -1,6 +1,6 @@
 use Rattle.std.proofs.Common.{ℕ, List, map, sym, subst}
 use Rattle.ct_data_tiles.proofs.Rows.{text_in}
-use Rattle.ct_growth.proofs.Widths.{hashes_in}
+use Rattle.ct_step.proofs.Widths.{hashes_in}
 use Rattle.ct_verify.proofs.Extending.{answered}
 use Rattle.ct_step.specs.Steps.{AreBytesOf, StopsState, of_edge}
 use Rattle.ct_step.proofs.Handed.{all-bytes, not_believed}

@@ -9,12 +9,12 @@ use Rattle.ct_tree.specs.Tree.{hash_leaf, mth_of_leaves}
 use Rattle.ct_tiles.specs.Tiles.{rows}
 use Rattle.ct_data_tiles.specs.Rows.{data_tile, IsDataRow}
 use Rattle.ct_data_tiles.proofs.Rows.{text_in}
-use Rattle.ct_log_state.specs.declared.line.StateLine.{StateLine}
-use Rattle.ct_growth.specs.Growths.{IsGrowth, IsGrownFrom}
-use Rattle.ct_growth.specs.Leaves.{receipts_from, indexed_leaves}
-use Rattle.ct_growth.proofs.EdgesTell.{leaves_32}
-use Rattle.ct_growth.proofs.Roots.{has_32}
-use Rattle.ct_log_state.specs.Bundle.{IsObject}
+use Rattle.ct_step.specs.declared.line.StateLine.{StateLine}
+use Rattle.ct_step.specs.Growths.{IsGrowth, IsGrownFrom}
+use Rattle.ct_step.specs.Leaves.{receipts_from, indexed_leaves}
+use Rattle.ct_step.proofs.EdgesTell.{leaves_32}
+use Rattle.ct_step.proofs.Roots.{has_32}
+use Rattle.ct_step.specs.Bundle.{IsObject}
 use Rattle.ct_data_tiles.specs.TileLeaf.{leaf_of, tile_leaf_text}
 use Rattle.ct_step.specs.Entries.{texts_of, tree_leaves, hashes_of}
 use Rattle.ct_step.specs.Objects.{level_objects, data_objects, row_tiles, FitsInBundle}

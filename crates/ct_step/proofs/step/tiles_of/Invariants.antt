@@ -1,6 +1,6 @@
 use Rattle.std.proofs.Common.{map, take}
 use Rattle.ct_data_tiles.proofs.Rows.{text_in}
-use Rattle.ct_growth.proofs.Widths.{hashes_in}
+use Rattle.ct_step.proofs.Widths.{hashes_in}
 use Rattle.ct_step.specs.Steps.{AreReadFrom}
 use Rattle.ct_step.proofs.step.tiles_of.Given as goal
 

@@ -1,4 +1,4 @@
-use Rattle.ct_tile_reader.specs.Handed.{contents_in}
+use Rattle.ct_tiles.specs.Handed.{contents_in}
 use Rattle.libwagtenib.specs.Tiles.{path_of}
 use Rattle.libwagtenib.proofs.Made.{path_made, fault_refuses}
 use Rattle.libwagtenib.proofs.tiles.made_path.Goals as goal

@@ -1,9 +1,9 @@
 use Rattle.std.proofs.Common.{◌≡◌, ◌∙◌, ◌++◌, ◌∷◌, [], ℕ, List, ap, subst}
 use Rattle.std.proofs.lemmas.List.Elements.{All-tail}
 use Rattle.std.specs.Prelude.{All}
-use Rattle.ct_tile_names.specs.Names.{name_text}
-use Rattle.ct_tile_names.specs.declared.tile.Tile.{Tile}
-use Rattle.ct_tile_reader.specs.declared.needed.NeededTile.{NeededTile}
+use Rattle.ct_data_tiles.specs.TileNames.{name_text}
+use Rattle.ct_data_tiles.specs.declared.tile.Tile.{Tile}
+use Rattle.ct_tiles.specs.declared.needed.NeededTile.{NeededTile}
 use Rattle.libwagtenib.specs.Tiles.{named_tile, names_text, IsNamedTile}
 use Rattle.libwagtenib.proofs.Made.{names_more, names_all}
 use Rattle.libwagtenib.proofs.tiles.names_of.Goals as goal

@@ -1,4 +1,4 @@
-use Rattle.ct_tile_reader.specs.Needed.{path_tiles}
+use Rattle.ct_tiles.specs.Needed.{path_tiles}
 use Rattle.libwagtenib.proofs.HashTiles.{all_named, path_named}
 use Rattle.libwagtenib.proofs.tiles.path_tiles.Goals as goal
 

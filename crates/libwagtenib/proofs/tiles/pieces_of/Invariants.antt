@@ -1,5 +1,5 @@
 use Rattle.std.proofs.Common.{◌≡◌, ◌++◌, length}
-use Rattle.ct_tile_reader.specs.Handed.{contents_in}
+use Rattle.ct_tiles.specs.Handed.{contents_in}
 use Rattle.libwagtenib.specs.Tiles.{pieces}
 use Rattle.libwagtenib.proofs.tiles.pieces_of.Given as goal
 

@@ -1,4 +1,4 @@
-use Rattle.ct_tile_reader.specs.Needed.{proof_tiles}
+use Rattle.ct_tiles.specs.Needed.{proof_tiles}
 use Rattle.libwagtenib.proofs.HashTiles.{all_named, proof_named}
 use Rattle.libwagtenib.proofs.tiles.proof_tiles.Goals as goal
 

@@ -1,5 +1,5 @@
 use Rattle.std.proofs.Common.{ℕ, List, length, ap, arith, Vec, Global}
-use Rattle.ct_tile_reader.specs.Handed.{contents_in}
+use Rattle.ct_tiles.specs.Handed.{contents_in}
 use Rattle.libwagtenib.proofs.tiles.read_path.Goals as goal
 
 pub made_path-requires-clause-few : goal.made_path-requires-clause-few

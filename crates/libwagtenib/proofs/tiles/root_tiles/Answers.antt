@@ -1,4 +1,4 @@
-use Rattle.ct_tile_reader.specs.Needed.{root_tiles}
+use Rattle.ct_tiles.specs.Needed.{root_tiles}
 use Rattle.libwagtenib.proofs.HashTiles.{all_named, root_named}
 use Rattle.libwagtenib.proofs.tiles.root_tiles.Goals as goal
 

@@ -1,7 +1,7 @@
 use Rattle.std.proofs.Common.{◌∙◌, List, map, sym, ap}
 use Rattle.std.proofs.lemmas.Slice.Zip.{firsts-zip}
 use Rattle.ct_codec.specs.Submitted.{Submitted}
-use Rattle.ct_growth.proofs.Widths.{hashes_in}
+use Rattle.ct_step.proofs.Widths.{hashes_in}
 use Rattle.ct_step.proofs.Batches.{Entry}
 use Rattle.ct_step.proofs.batch.Batch.submissions.Goals as goal
 

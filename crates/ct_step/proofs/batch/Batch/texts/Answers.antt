@@ -2,7 +2,7 @@ use Rattle.std.proofs.Common.{◌≡◌, ◌∙◌, ◌+◌, ◌<◌, ℕ, List,
 use Rattle.std.proofs.lemmas.List.{length-map, take_all}
 use Rattle.ct_codec.specs.Submitted.{Submitted}
 use Rattle.ct_data_tiles.proofs.Rows.{text_in}
-use Rattle.ct_growth.proofs.Widths.{hashes_in}
+use Rattle.ct_step.proofs.Widths.{hashes_in}
 use Rattle.ct_data_tiles.specs.TileLeaf.{tile_leaf_text}
 use Rattle.ct_step.specs.Entries.{tiled_at, tiled_leaves, texts_of, AreShort}
 use Rattle.ct_step.proofs.Batches.{Entry, counted, pairs-at, tiled-none, texts-step}

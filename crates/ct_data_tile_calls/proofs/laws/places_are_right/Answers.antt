@@ -1,5 +1,0 @@
-use Rattle.ct_data_tile_calls.proofs.Places.{places_are_right}
-use Rattle.ct_data_tile_calls.proofs.laws.places_are_right.Goals as goal
-
-pub returns : goal.returns
-returns c = places_are_right

@@ -1,8 +1,0 @@
-//! Laws of the bytes, each the contract of a function that does nothing.
-
-ghost use Rattle.ct_data_tile_calls.specs.TileEntries.{PlacesAreRight};
-
-/// The tile has each certificate, precertificate and list of fingerprints at the offset that is written.
-pub fn places_are_right()
-    ensures { PlacesAreRight }
-{}

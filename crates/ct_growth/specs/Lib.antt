@@ -1,9 +1,0 @@
-pub mod Leaves
-pub mod Growths
-pub mod History
-pub mod EdgeStrings
-pub mod Believed
-pub mod Handed
-pub mod Identities
-pub mod Claims
-pub mod Misses

@@ -1,2 +1,0 @@
-pub mod LockText
-pub mod Laws

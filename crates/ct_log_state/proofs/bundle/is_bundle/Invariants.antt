@@ -1,9 +1,0 @@
-use Rattle.std.proofs.Common.{ℕ, List, length}
-use Rattle.ct_log_state.proofs.Bundles.{ReadSoFar}
-use Rattle.ct_log_state.proofs.bundle.is_bundle.Given as goal
-
-abbrev pub invariant-objects : goal.invariant-objects
-invariant-objects l = (done : List (List ℕ × List ℕ)) × ReadSoFar done l.bundle l.reader
-
-abbrev pub decreases-objects : goal.decreases-objects
-decreases-objects l = length l.reader

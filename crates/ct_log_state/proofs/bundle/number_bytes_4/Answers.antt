@@ -1,6 +1,0 @@
-use Rattle.ct_codec.specs.Bytes.{num}
-use Rattle.ct_log_state.proofs.bundle.number_bytes_4.Goals as goal
-
-pub returns : goal.returns
-unfolding num
-returns c = c.to_be_bytes.ensures

@@ -1,4 +1,0 @@
-pub mod Lines
-pub mod Bundle
-pub mod Resumed
-pub mod Needed

@@ -1,5 +1,0 @@
-use Rattle.ct_names.proofs.Telling.{finding_is_exact}
-use Rattle.ct_name_calls.proofs.laws.finding_is_by_labels.Goals as goal
-
-pub returns : goal.returns
-returns c = finding_is_exact

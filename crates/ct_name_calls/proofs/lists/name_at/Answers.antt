@@ -1,7 +1,0 @@
-use Rattle.std.proofs.Common.{arith}
-use Rattle.ct_name_calls.proofs.Listing.{no_name}
-use Rattle.ct_name_calls.proofs.lists.name_at.Goals as goal
-
-pub returns-in_default-bytes-clause-none : goal.returns-in_default-bytes-clause-none
-returns-in_default-bytes-clause-none c = λ x r h e.
-    no_name 8 c.in-Some.length c.args.reader.now c.number_8.new.self x r c.in-Some.ensures.fits h (omega (arith, c.in_default-bytes.ensures.none)) c.in-Some.ensures.some e

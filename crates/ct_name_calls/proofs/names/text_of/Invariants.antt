@@ -1,7 +1,0 @@
-use Rattle.std.proofs.Common.{◌≡◌, take}
-use Rattle.ct_names.specs.Names.{named_all}
-use Rattle.ct_name_calls.specs.NameBytes.{names_bytes}
-use Rattle.ct_name_calls.proofs.names.text_of.Given as goal
-
-abbrev pub invariant-loop-name : goal.invariant-loop-name
-invariant-loop-name l = l.text.items ≡ names_bytes (named_all (take l.name-index l.names))

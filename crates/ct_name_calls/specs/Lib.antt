@@ -1,3 +1,0 @@
-pub mod NameBytes
-pub mod FoundBytes
-pub mod InBytes

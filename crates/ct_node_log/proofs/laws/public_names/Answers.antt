@@ -1,6 +1,0 @@
--- Uses the law of the nodes' log, which the body calls.
-use Rattle.ct_node_log.proofs.Public.{public_names_have_one_content}
-use Rattle.ct_node_log.proofs.laws.public_names.Goals as goal
-
-pub returns : goal.returns
-returns c = public_names_have_one_content c.nodes.ensures.one_log

@@ -1,6 +1,0 @@
--- By the laws that the body calls.
-use Rattle.ct_node_log.proofs.Whole.{heads_have_all_objects}
-use Rattle.ct_node_log.proofs.laws.whole.Goals as goal
-
-pub returns : goal.returns
-returns c = heads_have_all_objects c.nodes.ensures.one_log c.worlds.ensures.sound c.bundles.ensures.resumed

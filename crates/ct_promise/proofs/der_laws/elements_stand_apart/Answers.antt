@@ -1,0 +1,5 @@
+use Rattle.ct_promise.proofs.Elements as lemmas
+use Rattle.ct_promise.proofs.der_laws.elements_stand_apart.Goals as goal
+
+pub returns : goal.returns
+returns c = lemmas.elements_stand_apart

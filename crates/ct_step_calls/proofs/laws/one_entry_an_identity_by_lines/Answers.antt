@@ -1,5 +1,0 @@
-use Rattle.ct_step_calls.proofs.AddedOnce.{one_entry_an_identity_by_lines}
-use Rattle.ct_step_calls.proofs.laws.one_entry_an_identity_by_lines.Goals as goal
-
-pub returns : goal.returns
-returns c = one_entry_an_identity_by_lines

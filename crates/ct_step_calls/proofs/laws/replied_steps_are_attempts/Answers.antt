@@ -1,5 +1,0 @@
-use Rattle.ct_step_calls.proofs.Attempts.{replied_steps_are_attempts}
-use Rattle.ct_step_calls.proofs.laws.replied_steps_are_attempts.Goals as goal
-
-pub returns : goal.returns
-returns c = replied_steps_are_attempts

@@ -1,7 +1,0 @@
-use Rattle.std.proofs.Common.{map}
-use Rattle.ct_step_calls.specs.StepBytes.{entry_parts}
-use Rattle.ct_step_calls.specs.SplitSoFar.{IsSplit}
-use Rattle.ct_step_calls.proofs.repeats.split_batch.Given as goal
-
-abbrev pub invariant-loop-entry : goal.invariant-loop-entry
-invariant-loop-entry l = IsSplit (map entry_parts l.yielded) l.split

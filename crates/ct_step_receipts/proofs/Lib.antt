@@ -1,2 +1,0 @@
-pub mod StepReceipts
-pub mod StepBodies

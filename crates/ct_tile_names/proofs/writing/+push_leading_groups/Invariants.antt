@@ -1,4 +1,0 @@
-use Rattle.ct_tile_names.proofs.writing.+push_leading_groups.Given as goal
-
-abbrev pub decreases-push_leading_groups : goal.decreases-push_leading_groups
-decreases-push_leading_groups l = l.groups

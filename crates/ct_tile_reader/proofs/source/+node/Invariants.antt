@@ -1,4 +1,0 @@
-use Rattle.ct_tile_reader.proofs.source.+node.Given as goal
-
-abbrev pub decreases-node : goal.decreases-node
-decreases-node g l = l.level

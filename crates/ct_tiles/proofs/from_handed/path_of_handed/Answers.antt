@@ -1,0 +1,21 @@
+use Rattle.std.proofs.Common.{◌≡◌, ◌∙◌, ℕ, List, sym, ap}
+use Rattle.ct_older_tree.proofs.ListProofs.{accepted_path_is_path}
+use Rattle.ct_tiles.specs.Needed.{path_tiles}
+use Rattle.ct_tiles.specs.Handed.{contents_in, handed_fault, AreTilesOf}
+use Rattle.ct_tiles.specs.declared.handed.HandedFault.TheVariants.{Memory}
+use Rattle.ct_tiles.proofs.HandedOver.{own_not_refused, left_with}
+use Rattle.ct_tiles.proofs.from_handed.path_of_handed.Goals as goal
+
+pub returns-in_err-tiles-clause-never_refused : goal.returns-in_err-tiles-clause-never_refused
+returns-in_err-tiles-clause-never_refused g c =
+    let H = g.H.NodeHash.digest in
+    let contents = contents_in c.args.contents.now in
+    let listed = c.deref.ensures.value ∙ c.in_ok-needed.ensures in
+    let met = c.in_err-tiles.field-0.0 in
+    let faulty = ap (λ x. handed_fault x contents) (sym listed) ∙ c.in_err-tiles.ensures.exact in
+    left_with (λ fault. (D : List (List ℕ)) → AreTilesOf H D (path_tiles c.args.m c.args.n) contents → fault ≡ Memory) met c.from_residual-in_err-tiles.result
+    c.from_residual-in_err-tiles.ensures.1 (λ D are. absurd (own_not_refused H D (path_tiles c.args.m c.args.n) contents met faulty are))
+
+pub returns-clause-tells : goal.returns-clause-tells
+returns-clause-tells g c D leaf accepted =
+    accepted_path_is_path g.H.NodeHash.digest g.met.H.NodeHash.length_digest D leaf c.args.m c.in_ok-path.path.items accepted
