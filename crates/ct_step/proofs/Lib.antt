@@ -35,5 +35,5 @@ pub mod Standing
 pub mod NamedObjects
 pub mod Pushed
 pub mod Contents
-pub mod Receipts
+pub mod CallReceipts
 pub mod Answered

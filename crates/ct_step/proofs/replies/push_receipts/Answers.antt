@@ -2,7 +2,7 @@ use Rattle.std.proofs.Common.{◌<◌, ℕ, List, length, get_or, refl, arith}
 use Rattle.std.proofs.lemmas.List.{get_or_default}
 use Rattle.std.proofs.lemmas.Option.{slice_get_read, slice_get_past}
 use Rattle.ct_step.specs.declared.receipts.Receipt.{Receipt}
-use Rattle.ct_step.proofs.Receipts.{receipt-more, receipt-passed}
+use Rattle.ct_step.proofs.CallReceipts.{receipt-more, receipt-passed}
 use Rattle.ct_step.proofs.replies.push_receipts.Goals as goal
 
 pub loop-place-preserved-in_default : goal.loop-place-preserved-in_default
