@@ -22,7 +22,7 @@ import tempfile
 from served import HERE, OUT, Log, free_port, listens, run, turn, until
 
 # How many submissions ctload makes before it begins, for each second: so many for each client, and at most so many.
-MADE_EACH, MADE = 150, 12000
+MADE_EACH, MADE = 100, 3000
 HEADS = ("Clients", "Log", "Timestamps a second", "Median, ms", "99th percentile, ms", "Processor, ms an entry", "Written, bytes an entry", "Entries a step",
          "Store calls a step", "Processors that others had")  # fmt: skip
 
