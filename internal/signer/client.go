@@ -195,20 +195,38 @@ func (c *Client) sample(count int) (indexes []int) {
 	return indexes
 }
 
+// SignStep returns the signatures of a step's timestamps, as Signer says.
+func (c *Client) SignStep(ctx context.Context, step Step) ([][]byte, error) {
+	return c.signTimestamps(ctx, appendStep(nil, step), step.Leaves)
+}
+
+// signTimestamps sends a request's line, and returns a signature of each message.
+func (c *Client) signTimestamps(ctx context.Context, line []byte, messages [][]byte) (signatures [][]byte, err error) {
+	err = c.exchangeLine(ctx, line, func(rep reply) error {
+		signatures = rep.Signatures
+		return c.verify(ctx, signatures, messages, c.sample(len(messages)))
+	})
+	if err != nil {
+		return nil, err
+	}
+	return signatures, nil
+}
+
 // SignTimestamps returns the signatures of timestamps, as Signer says. It asks for at most MaxReceipts at once.
 func (c *Client) SignTimestamps(ctx context.Context, receipts []Receipt) (signatures [][]byte, err error) {
 	for len(receipts) > 0 {
 		part := receipts[:min(len(receipts), MaxReceipts)]
 		receipts = receipts[len(part):]
-		var messages [][]byte
+		asked, messages := request{}, [][]byte{}
 		for _, receipt := range part {
+			asked.Receipts = append(asked.Receipts, receiptLine{hashBytes(receipt.Path), receipt.Index, receipt.Leaf})
 			messages = append(messages, receipt.Leaf)
 		}
-		var signed [][]byte
-		err := c.exchangeLine(ctx, appendReceipts(nil, part), func(rep reply) error {
-			signed = rep.Signatures
-			return c.verify(ctx, signed, messages, c.sample(len(messages)))
-		})
+		line, err := json.Marshal(asked)
+		if err != nil {
+			return nil, fmt.Errorf("signer: %w", err)
+		}
+		signed, err := c.signTimestamps(ctx, line, messages)
 		if err != nil {
 			return nil, err
 		}
