@@ -36,9 +36,20 @@ type database struct {
 	db     *sql.DB
 }
 
+// inMemory is the driver of SQLite whose connections keep their temporary files in memory. They have what a statement of
+// several rows changed so far, which is only needed until the statement ends.
+const inMemory = "sqlite3 with temporary files in memory"
+
+func init() {
+	sql.Register(inMemory, &sqlite3.SQLiteDriver{ConnectHook: func(c *sqlite3.SQLiteConn) error {
+		_, err := c.Exec("pragma temp_store = memory", nil)
+		return err
+	}})
+}
+
 // open opens the file; the first statement uses it.
 func (d *database) open() (err error) {
-	if d.db, err = sql.Open("sqlite3", d.source); err != nil {
+	if d.db, err = sql.Open(inMemory, d.source); err != nil {
 		return fmt.Errorf("stores: SQLite: %w", err)
 	}
 	d.db.SetMaxOpenConns(maxConnections)
