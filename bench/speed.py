@@ -1,11 +1,11 @@
 #!/usr/bin/env python3
 """Times ctserve beside the least that a log costs (bench/ideal), by turns, on loopback: the same loader, the same chains.
 
-    speed.py [--turns 4] [--seconds 5] [--clients 16,64,256,1024] [--before OUT]
+    speed.py [--turns 4] [--seconds 5] [--clients 16,64,256,1024] [--before OUT,..]
 
 It makes a log of each. In each turn ctload submits to one of them with so many clients for so many seconds, in the order A B B A. It prints the machine and
 each turn, and then, for each number of clients, the ratios of ctserve to ideal. A ratio is the median of the turns' ratios. On a machine that does other
-work, only the ratios and the processor time count. With --before a log of another build of ctserve, which is in the folder OUT, takes turns too.
+work, only the ratios and the processor time count. With --before logs of other builds of ctserve, which are in the folders OUT, take turns too.
 
 The processor time and the bytes written are those of all processes of a log for an entry, until a signed head has all entries. The kernel counts the bytes
 that a process has written (write_bytes in /proc/PID/io). It counts too many for a database with a file of some GB, of which it writes large pages. The
@@ -103,7 +103,7 @@ def main():
     parser.add_argument("--turns", type=int, default=4)
     parser.add_argument("--seconds", type=int, default=5)
     parser.add_argument("--clients", default="16,64,256,1024")
-    parser.add_argument("--before", type=pathlib.Path)
+    parser.add_argument("--before", default="")
     words, logs = parser.parse_args(), {}
     with tempfile.TemporaryDirectory(dir=os.environ.get("TMPDIR")) as work:
         work = pathlib.Path(work)
@@ -111,8 +111,8 @@ def main():
         run(HERE.parent / "deps" / "go", "-C", HERE.parent, "build", "-trimpath", "-o", program, "./bench/ideal")
         try:
             logs["ctserve"] = Log(work / "ctserve", OUT)
-            if words.before:
-                logs["before"] = Log(work / "before", words.before.resolve())
+            for out in filter(None, words.before.split(",")):
+                logs[f"ctserve of {out}"] = Log(work / f"before{len(logs)}", pathlib.Path(out).resolve())
             logs["ideal"] = Ideal(work / "ideal", program)
             measure(logs, words)
         finally:
