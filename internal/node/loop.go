@@ -85,7 +85,7 @@ func (l *Loop) Run(ctx context.Context) error {
 }
 
 // MaxBack is how long the clients that were answered are waited for at most.
-const MaxBack = 8 * time.Millisecond
+const MaxBack = 25 * time.Millisecond
 
 // rest waits until the next step may begin, after a round that began then had one decided. It also waits a moment for
 // as many submissions as this round answered: without that, two halves of the clients wait for each other's steps.
