@@ -3,7 +3,7 @@
 
     speed.py [--turns 4] [--seconds 5] [--clients 16,64,256,1024] [--before OUT,..]
 
-It makes a log of each. In each turn ctload submits to one of them with so many clients for so many seconds, in the order A B B A. It prints the machine and
+It makes a log of each. In each turn ctload submits to one of them with so many clients for so many seconds, in the order A B B A, after a second that does not count. It prints the machine and
 each turn, and then, for each number of clients, the ratios of ctserve to ideal. A ratio is the median of the turns' ratios. On a machine that does other
 work, only the ratios and the processor time count. With --before logs of other builds of ctserve, which are in the folders OUT, take turns too.
 
@@ -88,6 +88,9 @@ def measure(logs, words):
     print(f"| {' | '.join(HEADS)} |\n" + "|---" * len(HEADS) + "|")
     for count in clients:
         figures = {name: [] for name in logs}
+        for log in logs.values():
+            # The first turn with so many clients opens their connections.
+            turn(log, count, 1, count)
         for number in range(words.turns):
             for name, log in list(logs.items())[:: 1 if number % 2 == 0 else -1]:
                 figures[name].append(row(name, count, log, words.seconds))
