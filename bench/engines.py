@@ -15,16 +15,12 @@ a step called each store and for how long (the guard's state isn't among them: i
 import argparse
 import os
 import pathlib
-import re
 import tempfile
 import time
-import urllib.request
 
-from peers import size_of
-from served import OUT, Log, busy_time, load, processor_time, run, stop, until
+from served import OUT, Log, busy_time, load, processor_time, run, size_of, stop, until
 
 WANTED = ("STORES_MEMBERS", "STORES_POSTGRES", "STORES_S3", "STORES_AGAIN")
-SUMMARY = re.compile(r'^ctserve_(store|step)_seconds_(sum|count)\{(.*)\} (\S+)$', re.M)
 
 
 def bucket(name):
@@ -51,25 +47,15 @@ class Node:
         self.log = Log(folder, out, store=bucket(name), lock=address(store, name), index=address("postgres", name), guard_state=address(store, f"{name}-guard"))
         self.rows, self.steps, self.calls, self.phases = [], 0, {}, {}
 
-    def figures(self):
-        """For each call of a store and each part of a step: how often it was made, and how many seconds it took."""
-        with urllib.request.urlopen(f"http://127.0.0.1:{self.log.operator}/metrics", timeout=60) as answer:
-            text = answer.read().decode()
-        found = {}
-        for of, what, labels, value in SUMMARY.findall(text):
-            name = " ".join(sorted(re.findall(r'"([^"]*)"', labels), key=lambda word: word not in ("objects", "lock", "index")))
-            found.setdefault((of, name), {})[what] = float(value)
-        return {of: (both["count"], both["sum"]) for of, both in found.items()}
-
     def turn(self, clients, seconds, engines):
-        had, figures, busy, began = size_of(self.log), self.figures(), busy_time(), time.monotonic()
+        had, figures, busy, began = size_of(self.log), self.log.figures(), busy_time(), time.monotonic()
         before, own = engines.spent(), processor_time(*self.log.ids())
         loader = sum(os.times()[2:4])
         count, took, middle, high, again = load(self.log, clients, "--for", f"{seconds}s")
         loader = sum(os.times()[2:4]) - loader
         # (those that ctload gave up at its end may come in too)
         until(lambda: size_of(self.log) >= had + count, "no head has all entries")
-        own, after, now = processor_time(*self.log.ids()) - own, engines.spent(), self.figures()
+        own, after, now = processor_time(*self.log.ids()) - own, engines.spent(), self.log.figures()
         spent = {engine: after[engine] - before[engine] for engine in after}
         others = (busy_time() - busy - own - sum(spent.values()) - loader) / (time.monotonic() - began)
         entries, grown = max(size_of(self.log) - had, 1), {of: (now[of][0] - figures[of][0], now[of][1] - figures[of][1]) for of in now}

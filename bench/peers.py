@@ -11,7 +11,6 @@ the files once more after so many seconds, when temporary files are gone. With -
 ctload has made its submissions before it sends the first. `make service` builds ctserve and ctload.
 """
 import argparse
-import json
 import os
 import pathlib
 import re
@@ -20,9 +19,8 @@ import subprocess
 import sys
 import tempfile
 import time
-import urllib.request
 
-from served import Log, busy_time, disk_used, free_port, listens, load, memory, processor_time, run, stop, until
+from served import Log, disk_used, free_port, listens, memory, run, size_of, stop, turn, until
 
 SUITE, GO = "trixie", "golang-1.24-go"
 WANTED = ["golang-github-google-trillian-dev", "golang-github-google-certificate-transparency-dev", GO]
@@ -201,25 +199,6 @@ class Ctfe:
             process.wait()
 
 
-def size_of(log):
-    with urllib.request.urlopen(f"{log.url}/ct/v1/get-sth", timeout=60) as answer:
-        return json.load(answer)["tree_size"]
-
-
-def turn(log, clients, seconds):
-    """Timestamps a second, the median and 99th percentile of the time to one, the processor time an entry, each in ms, and how many processors others had."""
-    had, before = size_of(log), {one: processor_time(one) for one in log.ids()}
-    began, busy, own = time.monotonic(), busy_time(), sum(before.values())
-    loader = sum(os.times()[2:4])
-    count, took, middle, high, again = load(log, clients, "--for", f"{seconds}s", "--ready", min(MADE, MADE_EACH * clients) * seconds)
-    loader = sum(os.times()[2:4]) - loader
-    # (those that ctload gave up at its end may come in too)
-    until(lambda: size_of(log) >= had + count, "no head has all entries")
-    spent = sum(processor_time(one) - before.get(one, 0) for one in log.ids())
-    others = (busy_time() - busy - spent - loader) / (time.monotonic() - began)
-    return count / took, 1000 * middle, 1000 * high, 1000 * spent / max(size_of(log) - had, 1), max(others, 0), again
-
-
 def measure(folder, words):
     clients = [int(one) for one in words.clients.split(",")]
     with tempfile.TemporaryDirectory(dir=os.environ.get("TMPDIR")) as work:
@@ -236,9 +215,9 @@ def measure(folder, words):
                 figures = {name: [] for name in logs}
                 for number in range(words.turns):
                     for name, log in list(logs.items())[:: 1 if number % 2 == 0 else -1]:
-                        figures[name].append(turn(log, count, words.seconds))
+                        figures[name].append(turn(log, count, words.seconds, min(MADE, MADE_EACH * count) * words.seconds))
                 for name, turns in figures.items():
-                    rate, middle, high, spent, others, again = zip(*turns)
+                    rate, middle, high, spent, _, others, _, again = zip(*turns)
                     cells = (", ".join(f"{one:,.{digits}f}" for one in column) for column, digits in ((rate, 0), (middle, 0), (high, 0), (spent, 2), (others, 1)))
                     print(f"| {count:,} | {name}{' (some were refused, and sent again)' if any(again) else ''} | {' | '.join(cells)} |", flush=True)
             told(logs, began, "at the end")

@@ -1,4 +1,5 @@
 """A log of ctserve out of a folder, on loopback, for what times it from outside; and what processes took of the processors."""
+import json
 import os
 import pathlib
 import re
@@ -7,12 +8,15 @@ import socket
 import subprocess
 import sys
 import time
+import typing
+import urllib.request
 
 HERE = pathlib.Path(__file__).resolve().parent
 TESTS = HERE.parent / "tests"
 OUT = HERE.parent / "cmd" / "out"
 ORIGIN = "bench.example/log"
 TICK = os.sysconf("SC_CLK_TCK")
+SUMMARY = re.compile(r"^ctserve_(store|step)_seconds_(sum|count)\{(.*)\} (\S+)$", re.M)
 # How long a process may take to serve, in seconds.
 PATIENCE = 120
 
@@ -61,28 +65,39 @@ def processes():
     return found
 
 
-def processor_time(*roots):
-    """The processor time, in seconds, of these processes and those below them."""
+def below(*roots):
+    """These processes and those below them."""
     found, of, grown = processes(), set(roots), True
     while grown:
         grown = {process for process, (parent, _) in found.items() if parent in of} - of
         of |= grown
-    return sum(found[process][1] for process in of if process in found)
+    return {process: found[process][1] for process in of if process in found}
+
+
+def processor_time(*roots):
+    """The processor time, in seconds, of these processes and those below them."""
+    return sum(below(*roots).values())
+
+
+def counted(file, pattern, *roots):
+    """The sum of a number that a file in /proc has of each of these processes and those below them."""
+    total = 0
+    for process in below(*roots):
+        try:
+            total += int(re.search(pattern, pathlib.Path(f"/proc/{process}/{file}").read_text())[1])
+        except (OSError, TypeError):
+            continue
+    return total
 
 
 def memory(*roots):
     """The memory, in bytes, that these processes and those below them hold."""
-    found, of, grown = processes(), set(roots), True
-    while grown:
-        grown = {process for process, (parent, _) in found.items() if parent in of} - of
-        of |= grown
-    held = 0
-    for process in of & set(found):
-        try:
-            held += int(re.search(r"VmRSS:\s+(\d+)", pathlib.Path(f"/proc/{process}/status").read_text())[1]) * 1024
-        except (OSError, TypeError):
-            continue
-    return held
+    return 1024 * counted("status", r"VmRSS:\s+(\d+)", *roots)
+
+
+def written(*roots):
+    """The bytes that these processes and those below them had written to a disk. Of a file that is larger than the memory's large pages the kernel counts whole pages."""
+    return counted("io", r"\bwrite_bytes: (\d+)", *roots)
 
 
 def busy_time():
@@ -124,6 +139,16 @@ class Log:
         until(lambda: '"event":"serving"' in self.said.read_text(), "ctserve doesn't serve", self.process, self.said)
         return time.monotonic() - began
 
+    def figures(self):
+        """For each call of a store and each part of a step: how often it was made, and how many seconds it took."""
+        with urllib.request.urlopen(f"http://127.0.0.1:{self.operator}/metrics", timeout=60) as answer:
+            text = answer.read().decode()
+        found = {}
+        for of, what, labels, value in SUMMARY.findall(text):
+            name = " ".join(sorted(re.findall(r'"([^"]*)"', labels), key=lambda word: word not in ("objects", "lock", "index")))
+            found.setdefault((of, name), {})[what] = float(value)
+        return {of: (both["count"], both["sum"]) for of, both in found.items()}
+
     def reload(self):
         """The command that has it read its roots again."""
         return f"kill -HUP {self.process.pid}"
@@ -147,3 +172,36 @@ def load(log, clients, *words):
     if not found:
         stop(f"ctload says {said}")
     return int(found[1]), *map(float, found.groups()[1:]), "sent again" in said
+
+
+def size_of(log):
+    with urllib.request.urlopen(f"{log.url}/ct/v1/get-sth", timeout=60) as answer:
+        return json.load(answer)["tree_size"]
+
+
+class Turn(typing.NamedTuple):
+    """The figures of one turn: times in ms, and what an entry cost."""
+
+    rate: float
+    median: float
+    high: float
+    processor: float
+    written: float
+    others: float
+    entries: int
+    again: bool
+
+
+def turn(log, clients, seconds, ready):
+    """Has ctload submit to a log, which makes so many submissions before it begins. What an entry cost counts until a signed head has all of them."""
+    had, before, wrote = size_of(log), {one: processor_time(one) for one in log.ids()}, written(*log.ids())
+    began, busy, own = time.monotonic(), busy_time(), sum(before.values())
+    loader = sum(os.times()[2:4])
+    count, took, middle, high, again = load(log, clients, "--for", f"{seconds}s", "--ready", ready)
+    loader = sum(os.times()[2:4]) - loader
+    # (those that ctload gave up at its end may come in too)
+    until(lambda: size_of(log) >= had + count, "no head has all entries")
+    spent = sum(processor_time(one) - before.get(one, 0) for one in log.ids())
+    others = (busy_time() - busy - spent - loader) / (time.monotonic() - began)
+    entries = max(size_of(log) - had, 1)
+    return Turn(count / took, 1000 * middle, 1000 * high, 1000 * spent / entries, (written(*log.ids()) - wrote) / entries, max(others, 0), entries, again)

@@ -72,8 +72,9 @@ type Figures struct {
 	// Repeats counts submissions that were answered with an existing entry. Helped counts the heads of other nodes that
 	// this node published. HandedOver counts submissions that another node answered.
 	Repeats, Helped, HandedOver uint64
-	// SignerStarts counts how often the signer was started, or was found.
-	SignerStarts uint64
+	// SignerStarts counts how often the signer was started, or was found, and WrongSignatures how many of its replies
+	// had a wrong signature.
+	SignerStarts, WrongSignatures uint64
 	// Swept counts deleted partial tiles, SweptHeads deleted old heads, and Scrubbed data tiles that were read again
 	// and were right.
 	Swept, SweptHeads, Scrubbed uint64

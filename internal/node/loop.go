@@ -85,7 +85,7 @@ func (l *Loop) Run(ctx context.Context) error {
 }
 
 // MaxBack is how long the clients that were answered are waited for at most.
-const MaxBack = 8 * time.Millisecond
+const MaxBack = 25 * time.Millisecond
 
 // rest waits until the next step may begin, after a round that began then had one decided. It also waits a moment for
 // as many submissions as this round answered: without that, two halves of the clients wait for each other's steps.
@@ -172,9 +172,6 @@ func (l *Loop) round(ctx context.Context) error {
 	if err := l.vouch(ctx, k); err != nil {
 		return err
 	}
-	if err := p.deleteUnneeded(ctx); err != nil {
-		return err
-	}
 	batch := l.pool.take()
 	defer func() { l.pool.giveBack(batch) }()
 	added, err := l.withoutKnown(ctx, k, batch)
@@ -182,7 +179,7 @@ func (l *Loop) round(ctx context.Context) error {
 		return err
 	}
 	if len(added) == 0 && !l.isStale(k) && l.Fault() == nil {
-		return nil
+		return p.deleteUnneeded(ctx)
 	}
 	if len(added) == 0 && l.Fault() != nil {
 		// A step without entries asks nothing of the index, so it would not show that the fault is over.

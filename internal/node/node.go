@@ -107,6 +107,7 @@ type Signer interface {
 	IsGuarded() bool
 	Last(ctx context.Context) (*signer.Head, error)
 	SignHead(ctx context.Context, head signer.Head, consistency [][32]byte) ([]byte, error)
+	SignStep(ctx context.Context, step signer.Step) ([][]byte, error)
 	SignTimestamps(ctx context.Context, receipts []signer.Receipt) ([][]byte, error)
 }
 

@@ -179,7 +179,12 @@ func (p *pass) waitsForOther() bool {
 // the state's. If the store's is damaged, what the staged batch has of it is put again.
 func (p *pass) step(ctx context.Context) error {
 	defer p.took(decider.Step, p.config.Machine.Clock.Elapsed())
-	stepped, err := p.stepOver(ctx)
+	var stepped *step.Stepped
+	// The decider has the deletions done before the step is reported to it. To make the step has no effect outside.
+	err := p.config.Machine.Parallel(ctx, p.deleteUnneeded, func(ctx context.Context) (err error) {
+		stepped, err = p.stepOver(ctx)
+		return err
+	})
 	if errors.Is(err, ErrDamaged) && len(p.edge) > 0 {
 		p.edge = map[string][]byte{}
 		stepped, err = p.stepOver(ctx)

@@ -4,6 +4,7 @@ import (
 	"context"
 	"errors"
 	"fmt"
+	"math/bits"
 
 	"golang.org/x/mod/sumdb/tlog"
 
@@ -72,10 +73,79 @@ func paths(ctx context.Context, indexes []uint64, head signer.Head, read tile.Re
 	return all, err
 }
 
-// signTimestamps has the timestamps of receipts signed, with their paths in the tree of the signer's last head. A head
-// is the first one that is tried as the last. If the signer refuses it, it may know only an older one that this node
-// had it approve, while another node's signer went on. So it is asked which its last one is, which it then reads.
+// signTimestamps has the timestamps of receipts signed. Those of a whole step are signed over its head at once. If they
+// are not, or if the signer's last head is another one, they are signed one by one.
 func (n *Node) signTimestamps(ctx context.Context, receipts []step.Receipt, head signer.Head,
+	read tile.Reader) ([][]byte, error) {
+	if leaves := leavesTo(head.Size, receipts); leaves != nil {
+		signatures, err := n.signStep(ctx, receipts, leaves, head, read)
+		if err == nil || !errors.Is(err, signer.ErrRefused) && !errors.Is(err, signer.ErrMoved) {
+			return signatures, err
+		}
+	}
+	return n.signSingly(ctx, receipts, head, read)
+}
+
+// leavesTo returns the leaves of receipts in order, each once, if they are those of a tree from the first one to its
+// end, and nil otherwise. The same entry may be in a batch twice.
+func leavesTo(size uint64, receipts []step.Receipt) (leaves [][]byte) {
+	first := receipts[0].LeafIndex
+	for _, r := range receipts {
+		switch known := uint64(len(leaves)); {
+		case r.LeafIndex == first+known:
+			leaves = append(leaves, r.Sign)
+		case r.LeafIndex < first || r.LeafIndex > first+known:
+			return nil
+		}
+	}
+	if first+uint64(len(leaves)) != size {
+		return nil
+	}
+	return leaves
+}
+
+// signStep has the timestamps of a step signed, whose head is the signer's last one.
+func (n *Node) signStep(ctx context.Context, receipts []step.Receipt, leaves [][]byte, head signer.Head,
+	read tile.Reader) ([][]byte, error) {
+	first := receipts[0].LeafIndex
+	subtrees, err := subtreesOf(ctx, first, head, read)
+	if err != nil {
+		return nil, err
+	}
+	signed, err := n.config.Signer.SignStep(ctx, signer.Step{First: first, Subtrees: subtrees, Leaves: leaves})
+	if err != nil {
+		return nil, fmt.Errorf("node: timestamps: %w", err)
+	}
+	signatures := make([][]byte, len(receipts))
+	for i, r := range receipts {
+		signatures[i] = signed[r.LeafIndex-first]
+	}
+	return signatures, nil
+}
+
+// subtreesOf returns the roots of the perfect subtrees of the first leaves of a head's tree, largest first.
+func subtreesOf(ctx context.Context, first uint64, head signer.Head, read tile.Reader) (roots [][32]byte, err error) {
+	var indexes []int64
+	for level := bits.Len64(first) - 1; level >= 0; level-- {
+		if number := first >> level; number%2 == 1 {
+			indexes = append(indexes, tlog.StoredHashIndex(level, int64(number-1)))
+		}
+	}
+	err = tile.Prove(ctx, head, read, func(hashes tlog.HashReader) error {
+		found, err := hashes.ReadHashes(indexes)
+		roots = make([][32]byte, len(found))
+		for i := range found {
+			roots[i] = found[i]
+		}
+		return err
+	})
+	return roots, err
+}
+
+// signSingly has timestamps signed with their paths in the tree of the signer's last head. A head is the first one that
+// is tried as the last. If the signer refuses it, it may know only an older one that this node had it approve, while
+// another node's signer went on. So it is asked which its last one is, which it then reads.
+func (n *Node) signSingly(ctx context.Context, receipts []step.Receipt, head signer.Head,
 	read tile.Reader) ([][]byte, error) {
 	for try := 0; ; try++ {
 		last := &head

@@ -156,6 +156,9 @@ func (l *Log) Figures() log.Figures {
 	if counted, ok := l.config.Signer.(interface{ Starts() uint64 }); ok {
 		f.SignerStarts = counted.Starts()
 	}
+	if verifying, ok := l.config.Signer.(interface{ WrongSignatures() uint64 }); ok {
+		f.WrongSignatures = verifying.WrongSignatures()
+	}
 	l.counts.into(&f)
 	if head := l.node.Known(); head != nil {
 		f.Entries = head.Size

@@ -3,15 +3,29 @@ package signer
 import (
 	"context"
 	"encoding/json"
+	"errors"
 	"fmt"
+	"math/rand/v2"
+	"sync/atomic"
 	"time"
 )
+
+// A node verifies the signature of each head that its signer returns. It verifies only a sample of the timestamps,
+// because to verify one costs as much as all else that a signer does for it. The first provingTimestamps after a
+// signer was opened are verified all, and of each sampleWidth after them one at random.
+const provingTimestamps, sampleWidth = 256, 32
 
 // Client is a Signer that asks a signer in another process.
 type Client struct {
 	asker   *asker
 	key     []byte
 	guarded bool
+	// wrong counts the replies that had a wrong signature.
+	wrong atomic.Uint64
+	// opening is which opening of the signer the last timestamps are of, and unproved is how many of its next ones are
+	// verified all. They belong to whoever has the asker's turn.
+	opening  uint64
+	unproved int
 }
 
 // NewClient returns a client of the signer that open (Start or Dial) finds. If the signer is opened again later, it
@@ -69,6 +83,9 @@ func (c *Client) Close() error {
 
 // Starts returns how many times the signer was started, or connected to.
 func (c *Client) Starts() uint64 { return c.asker.opens.Load() }
+
+// WrongSignatures returns how many replies of the signer had a wrong signature.
+func (c *Client) WrongSignatures() uint64 { return c.wrong.Load() }
 
 // exchange sends a request, and has check read its reply.
 func (c *Client) exchange(ctx context.Context, req request, check func(reply) error) error {
@@ -128,7 +145,7 @@ func (c *Client) SignHead(ctx context.Context, head Head, consistency [][32]byte
 	var signature []byte
 	req := request{Head: headLineOf(&head), Consistency: hashBytes(consistency)}
 	err := c.exchange(ctx, req, func(rep reply) error {
-		if err := c.checkSignatures(ctx, rep.Signatures, [][]byte{head.message()}); err != nil {
+		if err := c.verify(ctx, rep.Signatures, [][]byte{head.message()}, []int{0}); err != nil {
 			return err
 		}
 		signature = rep.Signatures[0]
@@ -140,8 +157,9 @@ func (c *Client) SignHead(ctx context.Context, head Head, consistency [][32]byte
 	return signature, nil
 }
 
-// checkSignatures reports whether there is one signature of the key for each message. The other process is not trusted.
-func (c *Client) checkSignatures(ctx context.Context, signatures, messages [][]byte) error {
+// verify reports whether there are as many signatures as messages, and whether those at some indexes are the key's. The
+// other process is not trusted.
+func (c *Client) verify(ctx context.Context, signatures, messages [][]byte, indexes []int) error {
 	if len(signatures) != len(messages) {
 		return fmt.Errorf("%w: it has %d signatures instead of %d", ErrReply, len(signatures), len(messages))
 	}
@@ -149,12 +167,49 @@ func (c *Client) checkSignatures(ctx context.Context, signatures, messages [][]b
 	if err != nil {
 		return err
 	}
-	return inParallel(ctx, len(messages), func(at int) error {
-		if err := check(public, messages[at], signatures[at]); err != nil {
-			return fmt.Errorf("%w: %v", ErrReply, err)
+	err = inParallel(ctx, len(indexes), func(i int) error {
+		if err := check(public, messages[indexes[i]], signatures[indexes[i]]); err != nil {
+			return fmt.Errorf("%w: %w", ErrReply, err)
 		}
 		return nil
 	})
+	if errors.Is(err, ErrSignature) {
+		c.wrong.Add(1)
+	}
+	return err
+}
+
+// sample returns which of the next timestamps are verified.
+func (c *Client) sample(count int) (indexes []int) {
+	if opening := c.asker.opens.Load(); c.opening != opening {
+		c.opening, c.unproved = opening, provingTimestamps
+	}
+	proving := min(c.unproved, count)
+	c.unproved -= proving
+	for at := range proving {
+		indexes = append(indexes, at)
+	}
+	for from := proving; from < count; from += sampleWidth {
+		indexes = append(indexes, from+rand.IntN(min(sampleWidth, count-from)))
+	}
+	return indexes
+}
+
+// SignStep returns the signatures of a step's timestamps, as Signer says.
+func (c *Client) SignStep(ctx context.Context, step Step) ([][]byte, error) {
+	return c.signTimestamps(ctx, appendStep(nil, step), step.Leaves)
+}
+
+// signTimestamps sends a request's line, and returns a signature of each message.
+func (c *Client) signTimestamps(ctx context.Context, line []byte, messages [][]byte) (signatures [][]byte, err error) {
+	err = c.exchangeLine(ctx, line, func(rep reply) error {
+		signatures = rep.Signatures
+		return c.verify(ctx, signatures, messages, c.sample(len(messages)))
+	})
+	if err != nil {
+		return nil, err
+	}
+	return signatures, nil
 }
 
 // SignTimestamps returns the signatures of timestamps, as Signer says. It asks for at most MaxReceipts at once.
@@ -162,15 +217,16 @@ func (c *Client) SignTimestamps(ctx context.Context, receipts []Receipt) (signat
 	for len(receipts) > 0 {
 		part := receipts[:min(len(receipts), MaxReceipts)]
 		receipts = receipts[len(part):]
-		var messages [][]byte
+		asked, messages := request{}, [][]byte{}
 		for _, receipt := range part {
+			asked.Receipts = append(asked.Receipts, receiptLine{hashBytes(receipt.Path), receipt.Index, receipt.Leaf})
 			messages = append(messages, receipt.Leaf)
 		}
-		var signed [][]byte
-		err := c.exchangeLine(ctx, appendReceipts(nil, part), func(rep reply) error {
-			signed = rep.Signatures
-			return c.checkSignatures(ctx, signed, messages)
-		})
+		line, err := json.Marshal(asked)
+		if err != nil {
+			return nil, fmt.Errorf("signer: %w", err)
+		}
+		signed, err := c.signTimestamps(ctx, line, messages)
 		if err != nil {
 			return nil, err
 		}

@@ -188,8 +188,33 @@ func (g *Guarded) SignHead(ctx context.Context, head Head, consistency [][32]byt
 	return g.key.sign(next.signed)
 }
 
+// SignStep returns the signatures of a step's timestamps, as Signer says.
+func (g *Guarded) SignStep(ctx context.Context, step Step) ([][]byte, error) {
+	return g.signApproved(ctx, step.Leaves, func(state State) error { return state.Step(step) })
+}
+
 // SignTimestamps returns the signatures of timestamps, as Signer says.
 func (g *Guarded) SignTimestamps(ctx context.Context, receipts []Receipt) ([][]byte, error) {
+	messages := make([][]byte, len(receipts))
+	for i, receipt := range receipts {
+		messages[i] = receipt.Leaf
+	}
+	return g.signApproved(ctx, messages, func(state State) error {
+		for _, receipt := range receipts {
+			if ctx.Err() != nil {
+				return fmt.Errorf("signer: %w", ctx.Err())
+			}
+			if err := state.Receipt(receipt); err != nil {
+				return err
+			}
+			g.phase("receipt")
+		}
+		return nil
+	})
+}
+
+// signApproved signs messages if the guard approves them over its state.
+func (g *Guarded) signApproved(ctx context.Context, messages [][]byte, approve func(State) error) ([][]byte, error) {
 	if err := g.take(ctx); err != nil {
 		return nil, err
 	}
@@ -198,16 +223,8 @@ func (g *Guarded) SignTimestamps(ctx context.Context, receipts []Receipt) ([][]b
 	if err != nil {
 		return nil, err
 	}
-	messages := make([][]byte, len(receipts))
-	for i, receipt := range receipts {
-		if ctx.Err() != nil {
-			return nil, fmt.Errorf("signer: %w", ctx.Err())
-		}
-		if err := state.Receipt(receipt); err != nil {
-			return nil, err
-		}
-		g.phase("receipt")
-		messages[i] = receipt.Leaf
+	if err := approve(state); err != nil {
+		return nil, err
 	}
 	return g.key.signAll(ctx, messages)
 }

@@ -230,6 +230,14 @@ func (w wrongly) SignTimestamps(ctx context.Context, receipts []Receipt) ([][]by
 	return w.change(signed), nil
 }
 
+func (w wrongly) SignStep(ctx context.Context, step Step) ([][]byte, error) {
+	signed, err := w.Signer.SignStep(ctx, step)
+	if err != nil {
+		return nil, err
+	}
+	return w.change(signed), nil
+}
+
 // TestWrongSigner asks a signer in another process that returns wrong signatures, or too few. The client returns none
 // of them.
 func TestWrongSigner(t *testing.T) {
@@ -274,6 +282,10 @@ func TestWrongSigner(t *testing.T) {
 		all, err := c.SignTimestamps(ctx, receipts)
 		if (err == nil) != wrong.receipts || err != nil && (!errors.Is(err, ErrReply) || all != nil) {
 			t.Errorf("%s: timestamps: %v", what, err)
+		}
+		all, err = c.SignStep(ctx, l.step(t, 1, 3))
+		if (err == nil) != wrong.receipts || err != nil && (!errors.Is(err, ErrReply) || all != nil) {
+			t.Errorf("%s: timestamps of a step: %v", what, err)
 		}
 	}
 }

@@ -6,7 +6,7 @@ import (
 	"strconv"
 )
 
-// Lines about timestamps are JSON of one fixed form, without spaces and without escapes in base64. This code reads such
+// Lines about steps are JSON of one fixed form, without spaces and without escapes in base64. This code reads such
 // a line once, whereas encoding/json reads it several times. encoding/json reads the lines of every other form.
 
 // appendBase64 appends bytes as a JSON string in base64.
@@ -26,18 +26,6 @@ func appendBase64List(line []byte, contents [][]byte) []byte {
 			line = append(line, ',')
 		}
 		line = appendBase64(line, content)
-	}
-	return append(line, ']')
-}
-
-// appendHashes appends a JSON array of hashes in base64.
-func appendHashes(line []byte, hashes [][32]byte) []byte {
-	line = append(line, '[')
-	for i := range hashes {
-		if i > 0 {
-			line = append(line, ',')
-		}
-		line = appendBase64(line, hashes[i][:])
 	}
 	return append(line, ']')
 }

@@ -16,16 +16,6 @@ func TestAppendsBase64(t *testing.T) {
 			t.Errorf("%s, and %s is expected; %v", got, want, err)
 		}
 	}
-	for _, hashes := range [][][32]byte{{}, {{1}}, {{1}, {2}}} {
-		texts := make([][]byte, len(hashes))
-		for i := range hashes {
-			texts[i] = hashes[i][:]
-		}
-		want, err := json.Marshal(texts)
-		if got := appendHashes(nil, hashes); err != nil || string(got) != string(want) {
-			t.Errorf("%s, and %s is expected; %v", got, want, err)
-		}
-	}
 }
 
 // readForm reads an object of one form.

@@ -147,6 +147,11 @@ func (k *Key) SignHead(ctx context.Context, head Head, _ [][32]byte) ([]byte, er
 	return k.sign(head.message())
 }
 
+// SignStep returns the signatures of a step's timestamps, as Signer says. It checks neither leaves nor subtrees.
+func (k *Key) SignStep(ctx context.Context, step Step) ([][]byte, error) {
+	return k.signAll(ctx, step.Leaves)
+}
+
 // SignTimestamps returns the signatures of timestamps, as Signer says. It checks neither leaves nor paths.
 func (k *Key) SignTimestamps(ctx context.Context, receipts []Receipt) ([][]byte, error) {
 	messages := make([][]byte, 0, len(receipts))

@@ -19,14 +19,22 @@ const (
 	requestTimeout = 30 * time.Second
 )
 
-// request asks for one thing: the key, the last head, the signature of a head, or the signatures of timestamps.
+// request asks for one thing: the key, the last head, the signature of a head, or the signatures of a step's timestamps
+// or of any timestamps.
 type request struct {
 	Open        bool      `json:"open,omitempty"`
 	Last        bool      `json:"last,omitempty"`
 	Head        *headLine `json:"head,omitempty"`
 	Consistency [][]byte  `json:"consistency,omitempty"`
-	// Receipts are written by appendReceipts.
+	// Step is written by appendStep.
+	Step     *stepLine     `json:"step,omitempty"`
 	Receipts []receiptLine `json:"receipts,omitempty"`
+}
+
+type stepLine struct {
+	First    uint64   `json:"first_index"`
+	Leaves   [][]byte `json:"leaf_inputs"`
+	Subtrees [][]byte `json:"subtrees,omitempty"`
 }
 
 type receiptLine struct {
@@ -71,8 +79,8 @@ func hashBytes(hashes [][32]byte) [][]byte {
 
 // answer returns the signer's reply to a request's line.
 func answer(ctx context.Context, s Signer, line []byte) (reply, error) {
-	if receipts, ok := readReceipts(line); ok {
-		return answerReceipts(ctx, s, receipts)
+	if step, ok := readStep(line); ok {
+		return answerStep(ctx, s, step)
 	}
 	var req request
 	if err := json.Unmarshal(line, &req); err != nil {
@@ -95,6 +103,12 @@ func answer(ctx context.Context, s Signer, line []byte) (reply, error) {
 		}
 		signature, err := s.SignHead(ctx, *head, proof)
 		return reply{Signatures: [][]byte{signature}}, err
+	case req.Step != nil:
+		subtrees, err := parseHashes(req.Step.Subtrees)
+		if err != nil {
+			return reply{}, err
+		}
+		return answerStep(ctx, s, Step{req.Step.First, subtrees, req.Step.Leaves})
 	}
 	var receipts []Receipt
 	for _, receipt := range req.Receipts {
@@ -104,17 +118,28 @@ func answer(ctx context.Context, s Signer, line []byte) (reply, error) {
 		}
 		receipts = append(receipts, Receipt{receipt.Leaf, receipt.Index, path})
 	}
-	return answerReceipts(ctx, s, receipts)
-}
-
-// answerReceipts returns the signer's reply to a request for timestamps.
-func answerReceipts(ctx context.Context, s Signer, receipts []Receipt) (reply, error) {
-	if len(receipts) > MaxReceipts {
-		return reply{}, fmt.Errorf("%w: a request for %d timestamps, more than %d", ErrReply,
-			len(receipts), MaxReceipts)
+	if err := bounded(len(receipts)); err != nil {
+		return reply{}, err
 	}
 	signatures, err := s.SignTimestamps(ctx, receipts)
 	return reply{Signatures: signatures}, err
+}
+
+// answerStep returns the signer's reply to a request for the timestamps of a step.
+func answerStep(ctx context.Context, s Signer, step Step) (reply, error) {
+	if err := bounded(len(step.Leaves)); err != nil {
+		return reply{}, err
+	}
+	signatures, err := s.SignStep(ctx, step)
+	return reply{Signatures: signatures}, err
+}
+
+// bounded returns an error if a request is for too many timestamps.
+func bounded(timestamps int) error {
+	if timestamps > MaxReceipts {
+		return fmt.Errorf("%w: a request for %d timestamps, more than %d", ErrReply, timestamps, MaxReceipts)
+	}
+	return nil
 }
 
 // Serve answers requests until the reader ends.

@@ -5,51 +5,34 @@ import (
 	"strconv"
 )
 
-// A line about timestamps has a leaf and a path for each one, and a step may have a thousand. This code writes and
-// reads such a line once. encoding/json reads the lines of other programs, which may have another form.
+// A line about a step has a leaf for each of its timestamps, and a step may have a thousand. This code writes and reads
+// such a line once. encoding/json reads the lines of other programs, which may have another form.
 
-// appendReceipts appends the request for timestamps, without its line end.
-func appendReceipts(line []byte, receipts []Receipt) []byte {
-	line = append(line, `{"receipts":[`...)
-	for i, receipt := range receipts {
-		if i > 0 {
-			line = append(line, ',')
-		}
-		line = append(line, '{')
-		if len(receipt.Path) > 0 {
-			line = append(appendHashes(append(line, `"audit_path":`...), receipt.Path), ',')
-		}
-		line = strconv.AppendUint(append(line, `"leaf_index":`...), receipt.Index, 10)
-		line = append(appendBase64(append(line, `,"leaf_input":`...), receipt.Leaf), '}')
+// appendStep appends the request for a step's timestamps, without its line end.
+func appendStep(line []byte, step Step) []byte {
+	line = strconv.AppendUint(append(line, `{"step":{"first_index":`...), step.First, 10)
+	line = appendBase64List(append(line, `,"leaf_inputs":`...), step.Leaves)
+	if len(step.Subtrees) > 0 {
+		line = appendBase64List(append(line, `,"subtrees":`...), hashBytes(step.Subtrees))
 	}
-	return append(line, "]}"...)
+	return append(line, "}}"...)
 }
 
-// readReceipts reads a line that appendReceipts wrote. ok is false if the line has another form.
-func readReceipts(line []byte) (receipts []Receipt, ok bool) {
-	c, wrong := newCursor(line), false
-	c.expect(`{"receipts":`)
-	c.each(func() {
-		var receipt Receipt
-		if c.expect(`{`); c.skip(`"audit_path":`) {
-			c.each(func() {
-				var hash [32]byte
-				content := c.bytes()
-				wrong = wrong || len(content) != len(hash)
-				copy(hash[:], content)
-				receipt.Path = append(receipt.Path, hash)
-			})
-			c.expect(`,`)
-		}
-		c.expect(`"leaf_index":`)
-		receipt.Index = c.number()
-		c.expect(`,"leaf_input":`)
-		receipt.Leaf = c.bytes()
-		c.expect(`}`)
-		receipts = append(receipts, receipt)
-	})
-	c.expect(`}`)
-	return receipts, c.atEnd() && !wrong
+// readStep reads a line that appendStep wrote. ok is false if the line has another form.
+func readStep(line []byte) (step Step, ok bool) {
+	c := newCursor(line)
+	c.expect(`{"step":{"first_index":`)
+	step.First = c.number()
+	c.expect(`,"leaf_inputs":`)
+	c.each(func() { step.Leaves = append(step.Leaves, c.bytes()) })
+	var subtrees [][]byte
+	if c.skip(`,"subtrees":`) {
+		c.each(func() { subtrees = append(subtrees, c.bytes()) })
+	}
+	c.expect("}}")
+	hashes, err := parseHashes(subtrees)
+	step.Subtrees = hashes
+	return step, c.atEnd() && err == nil
 }
 
 // appendSignatures appends the reply that has only signatures.

@@ -27,7 +27,9 @@ type Signer interface {
 	// length, and the signature. The proof leads from the last head to this one (section 2.1.2). The last head may be
 	// signed again. A head that the guard does not approve is a Refusal.
 	SignHead(ctx context.Context, head Head, consistency [][32]byte) ([]byte, error)
-	// SignTimestamps returns the DigitallySigned of each timestamp (section 3.2), or an error.
+	// SignStep returns the DigitallySigned of each timestamp of a step (section 3.2), or an error.
+	SignStep(ctx context.Context, step Step) ([][]byte, error)
+	// SignTimestamps returns the DigitallySigned of each of some timestamps, or an error.
 	SignTimestamps(ctx context.Context, receipts []Receipt) ([][]byte, error)
 }
 
@@ -57,6 +59,15 @@ type Receipt struct {
 	Leaf  []byte
 	Index uint64
 	Path  [][32]byte
+}
+
+// Step has the timestamps of all leaves that a step added, whose head is the last one. The first leaf has the index
+// First, and the last leaf is the last one of the head's tree. Subtrees are the roots of the perfect subtrees of the
+// leaves before the step, largest first.
+type Step struct {
+	First    uint64
+	Subtrees [][32]byte
+	Leaves   [][]byte
 }
 
 // Refusal is the reason why the guard does not approve a head or a timestamp (docs/GUARD.md has the names). Nothing was

@@ -168,6 +168,14 @@ func (s State) Receipt(receipt Receipt) error {
 	return refusedReceipt(wagtenib.GuardReceipt(s.signed, receipt.Leaf, receipt.Index, receipt.Path))
 }
 
+// Step reports whether the bytes of all leaves of a step may be signed after the last head, as Receipt does.
+func (s State) Step(step Step) error {
+	if s.last == nil {
+		return Refusal{Name: "no-head"}
+	}
+	return refusedReceipt(wagtenib.GuardReceipts(s.signed, step.First, step.Subtrees, step.Leaves))
+}
+
 // headRefusals and receiptRefusals are the names of what the guard refuses (docs/GUARD.md). proofFaults and leafFaults
 // are the faults in these refusals.
 var (

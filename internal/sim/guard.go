@@ -206,8 +206,29 @@ func (g *guarded) swap(ctx context.Context, old, next signer.State) error {
 	return err
 }
 
+// SignStep signs a step's timestamps if the guard approves them.
+func (g *guarded) SignStep(ctx context.Context, step signer.Step) ([][]byte, error) {
+	return g.signApproved(ctx, step.Leaves, func(state signer.State) error { return state.Step(step) })
+}
+
 // SignTimestamps signs timestamps that the guard approves, all or none.
 func (g *guarded) SignTimestamps(ctx context.Context, receipts []signer.Receipt) ([][]byte, error) {
+	leaves := make([][]byte, len(receipts))
+	for i, receipt := range receipts {
+		leaves[i] = receipt.Leaf
+	}
+	return g.signApproved(ctx, leaves, func(state signer.State) error {
+		for _, receipt := range receipts {
+			if err := state.Receipt(receipt); err != nil {
+				return err
+			}
+		}
+		return nil
+	})
+}
+
+// signApproved signs leaves if the guard approves them over its state.
+func (g *guarded) signApproved(ctx context.Context, leaves [][]byte, approve func(signer.State) error) ([][]byte, error) {
 	inner, done, err := g.turn(ctx)
 	if err != nil {
 		return nil, err
@@ -217,14 +238,12 @@ func (g *guarded) SignTimestamps(ctx context.Context, receipts []signer.Receipt)
 	if err != nil {
 		return nil, err
 	}
-	for _, receipt := range receipts {
-		if err := state.Receipt(receipt); err != nil {
-			return nil, err
-		}
+	if err := approve(state); err != nil {
+		return nil, err
 	}
-	signed := make([][]byte, len(receipts))
-	for i, receipt := range receipts {
-		signed[i] = sign(receipt.Leaf)
+	signed := make([][]byte, len(leaves))
+	for i, leaf := range leaves {
+		signed[i] = sign(leaf)
 	}
 	return signed, nil
 }

@@ -315,15 +315,17 @@ func TestSQLiteSyncs(t *testing.T) {
 	must(t, err)
 	defer places.Close()
 	for _, of := range []Places{places, places.Leaves()} {
-		var synchronous, cache int
+		var synchronous, cache, page int
 		var journal string
 		db := of.(*inSQLite).database.db
 		must(t, db.QueryRowContext(limited(t), "pragma synchronous").Scan(&synchronous))
 		must(t, db.QueryRowContext(limited(t), "pragma journal_mode").Scan(&journal))
 		must(t, db.QueryRowContext(limited(t), "pragma cache_size").Scan(&cache))
+		must(t, db.QueryRowContext(limited(t), "pragma page_size").Scan(&page))
 		// (below 0 it is in KiB)
-		if synchronous != 2 || journal != "wal" || cache != -16384 {
-			t.Errorf("synchronous is %d, the journal's mode %s, and the cache %d", synchronous, journal, cache)
+		if synchronous != 2 || journal != "wal" || cache != -16384 || page != 1024 {
+			t.Errorf("synchronous is %d, the journal's mode %s, the cache %d, and a page %d", synchronous, journal, cache,
+				page)
 		}
 	}
 }

@@ -36,9 +36,26 @@ type database struct {
 	db     *sql.DB
 }
 
+// ofIndex is the driver of SQLite with the pragmas of an index.
+const ofIndex = "sqlite3 of an index"
+
+// pragmas are made on each connection, in this order. Identities are hashes, so each new row is in a page of its own,
+// and a commit writes all these pages. So pages are small: only a new file gets this size. The write-ahead log gets as
+// many bytes as with SQLite's own pages until it is copied. Temporary files have what a statement of several rows
+// changed so far, which is only needed until the statement ends, so they are kept in memory.
+const pragmas = `pragma page_size = 1024; pragma journal_mode = wal; pragma wal_autocheckpoint = 4000;
+	pragma temp_store = memory`
+
+func init() {
+	sql.Register(ofIndex, &sqlite3.SQLiteDriver{ConnectHook: func(c *sqlite3.SQLiteConn) error {
+		_, err := c.Exec(pragmas, nil)
+		return err
+	}})
+}
+
 // open opens the file; the first statement uses it.
 func (d *database) open() (err error) {
-	if d.db, err = sql.Open("sqlite3", d.source); err != nil {
+	if d.db, err = sql.Open(ofIndex, d.source); err != nil {
 		return fmt.Errorf("stores: SQLite: %w", err)
 	}
 	d.db.SetMaxOpenConns(maxConnections)
@@ -89,8 +106,8 @@ func OpenSQLite(ctx context.Context, path string) (Places, error) {
 	if err := MakeFolder(filepath.Dir(path)); err != nil {
 		return nil, err
 	}
-	settings := url.Values{"_journal_mode": {"WAL"}, "_synchronous": {"FULL"}, "_cache_size": {fmt.Sprint(-maxCached)},
-		"_busy_timeout": {"50"}, "_txlock": {"immediate"}}
+	settings := url.Values{"_synchronous": {"FULL"}, "_cache_size": {fmt.Sprint(-maxCached)}, "_busy_timeout": {"50"},
+		"_txlock": {"immediate"}}
 	source := url.URL{Scheme: "file", Path: path, RawQuery: settings.Encode()}
 	of := &database{source: source.String()}
 	if err := of.open(); err != nil {

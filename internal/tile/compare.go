@@ -41,6 +41,8 @@ type Comparer struct {
 	read   Reader
 	leaves LeavesReader
 
+	recent recent
+
 	mu    sync.Mutex
 	tiles map[tilePlace][]tlog.Hash
 }
@@ -62,8 +64,22 @@ func NewComparer(read Reader, leaves LeavesReader) *Comparer {
 	return &Comparer{read: read, leaves: leaves, tiles: map[tilePlace][]tlog.Hash{}}
 }
 
-// Compare returns ErrDamaged unless a content is a tile of a head's tree.
+// Compare returns ErrDamaged unless a content is a tile of a head's tree. The content must not change after the call. A
+// full tile that was compared before is not hashed again, since it is compared with that content byte for byte.
 func (c *Comparer) Compare(ctx context.Context, head signer.Head, of tlog.Tile, content []byte) error {
+	if of.W == Width && c.recent.has(Name(of), content) {
+		return nil
+	}
+	if err := c.compare(ctx, head, of, content); err != nil {
+		return err
+	}
+	if of.W == Width {
+		c.recent.keep(Name(of), content)
+	}
+	return nil
+}
+
+func (c *Comparer) compare(ctx context.Context, head signer.Head, of tlog.Tile, content []byte) error {
 	hashes, err := c.hashesOf(of, content)
 	if err != nil {
 		return err

@@ -56,7 +56,7 @@ func (f *Front) Tell(ctx context.Context, every time.Duration) {
 	defer timer.Stop()
 	var fault, damage string
 	var tiles, issuers int
-	var mended, failures, faults uint64
+	var mended, failures, faults, wrong uint64
 	more := map[string]bool{}
 	for {
 		figures := f.log.Figures()
@@ -80,6 +80,10 @@ func (f *Front) Tell(ctx context.Context, every time.Duration) {
 		if figures.TendFailures != failures {
 			f.options.Lines.Warn("tend", "failures", figures.TendFailures-failures, "detail", figures.TendFailure)
 			failures = figures.TendFailures
+		}
+		if figures.WrongSignatures != wrong {
+			f.options.Lines.Error("wrong-signature", "replies", figures.WrongSignatures-wrong)
+			wrong = figures.WrongSignatures
 		}
 		if figures.Mended != mended {
 			f.options.Lines.Warn("made-again", "objects", figures.Mended-mended, "last", figures.LastMended)

@@ -114,6 +114,8 @@ var (
 		"Submissions that were forwarded to another node, which answered them.")
 	descSigner = described("ctserve_signer_starts_total",
 		"Number of times that the signer was started or connected to.")
+	descWrong = described("ctserve_wrong_signatures_total",
+		"Replies of the signer that had a wrong signature, and were refused.")
 	descSwept = described("ctserve_deleted_tiles_total",
 		"Partial tiles that were deleted after their full tile was stored.")
 	descSweptHeads = described("ctserve_deleted_heads_total", "Heads that were deleted after a later one was published.")
@@ -214,6 +216,7 @@ func (c collected) work(f log.Figures) {
 	c.count(descHelped, f.Helped)
 	c.count(descHandedOver, f.HandedOver)
 	c.count(descSigner, f.SignerStarts)
+	c.count(descWrong, f.WrongSignatures)
 	c.count(descWritten, f.Written)
 	for _, phase := range f.Phases {
 		c.to <- prometheus.MustNewConstSummary(descPhase, phase.Count, phase.Took.Seconds(), nil, phase.Name)

@@ -7,6 +7,7 @@ import (
 	"io"
 	"net/http"
 	"net/netip"
+	"slices"
 
 	"wagtenib/internal/chains"
 	"wagtenib/internal/log"
@@ -62,6 +63,9 @@ func timestampOf(place log.Place) signedTimestamp {
 	return signedTimestamp{0, place.LogID[:], place.Timestamp, place.Extensions, place.Signature}
 }
 
+// maxPiece is how many bytes are allocated for a body before they have come.
+const maxPiece = 16 << 10
+
 // body reads a submission, and says how many bytes of the budget it took. A body whose length isn't said is refused: no
 // client of logs sends one.
 func (f *Front) body(r *http.Request, client netip.Addr) (body []byte, taken int64, err error) {
@@ -71,9 +75,12 @@ func (f *Front) body(r *http.Request, client netip.Addr) (body []byte, taken int
 	if r.ContentLength > MaxBody {
 		return nil, 0, refusal{status: http.StatusRequestEntityTooLarge, name: "body-too-large", closes: true}
 	}
-	piece := make([]byte, 16<<10)
+	body = make([]byte, 0, min(r.ContentLength+1, maxPiece))
 	for {
-		n, err := r.Body.Read(piece)
+		if len(body) == cap(body) {
+			body = slices.Grow(body, maxPiece)
+		}
+		n, err := r.Body.Read(body[len(body):cap(body)])
 		if n > 0 {
 			// The received bytes count, and not the announced ones. So a client that sends nothing holds nothing.
 			if !f.uses.waitingOf.takeSome(client, n) {
@@ -85,7 +92,7 @@ func (f *Front) body(r *http.Request, client netip.Addr) (body []byte, taken int
 				return nil, taken, refusal{status: http.StatusServiceUnavailable, name: "busy", after: 1, closes: true}
 			}
 			taken += int64(n)
-			body = append(body, piece[:n]...)
+			body = body[:len(body)+n]
 		}
 		if errors.Is(err, io.EOF) {
 			return body, taken, nil

@@ -354,7 +354,7 @@ func (l *Log) Figures() log.Figures {
 		Queue: len(l.waiting), MaxQueue: l.MaxQueue, Entries: l.tree.head.TreeSize,
 		HeadAge: time.Since(time.UnixMilli(int64(l.tree.head.Timestamp))), LostSwaps: 3, Unpublished: 18,
 		SinceRound: 2500 * time.Millisecond,
-		Swept:      4, SweptHeads: 8, Scrubbed: 5, Damaged: 6, Damage: l.Damage, SignerStarts: 7,
+		Swept:      4, SweptHeads: 8, Scrubbed: 5, Damaged: 6, Damage: l.Damage, SignerStarts: 7, WrongSignatures: 22,
 		Written: 16, Phases: []log.Phase{{Name: "stage", Count: 17, Took: 1500 * time.Millisecond}}, SweptBundles: 11,
 		Staged: 12, TendFailures: 13, TendFailure: "nothing is deleted",
 		DamagedIssuers: 9, Mended: 10, LastMended: "issuer/07", SweptTo: 512, ReadNext: 19, Faults: l.faults,

@@ -1,0 +1,45 @@
+package serve_test
+
+import (
+	"testing"
+
+	"wagtenib/internal/stores"
+)
+
+// TestWritesOfAStep: a step of one entry puts its staged batch, two partial tiles and its head. It swaps and raises the
+// lock once, adds to both parts of the index once, and deletes the staged batch before it. What it reads is bounded.
+func TestWritesOfAStep(t *testing.T) {
+	t.Parallel()
+	p, got, calls := newPlace(t), &answers{}, &stores.Calls{}
+	config := p.config()
+	config.Stores.Objects, config.Stores.Lock, config.Stores.Index = calls.Objects(config.Stores.Objects),
+		calls.Register(config.Stores.Lock), calls.Places(config.Stores.Index)
+	l := started(t, config)
+	count := func() map[string]uint64 {
+		counts := map[string]uint64{}
+		for _, call := range calls.All() {
+			counts[call.Store+" "+call.Name] = call.Count
+		}
+		return counts
+	}
+	// The issuers of these entries are put once.
+	got.submit(t, l, 0, 5)
+	before := count()
+	const steps = 10
+	for i := range steps {
+		got.submit(t, l, 5+i, 6+i)
+	}
+	after := count()
+	for call, writes := range map[string]uint64{"objects put": 4, "lock swap": 1, "lock raise": 1, "index add": 2,
+		"objects delete": 1, "lock create": 0, "index replace": 0} {
+		if made := after[call] - before[call]; made != steps*writes {
+			t.Errorf("%d steps made %d calls %s, and not %d", steps, made, call, steps*writes)
+		}
+	}
+	// A node reads the lock each second, too, and each submission is looked up.
+	for call, reads := range map[string]uint64{"lock read": 3, "index find": 2, "objects list": 1, "objects get": 0} {
+		if made := after[call] - before[call]; made > steps*(reads+1) {
+			t.Errorf("%d steps made %d calls %s, more than %d", steps, made, call, steps*(reads+1))
+		}
+	}
+}
