@@ -279,6 +279,18 @@ var all = []planted{
 		{"node.go", "now == nil || now.Head.before(head)", "now == nil || true"},
 		{"heads.go", "	if k.IsBegin() || l.last.published == k.line {", "	if k.IsBegin() {"},
 	}},
+	{"a reader gets the head that the node knows", []edit{
+		{"newest.go", "		if err != nil && seen != nil {", "		if seen != nil {"},
+	}},
+	{"a reader gets a head of another name", []edit{
+		{"newest.go", "	if headName(head.Size, head.Timestamp) != name {", "	if false {"},
+	}},
+	{"a reader gets a head that is not published yet", []edit{
+		{"newest.go", "	name := headName(published.Size, published.Timestamp)\n",
+			"	name := headName(published.Size, published.Timestamp)\n" +
+				"	if names, err := n.config.Stores.Objects.List(ctx, headsPrefix, name, 1); err == nil && len(names) > 0 {\n" +
+				"		name = names[0]\n	}\n"},
+	}},
 	{"all in a batch get the first one's receipt", []edit{
 		{"pass.go",
 			"		r := p.made.receipts[i]\n		p.pool",
@@ -386,6 +398,27 @@ var all = []planted{
 		},
 		{"sim/guard.go", "		case old.Text():\n", "		default:\n"},
 		{"seen.go", "	if err := l.extends(ctx, k, accepted.head(), objects); err != nil || between == \"\" {", "	if true {"},
+	}},
+	{"the seen head is forgotten, and an older text of the lock is taken", []edit{
+		{"seen.go", "	l.seen.accepted = *k", "	_ = k"},
+		{"loop.go",
+			"		if k.head() != before.head() && !follows(k.Size, k.Timestamp, before.head()) {",
+			"		if false {",
+		},
+	}},
+	{"a state behind the accepted one is accepted, and an older text of the lock is taken", []edit{
+		{"seen.go",
+			"	if k.head() != accepted.head() && !follows(k.Size, k.Timestamp, accepted.head()) {",
+			"	if false {",
+		},
+		{"loop.go",
+			"		if k.head() != before.head() && !follows(k.Size, k.Timestamp, before.head()) {",
+			"		if false {",
+		},
+	}},
+	{"a lock that is gone is made again, and the engine lets it", []edit{
+		{"start.go", "		return false, refused(refusal, f)", "		return false, l.create(ctx)"},
+		{"sim/stores.go", "		if s.created {", "		if s.created && s.text != \"\" {"},
 	}},
 	{"a node that was away does not look back, and a state is not compared after the swap", []edit{
 		{"loop.go", "	if l.config.Machine.Clock.Elapsed()-l.seen.heard > maxUnheard {", "	if false {"},

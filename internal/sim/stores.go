@@ -239,7 +239,7 @@ func (l lock) Read(ctx context.Context) (text string, err error) {
 }
 
 func (l lock) Swap(ctx context.Context, old, new string) error {
-	s := &l.m.w.stores
+	s, by := &l.m.w.stores, l.m.process
 	return l.m.call(ctx, "lock", "swap "+short(old)+" for "+short(new), true, func() error {
 		switch s.text {
 		case "":
@@ -247,7 +247,7 @@ func (l lock) Swap(ctx context.Context, old, new string) error {
 		case new:
 			return nil
 		case old:
-			l.m.w.judge.swaps(old, new)
+			l.m.w.judge.swaps(by, old, new)
 			s.setLock(new, s.published)
 			return nil
 		}

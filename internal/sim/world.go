@@ -39,8 +39,9 @@ type observed struct {
 	judge   *judge
 	excuses excuses
 	history history
-	// bentAt is when an object was bent or lost last.
+	// bentAt is when an object that could be read was bent or lost last, and edge the tile that was bent at the edge.
 	bentAt time.Duration
+	edge   bentEdge
 	// stopped is why the log stopped in the end.
 	stopped error
 }
@@ -54,10 +55,11 @@ type events struct {
 	losesNext, calm bool
 }
 
-// due returns the faults that happen at a call, once each.
-func (e *events) due(n int, call string) (now []Fault) {
+// due returns the faults that happen at a call of a machine, once each.
+func (e *events) due(m *machine, n int, call string) (now []Fault) {
 	for i := 0; i < len(e.faults); i++ {
-		if f := e.faults[i]; f.At <= n && strings.HasPrefix(call, f.On) {
+		if f := e.faults[i]; f.At <= n && strings.HasPrefix(call, f.On) && (f.Of == 0 || m == m.w.machines[f.Of-1]) &&
+			f.After <= m.w.now {
 			now = append(now, f)
 			e.faults = slices.Delete(e.faults, i, i+1)
 			i--
@@ -109,7 +111,7 @@ var (
 // newWorld returns the world of a plan.
 func newWorld(plan Plan, proved node.Proved, logs bool) *world {
 	w := &world{plan: plan, proved: proved, events: events{faults: slices.Clone(plan.Faults)}, stores: newMemory(),
-		observed: observed{history: history{isKept: logs}}}
+		observed: observed{history: history{isKept: logs}, bentAt: -readWithin}}
 	w.random = rand.New(rand.NewSource(plan.Seed ^ 0x5deece66d))
 	w.judge, w.excuses.again = newJudge(w), map[[32]byte]bool{}
 	w.newObservers()
@@ -156,6 +158,7 @@ func (m *machine) carry() {
 	if err != nil {
 		m.w.log(m.name, "does not start", err.Error(), "")
 		m.refused = err
+		m.w.judge.alarms(m, err)
 		return
 	}
 	m.node, m.refused = n, nil
@@ -238,7 +241,7 @@ func (m *machine) call(ctx context.Context, store, what string, writes bool, do 
 	w.stores.call = n
 	var fate *Fault
 	if !w.events.calm {
-		for _, f := range w.events.due(n, store+": "+what) {
+		for _, f := range w.events.due(m, n, store+": "+what) {
 			if own := w.befalls(m, f, store); own != nil {
 				fate = own
 			}
