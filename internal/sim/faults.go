@@ -18,11 +18,20 @@ func (w *world) befalls(m *machine, f Fault, store string) *Fault {
 		// A disk of the machine's own either works or fails.
 		f.Kind = CallFails
 	}
-	happened := true
-	switch f.Kind {
-	case CallFails, CallHangs, DoneSaysFailed, AnswersLate, DoneLate, KilledBefore, KilledAfter:
+	if f.Kind <= KilledAfter {
 		w.judge.counts[f.Kind]++
 		return &f
+	}
+	if w.happens(m, f) {
+		w.judge.counts[f.Kind]++
+		w.log("world", f.String(), "", "")
+	}
+	return nil
+}
+
+// happens has a fault happen that is not one call's, and reports whether there was something that it could change.
+func (w *world) happens(m *machine, f Fault) bool {
+	switch f.Kind {
 	case Paused:
 		m.process.pausedUntil = w.now + f.Long
 	case Away:
@@ -38,20 +47,17 @@ func (w *world) befalls(m *machine, f Fault, store string) *Fault {
 		m.offset -= f.Long
 		w.excuses.clock = true
 	case WitnessSays:
-		if happened = len(w.observers) > 0; happened {
-			o := w.observers[f.Count%len(w.observers)]
-			o.says, o.which = 1+f.Count%4, f.Count
+		if len(w.observers) == 0 {
+			return false
 		}
+		o := w.observers[f.Count%len(w.observers)]
+		o.says, o.which = 1+f.Count%4, f.Count
 	case WitnessRolledBack:
-		happened = w.mayRoll() && w.observers[f.Count%len(w.observers)].rollBack(1+f.Count/2)
+		return w.mayRoll() && w.observers[f.Count%len(w.observers)].rollBack(1+f.Count/2)
 	default:
-		happened = w.loses(m, f)
+		return w.loses(m, f)
 	}
-	if happened {
-		w.judge.counts[f.Kind]++
-		w.log("world", f.String(), "", "")
-	}
-	return nil
+	return true
 }
 
 // loses has a store lose what it acknowledged, and reports whether there was something to lose.

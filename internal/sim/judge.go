@@ -48,9 +48,15 @@ func (e *excuses) allows(identity [32]byte) bool {
 
 // Stats are the numbers of a history.
 type Stats struct {
-	Calls, Switches, Heads, Cosigned, Entries, Answers, Repeats, Reads, Starts, Checkpoints int
+	Calls, Switches, Starts int
+	Published
+	// Answers and Repeats count what clients got, and Reads what readers got.
+	Answers, Repeats, Reads int
 	Tidied
 }
+
+// Published counts what was published.
+type Published struct{ Heads, Cosigned, Entries, Checkpoints int }
 
 // Tidied counts what the janitors deleted and read again.
 type Tidied struct{ Deleted, Partials, OldHeads, Staged, Reread int }
@@ -169,8 +175,7 @@ func (j *judge) signs(head signer.Head) {
 }
 
 // swaps judges a step on which the lock decides: it is made of the text before, whose head is published, and its staged
-// batch is in the store. A node that started since the log was rolled back with its machines takes nothing, since the
-// witnesses saw more.
+// batch is in the store.
 func (j *judge) swaps(by *process, old, new string) {
 	before, after := cells(old), cells(new)
 	if before == nil || after == nil {
@@ -185,6 +190,17 @@ func (j *judge) swaps(by *process, old, new string) {
 		j.breaks("a step is staged", "the lock gets the text of %d entries, whose staged batch %s is not in the store",
 			after.size, after.name)
 	}
+	if _, ok := j.w.stores.objects[fmt.Sprintf("heads/%020d-%020d", before.size, before.timestamp)]; !ok &&
+		!before.isBegin() && !j.w.excuses.missing {
+		j.breaks("a step is made of a published state",
+			"the lock gets the text of %d entries, and the state before has no head", after.size)
+	}
+	j.takes(by, before, after)
+}
+
+// takes judges whether the process that swaps the lock may take a step. A node that started since the log was rolled
+// back with its machines may not, since the witnesses saw more.
+func (j *judge) takes(by *process, before, after *cell) {
 	if j.w.excuses.signed && !by.dead && !before.isBegin() && before.size < j.newest.Size {
 		j.breaks("an old log takes nothing", "the lock gets the text of %d entries, and a head of %d was published",
 			after.size, j.newest.Size)
@@ -193,11 +209,6 @@ func (j *judge) swaps(by *process, old, new string) {
 		// A node that has the tile in its memory makes a step without entries. The newest staged batch has the tile no
 		// more, so a node that has to read it cannot go on until a step has entries.
 		j.w.excuses.loss = true
-	}
-	if _, ok := j.w.stores.objects[fmt.Sprintf("heads/%020d-%020d", before.size, before.timestamp)]; !ok &&
-		!before.isBegin() && !j.w.excuses.missing {
-		j.breaks("a step is made of a published state",
-			"the lock gets the text of %d entries, and the state before has no head", after.size)
 	}
 }
 

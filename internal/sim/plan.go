@@ -163,36 +163,10 @@ func NewPlan(seed int64) Plan {
 	for range random.Intn(10) {
 		plan.Faults = append(plan.Faults, newFault(random, Kind(random.Intn(int(PutLost))), 50+60*plan.Machines))
 	}
-	switch random.Intn(10) {
-	case 0, 1, 2, 3:
-		plan.Faults = append(plan.Faults, newFault(random, PutLost+Kind(random.Intn(int(kinds-PutLost))),
-			50+60*plan.Machines))
-	case 4:
-		plan.pausesOne(random)
-	case 5:
-		plan.misplacesOne(random)
-	case 6:
-		plan.rollsAllBack(random)
-	case 7:
-		plan.restarts(random)
-	case 8:
-		if random.Intn(4) == 0 {
-			return plan.looksFirst(random)
-		}
+	if plan.special(random) {
+		return plan
 	}
-	next := 0
-	for range 1 + random.Intn(4) {
-		c := Client{Begins: time.Duration(random.Intn(6000)) * time.Millisecond, Machine: random.Intn(plan.Machines)}
-		for range 1 + random.Intn(5) {
-			if next > 0 && random.Intn(4) == 0 {
-				c.Numbers = append(c.Numbers, random.Intn(next))
-				continue
-			}
-			c.Numbers = append(c.Numbers, next)
-			next++
-		}
-		plan.Clients = append(plan.Clients, c)
-	}
+	next := plan.submits(random)
 	if random.Intn(40) == 0 {
 		return plan.clockIsSlow(random)
 	}
@@ -201,6 +175,45 @@ func NewPlan(seed int64) Plan {
 		plan.fillsTile(random, next)
 	}
 	return plan
+}
+
+// special adds a loss, or faults that belong together, and reports whether the plan is whole with them.
+func (p *Plan) special(random *rand.Rand) bool {
+	switch random.Intn(10) {
+	case 0, 1, 2, 3:
+		p.Faults = append(p.Faults, newFault(random, PutLost+Kind(random.Intn(int(kinds-PutLost))), 50+60*p.Machines))
+	case 4:
+		p.pausesOne(random)
+	case 5:
+		p.misplacesOne(random)
+	case 6:
+		p.rollsAllBack(random)
+	case 7:
+		p.restarts(random)
+	case 8:
+		if random.Intn(4) == 0 {
+			p.looksFirst(random)
+			return true
+		}
+	}
+	return false
+}
+
+// submits adds clients with new entries and repeated ones, and returns the number of the next new one.
+func (p *Plan) submits(random *rand.Rand) (next int) {
+	for range 1 + random.Intn(4) {
+		c := Client{Begins: time.Duration(random.Intn(6000)) * time.Millisecond, Machine: random.Intn(p.Machines)}
+		for range 1 + random.Intn(5) {
+			if next > 0 && random.Intn(4) == 0 {
+				c.Numbers = append(c.Numbers, random.Intn(next))
+				continue
+			}
+			c.Numbers = append(c.Numbers, next)
+			next++
+		}
+		p.Clients = append(p.Clients, c)
+	}
+	return next
 }
 
 // fillsTile has more entries submitted than a tile has, after a few that make partial tiles. Janitors get fewer faults,
@@ -280,9 +293,9 @@ func (p *Plan) restarts(random *rand.Rand) {
 	}
 }
 
-// looksFirst returns a plan in which one node publishes the first heads of a log, and another one looks at a head for
-// the first time after the store lost that one.
-func (p *Plan) looksFirst(random *rand.Rand) Plan {
+// looksFirst has one node publish the first heads of a log, and another one look at a head for the first time after the
+// store lost that one.
+func (p *Plan) looksFirst(random *rand.Rand) {
 	p.Machines, p.Witnesses = 2, Witnesses{}
 	at := 40 + random.Intn(70)
 	p.Faults = []Fault{
@@ -296,7 +309,6 @@ func (p *Plan) looksFirst(random *rand.Rand) Plan {
 		}
 		p.Clients = append(p.Clients, c)
 	}
-	return *p
 }
 
 // clockIsSlow returns a plan in which only the clock of a node is set back, by less than it may be off. Nothing else is

@@ -60,29 +60,36 @@ func (j *judge) deletes(name string) {
 		}
 		return
 	}
-	stored, isThere := j.w.stores.objects[name]
 	full, _, isPartial := strings.Cut(name, ".p/")
-	switch {
-	case isPartial:
+	isHead := strings.HasPrefix(name, "heads/")
+	if isPartial {
 		j.stats.Partials++
-	case strings.HasPrefix(name, "heads/"):
+		j.leavesRest(name, full)
+	} else if isHead {
 		j.stats.OldHeads++
 	}
-	if put, ok := j.tiles[full]; ok && isPartial && isThere && !j.w.excuses.tiles && j.w.now >= j.w.bentAt+readWithin &&
-		!bytes.Equal(put.last(), j.w.stores.objects[full]) {
-		j.breaks("what is left of a damaged tile stays", "%s is deleted, and %s is missing or bent", name, full)
-	}
+	stored, isThere := j.w.stores.objects[name]
 	if put, ok := j.tiles[name]; j.w.excuses.missing || ok && isThere && !bytes.Equal(put.last(), stored) || !isThere {
 		return
 	}
 	why := "it is no partial tile and no head"
-	if strings.HasPrefix(name, "heads/") {
+	if isHead {
 		why = j.keepsHead(name)
 	} else if isPartial {
 		why = j.keepsPartial(name)
 	}
 	if why != "" {
 		j.breaks("published objects stay", "%s is deleted: %s", name, why)
+	}
+}
+
+// leavesRest judges a partial tile that is deleted: its full one must not be missing or bent.
+func (j *judge) leavesRest(name, full string) {
+	put, ok := j.tiles[full]
+	_, isThere := j.w.stores.objects[name]
+	if ok && isThere && !j.w.excuses.tiles && j.w.now >= j.w.bentAt+readWithin &&
+		!bytes.Equal(put.last(), j.w.stores.objects[full]) {
+		j.breaks("what is left of a damaged tile stays", "%s is deleted, and %s is missing or bent", name, full)
 	}
 }
 

@@ -262,32 +262,16 @@ func (m *machine) call(ctx context.Context, store, what string, writes bool, do 
 func (m *machine) befallen(ctx *simulated, store, what string, writes bool, fate *Fault,
 	do func() error) (fault string, err error) {
 	w := m.w
-	kind := kinds
 	if fate != nil {
-		kind, fault = fate.Kind, fate.Kind.String()
-	}
-	switch kind {
-	case CallHangs:
-		_ = w.sleep(ctx, forever)
-		return fault, unknown(ctx.Err())
-	case KilledBefore:
-		m.process.dead = true
-		return fault, errAway
-	case DoneLate:
-		w.spawn(nil, func() {
-			w.wait(ctx.left()+fate.Long, nil)
-			if m.takes(store, writes) == nil {
-				// No caller waits for the outcome any more.
-				w.log("store", what, fmt.Sprint(do()), "done late")
-			}
-		})
-		_ = w.sleep(ctx, forever)
-		return fault, unknown(ctx.Err())
+		fault = fate.Kind.String()
+		if isOver, err := m.isKept(ctx, store, what, writes, fate, do); isOver {
+			return fault, err
+		}
 	}
 	if err := w.sleep(ctx, w.latency()); err != nil {
 		return fault, unknown(err)
 	}
-	if kind == CallFails {
+	if fate != nil && fate.Kind == CallFails {
 		return fault, errFails
 	}
 	if err := m.takes(store, writes); err != nil {
@@ -300,6 +284,39 @@ func (m *machine) befallen(ctx *simulated, store, what string, writes bool, fate
 		w.judge.counts[PutLost]++
 		fault = PutLost.String()
 	}
+	return fault, m.outcome(ctx, fate, err)
+}
+
+// isKept reports whether a call does not reach its store before its caller gives up or is killed, and with which error
+// it ends then.
+func (m *machine) isKept(ctx *simulated, store, what string, writes bool, fate *Fault, do func() error) (bool, error) {
+	w := m.w
+	switch fate.Kind {
+	case CallHangs:
+	case KilledBefore:
+		m.process.dead = true
+		return true, errAway
+	case DoneLate:
+		w.spawn(nil, func() {
+			w.wait(ctx.left()+fate.Long, nil)
+			if m.takes(store, writes) == nil {
+				// No caller waits for the outcome any more.
+				w.log("store", what, fmt.Sprint(do()), "done late")
+			}
+		})
+	default:
+		return false, nil
+	}
+	_ = w.sleep(ctx, forever)
+	return true, unknown(ctx.Err())
+}
+
+// outcome returns what the caller learns of a call that was done with an error or without.
+func (m *machine) outcome(ctx *simulated, fate *Fault, err error) error {
+	kind := kinds
+	if fate != nil {
+		kind = fate.Kind
+	}
 	switch kind {
 	case KilledAfter:
 		m.process.dead = true
@@ -307,15 +324,15 @@ func (m *machine) befallen(ctx *simulated, store, what string, writes bool, fate
 		if err == nil {
 			err = unknown(errFails)
 		}
-		return fault, err
+		return err
 	case AnswersLate:
-		_ = w.sleep(ctx, forever)
-		return fault, unknown(ctx.Err())
+		_ = m.w.sleep(ctx, forever)
+		return unknown(ctx.Err())
 	}
-	if late := w.sleep(ctx, w.latency()/2); late != nil {
-		return fault, unknown(late)
+	if late := m.w.sleep(ctx, m.w.latency()/2); late != nil {
+		return unknown(late)
 	}
-	return fault, err
+	return err
 }
 
 // unknown is an error that does not say whether the call was done.
