@@ -123,15 +123,13 @@ func readCertificate(der []byte) (*certificate, error) {
 // readTBS reads the fields of a TBSCertificate. Its signature algorithm must be the one beside it (RFC 5280, section
 // 4.1.1.2), which no signature covers. Otherwise one certificate could be submitted in many forms.
 func (c *certificate) readTBS(tbs, algorithm cryptobyte.String) error {
-	var fields, inner, issuer, validity, subject, ignored, explicit, extensions cryptobyte.String
+	var fields, inner, issuer, validity, subject, explicit cryptobyte.String
 	var has bool
-	if !tbs.ReadASN1(&fields, tags.SEQUENCE) || !fields.SkipOptionalASN1(tagVersion) ||
-		!fields.SkipASN1(tags.INTEGER) ||
+	if !tbs.ReadASN1(&fields, tags.SEQUENCE) || !skipNumbers(&fields) ||
 		!fields.ReadASN1Element(&inner, tags.SEQUENCE) || !fields.ReadASN1Element(&issuer, tags.SEQUENCE) ||
 		!fields.ReadASN1(&validity, tags.SEQUENCE) || !fields.ReadASN1Element(&subject, tags.SEQUENCE) ||
 		!fields.SkipASN1(tags.SEQUENCE) ||
-		!fields.ReadOptionalASN1(&ignored, &has, tagIssuerUnique) ||
-		!fields.ReadOptionalASN1(&ignored, &has, tagSubjectUnique) ||
+		!skipIdentifiers(&fields) ||
 		!fields.ReadOptionalASN1(&explicit, &has, tagExtensions) || !fields.Empty() {
 		return noDER("a TBSCertificate's field")
 	}
@@ -146,10 +144,21 @@ func (c *certificate) readTBS(tbs, algorithm cryptobyte.String) error {
 	if !has {
 		return nil
 	}
-	if !explicit.ReadASN1(&extensions, tags.SEQUENCE) || !explicit.Empty() {
-		return noDER("a list of extensions")
+	extensions, err := listIn(explicit)
+	if err != nil {
+		return err
 	}
 	return c.readExtensions(extensions)
+}
+
+// skipNumbers skips the version and the serial number of a TBSCertificate.
+func skipNumbers(fields *cryptobyte.String) bool {
+	return fields.SkipOptionalASN1(tagVersion) && fields.SkipASN1(tags.INTEGER)
+}
+
+// skipIdentifiers skips the unique identifiers of a TBSCertificate.
+func skipIdentifiers(fields *cryptobyte.String) bool {
+	return fields.SkipOptionalASN1(tagIssuerUnique) && fields.SkipOptionalASN1(tagSubjectUnique)
 }
 
 // readValidity returns the beginning and the end of a validity.
